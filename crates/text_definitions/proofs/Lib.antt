@@ -1,0 +1,10 @@
+pub mod Tables
+pub mod Readings
+pub mod Bytes
+pub mod PrintedBytes
+pub mod Longest
+pub mod VelthuisTable
+pub mod PrintedSpellings
+pub mod DevanagariTable
+pub mod Searches
+pub mod ReadWords

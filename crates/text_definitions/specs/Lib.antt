@@ -1,0 +1,9 @@
+pub mod Letters
+pub mod Words
+pub mod Lines
+pub mod Spellings
+pub mod Slp1
+pub mod Wx
+pub mod Longest
+pub mod Velthuis
+pub mod Devanagari
