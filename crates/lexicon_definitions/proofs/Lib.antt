@@ -1,0 +1,7 @@
+pub mod GrammarLists
+pub mod GrammarPlaces
+pub mod GrammarFollows
+pub mod GrammarSteps
+pub mod GrammarStates
+pub mod GrammarPhases
+pub mod GrammarSpelling

@@ -1,0 +1,93 @@
+-- The language of a phase grammar, a regular expression over phases, and the places after a front of a word (own, after
+-- the position automata of regular languages).
+use Rattle.std.specs.Prelude.{◌≡◌, ◌≢◌, ℕ, ◌+◌, ◌↔◌, ◌⊎◌, List, [], ◌∷◌, ◌++◌, map, Contains}
+use Rattle.std.specs.List.{AllByRecursion, flat_map}
+use Rattle.std.specs.List.Sorted.{IsStrictlyIncreasing}
+
+-- a grammar's syntax tree; a name stands for its phase by the phase's number
+pub data Grammar : Type 0 where
+  Name : (phase : ℕ) → Grammar
+  Sequence : (first second : Grammar) → Grammar
+  Either : (left right : Grammar) → Grammar
+  AnyTimes : (inner : Grammar) → Grammar
+  OnceOrMore : (inner : Grammar) → Grammar
+  AtMostOnce : (inner : Grammar) → Grammar
+
+-- these lists, one after another
+abbrev pub joined : {A : Type 0} → List (List A) → List A
+joined parts = flat_map (λ part. part) parts
+
+-- the list of phases is a word of the grammar's language: a name is its phase alone, a sequence is a word of the first
+-- and then one of the second, `|` is a word of either, `*`, `+` and `?` are words any number of times, at least once and
+-- at most once
+abbrev pub Accepts : Grammar → List ℕ → Type 0
+Accepts (Name phase) word = word ≡ phase ∷ []
+Accepts (Sequence first second) word =
+    (front : List ℕ) × (rest : List ℕ) × (word ≡ front ++ rest) × Accepts first front × Accepts second rest
+Accepts (Either left right) word = Accepts left word ⊎ Accepts right word
+Accepts (AnyTimes inner) word = (parts : List (List ℕ)) × (word ≡ joined parts) × AllByRecursion (Accepts inner) parts
+Accepts (OnceOrMore inner) word =
+    (parts : List (List ℕ)) × (parts ≢ []) × (word ≡ joined parts) × AllByRecursion (Accepts inner) parts
+Accepts (AtMostOnce inner) word = (word ≡ []) ⊎ Accepts inner word
+
+-- a name of the grammar that is read: its place, and its phase
+pub record Mark : Type 0 where
+  pub place : ℕ
+  pub phase : ℕ
+
+-- how many names the grammar has
+abbrev pub count_names : Grammar → ℕ
+count_names (Name phase) = 1
+count_names (Sequence first second) = count_names first + count_names second
+count_names (Either left right) = count_names left + count_names right
+count_names (AnyTimes inner) = count_names inner
+count_names (OnceOrMore inner) = count_names inner
+count_names (AtMostOnce inner) = count_names inner
+
+-- the marks are a word of the grammar in which each phase is read at a name; the names are numbered from left to right,
+-- and these numbers, the first of which is from, are their places
+abbrev pub Reads : Grammar → ℕ → List Mark → Type 0
+Reads (Name phase) from marks = marks ≡ record { place = from; phase = phase } ∷ []
+Reads (Sequence first second) from marks =
+    (front : List Mark) × (rest : List Mark) × (marks ≡ front ++ rest) × Reads first from front
+    × Reads second (from + count_names first) rest
+Reads (Either left right) from marks = Reads left from marks ⊎ Reads right (from + count_names left) marks
+Reads (AnyTimes inner) from marks =
+    (parts : List (List Mark)) × (marks ≡ joined parts) × AllByRecursion (Reads inner from) parts
+Reads (OnceOrMore inner) from marks =
+    (parts : List (List Mark)) × (parts ≢ []) × (marks ≡ joined parts) × AllByRecursion (Reads inner from) parts
+Reads (AtMostOnce inner) from marks = (marks ≡ []) ⊎ Reads inner from marks
+
+-- the phases that are read at these marks
+abbrev pub phases_of : List Mark → List ℕ
+phases_of marks = map (λ mark. mark.phase) marks
+
+-- places are numbered from 1; this is a place at which the last phase of the list can be read, where the list is read as
+-- a front of a word of the language
+abbrev pub IsPlaceAfter : Grammar → List ℕ → ℕ → Type 0
+IsPlaceAfter grammar phases place =
+    (front : List Mark) × (last : Mark) × (rest : List Mark) × Reads grammar 1 (front ++ last ∷ rest)
+    × (phases ≡ phases_of (front ++ last ∷ [])) × (last.place ≡ place)
+
+-- a state is the set of the places after a list of phases, rising; the empty list has a state of its own
+pub data State : Type 0 where
+  Opening : State
+  After : (places : List ℕ) → State
+
+-- the state after a list of phases
+abbrev pub IsStateAfter : Grammar → List ℕ → State → Type 0
+IsStateAfter grammar [] state = state ≡ Opening
+IsStateAfter grammar (phase ∷ phases) Opening = ⊥
+IsStateAfter grammar (phase ∷ phases) (After places) =
+    IsStrictlyIncreasing places × ((place : ℕ) → Contains places place ↔ IsPlaceAfter grammar (phase ∷ phases) place)
+
+-- the states are the different sets of places that are not empty, and that of the empty list
+abbrev pub IsLiveState : State → Type 0
+IsLiveState state = state ≢ After []
+
+-- two lists of phases, both empty, or neither empty and with the same places after them
+abbrev pub HaveSamePlaces : Grammar → List ℕ → List ℕ → Type 0
+HaveSamePlaces grammar left right =
+    ((left ≡ []) × (right ≡ []))
+    ⊎ ((left ≢ []) × (right ≢ [])
+    × ((place : ℕ) → IsPlaceAfter grammar left place ↔ IsPlaceAfter grammar right place))

@@ -1,0 +1,11 @@
+pub mod Analyses
+pub mod Tags
+pub mod Deltas
+pub mod Rules
+pub mod Grammars
+pub mod GrammarTexts
+pub mod Lexicons
+pub mod GrammarFaults
+pub mod GrammarMarks
+pub mod Leads
+pub mod GrammarSyntax
