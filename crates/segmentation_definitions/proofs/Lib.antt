@@ -1,0 +1,16 @@
+pub mod Candidates
+pub mod Coverings
+pub mod Fronts
+pub mod ItemOrder
+pub mod KeyFronts
+pub mod KeyLists
+pub mod Listings
+pub mod LocalBlanks
+pub mod LocalChoices
+pub mod RisingPlaces
+pub mod SameRests
+pub mod WrittenLexicons
+pub mod SmallLexicons
+pub mod SmallAnswers
+pub mod SmallListings
+pub mod Sorted

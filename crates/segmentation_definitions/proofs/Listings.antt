@@ -1,0 +1,200 @@
+-- A listing is strictly sorted, so its elements determine it. So do those of a page: an answer of one page that another has
+-- not comes behind the other, which is full, so both have the same first answer, and by induction the same later ones. What
+-- is above a position and behind a page is what is above the page's last answer; so a page and the listing above its last
+-- answer are together the listing above its position, and pages that follow one another are together a listing.
+use Rattle.std.proofs.Common.{◌≡◌, ◌≢◌, ℕ, ◌≤◌, ◌⊎◌, ◌↔◌, inl, inr, Bool, true, false, IsTrue, List, [], ◌∷◌, ◌++◌, length, take, drop, refl, sym, subst, arith}
+use Rattle.std.specs.List.{Contains, flat_map}
+use Rattle.std.specs.List.Sorted.{IsStrictlySortedBy}
+use Rattle.std.specs.declared.cmp.Ordering.TheVariants.{Less}
+use Rattle.std.proofs.lemmas.List.{append-nil, take-append-drop, length-take, length-drop}
+use Rattle.std.proofs.lemmas.List.Elements.{All-nil, All-cons, All-head, All-tail, Contains-append_left, Contains-append_right, Contains-append_cases}
+use Rattle.std.proofs.lemmas.Map.Keys.{sorted_tail}
+use Rattle.text_definitions.specs.Lines.{Line}
+use Rattle.lexicon_definitions.specs.Lexicons.{Lexicon, RuleSet}
+use Rattle.segmentation_definitions.specs.Derivations.{Step}
+use Rattle.segmentation_definitions.specs.Items.{Choice}
+use Rattle.segmentation_definitions.specs.Answers.{IsAnswer}
+use Rattle.segmentation_definitions.specs.Listings.{compare_answers, Position, BeforeFirst, AtAnswer, PastLast, IsAbove, IsListingAbove, ComesBehind, IsPage, Page, position_after, ArePages}
+use Rattle.segmentation_definitions.proofs.KeyLists.{compare_answers_total}
+use Rattle.segmentation_definitions.proofs.Sorted.{Contains-first, Contains-from_take, Contains-from_drop, Contains-parts, Less-from_later, not_Contains-nil, not_behind, behind_front, sorted_front, sorted_append, same_fronts, same_sorted}
+
+-- what is above an answer that is above a position is above the position
+pub IsAbove-trans : (rules : RuleSet) (position : Position) (x y : List Step) → IsAbove rules position x → compare_answers rules x y ≡ Less
+    → IsAbove rules position y
+IsAbove-trans rules BeforeFirst x y a l = tt
+IsAbove-trans rules (AtAnswer steps) x y a l = (compare_answers_total rules).trans steps x y a l
+IsAbove-trans rules PastLast x y a l = a
+
+-- two tests of one fact answer the same
+same_answers : {A : Type 0} (left right : Bool) → (IsTrue left ↔ A) → (IsTrue right ↔ A) → left ≡ right
+same_answers true true p q = refl
+same_answers true false p q = sym (q.1 (p.0 refl))
+same_answers false true p q = p.1 (q.0 refl)
+same_answers false false p q = refl
+
+-- the test that tells a list with elements from the empty one
+is_more : {A : Type 0} (xs : List A) → (more : Bool) × (IsTrue more ↔ (xs ≢ []))
+is_more [] = (false, ((λ e. cc), λ n. absurd (n refl)))
+is_more (x ∷ xs) = (true, ((λ e n. cc), λ n. refl))
+
+-- a list other than the empty one has an element
+element_from_not : {A : Type 0} (xs : List A) → xs ≢ [] → (x : A) × Contains xs x
+element_from_not [] n = absurd (n refl)
+element_from_not (x ∷ xs) n = (x, Contains-first x xs)
+
+-- a list that has an element is not the empty one
+not_from_element : {A : Type 0} (xs : List A) (x : A) → Contains xs x → xs ≢ []
+not_from_element xs x m e = not_Contains-nil x (subst (λ ys. Contains ys x) e m)
+
+-- a front behind which there is an element is full
+full_front : {A : Type 0} (count : ℕ) (xs : List A) (x : A) → Contains (drop count xs) x → length (take count xs) ≡ count
+full_front count xs x (k, below, at) = omega (arith, length-take count xs, length-drop count xs)
+
+-- what is above a position and behind a page at it is above the page's last answer
+above_last : (rules : RuleSet) (page : List (List Step)) (position : Position) (steps : List Step) → IsAbove rules position steps
+    → ComesBehind rules page steps → IsAbove rules (position_after position page) steps
+above_last rules [] position steps a b = a
+above_last rules (x ∷ page) position steps a b =
+    above_last rules page (AtAnswer x) steps (All-head (λ before. compare_answers rules before steps ≡ Less) x page b)
+    (All-tail (λ before. compare_answers rules before steps ≡ Less) x page b)
+
+-- what is above the last answer of a page is above the page's position and behind the page
+from_above_last : (rules : RuleSet) (page : List (List Step)) (position : Position) (steps : List Step)
+    → ((before : List Step) → Contains page before → IsAbove rules position before) → IsStrictlySortedBy (compare_answers rules) page
+    → IsAbove rules (position_after position page) steps → IsAbove rules position steps × ComesBehind rules page steps
+from_above_last rules [] position steps p s a = (a, All-nil (λ before. compare_answers rules before steps ≡ Less))
+from_above_last rules (x ∷ page) position steps p s a =
+    let o = compare_answers_total rules in
+    let later = λ (before : List Step) (m : Contains page before). Less-from_later o x page before s m in
+    let (l, b) = from_above_last rules page (AtAnswer x) steps later (sorted_tail (compare_answers rules) x page s) a in (
+      IsAbove-trans rules position x steps (p x (Contains-first x page)) l,
+      All-cons (λ before. compare_answers rules before steps ≡ Less) x page l b,
+    )
+
+module _ (lexicon : Lexicon) (line : Line) (choices : List Choice) where
+  -- two listings above one position are the same
+  pub same_listing : (position : Position) (left right : List (List Step)) → IsListingAbove lexicon line choices position left
+      → IsListingAbove lexicon line choices position right → left ≡ right
+  same_listing position left right p q =
+      same_sorted (compare_answers_total lexicon.rules) left right p.rising q.rising
+      (λ steps m. q.complete steps (p.only_answers steps m) (p.only_above steps m))
+      (λ steps m. p.complete steps (q.only_answers steps m) (q.only_above steps m))
+
+  -- an answer of a page is on another page of that size at that position, or comes behind it
+  on_page_or_behind : (position : Position) (count : ℕ) (left right : List (List Step)) (left_more right_more : Bool)
+      → IsPage lexicon line choices position count left left_more → IsPage lexicon line choices position count right right_more
+      → (steps : List Step) → Contains left steps
+      → Contains right steps ⊎ ((length left ≤ length right) × ComesBehind lexicon.rules right steps)
+  on_page_or_behind position count left right left_more right_more p q steps m =
+      let few = p.at_most in
+      elim (q.first steps (p.only_answers steps m) (p.only_above steps m)) [ inl n ↦ inl n | inr (full, b) ↦ inr (omega arith, b) ]
+
+  -- two pages of one size at one position are the same
+  pub same_page : (position : Position) (count : ℕ) (left right : List (List Step)) (left_more right_more : Bool)
+      → IsPage lexicon line choices position count left left_more → IsPage lexicon line choices position count right right_more
+      → (left ≡ right) × (left_more ≡ right_more)
+  same_page position count left right left_more right_more p q =
+      let f = on_page_or_behind position count left right left_more right_more p q in
+      let g = on_page_or_behind position count right left right_more left_more q p in
+      let e = same_fronts (compare_answers_total lexicon.rules) left right p.rising q.rising f g in (
+        e,
+        same_answers left_more right_more p.left
+            (subst (λ page. IsTrue right_more ↔ ((steps : List Step) × IsAnswer lexicon line choices steps
+            × IsAbove lexicon.rules position steps × ComesBehind lexicon.rules page steps)) (sym e) q.left),
+      )
+
+  -- a page behind which no answer is left is the whole listing above its position
+  listing_from_last_page : (position : Position) (count : ℕ) (page : List (List Step)) (more : Bool)
+      → IsPage lexicon line choices position count page more → more ≡ false → IsListingAbove lexicon line choices position page
+  listing_from_last_page position count page more p e =
+      record {
+        rising = p.rising;
+        only_answers = p.only_answers;
+        only_above = p.only_above;
+        complete = λ steps a l. elim (p.first steps a l) [
+          | inl m ↦ m
+          | inr (full, b) ↦ let t : more ≡ true = p.left.1 (steps, a, l, b) in cc
+        ];
+      }
+
+  -- a page and the listing above its last answer are together the listing above its position
+  listing_from_page : (position : Position) (count : ℕ) (page rest : List (List Step)) (more : Bool)
+      → IsPage lexicon line choices position count page more → IsListingAbove lexicon line choices (position_after position page) rest
+      → IsListingAbove lexicon line choices position (page ++ rest)
+  listing_from_page position count page rest more p r =
+      let behind = λ (steps : List Step) (m : Contains rest steps).
+      from_above_last lexicon.rules page position steps p.only_above p.rising (r.only_above steps m) in
+      record {
+        rising = sorted_append (compare_answers_total lexicon.rules) page rest p.rising r.rising (λ steps m. (behind steps m).1);
+        only_answers = λ steps m. elim (Contains-append_cases page rest steps m) [
+          | inl n ↦ p.only_answers steps n
+          | inr n ↦ r.only_answers steps n
+        ];
+        only_above = λ steps m. elim (Contains-append_cases page rest steps m) [
+          | inl n ↦ p.only_above steps n
+          | inr n ↦ (behind steps n).0
+        ];
+        complete = λ steps a l. elim (p.first steps a l) [
+          | inl n ↦ Contains-append_left page rest steps n
+          | inr (full, b) ↦ Contains-append_right page rest steps (r.complete steps a (above_last lexicon.rules page position steps l b))
+        ];
+      }
+
+  -- pages that follow one another from a position, up to one behind which no answer is left, are together the listing above it
+  pub listing_from_pages : (pages : List Page) (position : Position) (last : Page)
+      → ArePages lexicon line choices position (pages ++ last ∷ []) → last.more ≡ false
+      → IsListingAbove lexicon line choices position (flat_map (λ page. page.answers) (pages ++ last ∷ []))
+  listing_from_pages [] position last p e =
+      subst (IsListingAbove lexicon line choices position) (sym (append-nil last.answers))
+      (listing_from_last_page position last.count last.answers last.more p.0 e)
+  listing_from_pages (page ∷ pages) position last p e =
+      listing_from_page position page.count page.answers _ page.more p.0
+      (listing_from_pages pages (position_after position page.answers) last p.1 e)
+
+  -- the front of a listing is a page, and more tells whether the listing has anything behind it
+  page_from_front : (position : Position) (count : ℕ) (answers : List (List Step)) (more : Bool)
+      → IsListingAbove lexicon line choices position answers → (IsTrue more ↔ (drop count answers ≢ []))
+      → IsPage lexicon line choices position count (take count answers) more
+  page_from_front position count answers more p e =
+      let o = compare_answers_total lexicon.rules in
+      let front = take count answers in
+      let rest = drop count answers in
+      let parts = sym (take-append-drop count answers) in
+      let rising = subst (IsStrictlySortedBy (compare_answers lexicon.rules)) parts p.rising in
+      record {
+        rising = sorted_front o front rest rising;
+        only_answers = λ steps m. p.only_answers steps (Contains-from_take count answers steps m);
+        only_above = λ steps m. p.only_above steps (Contains-from_take count answers steps m);
+        at_most = omega (arith, length-take count answers);
+        first = λ steps a l. elim (Contains-parts count answers steps (p.complete steps a l)) [
+          | inl m ↦ inl m
+          | inr m ↦ inr (full_front count answers steps m, behind_front o front rest steps rising m)
+        ];
+        left = (
+          λ t. let (steps, m) : (steps : List Step) × Contains rest steps = element_from_not rest (e.0 t) in (
+            steps,
+            p.only_answers steps (Contains-from_drop count answers steps m),
+            p.only_above steps (Contains-from_drop count answers steps m),
+            behind_front o front rest steps rising m,
+          ),
+          λ (steps, a, l, b). elim (Contains-parts count answers steps (p.complete steps a l)) [
+            | inl m ↦ absurd (not_behind o front steps m b)
+            | inr m ↦ e.1 (not_from_element rest steps m)
+          ],
+        );
+      }
+
+  -- where the listing above a position is known, the page there is its front, and more tells whether any of it is left
+  pub same_as_front : (position : Position) (answers : List (List Step)) (count : ℕ) (page : List (List Step)) (more : Bool)
+      → IsListingAbove lexicon line choices position answers
+      → IsPage lexicon line choices position count page more ↔ ((page ≡ take count answers) × (IsTrue more ↔ (drop count answers ≢ [])))
+  same_as_front position answers count page more p =
+      let (left, tells) : (left : Bool) × (IsTrue left ↔ (drop count answers ≢ [])) = is_more (drop count answers) in (
+        λ q. let (first, same) : (page ≡ take count answers) × (more ≡ left) =
+            same_page position count page (take count answers) more left q (page_from_front position count answers left p tells) in (
+              first,
+              subst (λ test. IsTrue test ↔ (drop count answers ≢ [])) (sym same) tells,
+            ),
+        λ (first, told). subst (λ front. IsPage lexicon line choices position count front more) (sym first)
+            (page_from_front position count answers more p told),
+      )

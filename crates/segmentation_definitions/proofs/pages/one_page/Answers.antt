@@ -1,0 +1,6 @@
+-- An answer of the one page that the other has not comes behind the other, which is then full.
+use Rattle.segmentation_definitions.proofs.Listings.{same_page}
+use Rattle.segmentation_definitions.proofs.pages.one_page.Goals as goal
+
+pub returns : goal.returns
+returns c = same_page

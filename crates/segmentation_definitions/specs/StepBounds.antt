@@ -1,0 +1,38 @@
+-- Bounds on the steps of a search and of its chart (own).
+use Rattle.std.specs.Prelude.{◌≡◌, ℕ, ◌+◌, ◌*◌, ◌≤◌, ◌⊎◌, ◌↔◌, List, ◌++◌, length, Contains}
+use Rattle.std.specs.List.Sorted.{IsStrictlyIncreasing}
+use Rattle.lexicon_definitions.specs.Lexicons.{Lexicon, rule_of, IsForm}
+use Rattle.segmentation_definitions.specs.Derivations.{IsRuleNumber}
+
+-- at the front of a form of the phase the rule may be chosen: its u leads from there to the end of a form
+abbrev pub IsChoiceAt : Lexicon → ℕ → List ℕ → ℕ → Type 0
+IsChoiceAt lexicon phase front number =
+    IsRuleNumber lexicon.rules number × IsForm lexicon phase (front ++ (rule_of lexicon.rules number).u)
+
+-- the numbers of the rules that may be chosen there, rising
+pub record AreChoicesAt (lexicon : Lexicon) (phase : ℕ) (front : List ℕ) (numbers : List ℕ) : Type 0 where
+  pub rising : IsStrictlyIncreasing numbers
+  pub members : (number : ℕ) → Contains numbers number ↔ IsChoiceAt lexicon phase front number
+
+-- most is the greatest number of choices at one front of a form
+pub record IsMostChoices (lexicon : Lexicon) (most : ℕ) : Type 0 where
+  pub bound : (phase : ℕ) (front numbers : List ℕ) → AreChoicesAt lexicon phase front numbers → length numbers ≤ most
+  pub least : (most ≡ 0) ⊎ ((phase : ℕ) × (front : List ℕ) × (numbers : List ℕ) × AreChoicesAt lexicon phase front numbers × (length numbers ≡ most))
+
+-- for each phase, each of the at most 65 nodes on the way along a form, and each rule there and no change: one look, which
+-- takes at most three steps
+abbrev pub looks_at_one : Lexicon → ℕ → ℕ
+looks_at_one lexicon most = length lexicon.phases * 65 * (most + 1)
+
+-- the most configurations of a line with this many letters, over this many leads: one more than the letters, times the
+-- entrances (the start, fifty letters, the leads), times the states, of which a grammar has at most 32
+abbrev pub configuration_count : ℕ → ℕ → ℕ
+configuration_count letters leads = (letters + 1) * (51 + leads) * 32
+
+-- the most steps that making a line's chart takes, and the most that its summary takes
+abbrev pub chart_bound : Lexicon → ℕ → ℕ → ℕ → ℕ
+chart_bound lexicon most letters leads = 3 * looks_at_one lexicon most * configuration_count letters leads
+
+-- the most steps that one move to the next answer takes, also where there is none, under an exact guide
+abbrev pub advance_bound : Lexicon → ℕ → ℕ → ℕ
+advance_bound lexicon most letters = 12 * letters * looks_at_one lexicon most

@@ -1,0 +1,20 @@
+ghost use Rattle.std.specs.Prelude.{ℕ, ◌*◌, ◌<◌, ◌≤◌, List, length, All};
+ghost use Rattle.std.specs.List.Sorted.{IsStrictlyIncreasing};
+ghost use Rattle.lexicon_definitions.specs.Lexicons.{Lexicon, IsLexicon};
+ghost use Rattle.segmentation_definitions.specs.Derivations.{Step, Derives};
+ghost use Rattle.segmentation_definitions.specs.Items.{places_of};
+ghost use Rattle.segmentation_definitions.specs.Listings.{keys_of};
+
+/// Places rise strictly along every list of steps that derives a word, and lie from 1 to twice the number of its letters.
+/// So there are at most as many steps; and since each key is bounded, a word has finitely many answers.
+pub fn places_rise()
+    ensures rising { (lexicon : Lexicon) (word : List ℕ) (steps : List Step) → IsLexicon lexicon → Derives lexicon steps word
+        → IsStrictlyIncreasing (places_of lexicon.rules steps) }
+    ensures within { (lexicon : Lexicon) (word : List ℕ) (steps : List Step) → IsLexicon lexicon → Derives lexicon steps word
+        → All (λ place. (1 ≤ place) × (place ≤ 2 * length word)) (places_of lexicon.rules steps) }
+    ensures steps { (lexicon : Lexicon) (word : List ℕ) (steps : List Step) → IsLexicon lexicon → Derives lexicon steps word
+        → length steps ≤ 2 * length word }
+    ensures keys { (lexicon : Lexicon) (word : List ℕ) (steps : List Step) → IsLexicon lexicon → Derives lexicon steps word
+        → All (λ key. (key.phase < length lexicon.phases) × (key.taken ≤ length word) × (key.rule ≤ length lexicon.rules.rules))
+        (keys_of lexicon.rules steps) }
+{}
