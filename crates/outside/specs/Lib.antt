@@ -1,0 +1,7 @@
+pub mod Adapters
+pub mod Answers
+pub mod Counts
+pub mod Entries
+pub mod Files
+pub mod States
+pub mod Told
