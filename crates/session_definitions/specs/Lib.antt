@@ -1,0 +1,2 @@
+pub mod PrintedAnswers
+pub mod Outcomes
