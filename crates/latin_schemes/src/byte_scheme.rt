@@ -1,0 +1,37 @@
+ghost use Rattle.std.specs.Prelude.{◌≡◌, ◌^◌, ◌<◌, Ok, length, map, nat_lt, IsTrue, IfOk, IfErr, string_bytes};
+ghost use Rattle.std.specs.List.{list_all};
+ghost use Rattle.text_definitions.specs.Spellings.{word_of_bytes, byte_of_letter};
+ghost use Rattle.latin_schemes.specs.Faults.{IsFaultOf};
+ghost use Rattle.latin_schemes.specs.Codes.{letter_by_code};
+
+use super::{SpellError, SpellFault};
+use phoneme::{Letter, Memory, Word};
+use std::alloc::Global;
+
+/// The word that the bytes spell, each being the letter with the code that `codes` has for it.
+pub fn read_bytes(alloc: Global, codes: &[u8; 256], text: &[u8]) -> Result<Word, SpellError>
+    requires { length text.now < 2 ^ 32 }
+    ensures ok { IfOk result (λ word. word_of_bytes (letter_by_code codes.now) 0 text.now ≡ Ok word) }
+    ensures fault { IfErr result (λ error. IsFaultOf error (word_of_bytes (letter_by_code codes.now) 0 text.now)) }
+{
+    let mut word = Word::new(alloc);
+    for (at, byte) in text.iter().enumerate() {
+        match Letter::new(codes[*byte as usize]) {
+            Some(letter) => word.push(letter)?,
+            None => return Err(SpellFault::NotLetter { at: at as u32 }.into()),
+        }
+    }
+    Ok(word)
+}
+
+/// The byte that the table has for each letter of the word.
+pub fn print_bytes(alloc: Global, bytes: &[u8; 50], word: &Word) -> Result<String, Memory>
+    requires { IsTrue (list_all (λ byte. nat_lt byte 128) bytes.now) }
+    ensures ok { IfOk result (λ text. string_bytes text ≡ map (byte_of_letter bytes.now) word.now) }
+{
+    let mut text = String::new(alloc);
+    for letter in word.as_slice() {
+        text.push(char::from(bytes[letter.code() as usize - 1]))?;
+    }
+    Ok(text)
+}
