@@ -1,0 +1,5 @@
+pub mod DeltaLaws
+pub mod DottedTexts
+pub mod TagOrder
+pub mod TagShapes
+pub mod TagsByText

@@ -1,0 +1,4 @@
+pub mod Analyses
+pub mod Dots
+pub mod TagTexts
+pub mod TagWords

@@ -1,0 +1,73 @@
+ghost use Rattle.std.specs.Prelude.{◌≡◌, ◌≢◌, ◌++◌, ◌<◌, ◌≤◌, ◌^◌, IfOk, OnOk, length, slice_index, take};
+ghost use Rattle.lexicon_definitions.specs.Deltas.{IsDelta, analysis_by};
+ghost use Rattle.form_tags.specs.Analyses.{text_analysis, text_delta};
+
+use super::{Analysis, Tag};
+use phoneme::{Letter, Memory, Word};
+use std::alloc::Global;
+
+/// How the stem of a form differs from the form at its end: the stem is the form without its last `cut` letters,
+/// followed by `append` (Huet's differential words).
+#[derive(Debug, Drop)]
+pub struct Delta {
+    pub cut: u32,
+    pub append: Word,
+    pub tag: Tag,
+}
+
+/// The delta of an analysis of a form, with the least `cut`. The form has fewer than 2^32 letters.
+pub fn to_delta(alloc: Global, form: &[Letter], analysis: &Analysis) -> Result<Delta, Memory>
+    requires { length form.now < 2 ^ 32 }
+    ensures ok { IfOk result (λ delta. IsDelta form.now (text_analysis analysis.now) (text_delta delta)) }
+    ensures tag { IfOk result (λ delta. delta.tag ≡ analysis.now.tag) }
+{
+    let stem = analysis.stem.as_slice();
+    let shared = shared_len(form, stem);
+    let mut append = Word::new(alloc);
+    push_all(&mut append, &stem[shared..])?;
+    Ok(Delta {
+        cut: (form.len() - shared) as u32,
+        append,
+        tag: analysis.tag,
+    })
+}
+
+/// The analysis that a delta gives a form, of which it cuts at most all letters.
+pub fn from_delta(alloc: Global, form: &[Letter], delta: &Delta) -> Result<Analysis, Memory>
+    requires { delta.now.cut ≤ length form.now }
+    ensures ok { IfOk result (λ analysis. text_analysis analysis ≡ analysis_by form.now (text_delta delta.now)) }
+    ensures tag { IfOk result (λ analysis. analysis.tag ≡ delta.now.tag) }
+{
+    let kept = form.len() - delta.cut as usize;
+    let mut stem = Word::new(alloc);
+    push_all(&mut stem, &form[..kept])?;
+    push_all(&mut stem, delta.append.as_slice())?;
+    Ok(Analysis {
+        stem,
+        tag: delta.tag,
+    })
+}
+
+fn shared_len(form: &[Letter], stem: &[Letter]) -> usize
+    ensures in_form { result ≤ length form.now }
+    ensures in_stem { result ≤ length stem.now }
+    ensures same { take result form.now ≡ take result stem.now }
+    ensures differ { result < length form.now
+        → result < length stem.now
+        → slice_index form.now result ≢ slice_index stem.now result }
+{
+    let mut shared = 0;
+    while shared < form.len() && shared < stem.len() && form[shared] == stem[shared] {
+        shared += 1;
+    }
+    shared
+}
+
+fn push_all(word: &mut Word, letters: &[Letter]) -> Result<(), Memory>
+    ensures ok { OnOk result (word.new ≡ word.old ++ letters.now) }
+{
+    for letter in letters {
+        word.push(*letter)?;
+    }
+    Ok(())
+}

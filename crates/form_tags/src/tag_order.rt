@@ -1,0 +1,45 @@
+ghost use Rattle.std.specs.Prelude.{◌≡◌};
+ghost use Rattle.std.specs.Ordering.{nat_cmp};
+ghost use Rattle.std.specs.Cmp.Lexicographic.{slice_cmp};
+ghost use Rattle.form_tags.specs.TagTexts.{tag_text};
+ghost use Rattle.form_tags.specs.TagWords.{tag_words};
+
+use super::Tag;
+use std::cmp::Ordering;
+
+impl Tag {
+    /// The order of tags: that of their texts, byte by byte. Takes no memory.
+    pub fn compare(&self, other: &Tag) -> Ordering
+        ensures { result ≡ slice_cmp nat_cmp (tag_text self.now) (tag_text other.now) }
+    {
+        // A dot is below every byte of a word, so texts are ordered as their words are.
+        let left = self.words();
+        let right = other.words();
+        left.0
+            .cmp(&right.0)
+            .then(left.1.cmp(&right.1))
+            .then(left.2.cmp(&right.2))
+            .then(left.3.cmp(&right.3))
+    }
+
+    fn words(&self) -> (&'static str, &'static str, &'static str, &'static str)
+        ensures { (result.0.now, result.1.now, result.2.now, result.3.now) ≡ tag_words self.now }
+    {
+        match self {
+            Tag::Nominal {
+                gender,
+                number,
+                gcase,
+            } => (gender.word(), number.word(), gcase.word(), ""),
+            Tag::Verbal {
+                tense,
+                voice,
+                person,
+                number,
+            } => (tense.word(), voice.word(), person.word(), number.word()),
+            Tag::Iic => ("iic", "", "", ""),
+            Tag::Pv => ("pv", "", "", ""),
+            Tag::Ind => ("ind", "", "", ""),
+        }
+    }
+}
