@@ -1,0 +1,17 @@
+pub mod PlaceSetBits
+pub mod PhaseNumbers
+pub mod NamesForward
+pub mod Links
+pub mod PieceTrees
+pub mod LevelTrees
+pub mod ReaderTrees
+pub mod NetTrees
+pub mod TokensForward
+pub mod Readings
+pub mod SubsetSteps
+pub mod SubsetTables
+pub mod FaultCases
+pub mod Recognition
+pub mod StateCounts
+pub mod Reading
+pub mod Spelling

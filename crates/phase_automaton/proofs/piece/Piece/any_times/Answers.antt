@@ -1,0 +1,9 @@
+-- The lemma on trees.
+use Rattle.std.proofs.Common.{true, refl}
+use Rattle.phase_automaton.proofs.PieceTrees.{any_times_piece}
+use Rattle.phase_automaton.proofs.piece.Piece.any_times.Goals as goal
+
+pub returns-clause-piece : goal.returns-clause-piece
+returns-clause-piece c inner from h =
+    any_times_piece c.args.places.now c.link.new.places c.args.self (record { optional = true; first = c.args.self.first; last = c.args.self.last }) inner from h
+    c.link.ensures (λ place. ((λ x. x), (λ x. x))) (λ place. ((λ x. x), (λ x. x))) refl

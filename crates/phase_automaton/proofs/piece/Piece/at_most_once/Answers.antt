@@ -1,0 +1,9 @@
+-- The lemma on trees.
+use Rattle.std.proofs.Common.{true, refl}
+use Rattle.phase_automaton.proofs.PieceTrees.{at_most_once_piece}
+use Rattle.phase_automaton.proofs.piece.Piece.at_most_once.Goals as goal
+
+pub returns : goal.returns
+returns c places inner from h =
+    at_most_once_piece places c.args.self (record { optional = true; first = c.args.self.first; last = c.args.self.last }) inner from h
+    (λ place. ((λ x. x), (λ x. x))) (λ place. ((λ x. x), (λ x. x))) refl

@@ -1,0 +1,8 @@
+-- The lemma on trees.
+use Rattle.phase_automaton.proofs.PieceTrees.{once_or_more_piece}
+use Rattle.phase_automaton.proofs.piece.Piece.once_or_more.Goals as goal
+
+pub returns-clause-piece : goal.returns-clause-piece
+returns-clause-piece c inner from h =
+    once_or_more_piece c.args.places.now c.link.new.places c.args.self c.args.self inner from h
+    c.link.ensures (λ place. ((λ x. x), (λ x. x))) (λ place. ((λ x. x), (λ x. x))) ((λ x. x), (λ x. x))

@@ -1,0 +1,9 @@
+pub mod PlaceSets
+pub mod Walks
+pub mod Names
+pub mod Faults
+pub mod Pieces
+pub mod Levels
+pub mod Readers
+pub mod Automata
+pub mod Subsets

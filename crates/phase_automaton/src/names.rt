@@ -1,0 +1,67 @@
+ghost use Rattle.std.specs.Prelude.{◌≡◌, ◌≤◌, length, map, position, IfOk, OnOk, IfErr, Some, None};
+ghost use Rattle.std.specs.Option.{option_map};
+ghost use Rattle.std.specs.Str.{bytes_eq};
+ghost use Rattle.std.specs.String.{string_bytes};
+ghost use Rattle.lexicon_definitions.specs.GrammarFaults.{names_from, first_unknown, UnknownPhase as UnknownName};
+ghost use Rattle.phase_automaton.specs.Faults.{IfFault};
+ghost use Rattle.phase_automaton.specs.Names.{first_name as first_name_of, places_of};
+
+use super::fault::{GrammarError, GrammarFault};
+use super::place::Place;
+use super::walk::is_name_byte;
+use std::alloc::Global;
+
+/// The name that a text begins with, or nothing where it begins with none.
+fn first_name(text: &[u8]) -> &[u8]
+    ensures { result.now ≡ first_name_of text.now }
+{
+    for (at, byte) in text.iter().enumerate() {
+        if !is_name_byte(*byte) {
+            return &text[..at];
+        }
+    }
+    text
+}
+
+/// The number of the phase with this name, counted from 0.
+fn phase_of(names: &[String], name: &[u8]) -> Option<u32>
+    requires { length names.now ≤ 16 }
+    ensures { result ≡ position (bytes_eq name.now) (map string_bytes names.now) }
+{
+    for (phase, known) in names.iter().enumerate() {
+        if name == known.as_bytes() {
+            return Some(phase as u32);
+        }
+    }
+    None
+}
+
+/// The places of a text's names, behind place 0, each with its phase and with nothing that follows yet. Refuses the first
+/// name that is that of no phase.
+pub(crate) fn read_places(
+    alloc: Global,
+    text: &[u8],
+    names: &[String],
+) -> Result<Vec<Place>, GrammarError>
+    requires text { length text.now ≤ 1024 }
+    requires names { length names.now ≤ 16 }
+    ensures places { IfOk result (λ places. places.items ≡ places_of (map string_bytes names.now) text.now) }
+    ensures known { OnOk result (first_unknown (map string_bytes names.now) (names_from 0 text.now) ≡ None) }
+    ensures fault { IfErr result (λ e. IfFault e (λ fault.
+        option_map UnknownName (first_unknown (map string_bytes names.now) (names_from 0 text.now)) ≡ Some fault)) }
+{
+    let mut places = Vec::new(alloc);
+    places.push(Place::opening())?;
+    let mut in_name = false;
+    for (at, byte) in text.iter().enumerate() {
+        let goes_on = in_name;
+        in_name = is_name_byte(*byte);
+        if in_name && !goes_on {
+            let Some(phase) = phase_of(names, first_name(&text[at..])) else {
+                return Err(GrammarError::Fault(GrammarFault::UnknownPhase { at: at as u32 }));
+            };
+            places.push(Place::of_phase(phase))?;
+        }
+    }
+    Ok(places)
+}

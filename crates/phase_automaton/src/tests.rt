@@ -1,0 +1,218 @@
+ghost use Rattle.std.specs.Prelude.{◌≡◌, ◌<◌, ◌≤◌, length, vec_len, IfOk};
+
+use super::{Automaton, GrammarError, GrammarFault, State, read_grammar};
+use std::alloc::Global;
+use std::process::Abort;
+use std::test::Fail;
+
+fn make_names(alloc: Global, names: &[&str]) -> Result<Vec<String>, Fail>
+    ensures { IfOk result (λ made. vec_len made ≡ length names.now) }
+{
+    let mut made = Vec::new(alloc);
+    for name in names {
+        made.push(String::from_str(alloc, name)?)?;
+    }
+    Ok(made)
+}
+
+/// The state after these phases, or None where one of them is not the automaton's.
+fn state_after(automaton: &Automaton, phases: &[u32]) -> Option<State> {
+    let mut state = automaton.start();
+    for phase in phases {
+        if !automaton.has(state) || *phase >= automaton.phases() {
+            return None;
+        }
+        state = automaton.step(state, *phase);
+    }
+    Some(state)
+}
+
+/// Whether the phases are a word, and whether some phases lead on from them to one.
+fn tells(automaton: &Automaton, phases: &[u32]) -> Option<(bool, bool)> {
+    let state = state_after(automaton, phases)?;
+    if !automaton.has(state) {
+        return None;
+    }
+    Some((automaton.accepts(state), automaton.live(state)))
+}
+
+fn fault_of(alloc: Global, text: &[u8], names: &[String]) -> Result<Option<GrammarFault>, Fail>
+    requires some { 0 < length names.now }
+    requires few { length names.now ≤ 16 }
+{
+    match read_grammar(alloc, text, names) {
+        Ok(_) => Ok(None),
+        Err(GrammarError::Fault(fault)) => Ok(Some(fault)),
+        Err(GrammarError::Memory) => Err("out of memory".into()),
+    }
+}
+
+const NOUN: u32 = 0;
+
+const VERB: u32 = 1;
+
+const PREVERB: u32 = 2;
+
+const COMPOUND: u32 = 3;
+
+const INDECLINABLE: u32 = 4;
+
+#[test]
+fn phases_in_their_order(rt: HostRuntime) -> Result<(), Fail> {
+    let names = make_names(rt.alloc(), &["noun", "verb", "pv", "iic", "ind"])?;
+    let automaton = read_grammar(
+        rt.alloc(),
+        b"(ind | iic* noun | pv? verb)+",
+        names.as_slice(),
+    )
+    .map_err(|_| Fail::from("not read"))?;
+    let cases: [(&[u32], bool, bool); 11] = [
+        (&[], false, true),
+        (&[INDECLINABLE], true, true),
+        (&[NOUN], true, true),
+        (&[COMPOUND], false, true),
+        (&[COMPOUND, COMPOUND, NOUN], true, true),
+        (&[COMPOUND, VERB], false, false),
+        (&[PREVERB, VERB], true, true),
+        (&[PREVERB, PREVERB], false, false),
+        (&[PREVERB, NOUN, VERB], false, false),
+        (&[VERB, INDECLINABLE, COMPOUND, NOUN], true, true),
+        (&[NOUN, COMPOUND, INDECLINABLE], false, false),
+    ];
+    for (phases, word, live) in cases {
+        assert_eq!(rt; tells(&automaton, phases), Some((word, live)));
+    }
+    // The opening, and the places of the five names.
+    assert_eq!(rt; automaton.states(), 6);
+    Ok(())
+}
+
+#[test]
+fn signs_of_repetition(rt: HostRuntime) -> Result<(), Fail> {
+    let names = make_names(rt.alloc(), &["a", "b"])?;
+    let cases: [(&[u8], &[u32], bool); 16] = [
+        (b"a*", &[], true),
+        (b"a*", &[0, 0], true),
+        (b"a+", &[], false),
+        (b"a+", &[0, 0, 0], true),
+        (b"a?", &[], true),
+        (b"a?", &[0, 0], false),
+        (b"a+?", &[], true),
+        (b"a**", &[0, 0], true),
+        (b"a b", &[0], false),
+        (b"a b?", &[0], true),
+        (b"a b*a", &[0, 0], true),
+        (b"(a b)*", &[0, 1, 0, 1], true),
+        (b"(a b)*", &[0, 1, 0], false),
+        (b"a|b a", &[1], false),
+        (b"(a|b) a", &[1, 0], true),
+        (b" ( ( a ) ) ", &[0], true),
+    ];
+    for (text, phases, word) in cases {
+        let automaton = read_grammar(rt.alloc(), text, names.as_slice()).map_err(|_| Fail::from(
+            "not read",
+        ))?;
+        assert_eq!(rt; tells(&automaton, phases).map(|told| told.0), Some(word));
+    }
+    Ok(())
+}
+
+#[test]
+fn the_first_fault(rt: HostRuntime) -> Result<(), Fail> {
+    let names = make_names(rt.alloc(), &["ind", "a1_b", "abcdefghijklmnop"])?;
+    let cases: [(&[u8], Option<GrammarFault>); 20] = [
+        (b"ind )", Some(GrammarFault::Syntax { at: 4 })),
+        (b"ind | foo", Some(GrammarFault::UnknownPhase { at: 6 })),
+        (b"", Some(GrammarFault::Syntax { at: 0 })),
+        (b"  ", Some(GrammarFault::Syntax { at: 2 })),
+        (b"(ind | ind)+", None),
+        (b"a1_b*ind", None),
+        (b"ind1", Some(GrammarFault::UnknownPhase { at: 0 })),
+        (b"1ind", Some(GrammarFault::Syntax { at: 0 })),
+        (b"ind _", Some(GrammarFault::Syntax { at: 4 })),
+        (b"abcdefghijklmnop", None),
+        (b"abcdefghijklmnopq", Some(GrammarFault::Syntax { at: 16 })),
+        (b"ind**", None),
+        (b"ind|", Some(GrammarFault::Syntax { at: 4 })),
+        (b"|ind", Some(GrammarFault::Syntax { at: 0 })),
+        (b"()", Some(GrammarFault::Syntax { at: 1 })),
+        (b"(ind", Some(GrammarFault::Syntax { at: 4 })),
+        (b"(*ind)", Some(GrammarFault::Syntax { at: 1 })),
+        (b"foo(", Some(GrammarFault::Syntax { at: 4 })),
+        (b"Ind", Some(GrammarFault::Syntax { at: 0 })),
+        (b"ind\tind", Some(GrammarFault::Syntax { at: 3 })),
+    ];
+    for (text, fault) in cases {
+        assert_eq!(rt; fault_of(rt.alloc(), text, names.as_slice())?, fault);
+    }
+    Ok(())
+}
+
+#[test]
+fn bytes_are_bounded(rt: HostRuntime) -> Result<(), Fail> {
+    let names = make_names(rt.alloc(), &["a", "b"])?;
+    let brackets = vec![in rt.alloc(); b'('; 1024]?;
+    assert_eq!(rt;
+        fault_of(rt.alloc(), brackets.as_slice(), names.as_slice())?,
+        Some(GrammarFault::Syntax { at: 1024 })
+    );
+    let too_long = vec![in rt.alloc(); b'('; 1025]?;
+    assert_eq!(rt;
+        fault_of(rt.alloc(), too_long.as_slice(), names.as_slice())?,
+        Some(GrammarFault::Long)
+    );
+    Ok(())
+}
+
+#[test]
+fn places_are_bounded(rt: HostRuntime) -> Result<(), Fail> {
+    let names = make_names(rt.alloc(), &["a", "b"])?;
+    let mut most = Vec::new(rt.alloc());
+    for _ in 0..60 {
+        most.extend_from_slice(b"a ")?;
+    }
+    // Sixty places one after another are sixty states and the opening.
+    assert_eq!(rt;
+        fault_of(rt.alloc(), most.as_slice(), names.as_slice())?,
+        Some(GrammarFault::States)
+    );
+    most.extend_from_slice(b"a")?;
+    assert_eq!(rt;
+        fault_of(rt.alloc(), most.as_slice(), names.as_slice())?,
+        Some(GrammarFault::Places)
+    );
+    most.extend_from_slice(b"c")?;
+    assert_eq!(rt;
+        fault_of(rt.alloc(), most.as_slice(), names.as_slice())?,
+        Some(GrammarFault::UnknownPhase { at: 120 })
+    );
+
+    let mut choices = Vec::new(rt.alloc());
+    for _ in 0..59 {
+        choices.extend_from_slice(b"a|")?;
+    }
+    choices.extend_from_slice(b"a")?;
+    assert_eq!(rt;
+        fault_of(rt.alloc(), choices.as_slice(), names.as_slice())?,
+        None
+    );
+    Ok(())
+}
+
+#[test]
+fn states_are_bounded(rt: HostRuntime) -> Result<(), Fail> {
+    let names = make_names(rt.alloc(), &["a", "b"])?;
+    let longest = b"a a a a a a a a a a a a a a a a a a a a a a a a a a a a a a a";
+    assert_eq!(rt; fault_of(rt.alloc(), longest, names.as_slice())?, None);
+    let one_more = b"a a a a a a a a a a a a a a a a a a a a a a a a a a a a a a a a";
+    assert_eq!(rt;
+        fault_of(rt.alloc(), one_more, names.as_slice())?,
+        Some(GrammarFault::States)
+    );
+    let sets = b"(a|b)* a (a|b) (a|b) (a|b) (a|b) (a|b)";
+    assert_eq!(rt;
+        fault_of(rt.alloc(), sets, names.as_slice())?,
+        Some(GrammarFault::States)
+    );
+    Ok(())
+}
