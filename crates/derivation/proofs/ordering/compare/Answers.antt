@@ -1,0 +1,7 @@
+-- At the end one of the lists has no step left.
+use Rattle.std.proofs.Common.{◌∙◌, arith}
+use Rattle.derivation.proofs.StepLemmas.{ended}
+use Rattle.derivation.proofs.ordering.compare.Goals as goal
+
+pub returns : goal.returns
+returns c = c.cmp.ensures ∙ ended c.args.a.now c.args.b.now c.loop-i.i (omega arith) ∙ c.loop-i.invariant

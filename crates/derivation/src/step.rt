@@ -1,0 +1,34 @@
+ghost use Rattle.std.specs.Prelude.{◌≡◌};
+
+/// A step of a derivation: a form of a phase and the rule behind it, 0 for no change. The form's letters are the
+/// last `lead` ones that the rule before supplied, then the `taken` letters of the line from `at` on, then the `u` of
+/// the rule. `at`, `lead` and `taken` count letters, `at` from 0.
+#[derive(Clone, Copy, Debug, PartialEq, Eq)]
+pub struct Step {
+    pub phase: u32,
+    pub rule: u32,
+    pub at: u32,
+    pub lead: u32,
+    pub taken: u32,
+}
+
+/// The part of a step by which answers are ordered: phase, letters taken, rule.
+#[derive(Clone, Copy, Debug, PartialEq, Eq)]
+pub struct Key {
+    pub phase: u32,
+    pub taken: u32,
+    pub rule: u32,
+}
+
+impl Step {
+    /// The key of the step.
+    pub fn key(&self) -> Key
+        ensures { result ≡ record { phase = self.now.phase; taken = self.now.taken; rule = self.now.rule } }
+    {
+        Key {
+            phase: self.phase,
+            taken: self.taken,
+            rule: self.rule,
+        }
+    }
+}
