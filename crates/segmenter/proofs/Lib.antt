@@ -1,0 +1,10 @@
+pub mod FirstOnes
+pub mod GrammarWords
+pub mod CutLetters
+pub mod Answering
+pub mod Answered
+pub mod FirstPages
+pub mod LineTests
+pub mod Candidates
+pub mod Extensions
+pub mod WorkedForms

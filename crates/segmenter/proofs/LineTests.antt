@@ -1,0 +1,38 @@
+-- What the tests of a candidate decide: a bit of a set of phases, and a word at the front of letters.
+use Rattle.std.proofs.Common.{◌≡◌, ℕ, ◌-◌, ◌<◌, ◌≤◌, ◌^◌, ◌/◌, ◌↔◌, IsTrue, Bool, nat_eq, bit_and, List, ◌++◌, length, take, drop, refl, ap, sym, subst, ◌∙◌, arith, length-drop}
+use Rattle.std.specs.Bool.{Decides}
+use Rattle.std.specs.List.{starts_with}
+use Rattle.std.proofs.Math.Seq.{take-append_seam}
+use Rattle.std.proofs.Math.Nat.{div-eq_of_lt}
+use Rattle.std.proofs.Math.Pow.{pow_mono}
+use Rattle.std.proofs.lemmas.Bool.{eqb-true, eq-eqb}
+use Rattle.std.proofs.lemmas.List.{take_all, take-append-drop}
+use Rattle.std.proofs.lemmas.Slice.Eq.{starts_is}
+use Rattle.std.proofs.lemmas.Nat.{bit_set_by_shift}
+use Rattle.lexicon_definitions.specs.Rules.{HasPhase}
+
+-- a shift tests a bit
+pub bit_tested : (phases phase : ℕ) → IsTrue (nat_eq (bit_and (phases / 2 ^ phase) 1) 1) ↔ HasPhase phases phase
+bit_tested phases phase =
+    (λ t. (bit_set_by_shift phases phase).0 (eqb-true _ _ t), λ h. eq-eqb _ _ ((bit_set_by_shift phases phase).1 h))
+
+-- a set of sixteen bits has no later one
+pub no_later_bit : (phases phase : ℕ) → phases < 2 ^ 16 → 16 ≤ phase → HasPhase phases phase → ⊥
+no_later_bit phases phase low high h =
+    let more : 2 ^ 16 ≤ 2 ^ phase = pow_mono high in
+    let below : phases < 2 ^ phase = omega arith in
+    let none : phases / 2 ^ phase ≡ 0 = div-eq_of_lt below in
+    let bit = (bit_set_by_shift phases phase).1 h in
+    let zero : bit_and (phases / 2 ^ phase) 1 ≡ 0 = rw none refl in
+    absurd (omega (arith, bit, zero))
+
+-- a word stands at the front of what is left of the letters
+pub front_tested : (E : ℕ → ℕ → Bool) (decides : (a b : ℕ) → Decides (E a b) (a ≡ b)) (letters w : List ℕ) (at : ℕ) (r : Bool)
+    → r ≡ starts_with E (take (length letters - at) (drop at letters)) w → IsTrue r ↔ (take (length w) (drop at letters) ≡ w)
+front_tested E decides letters w at r e =
+    let rest = drop at letters in
+    let all : take (length letters - at) rest ≡ rest = take_all (length letters - at) rest (simp length-drop (omega arith)) in
+    let is = starts_is decides rest w r (subst (λ (front : List ℕ). r ≡ starts_with E front w) all e) in (
+      λ t. ap (take (length w)) (is.0 t) ∙ take-append_seam w (drop (length w) rest),
+      λ h. is.1 (drop (length w) rest) (sym (take-append-drop (length w) rest) ∙ ap (λ front. front ++ drop (length w) rest) h),
+    )

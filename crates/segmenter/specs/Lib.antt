@@ -1,0 +1,5 @@
+pub mod Forms
+pub mod Firsts
+pub mod Completions
+pub mod Pages
+pub mod Worked

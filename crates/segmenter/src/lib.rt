@@ -1,0 +1,16 @@
+//! Lists the answers of a line, in order.
+#![tactic(auto)]
+
+mod candidate;
+mod extend;
+mod following;
+mod found;
+mod lexicon;
+mod page;
+mod place;
+#[cfg(test)]
+mod tests;
+
+pub use found::Found;
+pub use lexicon::Lexicon;
+pub use page::first_page;

@@ -1,0 +1,109 @@
+ghost use Rattle.std.specs.Prelude.{◌≡◌, ◌<◌, ◌≤◌, ◌++◌, length, IfOk, OnOk};
+ghost use Rattle.text_definitions.specs.Lines.{IsLine};
+ghost use Rattle.segmenter.specs.Forms.{IsKept};
+ghost use Rattle.segmenter.specs.Completions.{lead_at, form_at, IsCandidate, CanFollow, place_behind, rank};
+
+use super::Lexicon;
+use super::candidate::end_of;
+use derivation::{RuleSet, Step};
+use phoneme::{Letter, Line, Memory, Word};
+use std::alloc::Global;
+
+/// Where the next form begins: behind how many letters, behind which rule (0 for none), and after which letter, where
+/// the form before is not changed.
+#[derive(Clone, Copy, Debug)]
+pub(crate) struct Place {
+    pub at: u32,
+    pub rule: u32,
+    pub last: Option<Letter>,
+}
+
+impl Place {
+    /// The place before the first form.
+    pub const OPENING: Place = Place {
+        at: 0,
+        rule: 0,
+        last: None,
+    };
+
+    /// How many letters the rule before the place supplies to the next form.
+    pub fn lead_length(&self, rules: &RuleSet) -> usize
+        requires { self.now.rule ≤ length rules.now.rules }
+        ensures { result ≡ length (lead_at rules.now self.now) }
+    {
+        match rules.rule(self.rule) {
+            None => 0,
+            Some(rule) => rule.v.as_slice().len(),
+        }
+    }
+
+    /// The form of a step at the place: what the rule before supplies, the letters that it takes, and its rule's `u`.
+    pub fn form(
+        &self,
+        alloc: Global,
+        rules: &RuleSet,
+        line: &Line,
+        step: &Step,
+    ) -> Result<Word, Memory>
+        requires rule { self.now.rule ≤ length rules.now.rules }
+        requires candidate { IsCandidate rules.now line.now self.now step.now }
+        ensures ok { IfOk result (λ form. form ≡ form_at rules.now line.now self.now step.now) }
+    {
+        let mut form = Word::new(alloc);
+        if let Some(rule) = rules.rule(self.rule) {
+            push_all(&mut form, rule.v.as_slice())?;
+        }
+        push_all(
+            &mut form,
+            &line.letters.as_slice()[step.at as usize..end_of(step)],
+        )?;
+        if let Some(rule) = rules.rule(step.rule) {
+            push_all(&mut form, rule.u.as_slice())?;
+        }
+        Ok(form)
+    }
+
+    /// The place behind a step that may follow at this one.
+    pub fn behind(
+        &self,
+        alloc: Global,
+        lexicon: &Lexicon,
+        line: &Line,
+        step: &Step,
+    ) -> Result<Place, Memory>
+        requires kept { IsKept lexicon.now }
+        requires line { IsLine line.now }
+        requires rule { self.now.rule ≤ length lexicon.now.rules.rules }
+        requires follows { CanFollow lexicon.now line.now self.now step.now }
+        ensures ok { IfOk result (λ behind. behind ≡ place_behind lexicon.now.rules line.now self.now step.now) }
+        ensures rises { IfOk result (λ behind. rank self.now < rank behind) }
+        ensures within { IfOk result (λ behind. behind.at ≤ length line.now.letters) }
+    {
+        let end = end_of(step);
+        if step.rule == 0 {
+            let form = self.form(alloc, &lexicon.rules, line, step)?;
+            Ok(Place {
+                at: end as u32,
+                rule: 0,
+                last: form.as_slice().last().copied(),
+            })
+        } else {
+            let rule = &lexicon.rules.rules()[step.rule as usize - 1];
+            Ok(Place {
+                at: (end + rule.w.as_slice().len()) as u32,
+                rule: step.rule,
+                last: None,
+            })
+        }
+    }
+}
+
+/// Appends the letters.
+fn push_all(word: &mut Word, letters: &[Letter]) -> Result<(), Memory>
+    ensures ok { OnOk result (word.new ≡ word.old ++ letters.now) }
+{
+    for letter in letters {
+        word.push(*letter)?;
+    }
+    Ok(())
+}
