@@ -1,0 +1,10 @@
+pub mod KeptForms
+pub mod Runs
+pub mod ThinOrders
+pub mod ThinLeads
+pub mod ThinFields
+pub mod ThinKept
+pub mod ThinFollows
+pub mod ThinSteps
+pub mod ThinMade
+pub mod ThinWhole

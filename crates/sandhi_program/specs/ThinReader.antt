@@ -1,0 +1,128 @@
+-- What the parts of the reader of thin texts tell.
+use Rattle.std.specs.Prelude.{◌≡◌, ℕ, ◌≤◌, Bool, true, false, List, [], ◌∷◌, ◌++◌, length, map, codes, AllPairs}
+use Rattle.std.specs.declared.cmp.Ordering.{Ordering}
+use Rattle.std.specs.declared.cmp.Ordering.TheVariants.{Less, Equal, Greater}
+use Rattle.std.specs.List.Sorted.{IsStrictlySortedBy}
+use Rattle.text_definitions.specs.Words.{IsWord, compare_words}
+use Rattle.text_definitions.specs.Slp1.{slp1_of_word}
+use Rattle.lexicon_definitions.specs.Rules.{Rule, IsSameTriple}
+use Rattle.lexicon_definitions.specs.Lexicons.{RuleSet, compare_pairs}
+use Rattle.source_definitions.specs.LexiconTexts.{text_of}
+use Rattle.source_definitions.specs.ThinTexts.{IsTextOf}
+use Rattle.source_definitions.specs.ThinLines as lines
+use Rattle.source_definitions.specs.ThinLines.{PlainLine, RuleLine, FormLine, EndLine}
+use Rattle.sandhi_program.specs.declared.thin_text.entry.Entry.{Entry}
+use Rattle.sandhi_program.specs.declared.thin_text.entry.Entry.TheVariants as entries
+use Rattle.sandhi_program.specs.declared.thin_text.contents.Contents.{Contents}
+
+-- the text spells the word, which has at most this many letters
+pub record IsSpelling (most : ℕ) (text word : List ℕ) : Type 0 where
+  pub word_itself : IsWord word
+  pub short : length word ≤ most
+  pub spelled : text ≡ slp1_of_word word
+
+-- what the program read in a line, as the definitions name it
+abbrev pub told_of : Entry → lines.Entry
+told_of (entries.Plain left right) = PlainLine (left, right)
+told_of (entries.Rule rule) = RuleLine rule
+told_of (entries.Form letters stem) = FormLine letters stem
+told_of entries.End = EndLine
+
+-- rising words with one word more, which is put in its place where it is none of them
+abbrev pub put : Ordering → List ℕ → List ℕ → List (List ℕ) → List (List ℕ) → List (List ℕ)
+put Less word other words more = other ∷ more
+put Equal word other words more = other ∷ words
+put Greater word other words more = word ∷ other ∷ words
+
+abbrev pub with_word : List ℕ → List (List ℕ) → List (List ℕ)
+with_word word [] = word ∷ []
+with_word word (other ∷ words) = put (compare_words other word) word other words (with_word word words)
+
+-- the different v of the inner rules, rising, with those of one rule more
+abbrev pub with_lead : List (List ℕ) → List ℕ → List (List ℕ)
+with_lead leads [] = leads
+with_lead leads (letter ∷ v) = with_word (letter ∷ v) leads
+
+abbrev pub leads_from : List (List ℕ) → List Rule → List (List ℕ)
+leads_from leads [] = leads
+leads_from leads (rule ∷ rules) = leads_from (with_lead leads rule.v) rules
+
+-- the different v of the inner rules, rising
+abbrev pub leads_of : List Rule → List (List ℕ)
+leads_of rules = leads_from [] rules
+
+abbrev pub AreDistinct : List Rule → Type 0
+AreDistinct rules = AllPairs (λ left right. IsSameTriple left right → ⊥) rules
+
+-- what was read so far may stand in a lexicon within the limits
+pub record IsKept (kept : Contents) : Type 0 where
+  pub rising : IsStrictlySortedBy compare_pairs kept.plain.items
+  pub distinct : AreDistinct kept.rules.items
+  pub rules : length kept.rules.items ≤ 4000
+  pub leads_are : kept.leads.items ≡ leads_of kept.rules.items
+  pub leads : length kept.leads.items ≤ 256
+  pub rising_forms : IsStrictlySortedBy compare_words kept.forms.items
+  pub forms : length kept.forms.items ≤ 600000
+
+-- a plain pair may follow: it is above those before, and neither a rule nor a form was read
+pub record MayFollowPlain (kept : Contents) (pair : ℕ × ℕ) : Type 0 where
+  pub goes_on : kept.ended ≡ false
+  pub no_rule : kept.rules.items ≡ []
+  pub no_form : kept.forms.items ≡ []
+  pub rising : IsStrictlySortedBy compare_pairs (kept.plain.items ++ pair ∷ [])
+
+-- a rule may follow: it is none of those before, they do not become too many, and no form was read
+pub record MayFollowRule (kept : Contents) (rule : Rule) : Type 0 where
+  pub goes_on : kept.ended ≡ false
+  pub no_form : kept.forms.items ≡ []
+  pub distinct : AreDistinct (kept.rules.items ++ rule ∷ [])
+  pub rules : length (kept.rules.items ++ rule ∷ []) ≤ 4000
+  pub leads : length (leads_of (kept.rules.items ++ rule ∷ [])) ≤ 256
+
+-- a form may follow: it is above those before, and they do not become too many
+pub record MayFollowForm (kept : Contents) (letters : List ℕ) : Type 0 where
+  pub goes_on : kept.ended ≡ false
+  pub rising : IsStrictlySortedBy compare_words (kept.forms.items ++ letters ∷ [])
+  pub forms : length (kept.forms.items ++ letters ∷ []) ≤ 600000
+
+-- a line that tells this may follow
+abbrev pub MayFollow : Contents → lines.Entry → Type 0
+MayFollow kept (PlainLine pair) = MayFollowPlain kept pair
+MayFollow kept (RuleLine rule) = MayFollowRule kept rule
+MayFollow kept (FormLine letters stem) = MayFollowForm kept letters
+MayFollow kept EndLine = kept.ended ≡ false
+
+-- the lists of both are the same, but those of pairs, rules and forms may grow by these
+pub record Grew (old new : Contents) (plain : List (ℕ × ℕ)) (rules : List Rule) (forms : List (List ℕ)) (ended : Bool) : Type 0 where
+  pub plain_grew : new.plain.items ≡ old.plain.items ++ plain
+  pub rules_grew : new.rules.items ≡ old.rules.items ++ rules
+  pub forms_grew : new.forms.items ≡ old.forms.items ++ forms
+  pub ended_is : new.ended ≡ ended
+
+-- what the line tells was added
+abbrev pub Added : Contents → Contents → lines.Entry → Type 0
+Added old new (PlainLine pair) = Grew old new (pair ∷ []) [] [] old.ended
+Added old new (RuleLine rule) = Grew old new [] (rule ∷ []) [] old.ended
+Added old new (FormLine letters stem) = Grew old new [] [] (letters ∷ []) old.ended
+Added old new EndLine = Grew old new [] [] [] true
+
+-- the rule set with these plain pairs and rules, of the one phase `word`
+abbrev pub rules_kept : Contents → RuleSet
+rules_kept kept =
+    record {
+      names = codes "word" ∷ [];
+      grammar = codes "word+";
+      plain = kept.plain.items;
+      rules = kept.rules.items;
+    }
+
+-- the contents are those of a thin lexicon
+abbrev pub IsThinContents : lines.Contents → Type 0
+IsThinContents full = IsTextOf (lines.lexicon_of full) (text_of (lines.lexicon_of full))
+
+-- what was kept is what the contents are without the stems, and these are those of a thin lexicon
+pub record IsReadAs (kept : Contents) (full : lines.Contents) : Type 0 where
+  pub plain : kept.plain.items ≡ full.plain
+  pub rules : kept.rules.items ≡ full.rules
+  pub forms : kept.forms.items ≡ map (λ form. form.0) full.forms
+  pub thin : IsThinContents full

@@ -1,0 +1,43 @@
+//! Yuzudeck's program: makes the devices, runs the words of the command line, and ends with the exit status.
+#![tactic(auto)]
+
+mod command;
+mod run;
+mod segment;
+mod status;
+#[cfg(test)]
+mod tests;
+mod thin_text;
+
+use outside::{DiskShelf, InputSource, NoGate, OutputSink};
+use phoneme::Memory;
+use run::run;
+use status::Status;
+use std::env;
+use std::io::ErrorKind;
+use std::process::ExitCode;
+
+/// The words of the command line without the program's name; none where one of them is no UTF-8, which is no command.
+fn words_of(rt: &HostRuntime) -> Result<Vec<String>, Memory> {
+    match env::args(rt) {
+        Ok(args) => Ok(args.skip(1).collect(rt.alloc())?),
+        Err(error) if error.kind() == ErrorKind::OutOfMemory => Err(Memory),
+        Err(_not_text) => Ok(Vec::new(rt.alloc())),
+    }
+}
+
+fn main(rt: HostRuntime) -> ExitCode {
+    let status = match words_of(&rt) {
+        Ok(words) => run(
+            &rt,
+            rt.alloc(),
+            &words,
+            &mut DiskShelf::new(&rt),
+            &mut InputSource::new(&rt),
+            &mut OutputSink::new(&rt),
+            &NoGate,
+        ),
+        Err(Memory) => Status::Memory,
+    };
+    ExitCode::from(status.exit_code())
+}

@@ -1,0 +1,108 @@
+ghost use Rattle.std.specs.Prelude.{◌≡◌, ◌^◌, ◌<◌, ◌⊎◌, ◌↔◌, ℕ, List, length, map, string_bytes, Some};
+ghost use Rattle.outside.specs.Counts.{Rose};
+ghost use Rattle.outside.specs.Files.{Files, Lacks};
+ghost use Rattle.outside.specs.Told.{bytes_after, GrowsByPrefix};
+ghost use Rattle.session_definitions.specs.Outcomes.{IsCommand, IsSegment};
+ghost use Rattle.sandhi_program.specs.Ends.{Ran, WritesPrefix, WritesSome, IsOwn, Finishes};
+ghost use Rattle.sandhi_program.specs.Segments.{WroteSegment};
+
+use super::command::{Segment, command_of};
+use super::segment::{SegmentError, segment};
+use super::status::Status;
+use outside::{Gate, Shelf, ShelfError, Sink, Source, WriteError, write_all};
+use std::alloc::Global;
+use std::thread::Threads;
+
+/// One byte more than the greatest length of a file.
+const FILE_BYTES: usize = 33_554_433;
+
+/// Writes the output, and then ends with the status.
+fn finish<O: Sink>(out: &mut O, output: &str, status: Status) -> Status
+    requires { IsOwn status }
+    ensures { Finishes status result (O.written out.old) (O.written out.new) (O.faults out.old) (O.faults out.new) output.now }
+{
+    match write_all(out, output.as_bytes()) {
+        Ok(()) => status,
+        Err(WriteError::Failed) => Status::WriteFault,
+        Err(WriteError::Memory) => Status::Memory,
+    }
+}
+
+/// Writes what `segment` answers for the bytes of the lexicon.
+fn write_segment<O: Sink>(alloc: Global, bytes: &[u8], text: &str, out: &mut O) -> Status
+    requires { length text.now < 2 ^ 32 }
+    ensures { WroteSegment bytes.now text.now result (O.written out.old) (O.written out.new) (O.faults out.old) (O.faults out.new) }
+{
+    match segment(alloc, bytes, text) {
+        Ok(output) => finish(out, output.as_str(), Status::Done),
+        Err(SegmentError::NotBuilt) => finish(out, "not built\n", Status::NotBuilt),
+        Err(SegmentError::Memory) => Status::Memory,
+    }
+}
+
+/// `segment LEX TEXT`: reads the lexicon, lists the answers of the text, and writes one page of them.
+fn run_segment<H: Shelf, O: Sink>(
+    alloc: Global,
+    lex: &str,
+    text: &str,
+    shelf: &mut H,
+    out: &mut O,
+) -> Status
+    requires { length text.now < 2 ^ 32 }
+    ensures outcome { IsOwn result → (all : List (List ℕ)) (files : Files) (old : List ℕ) → IsSegment all lex.now text.now
+        → H.files shelf.old ≡ Some files → O.written out.old ≡ Some old → Ran all files files old (O.written out.new) result }
+    ensures missing { result ≡ Status.ReadFault → Rose (H.failed_reads shelf.old) (H.failed_reads shelf.new) ⊎ Lacks (H.files shelf.old) lex.now }
+    ensures nothing { result ≡ Status.ReadFault → O.written out.new ≡ O.written out.old }
+    ensures some { (all : List (List ℕ)) (files : Files) → IsSegment all lex.now text.now → H.files shelf.old ≡ Some files
+        → WritesSome all files (O.written out.old) (O.written out.new) }
+    ensures write_fault { result ≡ Status.WriteFault → Rose (O.faults out.old) (O.faults out.new) }
+    ensures usage { result ≡ Status.Usage → ⊥ }
+    ensures files { H.files shelf.new ≡ H.files shelf.old }
+    ensures failed_writes { H.failed_writes shelf.new ≡ H.failed_writes shelf.old }
+{
+    match shelf.read(alloc, lex, FILE_BYTES) {
+        Ok(bytes) => write_segment(alloc, bytes.as_slice(), text, out),
+        Err(ShelfError::Missing | ShelfError::Failed) => Status::ReadFault,
+        Err(ShelfError::Memory) => Status::Memory,
+    }
+}
+
+/// Does what the words of the command line say, over the devices, and answers how the run ended. `words` are the
+/// program's words without its name. Refusals are written to `out`, a line each.
+pub fn run<R: Threads + Sync, H: Shelf, I: Source, O: Sink, G: Gate + Sync>(
+    _rt: &R,
+    alloc: Global,
+    words: &Vec<String>,
+    shelf: &mut H,
+    _input: &mut I,
+    out: &mut O,
+    _gate: &G,
+) -> Status
+    // The headline: over devices that tell their content, the run wrote all the output of the outcome, unless memory
+    // ran out or a device failed.
+    ensures outcome { IsOwn result → (files : Files) (old : List ℕ) → H.files shelf.old ≡ Some files → O.written out.old ≡ Some old
+        → Ran (map string_bytes words.now.items) files files old (O.written out.new) result }
+    ensures missing { result ≡ Status.ReadFault → (files : Files) (old : List ℕ) → H.files shelf.old ≡ Some files → O.written out.old ≡ Some old
+        → Rose (H.failed_reads shelf.old) (H.failed_reads shelf.new) ⊎ Ran (map string_bytes words.now.items) files files old (O.written out.new) result }
+
+    // After a fault or want of memory, a prefix of that output.
+    ensures prefix { (files : Files) → H.files shelf.old ≡ Some files
+        → WritesPrefix (map string_bytes words.now.items) files (O.written out.old) (O.written out.new) }
+
+    // When each refusal comes.
+    ensures usage { result ≡ Status.Usage → IsCommand (map string_bytes words.now.items) → ⊥ }
+    ensures read_fault { result ≡ Status.ReadFault → Rose (H.failed_reads shelf.old) (H.failed_reads shelf.new)
+        ⊎ ((lex text : List ℕ) × IsSegment (map string_bytes words.now.items) lex text × Lacks (H.files shelf.old) lex) }
+    ensures write_fault { result ≡ Status.WriteFault → Rose (O.faults out.old) (O.faults out.new) }
+
+    // What stays: the files, and whatever the words do not use.
+    ensures files { H.files shelf.new ≡ H.files shelf.old }
+    ensures failed_writes { H.failed_writes shelf.new ≡ H.failed_writes shelf.old }
+    ensures unused_shelf { (IsCommand (map string_bytes words.now.items) → ⊥) → shelf.new ≡ shelf.old }
+    ensures input { _input.new ≡ _input.old }
+{
+    match command_of(words.as_slice()) {
+        Some(Segment { lex, text }) => run_segment(alloc, lex, text, shelf, out),
+        None => finish(out, "usage\n", Status::Usage),
+    }
+}

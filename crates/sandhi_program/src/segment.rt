@@ -1,0 +1,146 @@
+ghost use Rattle.std.specs.Prelude.{◌≡◌, ◌<◌, ◌≤◌, ◌^◌, ◌⊎◌, ◌++◌, ℕ, List, length, map, All, IfOk, OnOk, string_bytes, Err};
+ghost use Rattle.derivation.specs.Steps.{StandIn, steps_of};
+ghost use Rattle.session_definitions.specs.PrintedAnswers.{printed_answer};
+ghost use Rattle.sandhi_program.specs.Segments.{ArePrintable};
+ghost use Rattle.session_definitions.specs.Outcomes.{IsPlainText, line_of as plain_line, output_line, printed_answers, printed_rest, printed_page};
+ghost use Rattle.source_definitions.specs.ThinTexts.{IsThinText};
+ghost use Rattle.sandhi_program.specs.Segments.{IsSegmentOutput};
+
+use super::thin_text::{ThinError, read_thin};
+use derivation::{RuleSet, Step, print_derivation};
+use latin_schemes::{SpellError, read_slp1};
+use phoneme::{Line, Memory};
+use segmenter::{Found, Lexicon, first_page};
+use std::alloc::{AllocError, AllocFailed, Global};
+
+/// The most answers of the page that `segment` prints.
+const PAGE: u32 = 10_000;
+
+/// The most letters of a line.
+const LINE_LIMIT: usize = 1000;
+
+/// Why there is no page.
+#[derive(Clone, Copy, Debug, PartialEq, Eq)]
+pub(crate) enum SegmentError {
+    NotBuilt,
+    Memory,
+}
+
+impl From<Memory> for SegmentError {
+    ghost use Rattle.sandhi_program.specs.declared.segment.SegmentError.TheVariants as variant;
+
+    ghost from_gives = { λ _ e. e ≡ variant.Memory };
+
+    fn from(_refused: Memory) -> SegmentError {
+        SegmentError::Memory
+    }
+}
+
+impl From<AllocError> for SegmentError {
+    ghost use Rattle.sandhi_program.specs.declared.segment.SegmentError.TheVariants as variant;
+
+    ghost from_gives = { λ _ e. e ≡ variant.Memory };
+
+    fn from(_refused: AllocError) -> SegmentError {
+        SegmentError::Memory
+    }
+}
+
+/// The line of a text, without blanks: 1 to 1,000 letters in SLP1.
+fn line_of(alloc: Global, text: &str) -> Result<Line, SegmentError>
+    requires { length text.now < 2 ^ 32 }
+    ensures ok { IfOk result (λ line. IsPlainText text.now line.letters × (line ≡ plain_line line.letters)) }
+    ensures not_built { result ≡ Err SegmentError.NotBuilt → (word : List ℕ) → IsPlainText text.now word → ⊥ }
+{
+    let letters = match read_slp1(alloc, text.as_bytes()) {
+        Ok(word) => word,
+        Err(SpellError::Memory) => return Err(SegmentError::Memory),
+        Err(SpellError::Fault(_)) => return Err(SegmentError::NotBuilt),
+    };
+    let count = letters.as_slice().len();
+    if count == 0 || count > LINE_LIMIT {
+        return Err(SegmentError::NotBuilt);
+    }
+    Ok(Line {
+        letters,
+        blanks: Vec::new(alloc),
+    })
+}
+
+/// Appends the line of an answer.
+fn push_answer(
+    alloc: Global,
+    output: &mut String,
+    rules: &RuleSet,
+    line: &Line,
+    steps: &[Step],
+    number: u64,
+) -> Result<(), Memory>
+    requires stand { StandIn rules.now line.now.letters steps.now }
+    requires some { 0 < length steps.now }
+    ensures ok { OnOk result (string_bytes output.new ≡ string_bytes output.old
+        ++ output_line (printed_answer rules.now number (steps_of rules.now line.now.letters steps.now))) }
+{
+    let answer = print_derivation(alloc, rules, line, steps, number)?;
+    output.push_str(answer.as_str())?;
+    output.push_str("\n")?;
+    Ok(())
+}
+
+/// Appends the lines of the answers, numbered from 1.
+fn push_answers(
+    alloc: Global,
+    output: &mut String,
+    rules: &RuleSet,
+    line: &Line,
+    answers: &[Vec<Step>],
+) -> Result<(), Memory>
+    requires stand { All (λ steps. ArePrintable rules.now line.now.letters steps.items) answers.now }
+    requires limit { length answers.now ≤ 10000 }
+    ensures ok { OnOk result (string_bytes output.new ≡ string_bytes output.old
+        ++ printed_answers rules.now 1 (map (λ steps. steps_of rules.now line.now.letters steps.items) answers.now)) }
+{
+    let mut number = 1u64;
+    for steps in answers {
+        push_answer(alloc, output, rules, line, steps.as_slice(), number)?;
+        number += 1;
+    }
+    Ok(())
+}
+
+/// The last line of a page.
+fn rest_line(more: bool) -> &'static str
+    ensures { result.now ≡ printed_rest more }
+{
+    if more { "more\n" } else { "end\n" }
+}
+
+/// The lines of the page: an answer a line, then `more` or `end`.
+fn print_page(alloc: Global, rules: &RuleSet, line: &Line, found: &Found) -> Result<String, Memory>
+    requires stand { All (λ steps. ArePrintable rules.now line.now.letters steps.items) found.now.answers.items }
+    requires limit { length found.now.answers.items ≤ 10000 }
+    ensures ok { IfOk result (λ output. string_bytes output ≡ printed_page rules.now 1
+        (map (λ steps. steps_of rules.now line.now.letters steps.items) found.now.answers.items) found.now.more) }
+{
+    let mut output = String::new(alloc);
+    push_answers(alloc, &mut output, rules, line, found.answers.as_slice())?;
+    output.push_str(rest_line(found.more))?;
+    Ok(output)
+}
+
+/// What `segment` writes for the bytes of a lexicon and a text.
+pub(crate) fn segment(alloc: Global, bytes: &[u8], text: &str) -> Result<String, SegmentError>
+    requires { length text.now < 2 ^ 32 }
+    ensures ok { IfOk result (λ output. IsSegmentOutput bytes.now text.now (string_bytes output)) }
+    ensures not_built { result ≡ Err SegmentError.NotBuilt
+        → (IsThinText bytes.now → ⊥) ⊎ ((word : List ℕ) → IsPlainText text.now word → ⊥) }
+{
+    let lexicon = match read_thin(alloc, bytes) {
+        Ok(lexicon) => lexicon,
+        Err(ThinError::Memory) => return Err(SegmentError::Memory),
+        Err(ThinError::NotThin) => return Err(SegmentError::NotBuilt),
+    };
+    let line = line_of(alloc, text)?;
+    let found = first_page(alloc, &lexicon, &line, PAGE)?;
+    Ok(print_page(alloc, &lexicon.rules, &line, &found)?)
+}

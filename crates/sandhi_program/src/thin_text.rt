@@ -1,0 +1,89 @@
+ghost use Rattle.std.specs.Prelude.{◌≡◌, ◌≢◌, ℕ, List, [], ◌∷◌, ◌++◌, codes, IfOk, MatchOption, Err};
+ghost use Rattle.lexicon_definitions.specs.Lexicons.{Lexicon as LexiconValue};
+ghost use Rattle.source_definitions.specs.ThinTexts.{IsThinText, IsThinTextOf};
+ghost use Rattle.source_definitions.specs.ThinLines.{Contents as ContentsValue, head_text, lexicon_of as lexicon_value, text_telling, all_entries};
+ghost use Rattle.segmenter.specs.Forms.{HasForms, lists_of};
+ghost use Rattle.lexicon_definitions.specs.Lexicons.{IsRuleSet};
+ghost use Rattle.sandhi_program.specs.ThinReader.{IsReadAs, IsThinContents, rules_kept};
+
+mod contents;
+mod cutting;
+mod entry;
+mod error;
+mod leads;
+#[cfg(test)]
+mod tests;
+
+use contents::Contents;
+use cutting::{after, cut};
+use derivation::RuleSet;
+use entry::entry_of;
+pub(crate) use error::ThinError;
+use phoneme::Memory;
+use segmenter::Lexicon;
+use std::alloc::Global;
+
+/// The greatest length of a file, in bytes.
+const FILE_LIMIT: usize = 33_554_432;
+
+/// What follows the three first lines, which are the same in each thin text.
+fn after_head(text: &[u8]) -> Option<&[u8]>
+    ensures { MatchOption result ((rest : List ℕ) → text.now ≢ head_text ++ rest) (λ rest. text.now ≡ head_text ++ rest.now) }
+{
+    after(text, b"slx 1\nphase word\ngrammar word+\n")
+}
+
+/// What the lines behind the first three tell, from a plain pair on to the last line.
+fn read_contents(alloc: Global, text: &[u8]) -> Result<Contents, ThinError>
+    ensures ok { IfOk result (λ contents. (full : ContentsValue) × IsReadAs contents full × (text.now ≡ text_telling (all_entries full))) }
+    ensures not_thin { result ≡ Err ThinError.NotThin → (full : ContentsValue) → IsThinContents full → text.now ≢ text_telling (all_entries full) }
+{
+    let mut contents = Contents::new(alloc);
+    let mut rest = text;
+    while let Some((line, behind)) = cut(rest, b'\n') {
+        contents.add(alloc, entry_of(alloc, line)?)?;
+        rest = behind;
+    }
+    if rest.is_empty() && contents.ended {
+        Ok(contents)
+    } else {
+        Err(ThinError::NotThin)
+    }
+}
+
+/// The lexicon with these contents, of the one phase `word`.
+fn lexicon_of(alloc: Global, contents: Contents) -> Result<Lexicon, Memory>
+    requires { IsRuleSet (rules_kept contents) }
+    ensures rules { IfOk result (λ lexicon. lexicon.rules ≡ rules_kept contents) }
+    ensures forms { IfOk result (λ lexicon. lists_of lexicon ≡ contents.forms.items ∷ []) }
+{
+    let Contents {
+        plain,
+        rules,
+        leads: _,
+        forms,
+        ended: _,
+    } = contents;
+    let mut names = Vec::new(alloc);
+    names.push(String::from_str(alloc, "word")?)?;
+    let grammar = Vec::from_slice(alloc, b"word+")?;
+    let rules = RuleSet::new(alloc, names, grammar, plain, rules)?;
+    let mut lists = Vec::new(alloc);
+    lists.push(forms)?;
+    Ok(Lexicon { rules, lists })
+}
+
+/// The lexicon of a thin text. `NotThin` where the bytes are none. Time is linear in the bytes.
+pub(crate) fn read_thin(alloc: Global, bytes: &[u8]) -> Result<Lexicon, ThinError>
+    ensures ok { IfOk result (λ lexicon. (full : LexiconValue) × IsThinTextOf full bytes.now × HasForms lexicon full) }
+    ensures not_thin { result ≡ Err ThinError.NotThin → IsThinText bytes.now → ⊥ }
+{
+    if bytes.len() > FILE_LIMIT {
+        return Err(ThinError::NotThin);
+    }
+    let Some(text) = after_head(bytes) else {
+        return Err(ThinError::NotThin);
+    };
+    let contents = read_contents(alloc, text)?;
+    Ok(lexicon_of(alloc, contents)?)
+}

@@ -1,0 +1,36 @@
+ghost use Rattle.std.specs.Prelude.{◌≡◌};
+ghost use Rattle.sandhi_program.specs.declared.thin_text.error.ThinError.TheVariants.{Memory as ThinMemory};
+
+use phoneme::Memory;
+use std::alloc::{AllocError, AllocFailed};
+
+/// Why bytes gave no lexicon.
+#[derive(Clone, Copy, Debug, PartialEq, Eq)]
+pub(crate) enum ThinError {
+    NotThin,
+    Memory,
+}
+
+impl From<Memory> for ThinError {
+    ghost from_gives = { λ _ e. e ≡ ThinMemory };
+
+    fn from(_refused: Memory) -> ThinError {
+        ThinError::Memory
+    }
+}
+
+impl From<AllocError> for ThinError {
+    ghost from_gives = { λ _ e. e ≡ ThinMemory };
+
+    fn from(_refused: AllocError) -> ThinError {
+        ThinError::Memory
+    }
+}
+
+impl<T: Drop> From<AllocFailed<T>> for ThinError {
+    ghost from_gives = { λ _ e. e ≡ ThinMemory };
+
+    fn from(_refused: AllocFailed<T>) -> ThinError {
+        ThinError::Memory
+    }
+}
