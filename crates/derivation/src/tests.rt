@@ -133,11 +133,12 @@ fn answers_are_compared(rt: HostRuntime) {
             "{name}"
         );
     }
-    let elsewhere = Step {
-        at: 7,
-        lead: 2,
-        ..one
-    };
+}
+
+#[test]
+fn places_and_lengths_are_compared(rt: HostRuntime) {
+    let one = step(1, 0, 0, 3);
+    let elsewhere = step(1, 7, 2, 3);
     assert_eq!(rt;
         compare(&[elsewhere], &[one]),
         Ordering::Equal,
