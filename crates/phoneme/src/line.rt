@@ -2,7 +2,7 @@ use super::Word;
 use std::marker::Model;
 
 /// A line of text: 1 to 1,000 letters, and the places of its blanks. A blank at place `b` stands between the
-/// letters `b - 1` and `b`, counted from 0; the places rise and lie strictly inside the word.
+/// letters `b - 1` and `b`, counted from 0; the places rise and lie strictly inside the word (own).
 #[derive(Debug, Drop)]
 pub struct Line {
     pub letters: Word,

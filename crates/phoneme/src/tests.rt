@@ -41,6 +41,11 @@ fn words_grow_and_are_copied_and_compared(rt: HostRuntime) -> Result<(), Fail> {
     let front = word.copy(rt.alloc())?;
     word.push(letter(10)?)?;
     assert_eq!(rt; word.as_slice().len(), 2);
+    let mut longer = Word::from_slice(rt.alloc(), word.as_slice())?;
+    assert!(rt; longer.compare(&word) == Ordering::Equal);
+    longer.extend_from_slice(word.as_slice())?;
+    assert_eq!(rt; longer.as_slice().len(), 4);
+    assert!(rt; word.compare(&longer) == Ordering::Less);
     assert!(rt; empty.compare(&front) == Ordering::Less);
     assert!(rt; word.compare(&front) == Ordering::Greater);
     assert!(rt; word.compare(&word.copy(rt.alloc())?) == Ordering::Equal);

@@ -6,7 +6,7 @@ use std::alloc::Global;
 use std::cmp::Ordering;
 use std::marker::Model;
 
-/// A word: letters in the order in which they are spoken.
+/// A word: letters in the order in which they are spoken (after Huet 2005).
 #[derive(Debug, Drop)]
 pub struct Word {
     letters: Vec<Letter>,
@@ -33,12 +33,37 @@ impl Word {
         }
     }
 
+    /// The word with these letters.
+    pub fn from_slice(alloc: Global, letters: &[Letter]) -> Result<Word, Memory>
+        ensures ok { IfOk result (λ word. word ≡ letters.now) }
+    {
+        let mut word = Word::new(alloc);
+        word.extend_from_slice(letters)?;
+        Ok(word)
+    }
+
     /// Appends a letter. Refused only for want of memory, and then the word is as it was.
     pub fn push(&mut self, letter: Letter) -> Result<(), Memory>
         ensures ok { OnOk result (self.new ≡ self.old ++ letter ∷ []) }
         ensures unchanged { OnErr result (self.new ≡ self.old) }
     {
         self.letters.push(letter)?;
+        Ok(())
+    }
+
+    /// Appends letters. Refused only for want of memory, and then the word is as it was.
+    pub fn extend_from_slice(&mut self, letters: &[Letter]) -> Result<(), Memory>
+        ensures ok { OnOk result (self.new ≡ self.old ++ letters.now) }
+        ensures unchanged { OnErr result (self.new ≡ self.old) }
+    {
+        let before = self.letters.len();
+        self.letters.reserve(letters.len())?;
+        for letter in letters {
+            if self.push(*letter).is_err() {
+                self.letters.truncate(before);
+                return Err(Memory);
+            }
+        }
         Ok(())
     }
 
