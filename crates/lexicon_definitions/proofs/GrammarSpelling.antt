@@ -1,10 +1,9 @@
 -- What was read spells the levels that stand open, token by token: the items of a level one behind another, behind the
 -- sequences before the last `|`, behind the levels around them.
 use Rattle.std.proofs.Common.{◌≡◌, ◌≢◌, ℕ, List, [], ◌∷◌, ◌++◌, refl, sym, ap, ◌∙◌, append_assoc, subst}
-use Rattle.std.proofs.lemmas.List.{append-nil}
-use Rattle.lexicon_definitions.specs.Grammars.{Grammar, Name, Sequence, Either, AnyTimes, OnceOrMore, AtMostOnce}
-use Rattle.lexicon_definitions.specs.GrammarTexts.{Token, Word, Open, Close, Bar, Star, Plus, Question, Other, phase_named, Level, empty_level, sequence_tree, expression_tree, level_tree, with_item, with_newest, change_newest, after_close, after_token}
-use Rattle.lexicon_definitions.specs.GrammarSyntax.{IsExpression, IsSequence, IsItem, one_sequence, either, one_item, item_behind, name, bracketed, any_times, once_or_more, at_most_once}
+use Rattle.lexicon_definitions.specs.Grammars.{Grammar, Sequence, Either}
+use Rattle.lexicon_definitions.specs.GrammarTexts.{Token, Open, Close, Bar, Level, empty_level, sequence_tree, expression_tree, level_tree, with_item, with_newest, change_newest, after_close}
+use Rattle.lexicon_definitions.specs.GrammarSyntax.{IsExpression, IsSequence, IsItem, one_sequence, either, one_item, item_behind, bracketed}
 
 module _ (names : List (List ℕ)) where
   -- these tokens spell the items, the newest last

@@ -5,3 +5,4 @@ pub mod GrammarSteps
 pub mod GrammarStates
 pub mod GrammarPhases
 pub mod GrammarSpelling
+pub mod SpelledTokens

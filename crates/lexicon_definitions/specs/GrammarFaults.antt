@@ -1,4 +1,4 @@
--- Which texts are grammar texts over given names, and the first fault of one that is not (own).
+-- Which texts are grammar texts within the limits over given names, and the first fault of one that is not (own).
 use Rattle.std.specs.Prelude.{◌≡◌, ◌≢◌, ℕ, ◌+◌, ◌-◌, ◌<◌, ◌==◌, nat_le, nat_lt, ◌&&◌, ◌||◌, not, Bool, true, false, if◌then◌else◌, Option, Some, None, List, [], ◌∷◌, length, All, AllPairs}
 use Rattle.std.specs.List.{list_any}
 use Rattle.std.specs.Str.{bytes_eq}
@@ -95,8 +95,8 @@ HasMoreStates grammar count =
     (states : List State) × (count < length states) × AllPairs (λ left right. left ≢ right) states
     × All (IsStateOf grammar) states
 
--- how a text fails to be a grammar text: too many bytes, a byte that may not stand, a name of no phase, too many names,
--- too many states
+-- how a text fails to be a grammar text within the limits: too many bytes, a byte that may not stand, a name of no phase,
+-- too many names, too many states
 pub data Fault : Type 0 where
   Long : Fault
   Syntax : (at : ℕ) → Fault
@@ -123,6 +123,7 @@ abbrev pub IsFirstFault : List (List ℕ) → List ℕ → Fault → Type 0
 IsFirstFault names text States = (fault_before_states names text ≡ None) × HasMoreStates (grammar_of names text) 32
 IsFirstFault names text fault = fault_before_states names text ≡ Some fault
 
--- a grammar text over these names of phases is a text without a fault
-abbrev pub IsGrammarText : List (List ℕ) → List ℕ → Type 0
-IsGrammarText names text = (fault : Fault) → IsFirstFault names text fault → ⊥
+-- the text is a grammar text within the limits over these names of phases: it has no fault of any kind; a grammar text as
+-- such has no syntax fault and no unknown name, and may be too large
+abbrev pub IsGrammarTextWithinLimits : List (List ℕ) → List ℕ → Type 0
+IsGrammarTextWithinLimits names text = (fault : Fault) → IsFirstFault names text fault → ⊥

@@ -65,7 +65,8 @@ IsPhaseName [] = ⊥
 IsPhaseName (byte ∷ bytes) =
     (is_small_letter byte ≡ true) × (length bytes ≤ 15) × (list_all is_name_byte bytes ≡ true)
 
--- the text is a grammar text over these names: no byte breaks the syntax, and each name in it is one of them
+-- the text is a grammar text over these names: no byte breaks the syntax, and each name in it is one of them; there is no
+-- limit on its bytes, names and states
 abbrev pub IsGrammarOver : List (List ℕ) → List ℕ → Type 0
 IsGrammarOver names text = (syntax_fault text ≡ None) × (first_unknown names (names_from 0 text) ≡ None)
 

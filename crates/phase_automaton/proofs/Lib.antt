@@ -15,3 +15,4 @@ pub mod Recognition
 pub mod StateCounts
 pub mod Reading
 pub mod Spelling
+pub mod SpelledTexts

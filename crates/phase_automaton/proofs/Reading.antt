@@ -4,7 +4,7 @@ use Rattle.std.specs.Prelude.{IfOk, OnOk, IfErr}
 use Rattle.std.proofs.lemmas.Bool.{le-ltb}
 use Rattle.std.proofs.lemmas.List.{length-map}
 use Rattle.lexicon_definitions.specs.GrammarTexts.{grammar_of}
-use Rattle.lexicon_definitions.specs.GrammarFaults.{Fault, States, Long, Syntax, UnknownPhase, Places, first_fault_of, fault_before_states, syntax_fault, first_unknown, names_from, HasMoreStates, IsFirstFault, IsGrammarText}
+use Rattle.lexicon_definitions.specs.GrammarFaults.{Fault, States, Long, Syntax, UnknownPhase, Places, first_fault_of, fault_before_states, syntax_fault, first_unknown, names_from, HasMoreStates, IsFirstFault, IsGrammarTextWithinLimits}
 use Rattle.lexicon_definitions.proofs.GrammarPhases.{phases_below}
 use Rattle.phase_automaton.specs.declared.fault.GrammarError.{GrammarError}
 use Rattle.phase_automaton.specs.declared.place_set.PlaceSet.{PlaceSet}
@@ -56,11 +56,11 @@ module _ (names : List (List ℕ)) (text : List ℕ) (some : 0 < length names) (
     without_faults States h few = few h.1
 
     pub read_text : IfOk result (λ table. IsSubsetTable places ends table) → IfOk result (λ table. table.phases ≡ length names)
-        → OnOk result (IsGrammarText names text)
+        → OnOk result (IsGrammarTextWithinLimits names text)
     read_text = go result
       where
         go : (r : Result Table GrammarError) → IfOk r (λ table. IsSubsetTable places ends table) → IfOk r (λ table. table.phases ≡ length names)
-            → OnOk r (IsGrammarText names text)
+            → OnOk r (IsGrammarTextWithinLimits names text)
         go (Err e) h k = tt
         go (Ok table) h k = λ fault f.
             let recognized = recognizes places ends (grammar_of names text) table net h

@@ -52,11 +52,11 @@ pub data Symbol : ℕ → Type 0 where
   plus : Symbol 43
   question : Symbol 63
 
-or_cases : (a b : Bool) → (a || b) ≡ true → (a ≡ true) ⊎ (b ≡ true)
+pub or_cases : (a b : Bool) → (a || b) ≡ true → (a ≡ true) ⊎ (b ≡ true)
 or_cases true b e = inl refl
 or_cases false b e = inr e
 
-and_both : (a b : Bool) → (a && b) ≡ true → (a ≡ true) × (b ≡ true)
+pub and_both : (a b : Bool) → (a && b) ≡ true → (a ≡ true) × (b ≡ true)
 and_both true b e = (refl, e)
 and_both false b e = cc
 
@@ -68,10 +68,10 @@ and_false : (a b : Bool) → a ≡ false → (a && b) ≡ false
 and_false true b e = cc
 and_false false b e = refl
 
-as_symbol : (known byte : ℕ) → (byte == known) ≡ true → Symbol known → Symbol byte
+pub as_symbol : (known byte : ℕ) → (byte == known) ≡ true → Symbol known → Symbol byte
 as_symbol known byte e s = subst (λ b. Symbol b) (sym (eqb-true byte known e)) s
 
-following : (walk : Walk) (byte : ℕ) → may_follow_item walk byte ≡ true → Symbol byte
+pub following : (walk : Walk) (byte : ℕ) → may_follow_item walk byte ≡ true → Symbol byte
 following walk byte h =
     elim (or_cases (byte == 124 || byte == 42 || byte == 43 || byte == 63) (byte == 41 && nat_lt 0 walk.open_brackets) (and_both (not walk.needs_item) _ h).1) [
       | inl a ↦ elim (or_cases (byte == 124 || byte == 42 || byte == 43) (byte == 63) a) [
@@ -110,7 +110,7 @@ symbol_from walk byte n m =
     ]
 
 -- ---- one symbol more
-not_is_true : (b : Bool) → not b ≡ true → b ≡ false
+pub not_is_true : (b : Bool) → not b ≡ true → b ≡ false
 not_is_true true e = cc
 not_is_true false e = refl
 
@@ -195,7 +195,7 @@ name_walk walk byte e =
     cond_true (is_name_byte byte) (record { open_brackets = walk.open_brackets; needs_item = false; name_length = walk.name_length + 1 })
     (cond (is_blank byte) (record { open_brackets = walk.open_brackets; needs_item = walk.needs_item; name_length = 0 }) (after_symbol walk byte)) e
 
-longer : (n : ℕ) → nat_lt 0 (n + 1) ≡ true
+pub longer : (n : ℕ) → nat_lt 0 (n + 1) ≡ true
 longer n = lt-ltb 0 (n + 1) (omega arith)
 
 pub within_reading : (names : List (List ℕ)) (all places : List Place) (reader : Reader) (now : Bool) (byte : ℕ)

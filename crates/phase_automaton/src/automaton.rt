@@ -1,4 +1,4 @@
-ghost use Rattle.std.specs.Prelude.{◌≡◌, ℕ, ◌*◌, ◌<◌, ◌≤◌, IsTrue, ◌↔◌, is_some, length, List, Option, Bool};
+ghost use Rattle.std.specs.Prelude.{◌≡◌, ◌*◌, ◌<◌, IsTrue, ◌↔◌, is_some, length};
 ghost use Rattle.phase_automaton.specs.Automata.{start_state, next_state, is_accepting, IsStateIn, IsTable};
 
 use super::state::State;
@@ -55,6 +55,7 @@ impl Automaton {
         ensures state { result ≡ start_state }
         ensures within { IsStateIn self.now result }
     {
+        // The proof knows that a table has a state only of a table that is read.
         let _accepting = &self.accepting;
         State::numbered(0)
     }

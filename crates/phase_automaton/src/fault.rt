@@ -1,11 +1,11 @@
 ghost use Rattle.std.specs.Prelude.{◌≡◌};
-ghost use Rattle.phase_automaton.specs.declared.fault.GrammarError.TheVariants.{Memory as NoMemory};
+ghost use Rattle.phase_automaton.specs.declared.fault.GrammarError.TheVariants.{Fault as ErrorFault, Memory as ErrorMemory};
 
 use phoneme::Memory;
 use std::alloc::{AllocError, AllocFailed};
 use thiserror::Error;
 
-/// Why a text is no grammar text. Places are counted in bytes from 0.
+/// Why a text is no grammar text within the limits. Places are counted in bytes from 0.
 #[derive(Clone, Copy, Debug, PartialEq, Eq, Error)]
 pub enum GrammarFault {
     #[error("more than 1,024 bytes")]
@@ -29,8 +29,16 @@ pub enum GrammarError {
     Memory,
 }
 
+impl From<GrammarFault> for GrammarError {
+    ghost from_gives = { λ fault e. e ≡ ErrorFault fault };
+
+    fn from(fault: GrammarFault) -> GrammarError {
+        GrammarError::Fault(fault)
+    }
+}
+
 impl From<Memory> for GrammarError {
-    ghost from_gives = { λ _ e. e ≡ NoMemory };
+    ghost from_gives = { λ _ e. e ≡ ErrorMemory };
 
     fn from(_refused: Memory) -> GrammarError {
         GrammarError::Memory
@@ -38,7 +46,7 @@ impl From<Memory> for GrammarError {
 }
 
 impl From<AllocError> for GrammarError {
-    ghost from_gives = { λ _ e. e ≡ NoMemory };
+    ghost from_gives = { λ _ e. e ≡ ErrorMemory };
 
     fn from(_refused: AllocError) -> GrammarError {
         GrammarError::Memory
@@ -46,7 +54,7 @@ impl From<AllocError> for GrammarError {
 }
 
 impl<T: Drop> From<AllocFailed<T>> for GrammarError {
-    ghost from_gives = { λ _ e. e ≡ NoMemory };
+    ghost from_gives = { λ _ e. e ≡ ErrorMemory };
 
     fn from(_refused: AllocFailed<T>) -> GrammarError {
         GrammarError::Memory

@@ -20,6 +20,6 @@ mod walk;
 
 pub use automaton::Automaton;
 pub use fault::{GrammarError, GrammarFault};
-pub use laws::grammar_text_spells_its_tree;
+pub use laws::{grammar_text_spells_its_tree, spelled_texts_have_no_fault};
 pub use read::read_grammar;
 pub use state::State;

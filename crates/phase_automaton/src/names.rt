@@ -58,7 +58,7 @@ pub(crate) fn read_places(
         in_name = is_name_byte(*byte);
         if in_name && !goes_on {
             let Some(phase) = phase_of(names, first_name(&text[at..])) else {
-                return Err(GrammarError::Fault(GrammarFault::UnknownPhase { at: at as u32 }));
+                return Err(GrammarFault::UnknownPhase { at: at as u32 }.into());
             };
             places.push(Place::of_phase(phase))?;
         }

@@ -2,7 +2,6 @@ ghost use Rattle.std.specs.Prelude.{◌≡◌, ◌≢◌, ℕ, ◌+◌, ◌<◌,
 ghost use Rattle.lexicon_definitions.specs.Grammars.{Name};
 ghost use Rattle.lexicon_definitions.specs.GrammarTexts.{Level as OpenLevel, empty_level, level_tree, symbol_of, after_token, after_close, with_item as with_item_of};
 ghost use Rattle.phase_automaton.specs.declared.place.Place.{Place};
-ghost use Rattle.phase_automaton.specs.PlaceSets.{HasPlace};
 ghost use Rattle.phase_automaton.specs.Pieces.{place_at, Follows};
 ghost use Rattle.phase_automaton.specs.Readers.{IsReader, CanRead, IsWhole};
 

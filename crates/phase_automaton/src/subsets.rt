@@ -1,4 +1,4 @@
-ghost use Rattle.std.specs.Prelude.{◌≡◌, ◌≢◌, ℕ, ◌+◌, ◌*◌, ◌<◌, ◌≤◌, ◌↔◌, MatchOption, IfOk, OnOk, IfErr, List, length, vec_len};
+ghost use Rattle.std.specs.Prelude.{◌≡◌, ◌≢◌, ℕ, ◌<◌, ◌≤◌, ◌↔◌, MatchOption, IfOk, OnOk, IfErr, length, vec_len};
 ghost use Rattle.lexicon_definitions.specs.GrammarFaults.{States as TooManyStates};
 ghost use Rattle.phase_automaton.specs.Faults.{IfFault};
 ghost use Rattle.phase_automaton.specs.PlaceSets.{HasPlace};
@@ -12,7 +12,7 @@ use super::place_set::PlaceSet;
 use super::state::State;
 use std::alloc::Global;
 
-/// The dead state is apart from these.
+/// The most numbered states; the dead state is not counted.
 const MOST_STATES: usize = 32;
 
 /// The places that follow some place of the set.
@@ -59,10 +59,10 @@ fn find_set(sets: &[PlaceSet], set: PlaceSet) -> Option<usize>
 /// The state of a set: the dead one for the empty set, and otherwise its number among the sets, to which it is added where
 /// it is new. Refuses a 33rd set.
 fn state_for(sets: &mut Vec<PlaceSet>, set: PlaceSet) -> Result<State, GrammarError>
-    requires { vec_len sets.old ≤ 32 }
+    requires { vec_len sets.old ≤ MOST_STATES }
     ensures ok { IfOk result (λ state. FindsState sets.old.items sets.new.items set state) }
-    ensures few { vec_len sets.new ≤ 32 }
-    ensures fault { IfErr result (λ e. IfFault e (λ fault. (fault ≡ TooManyStates) × (vec_len sets.old ≡ 32)
+    ensures few { vec_len sets.new ≤ MOST_STATES }
+    ensures fault { IfErr result (λ e. IfFault e (λ fault. (fault ≡ TooManyStates) × (vec_len sets.old ≡ MOST_STATES)
         × IsNewSet sets.old.items set)) }
 {
     if set.is_empty() {
@@ -73,7 +73,7 @@ fn state_for(sets: &mut Vec<PlaceSet>, set: PlaceSet) -> Result<State, GrammarEr
     }
     let number = sets.len();
     if number == MOST_STATES {
-        return Err(GrammarError::Fault(GrammarFault::States));
+        return Err(GrammarFault::States.into());
     }
     sets.push(set)?;
     Ok(State::numbered(number as u8))

@@ -2,7 +2,6 @@ ghost use Rattle.std.specs.Prelude.{◌≡◌, ◌<◌, ◌≤◌, length, vec_l
 
 use super::{Automaton, GrammarError, GrammarFault, State, read_grammar};
 use std::alloc::Global;
-use std::process::Abort;
 use std::test::Fail;
 
 fn make_names(alloc: Global, names: &[&str]) -> Result<Vec<String>, Fail>

@@ -1,5 +1,5 @@
-ghost use Rattle.std.specs.Prelude.{◌≡◌, ℕ, ◌+◌, ◌<◌, ◌≤◌, length, Option};
-ghost use Rattle.lexicon_definitions.specs.GrammarTexts.{is_name_byte as is_name_byte_of, is_blank as is_blank_of};
+ghost use Rattle.std.specs.Prelude.{◌≡◌, ◌+◌, ◌^◌, ◌<◌, ◌≤◌, length, Option};
+ghost use Rattle.lexicon_definitions.specs.GrammarTexts.{is_name_byte as is_name_byte_of};
 ghost use Rattle.lexicon_definitions.specs.GrammarFaults.{may_follow_item as follows_item, may_stand as stands, after_symbol as behind_symbol, after_byte as behind_byte, syntax_fault as syntax_fault_of};
 ghost use Rattle.phase_automaton.specs.Walks.{walk_of};
 
@@ -42,7 +42,7 @@ impl Walk {
     }
 
     fn after_symbol(self, byte: u8) -> Walk
-        requires { self.open_brackets < 2000 }
+        requires { self.open_brackets + 1 < 2 ^ 32 }
         ensures { walk_of result ≡ behind_symbol (walk_of self) byte }
     {
         Walk {
@@ -57,8 +57,8 @@ impl Walk {
     }
 
     fn after(self, byte: u8) -> Walk
-        requires brackets { self.open_brackets < 2000 }
-        requires name { self.name_length < 2000 }
+        requires brackets { self.open_brackets + 1 < 2 ^ 32 }
+        requires name { self.name_length + 1 < 2 ^ 32 }
         ensures { walk_of result ≡ behind_byte (walk_of self) byte }
     {
         if is_name_byte(byte) {

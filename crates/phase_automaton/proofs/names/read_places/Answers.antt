@@ -32,7 +32,7 @@ returns-in_default-clause-fault c =
     let unknown = unknown_begins names (first_unknown names (names_after c.loop-at.in_name at rest)) at (get_or text at 0) rest (drop (at + 1) text) (drop_more text at 0 (omega arith))
     (sym c.is_name_byte-in_name.ensures ∙ c.if-in_name.true) (sym c.in_default.is ∙ (c.phase_of.ensures ∙ ap (λ b. position (bytes_eq b) names) name))
     (ap (λ b. first_unknown names (names_after b at rest)) (sym c.if-not-goes_on.true)) in
-    ap (option_map {T = ℕ} {U = Fault} (λ x. UnknownPhase x)) (sym c.loop-at.invariant.known ∙ unknown)
+    rw c.into.ensures (ap (option_map {T = ℕ} {U = Fault} (λ x. UnknownPhase x)) (sym c.loop-at.invariant.known ∙ unknown))
 
 pub loop-at-preserved : goal.loop-at-preserved
 loop-at-preserved c =
