@@ -4,6 +4,7 @@ pub mod Fronts
 pub mod ItemOrder
 pub mod KeyFronts
 pub mod KeyLists
+pub mod KeyNumbers
 pub mod Listings
 pub mod LocalBlanks
 pub mod LocalChoices

@@ -1,8 +1,18 @@
--- Bounds on the steps of a search and of its chart (own).
-use Rattle.std.specs.Prelude.{◌≡◌, ℕ, ◌+◌, ◌*◌, ◌≤◌, ◌⊎◌, ◌↔◌, List, ◌++◌, length, Contains}
+-- Bounds on the answers of a line, and on the steps of a search and of its chart (own).
+use Rattle.std.specs.Prelude.{◌≡◌, ℕ, ◌+◌, ◌*◌, ◌^◌, ◌≤◌, ◌⊎◌, ◌↔◌, List, ◌++◌, length, Contains}
 use Rattle.std.specs.List.Sorted.{IsStrictlyIncreasing}
 use Rattle.lexicon_definitions.specs.Lexicons.{Lexicon, rule_of, IsForm}
 use Rattle.segmentation_definitions.specs.Derivations.{IsRuleNumber}
+
+-- how many keys there are for a step over this many letters: the phases, times how many of the letters it may take, times
+-- the rules and no change
+abbrev pub key_count : Lexicon → ℕ → ℕ
+key_count lexicon letters = length lexicon.phases * (letters + 1) * (length lexicon.rules.rules + 1)
+
+-- no line with this many letters has more answers: an answer has at most twice as many keys, so at each of these places
+-- there stands one of the keys or none
+abbrev pub answer_bound : Lexicon → ℕ → ℕ
+answer_bound lexicon letters = (key_count lexicon letters + 1) ^ (2 * letters)
 
 -- at the front of a form of the phase the rule may be chosen: its u leads from there to the end of a form
 abbrev pub IsChoiceAt : Lexicon → ℕ → List ℕ → ℕ → Type 0

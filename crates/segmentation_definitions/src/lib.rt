@@ -2,6 +2,7 @@
 #![tactic(auto)]
 
 mod configurations;
+mod finite;
 mod keys;
 mod local_tests;
 mod orders;
@@ -10,6 +11,7 @@ mod places;
 mod worked_cases;
 
 pub use configurations::same_configuration_same_rests;
+pub use finite::answers_are_finitely_many;
 pub use keys::{answers_are_ordered, keys_determine_answers};
 pub use local_tests::{blanks_are_local, choices_are_local};
 pub use orders::items_are_ordered;

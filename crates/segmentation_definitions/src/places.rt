@@ -6,7 +6,7 @@ ghost use Rattle.segmentation_definitions.specs.Items.{places_of};
 ghost use Rattle.segmentation_definitions.specs.Listings.{keys_of};
 
 /// Places rise strictly along every list of steps that derives a word, and lie from 1 to twice the number of its letters.
-/// So there are at most as many steps; and since each key is bounded, a word has finitely many answers.
+/// So there are at most as many steps. Each key has a phase and a rule of the lexicon, and takes no more than all letters.
 pub fn places_rise()
     ensures rising { (lexicon : Lexicon) (word : List ℕ) (steps : List Step) → IsLexicon lexicon → Derives lexicon steps word
         → IsStrictlyIncreasing (places_of lexicon.rules steps) }
