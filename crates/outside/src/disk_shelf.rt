@@ -12,8 +12,9 @@ use std::rt::Files;
 /// The greatest number of bytes that one read of a file asks for.
 const PIECE: usize = 65536;
 
-/// The files of the machine as a shelf. It doesn't tell them, so it never answers `Missing`: a file that is not
-/// there is a failed read. Contracts see it as its counts of faults.
+/// The files of the machine as a shelf, by their paths. It doesn't tell them, so it never answers `Missing`: a file
+/// that is not there is a failed read, as each `Err` of the machine is. A failed write may leave a part of the file.
+/// Contracts see it as its counts of faults.
 #[derive(Drop)]
 pub struct DiskShelf<'a, R> {
     rt: &'a R,
@@ -33,7 +34,7 @@ impl<'a, R> Model for DiskShelf<'a, R> {
 }
 
 impl<'a, R: Files> DiskShelf<'a, R> {
-    /// The files that the runtime reaches.
+    /// The files that the runtime reaches, with no failed read or write so far.
     pub fn new(rt: &'a R) -> DiskShelf<'a, R>
         ensures { result ≡ record { failed_reads = 0; failed_writes = 0 } }
     {
@@ -71,7 +72,7 @@ impl<'a, R: Files> Shelf for DiskShelf<'a, R> {
     }
 }
 
-/// The first `most` bytes of the file.
+/// The first `most` bytes of the file, all that it has where they are fewer.
 fn read_file<R: Files>(
     rt: &R,
     alloc: Global,

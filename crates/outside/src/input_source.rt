@@ -4,7 +4,8 @@ use super::{Failed, Source};
 use std::io::{Input, Read};
 use std::marker::Model;
 
-/// Standard input as a source. It doesn't tell the bytes left. Contracts see it as its count of faults.
+/// Standard input as a source. It doesn't tell the bytes left, and each `Err` of the input is a fault. Contracts see
+/// it as its count of faults.
 #[derive(Drop)]
 pub struct InputSource<R> {
     reader: R,
@@ -22,7 +23,7 @@ impl<R> Model for InputSource<R> {
 }
 
 impl<R> InputSource<R> {
-    /// The standard input of the process.
+    /// The standard input that the runtime gives, with no fault so far.
     pub fn new<I: Input<Reader = R>>(rt: &I) -> InputSource<R>
         ensures { result ≡ 0 }
     {

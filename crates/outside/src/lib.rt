@@ -1,5 +1,5 @@
-//! The outside as the program sees it: files, input, output and the gate before a piece of work, as traits with
-//! counts of faults; devices in memory; and the adapters over real files and streams.
+//! The outside as the program sees it: files, input and output as traits with counts of faults; the gate before a
+//! piece of work, of which nothing is claimed; devices in memory; and the adapters over real files and streams.
 #![tactic(auto)]
 
 mod disk_shelf;

@@ -12,8 +12,8 @@ use std::alloc::Global;
 use std::collections::BTreeMap;
 use std::marker::Model;
 
-/// A shelf in memory, which tells its files and fails at the calls that it is given. Reads and writes are counted
-/// together.
+/// A shelf in memory, which tells its files and fails at the calls that it is given, and at no other. A failed write
+/// changes no file.
 #[derive(Debug, Drop)]
 pub struct MemoryShelf {
     alloc: Global,
@@ -46,8 +46,8 @@ impl Model for MemoryShelf {
 }
 
 impl MemoryShelf {
-    /// A shelf without files. `failing` has the numbers of the calls that are to fail, counted from 1; with none no
-    /// call fails.
+    /// A shelf without files. `failing` has the numbers of the calls that are to fail: reads and writes together,
+    /// counted from 1, and all after number 2^64 - 1 have that number too.
     pub fn new(alloc: Global, failing: Vec<u64>) -> MemoryShelf
         ensures { result ≡ record {
           files = no_files;
@@ -66,7 +66,8 @@ impl MemoryShelf {
         }
     }
 
-    /// Puts the bytes under the name. No call of the device.
+    /// Puts the bytes under the name, in place of what was there. No call of the device. It refuses for want of
+    /// memory alone, and then changes nothing.
     pub fn put(&mut self, name: &str, bytes: &[u8]) -> Result<(), Memory>
         ensures ok { OnOk result (self.new ≡ record self.old {
           files = with_file self.old.files name.now bytes.now;

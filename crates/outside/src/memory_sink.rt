@@ -8,7 +8,8 @@ use super::{Sink, WriteError};
 use std::alloc::Global;
 use std::marker::Model;
 
-/// A sink in memory, which tells the bytes written and fails at the calls that it is given.
+/// A sink in memory, which tells the bytes written and fails at the calls that it is given, and at no other but for
+/// want of memory.
 #[derive(Debug, Drop)]
 pub struct MemorySink {
     written: Vec<u8>,
@@ -35,8 +36,8 @@ impl Model for MemorySink {
 }
 
 impl MemorySink {
-    /// An empty sink that takes at most `piece` bytes a call. `failing` has the numbers of the calls that are to
-    /// fail, counted from 1; with none no call fails.
+    /// An empty sink that takes at most `piece` bytes a call, 1 at least. `failing` has the numbers of the calls that
+    /// are to fail, counted from 1, and all after number 2^64 - 1 have that number too.
     pub fn new(alloc: Global, piece: usize, failing: Vec<u64>) -> MemorySink
         requires { 0 < piece }
         ensures { result ≡ record {

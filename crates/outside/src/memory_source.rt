@@ -6,7 +6,7 @@ use super::schedule::Schedule;
 use super::{Failed, Source};
 use std::marker::Model;
 
-/// A source in memory, which tells the bytes left and fails at the calls that it is given.
+/// A source in memory, which tells the bytes left and fails at the calls that it is given, and at no other.
 #[derive(Debug, Drop)]
 pub struct MemorySource {
     bytes: Vec<u8>,
@@ -34,8 +34,8 @@ impl Model for MemorySource {
 }
 
 impl MemorySource {
-    /// A source of these bytes that gives at most `piece` of them a call. `failing` has the numbers of the calls
-    /// that are to fail, counted from 1; with none no call fails.
+    /// A source of these bytes that gives at most `piece` of them a call, 1 at least. `failing` has the numbers of
+    /// the calls that are to fail, counted from 1, and all after number 2^64 - 1 have that number too.
     pub fn new(bytes: Vec<u8>, piece: usize, failing: Vec<u64>) -> MemorySource
         requires { 0 < piece }
         ensures { result ≡ record {

@@ -22,7 +22,7 @@ impl<'a, P> Model for OutputSink<'a, P> {
 }
 
 impl<'a, P: Print> OutputSink<'a, P> {
-    /// The standard output of the process.
+    /// The standard output that the runtime gives, with no fault so far.
     pub fn new(rt: &'a P) -> OutputSink<'a, P>
         ensures { result ≡ 0 }
     {

@@ -43,7 +43,7 @@ impl From<AllocError> for ShelfError {
 }
 
 /// Files by name. Whether a shelf tells its files is fixed. Failed reads and failed writes are counted apart; a
-/// count never falls, is at most 2^64 - 1, and rises only where a call fails.
+/// count never falls and rises only where a call fails. It stops at 2^64 - 1, and there counts as having risen.
 pub trait Shelf {
     /// The files, where the shelf tells them.
     ghost files: { Self → Option Files };
@@ -55,7 +55,8 @@ pub trait Shelf {
     ghost failed_writes: { Self → ℕ };
 
     /// The first `most` bytes of the file, all of them where they are fewer. `Missing` only where the shelf tells
-    /// its files and has none of this name, `Failed` only where the count of failed reads rose.
+    /// its files and has none of this name, `Failed` only where the count of failed reads rose, `Memory` for want
+    /// of it. The files stay.
     fn read(&mut self, alloc: Global, name: &str, most: usize) -> Result<Vec<u8>, ShelfError>
         ensures value { IfOk result (λ bytes. AreFirstBytes (files self.old) name.now most bytes.items) }
         ensures most { IfOk result (λ bytes. vec_len bytes ≤ most) }
@@ -69,8 +70,9 @@ pub trait Shelf {
         ensures limit { failed_reads self.new ≤ 2 ^ 64 - 1 }
         ensures writes { failed_writes self.new ≡ failed_writes self.old };
 
-    /// Puts the bytes under the name. After an error nothing is said of this name, and all other files stay.
-    /// `Failed` only where the count of failed writes rose.
+    /// Puts the bytes under the name, in place of what was there. After an error nothing is said of this name, and
+    /// all other files stay. `Failed` only where the count of failed writes rose, `Memory` for a shelf that grows
+    /// in memory.
     fn write(&mut self, name: &str, bytes: &[u8]) -> Result<(), WriteError>
         ensures ok { OnOk result (files self.new ≡ told_with (files self.old) name.now bytes.now) }
         ensures others { OnErr result

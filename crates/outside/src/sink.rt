@@ -8,7 +8,7 @@ use std::alloc::AllocError;
 use std::error::Error;
 use std::fmt;
 
-/// Why a write of a shelf or of a sink took no bytes.
+/// Why a write of a shelf or of a sink failed. A sink then took nothing; of the shelf's file nothing is said.
 #[derive(Clone, Copy, Debug, PartialEq, Eq)]
 pub enum WriteError {
     /// The device failed, and counted it.
@@ -49,7 +49,7 @@ impl From<Memory> for WriteError {
 }
 
 /// Bytes that go out in order. Whether a sink tells the bytes written is fixed. Failed writes are counted; the
-/// count never falls, is at most 2^64 - 1, and rises only where a write fails.
+/// count never falls and rises only where a write fails. It stops at 2^64 - 1, and there counts as having risen.
 pub trait Sink {
     /// The bytes written so far, where the sink tells them.
     ghost written: { Self → Option (List ℕ) };
@@ -57,8 +57,8 @@ pub trait Sink {
     /// How many writes have failed.
     ghost faults: { Self → ℕ };
 
-    /// Takes the first bytes, one at least, and answers how many. `Failed` only where the count of faults rose; an
-    /// error takes nothing.
+    /// Takes the first of the bytes, of which there is one at least, and answers how many, from 1 on. `Failed` only
+    /// where the count of faults rose, `Memory` for a sink that grows in memory; an error takes nothing.
     fn write(&mut self, bytes: &[u8]) -> Result<usize, WriteError>
         requires { 0 < length bytes.now }
         ensures some { IfOk result (λ n. 0 < n) }
@@ -73,8 +73,9 @@ pub trait Sink {
         ensures limit { faults self.new ≤ 2 ^ 64 - 1 };
 }
 
-/// Writes all the bytes, in as many calls as the sink takes. After an error the sink has taken a prefix of them.
-/// `Failed` only where the sink's count of faults rose.
+/// Writes all the bytes, in as many calls as the sink takes; none where there are no bytes. It stops at the sink's
+/// first error, which it answers: the sink has then taken a prefix of them. `Failed` only where its count of faults
+/// rose.
 pub fn write_all<O: Sink>(out: &mut O, bytes: &[u8]) -> Result<(), WriteError>
     ensures ok { OnOk result (O.written out.new ≡ bytes_after (O.written out.old) bytes.now) }
     ensures prefix { OnErr result (GrowsByPrefix (O.written out.old) (O.written out.new) bytes.now) }

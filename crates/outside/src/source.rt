@@ -18,7 +18,7 @@ impl fmt::Display for Failed {
 impl Error for Failed {}
 
 /// Bytes that come in order. Whether a source tells the bytes left is fixed. Failed reads are counted; the count
-/// never falls, is at most 2^64 - 1, and rises only where a read fails.
+/// never falls and rises only where a read fails. It stops at 2^64 - 1, and there counts as having risen.
 pub trait Source {
     /// The bytes left, where the source tells them.
     ghost left: { Self → Option (List ℕ) };
@@ -26,8 +26,8 @@ pub trait Source {
     /// How many reads have failed.
     ghost faults: { Self → ℕ };
 
-    /// Puts the next bytes at the front of `buf` and answers how many; 0 is the end of input. `Failed` only where
-    /// the count of faults rose, and takes nothing.
+    /// Puts the next bytes at the front of `buf`, which has room for one at least, and answers how many; 0 is the
+    /// end of input. `Failed` only where the count of faults rose, and takes nothing.
     fn read(&mut self, buf: &mut [u8]) -> Result<usize, Failed>
         requires { 0 < length buf.old }
         ensures bound { IfOk result (λ n. n ≤ length buf.new) }

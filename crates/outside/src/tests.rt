@@ -1,6 +1,12 @@
+mod scripted_input;
+mod scripted_printer;
+
 use super::*;
 use phoneme::Memory;
+use scripted_input::ScriptedInput;
+use scripted_printer::ScriptedPrinter;
 use std::alloc::Global;
+use std::fs;
 use std::test::Fail;
 
 fn read_of<H: Shelf>(
@@ -16,13 +22,9 @@ fn write_of<H: Shelf>(shelf: &mut H, name: &str, bytes: &[u8]) -> Result<(), Wri
     shelf.write(name, bytes)
 }
 
-fn next_of<I: Source>(source: &mut I) -> Result<usize, Failed> {
-    let mut buf = [0u8; 4];
-    source.read(&mut buf)
-}
-
-fn shared<G: Gate + Sync>(gate: &G) {
-    gate.pass(0);
+fn next_of<'b, I: Source>(source: &mut I, buf: &'b mut [u8; 4]) -> Result<&'b [u8], Failed> {
+    let count = source.read(buf)?;
+    Ok(&buf[..count])
 }
 
 fn as_text(found: &Result<Vec<u8>, ShelfError>) -> Result<&[u8], ShelfError> {
@@ -82,8 +84,15 @@ fn a_device_without_failing_calls(rt: HostRuntime) -> Result<(), Fail> {
 fn a_source_and_a_sink_in_pieces(rt: HostRuntime) -> Result<(), Fail> {
     let alloc = rt.alloc();
     let mut source = MemorySource::new(b"devadatta".to_vec(alloc)?, 3, vec![in alloc; 2]?);
-    for wanted in [Ok(3), Err(Failed), Ok(3), Ok(3), Ok(0), Ok(0)] {
-        assert_eq!(rt; next_of(&mut source), wanted);
+    for wanted in [
+        Ok(b"dev".as_slice()),
+        Err(Failed),
+        Ok(b"ada".as_slice()),
+        Ok(b"tta".as_slice()),
+        Ok(b"".as_slice()),
+        Ok(b"".as_slice()),
+    ] {
+        assert_eq!(rt; next_of(&mut source, &mut [0; 4]), wanted);
     }
 
     let mut sink = MemorySink::new(alloc, 3, vec![in alloc; 3]?);
@@ -92,36 +101,76 @@ fn a_source_and_a_sink_in_pieces(rt: HostRuntime) -> Result<(), Fail> {
     assert_eq!(rt; write_all(&mut sink, b"tta"), Ok(()));
     assert_eq!(rt; write_all(&mut sink, b""), Ok(()));
     assert_eq!(rt; sink.bytes(), b"devadatta".as_slice());
-    shared(&NoGate);
     Ok(())
 }
 
-// A file that is not there is a failed read; a test has no input.
+// A fault loses nothing: what comes after it is what would have come without it.
+#[test]
+fn streams_that_fail_in_between(rt: HostRuntime) -> Result<(), Fail> {
+    let input = ScriptedInput {
+        reads: &[Some(b"deva"), None, Some(b"dat")],
+    };
+    let mut source = InputSource::new(&input);
+    for wanted in [
+        Ok(b"deva".as_slice()),
+        Err(Failed),
+        Ok(b"dat".as_slice()),
+        Ok(b"".as_slice()),
+    ] {
+        assert_eq!(rt; next_of(&mut source, &mut [0; 4]), wanted);
+    }
+
+    let printer = ScriptedPrinter::new(rt.alloc(), &[Some(4), None, Some(2), Some(0)]);
+    let mut out = OutputSink::new(&printer);
+    for (bytes, wanted) in [
+        (b"devadatta".as_slice(), Err(WriteError::Failed)),
+        (b"datta".as_slice(), Err(WriteError::Failed)),
+        (b"tta".as_slice(), Ok(())),
+    ] {
+        assert_eq!(rt; write_all(&mut out, bytes), wanted);
+    }
+    assert_eq!(rt; printer.into_taken().as_slice(), b"devadatta".as_slice());
+    Ok(())
+}
+
+// Faults are a name that can't be opened, a folder, which opens and can't be read, and a device that is full. A test
+// has no input.
 #[test]
 fn files_and_streams_of_the_machine(rt: HostRuntime) -> Result<(), Fail> {
     let alloc = rt.alloc();
     let mut shelf = DiskShelf::new(&rt);
-    assert_eq!(rt;
-        read_of(&mut shelf, alloc, "none", 9).err(),
-        Some(ShelfError::Failed)
-    );
-    assert_eq!(rt;
-        write_of(&mut shelf, "no/such/folder", b"x"),
-        Err(WriteError::Failed)
-    );
-    assert_eq!(rt; write_of(&mut shelf, "lines", b"devadatta"), Ok(()));
-    for (most, wanted) in [
-        (4, b"deva".as_slice()),
-        (9, b"devadatta".as_slice()),
-        (99, b"devadatta".as_slice()),
-    ] {
+    for name in ["no/such/file", "."] {
         assert_eq!(rt;
-            read_of(&mut shelf, alloc, "lines", most)?.as_slice(),
-            wanted
+            read_of(&mut shelf, alloc, name, 9).err(),
+            Some(ShelfError::Failed),
+            "{name}"
         );
     }
-    let mut out = OutputSink::new(&rt);
-    assert_eq!(rt; write_all(&mut out, b"written\n"), Ok(()));
-    assert_eq!(rt; next_of(&mut InputSource::new(&rt)), Ok(0));
+    for name in ["no/such/file", "/dev/full"] {
+        assert_eq!(rt;
+            write_of(&mut shelf, name, b"x"),
+            Err(WriteError::Failed),
+            "{name}"
+        );
+    }
+    for (bytes, most, wanted) in [
+        (b"devadatta".as_slice(), 9, b"devadatta".as_slice()),
+        (b"devadatta".as_slice(), 4, b"deva".as_slice()),
+        (b"rAma".as_slice(), 99, b"rAma".as_slice()),
+    ] {
+        assert_eq!(rt; write_of(&mut shelf, "lines", bytes), Ok(()));
+        assert_eq!(rt;
+            read_of(&mut shelf, alloc, "lines", most)?.as_slice(),
+            wanted,
+            "{most}"
+        );
+    }
+    fs::remove_file(&rt, "lines")?;
+
+    assert_eq!(rt; write_all(&mut OutputSink::new(&rt), b"written\n"), Ok(()));
+    assert_eq!(rt;
+        next_of(&mut InputSource::new(&rt), &mut [0; 4]),
+        Ok(b"".as_slice())
+    );
     Ok(())
 }
