@@ -3,7 +3,6 @@ ghost use Rattle.latin_schemes.specs.declared.spell_error.SpellError.TheVariants
 
 use super::SpellFault;
 use phoneme::Memory;
-use std::alloc::{AllocError, AllocFailed};
 use thiserror::Error;
 
 /// Why a text was not read: its first fault, or want of memory.
