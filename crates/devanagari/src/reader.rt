@@ -5,8 +5,11 @@ ghost use Rattle.latin_schemes.specs.Faults.{IsFaultOf};
 
 use super::point::{Point, point_of};
 use latin_schemes::{SpellError, SpellFault};
-use phoneme::{Letter, Memory, Word};
+use phoneme::{Group, Letter, Memory, Word};
 use std::alloc::Global;
+
+/// The code of the letter a.
+const A: u8 = 1;
 
 /// A word that is being read: the letters so far, and whether the last one is a consonant that has no vowel yet.
 #[derive(Drop)]
@@ -71,18 +74,17 @@ impl Reader {
         ensures ok { OnOk result (self.new.word ≡ (if self.old.bare then self.old.word ++ 1 ∷ [] else self.old.word)) }
         ensures bare { self.new.bare ≡ self.old.bare }
     {
-        if self.bare
-            && let Some(a) = Letter::new(1)
-        {
+        if self.bare {
+            let a = Letter::new(A).unwrap();
             self.word.push(a)?;
         }
         Ok(())
     }
 }
 
-/// Whether the letter is a consonant: a code from 17 to 49.
+/// Whether the letter is a consonant: any but a vowel, a mark or the avagraha.
 pub fn is_consonant(letter: Letter) -> bool
     ensures value { result ≡ is_consonant letter }
 {
-    (17..=49).contains(&letter.code())
+    !matches!(letter.group(), Group::Vowel | Group::Mark | Group::Avagraha)
 }
