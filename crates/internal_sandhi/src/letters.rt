@@ -2,9 +2,13 @@ ghost use Rattle.std.specs.Prelude.{◌≡◌, ◌↔◌, IsTrue};
 ghost use Rattle.text_definitions.specs.Letters.{IsLetter};
 ghost use Rattle.source_definitions.specs.InternalSandhi.{TurnsNextSibilant, LetsSibilantTurn, KeepsSibilant, TurnsLaterNasal, LetsNasalTurn, FollowsTurningNasal};
 
-use phoneme::Letter;
+use phoneme::{Group, Letter};
 
 // Letters by their codes; the comment beside each has SLP1's letter.
+const A: u8 = 1; // a
+
+const LONG_A: u8 = 2; // A
+
 pub const VOCALIC_R: u8 = 7; // f
 
 pub const LONG_VOCALIC_R: u8 = 8; // F
@@ -39,8 +43,6 @@ pub const LINGUAL_S: u8 = 47; // z
 
 pub const S: u8 = 48; // s
 
-pub const H: u8 = 49; // h
-
 /// The letter with this code, which is from 1 to 50.
 pub fn letter(code: u8) -> Letter
     requires { IsLetter code }
@@ -53,8 +55,7 @@ pub fn letter(code: u8) -> Letter
 pub fn turns_next_sibilant(letter: Letter) -> bool
     ensures { IsTrue result ↔ TurnsNextSibilant letter }
 {
-    // From i on all vowels do.
-    matches!(letter.code(), 3..=13 | K | R)
+    letter.is_vowel() && !matches!(letter.code(), A | LONG_A) || matches!(letter.code(), K | R)
 }
 
 /// Whether an s still turns across this letter.
@@ -82,8 +83,10 @@ pub fn turns_later_nasal(letter: Letter) -> bool
 pub fn lets_nasal_turn(letter: Letter) -> bool
     ensures { IsTrue result ↔ LetsNasalTurn letter }
 {
-    // Up to 21 stand the vowels, the marks and the gutturals, and from 37 on the labials.
-    matches!(letter.code(), 1..=21 | 37..=Y | V | H)
+    matches!(
+        letter.group(),
+        Group::Vowel | Group::Mark | Group::Guttural | Group::Labial | Group::Breath
+    ) || matches!(letter.code(), Y | V)
 }
 
 /// Whether an n before this letter turns.

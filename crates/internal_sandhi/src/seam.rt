@@ -1,4 +1,4 @@
-ghost use Rattle.std.specs.Prelude.{◌≡◌, ◌++◌, IfOk};
+ghost use Rattle.std.specs.Prelude.{◌++◌, IfOk};
 ghost use Rattle.source_definitions.specs.InternalSandhi.{IsJoined};
 
 use super::nasals::turn_nasals;
@@ -31,15 +31,5 @@ pub fn join_parts(
     turn_sibilants(&mut letters, start);
     turn_stops(&mut letters, start);
     turn_nasals(&mut letters, start);
-    to_word(alloc, &letters)
-}
-
-fn to_word(alloc: Global, letters: &[Letter]) -> Result<Word, Memory>
-    ensures ok { IfOk result (λ word. word ≡ letters.now) }
-{
-    let mut word = Word::new(alloc);
-    for letter in letters {
-        word.push(*letter)?;
-    }
-    Ok(word)
+    Word::from_slice(alloc, &letters)
 }
