@@ -1,8 +1,6 @@
-ghost use Rattle.std.specs.Prelude.{◌≡◌, ◌↔◌, Some, IsSome, IfSome};
+ghost use Rattle.std.specs.Prelude.{◌≡◌, ◌↔◌, IsSome, IfSome};
 ghost use Rattle.lexicon_definitions.specs.Tags.{IsOneOf, cases};
 ghost use Rattle.form_tags.specs.TagTexts.{case_text};
-
-use std::fmt;
 
 /// Nominative, accusative, instrumental, dative, ablative, genitive, locative, vocative.
 #[derive(Clone, Copy, Debug, PartialEq, Eq)]
@@ -18,8 +16,8 @@ pub enum Case {
 }
 
 impl Case {
-    /// The word that stands for it in a tag's text.
-    pub fn word(self) -> &'static str
+    /// What stands for it in a tag's text.
+    pub fn text(self) -> &'static str
         ensures { result.now ≡ case_text self }
     {
         match self {
@@ -34,11 +32,11 @@ impl Case {
         }
     }
 
-    pub(crate) fn read(word: &[u8]) -> Option<Case>
-        ensures some { IsSome result ↔ IsOneOf cases word.now }
-        ensures value { IfSome result (λ case. case_text case ≡ word.now) }
+    pub(crate) fn read(text: &[u8]) -> Option<Case>
+        ensures some { IsSome result ↔ IsOneOf cases text.now }
+        ensures value { IfSome result (λ case. case_text case ≡ text.now) }
     {
-        match word {
+        match text {
             b"nom" => Some(Case::Nom),
             b"acc" => Some(Case::Acc),
             b"ins" => Some(Case::Ins),
@@ -49,13 +47,5 @@ impl Case {
             b"voc" => Some(Case::Voc),
             _ => None,
         }
-    }
-}
-
-impl fmt::Display for Case {
-    ghost output = { λ case. Some (case_text case) };
-
-    fn fmt<W: fmt::Write>(&self, f: &mut fmt::Formatter<W>) -> fmt::Result {
-        write!(f, "{}", self.word())
     }
 }

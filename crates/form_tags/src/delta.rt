@@ -1,4 +1,4 @@
-ghost use Rattle.std.specs.Prelude.{◌≡◌, ◌≢◌, ◌++◌, ◌<◌, ◌≤◌, ◌^◌, IfOk, OnOk, length, slice_index, take};
+ghost use Rattle.std.specs.Prelude.{◌≡◌, ◌≢◌, ◌<◌, ◌≤◌, ◌^◌, IfOk, length, slice_index, take};
 ghost use Rattle.lexicon_definitions.specs.Deltas.{IsDelta, analysis_by};
 ghost use Rattle.form_tags.specs.Analyses.{text_analysis, text_delta};
 
@@ -23,11 +23,9 @@ pub fn to_delta(alloc: Global, form: &[Letter], analysis: &Analysis) -> Result<D
 {
     let stem = analysis.stem.as_slice();
     let shared = shared_len(form, stem);
-    let mut append = Word::new(alloc);
-    push_all(&mut append, &stem[shared..])?;
     Ok(Delta {
         cut: (form.len() - shared) as u32,
-        append,
+        append: Word::from_slice(alloc, &stem[shared..])?,
         tag: analysis.tag,
     })
 }
@@ -39,9 +37,8 @@ pub fn from_delta(alloc: Global, form: &[Letter], delta: &Delta) -> Result<Analy
     ensures tag { IfOk result (λ analysis. analysis.tag ≡ delta.now.tag) }
 {
     let kept = form.len() - delta.cut as usize;
-    let mut stem = Word::new(alloc);
-    push_all(&mut stem, &form[..kept])?;
-    push_all(&mut stem, delta.append.as_slice())?;
+    let mut stem = Word::from_slice(alloc, &form[..kept])?;
+    stem.extend_from_slice(delta.append.as_slice())?;
     Ok(Analysis {
         stem,
         tag: delta.tag,
@@ -61,13 +58,4 @@ fn shared_len(form: &[Letter], stem: &[Letter]) -> usize
         shared += 1;
     }
     shared
-}
-
-fn push_all(word: &mut Word, letters: &[Letter]) -> Result<(), Memory>
-    ensures ok { OnOk result (word.new ≡ word.old ++ letters.now) }
-{
-    for letter in letters {
-        word.push(*letter)?;
-    }
-    Ok(())
 }

@@ -1,8 +1,6 @@
-ghost use Rattle.std.specs.Prelude.{◌≡◌, ◌↔◌, Some, IsSome, IfSome};
+ghost use Rattle.std.specs.Prelude.{◌≡◌, ◌↔◌, IsSome, IfSome};
 ghost use Rattle.lexicon_definitions.specs.Tags.{IsOneOf, genders};
 ghost use Rattle.form_tags.specs.TagTexts.{gender_text};
-
-use std::fmt;
 
 /// Masculine, feminine, neuter.
 #[derive(Clone, Copy, Debug, PartialEq, Eq)]
@@ -13,8 +11,8 @@ pub enum Gender {
 }
 
 impl Gender {
-    /// The word that stands for it in a tag's text.
-    pub fn word(self) -> &'static str
+    /// What stands for it in a tag's text.
+    pub fn text(self) -> &'static str
         ensures { result.now ≡ gender_text self }
     {
         match self {
@@ -24,23 +22,15 @@ impl Gender {
         }
     }
 
-    pub(crate) fn read(word: &[u8]) -> Option<Gender>
-        ensures some { IsSome result ↔ IsOneOf genders word.now }
-        ensures value { IfSome result (λ gender. gender_text gender ≡ word.now) }
+    pub(crate) fn read(text: &[u8]) -> Option<Gender>
+        ensures some { IsSome result ↔ IsOneOf genders text.now }
+        ensures value { IfSome result (λ gender. gender_text gender ≡ text.now) }
     {
-        match word {
+        match text {
             b"m" => Some(Gender::M),
             b"f" => Some(Gender::F),
             b"n" => Some(Gender::N),
             _ => None,
         }
-    }
-}
-
-impl fmt::Display for Gender {
-    ghost output = { λ gender. Some (gender_text gender) };
-
-    fn fmt<W: fmt::Write>(&self, f: &mut fmt::Formatter<W>) -> fmt::Result {
-        write!(f, "{}", self.word())
     }
 }

@@ -1,8 +1,6 @@
-ghost use Rattle.std.specs.Prelude.{◌≡◌, ◌↔◌, Some, IsSome, IfSome};
+ghost use Rattle.std.specs.Prelude.{◌≡◌, ◌↔◌, IsSome, IfSome};
 ghost use Rattle.lexicon_definitions.specs.Tags.{IsOneOf, persons};
 ghost use Rattle.form_tags.specs.TagTexts.{person_text};
-
-use std::fmt;
 
 /// First, second, third person.
 #[derive(Clone, Copy, Debug, PartialEq, Eq)]
@@ -13,8 +11,8 @@ pub enum Person {
 }
 
 impl Person {
-    /// The word that stands for it in a tag's text.
-    pub fn word(self) -> &'static str
+    /// What stands for it in a tag's text.
+    pub fn text(self) -> &'static str
         ensures { result.now ≡ person_text self }
     {
         match self {
@@ -24,23 +22,15 @@ impl Person {
         }
     }
 
-    pub(crate) fn read(word: &[u8]) -> Option<Person>
-        ensures some { IsSome result ↔ IsOneOf persons word.now }
-        ensures value { IfSome result (λ person. person_text person ≡ word.now) }
+    pub(crate) fn read(text: &[u8]) -> Option<Person>
+        ensures some { IsSome result ↔ IsOneOf persons text.now }
+        ensures value { IfSome result (λ person. person_text person ≡ text.now) }
     {
-        match word {
+        match text {
             b"1" => Some(Person::First),
             b"2" => Some(Person::Second),
             b"3" => Some(Person::Third),
             _ => None,
         }
-    }
-}
-
-impl fmt::Display for Person {
-    ghost output = { λ person. Some (person_text person) };
-
-    fn fmt<W: fmt::Write>(&self, f: &mut fmt::Formatter<W>) -> fmt::Result {
-        write!(f, "{}", self.word())
     }
 }

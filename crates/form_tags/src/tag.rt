@@ -3,7 +3,8 @@ ghost use Rattle.std.specs.Prelude.{Some};
 use super::{Case, Gender, Number, Person, Tense, Voice};
 use std::fmt;
 
-/// What an inflected form is: of a noun, of a verb, or a form that is not inflected.
+/// What an inflected form is, as Huet's lexicons of forms tell it: of a noun, of a verb, or a form that is not
+/// inflected. Which of these there are, and how they are written, is this project's own choice.
 #[derive(Clone, Copy, Debug, PartialEq, Eq)]
 pub enum Tag {
     Nominal {
@@ -36,13 +37,20 @@ impl fmt::Display for Tag {
                 gender,
                 number,
                 gcase,
-            } => write!(f, "{gender}.{number}.{gcase}"),
+            } => write!(f, "{}.{}.{}", gender.text(), number.text(), gcase.text()),
             Tag::Verbal {
                 tense,
                 voice,
                 person,
                 number,
-            } => write!(f, "{tense}.{voice}.{person}.{number}"),
+            } => write!(
+                f,
+                "{}.{}.{}.{}",
+                tense.text(),
+                voice.text(),
+                person.text(),
+                number.text()
+            ),
             Tag::Iic => write!(f, "iic"),
             Tag::Pv => write!(f, "pv"),
             Tag::Ind => write!(f, "ind"),

@@ -7,7 +7,9 @@ use super::{Case, Gender, Number, Person, Tag, Tense, Voice};
 use phoneme::Memory;
 use std::alloc::Global;
 
-/// The tag that has this text, as its bytes. `None` where the text is no tag's. Takes no memory.
+/// The tag that has this text, as its bytes, in this project's own notation: GENDER.NUMBER.CASE, as `m.sg.nom`,
+/// TENSE.VOICE.PERSON.NUMBER, as `pr.ac.3.sg`, or one of `iic`, `pv` and `ind`. `None` where the text is no tag's.
+/// Takes no memory.
 pub fn read_tag(text: &[u8]) -> Option<Tag>
     ensures some { IsSome result ↔ IsTagText text.now }
     ensures value { IfSome result (λ tag. tag_text tag ≡ text.now) }
@@ -22,7 +24,7 @@ pub fn read_tag(text: &[u8]) -> Option<Tag>
     }
 }
 
-/// The text of a tag.
+/// The text of a tag, in the notation of `read_tag`. Refused only for want of memory.
 pub fn print_tag(alloc: Global, tag: &Tag) -> Result<String, Memory>
     ensures ok { IfOk result (λ text. string_bytes text ≡ tag_text tag.now) }
 {

@@ -1,8 +1,6 @@
-ghost use Rattle.std.specs.Prelude.{◌≡◌, ◌↔◌, Some, IsSome, IfSome};
+ghost use Rattle.std.specs.Prelude.{◌≡◌, ◌↔◌, IsSome, IfSome};
 ghost use Rattle.lexicon_definitions.specs.Tags.{IsOneOf, tenses};
 ghost use Rattle.form_tags.specs.TagTexts.{tense_text};
-
-use std::fmt;
 
 /// Present, imperfect, imperative, optative, future, perfect, aorist.
 #[derive(Clone, Copy, Debug, PartialEq, Eq)]
@@ -17,8 +15,8 @@ pub enum Tense {
 }
 
 impl Tense {
-    /// The word that stands for it in a tag's text.
-    pub fn word(self) -> &'static str
+    /// What stands for it in a tag's text.
+    pub fn text(self) -> &'static str
         ensures { result.now ≡ tense_text self }
     {
         match self {
@@ -32,11 +30,11 @@ impl Tense {
         }
     }
 
-    pub(crate) fn read(word: &[u8]) -> Option<Tense>
-        ensures some { IsSome result ↔ IsOneOf tenses word.now }
-        ensures value { IfSome result (λ tense. tense_text tense ≡ word.now) }
+    pub(crate) fn read(text: &[u8]) -> Option<Tense>
+        ensures some { IsSome result ↔ IsOneOf tenses text.now }
+        ensures value { IfSome result (λ tense. tense_text tense ≡ text.now) }
     {
-        match word {
+        match text {
             b"pr" => Some(Tense::Pr),
             b"impf" => Some(Tense::Impf),
             b"imp" => Some(Tense::Imp),
@@ -46,13 +44,5 @@ impl Tense {
             b"aor" => Some(Tense::Aor),
             _ => None,
         }
-    }
-}
-
-impl fmt::Display for Tense {
-    ghost output = { λ tense. Some (tense_text tense) };
-
-    fn fmt<W: fmt::Write>(&self, f: &mut fmt::Formatter<W>) -> fmt::Result {
-        write!(f, "{}", self.word())
     }
 }
