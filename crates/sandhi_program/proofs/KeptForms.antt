@@ -32,9 +32,9 @@ words_of forms = map (λ (form : Form). form.letters) forms
 -- within the limits of a lexicon its parts are counted in 32 bits
 counted_of : (full : Lexicon) → IsWithinLimits full → AreCounted full.rules
 counted_of full l = record {
-  by_phase = omega (arith, l.phases);
-  by_rule = omega (arith, l.rules);
-  by_lead = λ k d lt. let short = (l.short_rules k d lt).v in omega arith;
+  by_phase = omega (arith, l.rule_set.phases);
+  by_rule = omega (arith, l.rule_set.rules);
+  by_lead = λ k d lt. let short = (l.rule_set.short_rules k d lt).v in omega arith;
 }
 
 pub kept_of : (kept : Kept) (full : Lexicon) → IsLexicon full → IsWithinLimits full → HasForms kept full → IsKept kept

@@ -2,6 +2,7 @@ pub mod KeptForms
 pub mod Runs
 pub mod ThinOrders
 pub mod ThinLeads
+pub mod ThinGrammar
 pub mod ThinFields
 pub mod ThinKept
 pub mod ThinFollows

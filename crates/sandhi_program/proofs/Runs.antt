@@ -8,13 +8,11 @@ use Rattle.outside.specs.Files.{Files, contents_of, first_bytes, AreFirstBytes, 
 use Rattle.outside.specs.Told.{bytes_after, GrowsByPrefix}
 use Rattle.lexicon_definitions.specs.Lexicons.{Lexicon}
 use Rattle.source_definitions.specs.ThinTexts.{IsThinText, IsThinTextOf}
-use Rattle.source_definitions.proofs.ThinShape.{one_lexicon}
 use Rattle.session_definitions.specs.Outcomes as outcomes
 use Rattle.session_definitions.specs.Outcomes.{End, Outcome, IsOutcome, IsSegment, IsPlainText, IsCommand, IsUsage, IsMissing, IsNotBuilt, IsSegmented, Refused, Lacking, Unbuilt, Segmented, output_line}
-use Rattle.session_definitions.proofs.OneOutcome.{one_outcome}
 use Rattle.sandhi_program.specs.declared.status.Status.{Status}
 use Rattle.sandhi_program.specs.declared.status.Status.TheVariants.{Done, Memory, Usage, ReadFault, WriteFault, NotBuilt}
-use Rattle.sandhi_program.specs.Ends.{Tells, Ran, WritesPrefix, WritesSome, IsOwn, Finishes}
+use Rattle.sandhi_program.specs.Ends.{Tells, Ran, WritesPrefix, IsOwn, EndsUsage, Finishes}
 use Rattle.sandhi_program.specs.Segments.{IsSegmentOutput, IsUnbuilt, Writes, WroteSegment, Nothing, Something}
 use Rattle.sandhi_program.specs.Segments as segments
 
@@ -117,25 +115,24 @@ ran_of words lex text files content bytes result old new faults now told s there
     }
 
 -- whatever the run wrote is a prefix of the output of an outcome
-pub some_of : (words : List (List ℕ)) (lex text : List ℕ) (files : Files) (content bytes : List ℕ) (result : Status)
+pub prefix_of : (words : List (List ℕ)) (lex text : List ℕ) (files : Files) (content bytes : List ℕ) (result : Status)
     (old new : Option (List ℕ)) (faults now : ℕ)
     → IsSegment words lex text → contents_of files lex ≡ Some content → take 33554433 content ≡ bytes
-    → WroteSegment bytes text result old new faults now → WritesSome words files old new
-some_of words lex text files content bytes result old new faults now s there e (Nothing m same) = inl same
-some_of words lex text files content bytes result old new faults now s there e (Something status output w f) =
+    → WroteSegment bytes text result old new faults now → WritesPrefix words files old new
+prefix_of words lex text files content bytes result old new faults now s there e (Nothing m same) = inl same
+prefix_of words lex text files content bytes result old new faults now s there e (Something status output w f) =
     let (outcome, is, out, stay, tells) = outcome_of words lex text files content bytes status output s there e w in
     inr (outcome, is, subst (GrowsByPrefix old new) (sym out) f.prefix)
 
--- nothing is a prefix of any output
-pub nothing_grows : (old new : Option (List ℕ)) (output : List ℕ) → new ≡ old → GrowsByPrefix old new output
-nothing_grows None new output e = record { count = 0; grown = e }
-nothing_grows (Some told) new output e = record { count = 0; grown = e ∙ ap Some (sym (append-nil told)) }
-
--- a run has one outcome, so a prefix of the output of one is a prefix of that of each
-pub prefix_of : (words : List (List ℕ)) (files : Files) (old new : Option (List ℕ)) → WritesSome words files old new → WritesPrefix words files old new
-prefix_of words files old new (inl same) outcome is = nothing_grows old new outcome.output same
-prefix_of words files old new (inr (first, is_first, grows)) outcome is =
-    subst (λ (o : Outcome). GrowsByPrefix old new o.output) (one_outcome one_lexicon words files first outcome is_first is) grows
+-- words of no command are refused, where their refusal is written
+pub ends_usage : (result : Status) (old new : Option (List ℕ)) (faults now : ℕ) (output : List ℕ)
+    → Finishes Usage result old new faults now output → EndsUsage result
+ends_usage Done old new faults now output f = absurd (cc ((f.all tt).0))
+ends_usage NotBuilt old new faults now output f = absurd (cc ((f.all tt).0))
+ends_usage ReadFault old new faults now output f = absurd (f.read_fault refl)
+ends_usage Usage old new faults now output f = tt
+ends_usage WriteFault old new faults now output f = tt
+ends_usage Memory old new faults now output f = tt
 
 -- a missing file has its outcome
 pub missing_ran : (words : List (List ℕ)) (lex text : List ℕ) (files : Files) (told : List ℕ) (old new : Option (List ℕ))

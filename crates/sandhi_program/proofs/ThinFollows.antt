@@ -209,7 +209,7 @@ module _ (full : Contents) (bytes : List ℕ) (t : IsTextOf (lexicon_of full) by
   forms_of_full = let all = lines_counted full.forms in let within = t.limits.lines in omega arith
 
   leads_of_full : length (leads_of full.rules) ≤ 256
-  leads_of_full = fewest_leads full (rules_lawful full bytes t) t.limits.leads
+  leads_of_full = fewest_leads full (rules_lawful full bytes t) t.limits.rule_set.leads
 
   -- the entry may follow what was read so far
   pub plain_follows : (kept : Kept) (front : Contents) (pair : ℕ × ℕ) (more : List Entry) → kept.plain.items ≡ front.plain → kept.rules.items ≡ front.rules
@@ -238,7 +238,7 @@ module _ (full : Contents) (bytes : List ℕ) (t : IsTextOf (lexicon_of full) by
         rules =
             let count = ap length whole in
             let parts = length-append (front.rules ++ rule ∷ []) (flat_map rule_told_by more) in
-            let within = t.limits.rules in
+            let within = t.limits.rule_set.rules in
             let here = ap length same in
             omega arith;
         leads =

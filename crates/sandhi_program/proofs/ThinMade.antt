@@ -19,6 +19,7 @@ use Rattle.source_definitions.proofs.ThinShape.{All-from_map}
 use Rattle.sandhi_program.specs.ThinReader.{IsKept, AreDistinct, IsThinContents, IsReadAs, leads_of}
 use Rattle.sandhi_program.specs.declared.thin_text.contents.Contents.{Contents as Kept}
 use Rattle.sandhi_program.proofs.ThinOrders.{sorted_one}
+use Rattle.sandhi_program.proofs.ThinGrammar.{thin_grammar}
 use Rattle.sandhi_program.proofs.ThinLeads.{most_leads}
 use Rattle.sandhi_program.proofs.ThinFollows.{end_if, so_far, words_of, lines_counted}
 use Rattle.sandhi_program.proofs.ThinSteps.{ReadUpTo, ended_now, plains, rule_lines, form_lines}
@@ -109,15 +110,18 @@ module _ (kept : Kept) (front : Contents) (p : kept.plain.items ≡ front.plain)
 
   limits : IsWithinLimits (lexicon_of front)
   limits = record {
-    some_phase = omega arith;
-    phases = omega arith;
-    rules = let same = ap length r in let within = h.rules in omega arith;
-    short_rules = λ k d below. (thin_rules k d below).short;
-    leads =
-        let same = ap length h.leads_are in
-        let other = ap (λ (rules : List Rule). length (leads_of rules)) r in
-        let within = h.leads in
-        most_leads front thin_rules (omega arith);
+    rule_set = record {
+      some_phase = omega arith;
+      phases = omega arith;
+      grammar = thin_grammar;
+      rules = let same = ap length r in let within = h.rules in omega arith;
+      short_rules = λ k d below. (thin_rules k d below).short;
+      leads =
+          let same = ap length h.leads_are in
+          let other = ap (λ (rules : List Rule). length (leads_of rules)) r in
+          let within = h.leads in
+          most_leads front thin_rules (omega arith);
+    };
     short_forms = one_All (λ forms. All IsShortForm forms) (map form_of front.forms) (each_form IsShortForm front.forms form_short thin_forms);
     lines =
         let counted = lines_counted front.forms in

@@ -35,13 +35,9 @@ pub record Ran (words : List (List ℕ)) (before after : Files) (old : List ℕ)
   pub files : after ≡ outcome.files
   pub told : Tells status outcome.end
 
--- what was written is a prefix of the output of each outcome
+-- nothing was written, or a prefix of the output of an outcome, of which there is only one
 abbrev pub WritesPrefix : List (List ℕ) → Files → Option (List ℕ) → Option (List ℕ) → Type 0
-WritesPrefix words files old new = (outcome : Outcome) → IsOutcome words files outcome → GrowsByPrefix old new outcome.output
-
--- nothing was written, or a prefix of the output of some outcome
-abbrev pub WritesSome : List (List ℕ) → Files → Option (List ℕ) → Option (List ℕ) → Type 0
-WritesSome words files old new =
+WritesPrefix words files old new =
     (new ≡ old) ⊎ ((outcome : Outcome) × IsOutcome words files outcome × GrowsByPrefix old new outcome.output)
 
 -- by itself the status tells how the run ended, whatever devices failed
@@ -52,6 +48,15 @@ IsOwn NotBuilt = Unit {0}
 IsOwn ReadFault = ⊥
 IsOwn WriteFault = ⊥
 IsOwn Memory = ⊥
+
+-- words of no command end so: their refusal is written, or writing it failed, or memory was wanting
+abbrev pub EndsUsage : Status → Type 0
+EndsUsage Usage = Unit {0}
+EndsUsage WriteFault = Unit {0}
+EndsUsage Memory = Unit {0}
+EndsUsage Done = ⊥
+EndsUsage ReadFault = ⊥
+EndsUsage NotBuilt = ⊥
 
 -- what writing all of an output before a status leaves: all of it, where the status is given; else a prefix of it, and the
 -- status is that of the sink's fault, which it counted, or of want of memory

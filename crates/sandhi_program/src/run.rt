@@ -3,18 +3,16 @@ ghost use Rattle.outside.specs.Counts.{Rose};
 ghost use Rattle.outside.specs.Files.{Files, Lacks};
 ghost use Rattle.outside.specs.Told.{bytes_after, GrowsByPrefix};
 ghost use Rattle.session_definitions.specs.Outcomes.{IsCommand, IsSegment};
-ghost use Rattle.sandhi_program.specs.Ends.{Ran, WritesPrefix, WritesSome, IsOwn, Finishes};
+ghost use Rattle.sandhi_program.specs.Ends.{Ran, WritesPrefix, IsOwn, EndsUsage, Finishes};
 ghost use Rattle.sandhi_program.specs.Segments.{WroteSegment};
 
 use super::command::{Segment, command_of};
 use super::segment::{SegmentError, segment};
 use super::status::Status;
+use super::thin_text::FILE_LIMIT;
 use outside::{Gate, Shelf, ShelfError, Sink, Source, WriteError, write_all};
 use std::alloc::Global;
 use std::thread::Threads;
-
-/// One byte more than the greatest length of a file.
-const FILE_BYTES: usize = 33_554_433;
 
 /// Writes the output, and then ends with the status.
 fn finish<O: Sink>(out: &mut O, output: &str, status: Status) -> Status
@@ -40,7 +38,8 @@ fn write_segment<O: Sink>(alloc: Global, bytes: &[u8], text: &str, out: &mut O) 
     }
 }
 
-/// `segment LEX TEXT`: reads the lexicon, lists the answers of the text, and writes one page of them.
+/// `segment LEX TEXT`: reads the lexicon, lists the answers of the text, and writes one page of them. Of a file one byte
+/// more is read than it may have, so that a longer one is told from one that ends there.
 fn run_segment<H: Shelf, O: Sink>(
     alloc: Global,
     lex: &str,
@@ -53,14 +52,14 @@ fn run_segment<H: Shelf, O: Sink>(
         → H.files shelf.old ≡ Some files → O.written out.old ≡ Some old → Ran all files files old (O.written out.new) result }
     ensures missing { result ≡ Status.ReadFault → Rose (H.failed_reads shelf.old) (H.failed_reads shelf.new) ⊎ Lacks (H.files shelf.old) lex.now }
     ensures nothing { result ≡ Status.ReadFault → O.written out.new ≡ O.written out.old }
-    ensures some { (all : List (List ℕ)) (files : Files) → IsSegment all lex.now text.now → H.files shelf.old ≡ Some files
-        → WritesSome all files (O.written out.old) (O.written out.new) }
+    ensures prefix { (all : List (List ℕ)) (files : Files) → IsSegment all lex.now text.now → H.files shelf.old ≡ Some files
+        → WritesPrefix all files (O.written out.old) (O.written out.new) }
     ensures write_fault { result ≡ Status.WriteFault → Rose (O.faults out.old) (O.faults out.new) }
     ensures usage { result ≡ Status.Usage → ⊥ }
     ensures files { H.files shelf.new ≡ H.files shelf.old }
     ensures failed_writes { H.failed_writes shelf.new ≡ H.failed_writes shelf.old }
 {
-    match shelf.read(alloc, lex, FILE_BYTES) {
+    match shelf.read(alloc, lex, FILE_LIMIT + 1) {
         Ok(bytes) => write_segment(alloc, bytes.as_slice(), text, out),
         Err(ShelfError::Missing | ShelfError::Failed) => Status::ReadFault,
         Err(ShelfError::Memory) => Status::Memory,
@@ -68,7 +67,8 @@ fn run_segment<H: Shelf, O: Sink>(
 }
 
 /// Does what the words of the command line say, over the devices, and answers how the run ended. `words` are the
-/// program's words without its name. Refusals are written to `out`, a line each.
+/// program's words without its name. `usage` and `not built` are written to `out`, a line each; where a file is not read
+/// nothing is written.
 pub fn run<R: Threads + Sync, H: Shelf, I: Source, O: Sink, G: Gate + Sync>(
     _rt: &R,
     alloc: Global,
@@ -91,6 +91,7 @@ pub fn run<R: Threads + Sync, H: Shelf, I: Source, O: Sink, G: Gate + Sync>(
 
     // When each refusal comes.
     ensures usage { result ≡ Status.Usage → IsCommand (map string_bytes words.now.items) → ⊥ }
+    ensures no_command { (IsCommand (map string_bytes words.now.items) → ⊥) → EndsUsage result }
     ensures read_fault { result ≡ Status.ReadFault → Rose (H.failed_reads shelf.old) (H.failed_reads shelf.new)
         ⊎ ((lex text : List ℕ) × IsSegment (map string_bytes words.now.items) lex text × Lacks (H.files shelf.old) lex) }
     ensures write_fault { result ≡ Status.WriteFault → Rose (O.faults out.old) (O.faults out.new) }

@@ -14,10 +14,10 @@ use segmenter::{Found, Lexicon, first_page};
 use std::alloc::{AllocError, AllocFailed, Global};
 
 /// The most answers of the page that `segment` prints.
-const PAGE: u32 = 10_000;
+const PAGE_ANSWERS: u32 = 10_000;
 
 /// The most letters of a line.
-const LINE_LIMIT: usize = 1000;
+const LINE_LETTERS: usize = 1000;
 
 /// Why there is no page.
 #[derive(Clone, Copy, Debug, PartialEq, Eq)]
@@ -58,7 +58,7 @@ fn line_of(alloc: Global, text: &str) -> Result<Line, SegmentError>
         Err(SpellError::Fault(_)) => return Err(SegmentError::NotBuilt),
     };
     let count = letters.as_slice().len();
-    if count == 0 || count > LINE_LIMIT {
+    if count == 0 || count > LINE_LETTERS {
         return Err(SegmentError::NotBuilt);
     }
     Ok(Line {
@@ -141,6 +141,6 @@ pub(crate) fn segment(alloc: Global, bytes: &[u8], text: &str) -> Result<String,
         Err(ThinError::NotThin) => return Err(SegmentError::NotBuilt),
     };
     let line = line_of(alloc, text)?;
-    let found = first_page(alloc, &lexicon, &line, PAGE)?;
+    let found = first_page(alloc, &lexicon, &line, PAGE_ANSWERS)?;
     Ok(print_page(alloc, &lexicon.rules, &line, &found)?)
 }

@@ -24,7 +24,7 @@ use segmenter::Lexicon;
 use std::alloc::Global;
 
 /// The greatest length of a file, in bytes.
-const FILE_LIMIT: usize = 33_554_432;
+pub(crate) const FILE_LIMIT: usize = 33_554_432;
 
 /// What follows the three first lines, which are the same in each thin text.
 fn after_head(text: &[u8]) -> Option<&[u8]>
@@ -73,7 +73,7 @@ fn lexicon_of(alloc: Global, contents: Contents) -> Result<Lexicon, Memory>
     Ok(Lexicon { rules, lists })
 }
 
-/// The lexicon of a thin text. `NotThin` where the bytes are none. Time is linear in the bytes.
+/// The lexicon of a thin text. `NotThin` where the bytes are none.
 pub(crate) fn read_thin(alloc: Global, bytes: &[u8]) -> Result<Lexicon, ThinError>
     ensures ok { IfOk result (λ lexicon. (full : LexiconValue) × IsThinTextOf full bytes.now × HasForms lexicon full) }
     ensures not_thin { result ≡ Err ThinError.NotThin → IsThinText bytes.now → ⊥ }

@@ -102,7 +102,7 @@ pub rules_lawful : (contents : Contents) (bytes : List ℕ) → IsTextOf (lexico
 rules_lawful contents bytes t = λ k d below. record {
   rule_itself = t.lexicon_itself.rules.each k d below;
   unlimited = t.unlimited k d below;
-  short = t.limits.short_rules k d below;
+  short = t.limits.rule_set.short_rules k d below;
 }
 
 -- the form is lawful as a form, and so is its stem

@@ -1,7 +1,8 @@
 -- The limits of a lexicon and of its file (own).
 use Rattle.std.specs.Prelude.{ℕ, ◌<◌, ◌≤◌, List, length, All, sum_by}
 use Rattle.lexicon_definitions.specs.Rules.{Rule}
-use Rattle.lexicon_definitions.specs.Lexicons.{Lexicon, Form}
+use Rattle.lexicon_definitions.specs.GrammarFaults.{IsGrammarTextWithinLimits}
+use Rattle.lexicon_definitions.specs.Lexicons.{Lexicon, RuleSet, Form}
 use Rattle.lexicon_definitions.specs.Leads.{Lead, AreLeads}
 
 -- a file has at most this many bytes
@@ -23,12 +24,18 @@ pub record IsShortForm (form : Form) : Type 0 where
 abbrev pub count_lines : List (List Form) → ℕ
 count_lines phases = sum_by (λ forms. sum_by (λ form. length form.analyses) forms) phases
 
--- 1 to 16 phases, at most 4,000 short rules with at most 256 leads, and at most 600,000 lines of short forms
+-- 1 to 16 phases, a grammar of at most 1,024 bytes, 60 names and 32 states, and at most 4,000 short rules with at most 256
+-- leads
+pub record IsRuleSetWithinLimits (set : RuleSet) : Type 0 where
+  pub some_phase : 0 < length set.names
+  pub phases : length set.names ≤ 16
+  pub grammar : IsGrammarTextWithinLimits set.names set.grammar
+  pub rules : length set.rules ≤ 4000
+  pub short_rules : All IsShortRule set.rules
+  pub leads : (leads : List Lead) → AreLeads set leads → length leads ≤ 256
+
+-- a rule set within the limits, and at most 600,000 lines of short forms
 pub record IsWithinLimits (lexicon : Lexicon) : Type 0 where
-  pub some_phase : 0 < length lexicon.rules.names
-  pub phases : length lexicon.rules.names ≤ 16
-  pub rules : length lexicon.rules.rules ≤ 4000
-  pub short_rules : All IsShortRule lexicon.rules.rules
-  pub leads : (leads : List Lead) → AreLeads lexicon.rules leads → length leads ≤ 256
+  pub rule_set : IsRuleSetWithinLimits lexicon.rules
   pub short_forms : All (λ forms. All IsShortForm forms) lexicon.phases
   pub lines : count_lines lexicon.phases ≤ 600000

@@ -14,10 +14,10 @@ use phoneme::{Letter, Word};
 use std::alloc::Global;
 
 /// The most rules.
-const RULE_LIMIT: usize = 4000;
+const RULE_COUNT: usize = 4000;
 
 /// The most forms.
-const FORM_LINE_LIMIT: usize = 600_000;
+const FORM_COUNT: usize = 600_000;
 
 /// What the lines so far told: the plain pairs, the rules with the different `v` of the inner ones, rising, the forms,
 /// and whether the last line was among them.
@@ -128,7 +128,7 @@ impl Contents {
         ensures kept { OnOk result (IsKept self.new) }
         ensures not_thin { result ≡ Err ThinError.NotThin → MayFollowRule self.old rule → ⊥ }
     {
-        if self.ended || !self.forms.is_empty() || self.rules.len() >= RULE_LIMIT {
+        if self.ended || !self.forms.is_empty() || self.rules.len() >= RULE_COUNT {
             return Err(ThinError::NotThin);
         }
         if has_triple(self.rules.as_slice(), &rule) {
@@ -146,7 +146,7 @@ impl Contents {
         ensures kept { OnOk result (IsKept self.new) }
         ensures not_thin { result ≡ Err ThinError.NotThin → MayFollowForm self.old letters → ⊥ }
     {
-        if self.ended || self.forms.len() >= FORM_LINE_LIMIT {
+        if self.ended || self.forms.len() >= FORM_COUNT {
             return Err(ThinError::NotThin);
         }
         if !may_end_words(self.forms.as_slice(), &letters) {

@@ -10,10 +10,10 @@ use phoneme::{Letter, Word};
 use std::alloc::Global;
 
 /// The most letters of a part of a rule.
-const PART_LIMIT: usize = 8;
+const PART_LETTERS: usize = 8;
 
 /// The most letters of a form, and of a stem.
-const FORM_LIMIT: usize = 64;
+const FORM_LETTERS: usize = 64;
 
 /// What a line behind the first three tells.
 #[derive(Debug, Drop)]
@@ -93,9 +93,9 @@ fn rule_of(alloc: Global, field: &[u8]) -> Result<Entry, ThinError>
     let Some((v, w)) = cut(rest, b'>') else {
         return Err(ThinError::NotThin);
     };
-    let u = some_word_of(alloc, u, PART_LIMIT)?;
-    let v = word_of(alloc, v, PART_LIMIT)?;
-    let w = some_word_of(alloc, w, PART_LIMIT)?;
+    let u = some_word_of(alloc, u, PART_LETTERS)?;
+    let v = word_of(alloc, v, PART_LETTERS)?;
+    let w = some_word_of(alloc, w, PART_LETTERS)?;
     let after = phases_behind(&v);
     Ok(Entry::Rule(Rule {
         u,
@@ -123,8 +123,8 @@ fn form_of(alloc: Global, fields: &[u8]) -> Result<Entry, ThinError>
     if !is_same(tag, b"ind") {
         return Err(ThinError::NotThin);
     }
-    let letters = some_word_of(alloc, form, FORM_LIMIT)?;
-    let stem = some_word_of(alloc, stem, FORM_LIMIT)?;
+    let letters = some_word_of(alloc, form, FORM_LETTERS)?;
+    let stem = some_word_of(alloc, stem, FORM_LETTERS)?;
     Ok(Entry::Form { letters, stem })
 }
 

@@ -7,7 +7,7 @@ use std::alloc::Global;
 use std::cmp::Ordering;
 
 /// The most different leads.
-const LEAD_LIMIT: usize = 256;
+const LEAD_COUNT: usize = 256;
 
 /// The place at which the word is to be inserted, so that the words rise. `None` where it is one of them.
 fn place_of(words: &[Word], word: &Word) -> Option<usize>
@@ -38,7 +38,7 @@ pub(super) fn add_lead(alloc: Global, leads: &mut Vec<Word>, v: &Word) -> Result
     let Some(at) = place_of(leads.as_slice(), v) else {
         return Ok(());
     };
-    if leads.len() >= LEAD_LIMIT {
+    if leads.len() >= LEAD_COUNT {
         return Err(ThinError::NotThin);
     }
     leads.insert(at, v.copy(alloc)?)?;

@@ -8,7 +8,7 @@ use Rattle.std.specs.Prelude.{codes}
 use Rattle.session_definitions.specs.Outcomes as outcomes
 use Rattle.session_definitions.specs.Outcomes.{output_line}
 use Rattle.sandhi_program.specs.Ends.{Ran}
-use Rattle.sandhi_program.proofs.Runs.{prefix_of, missing_ran, usage_outcome}
+use Rattle.sandhi_program.proofs.Runs.{missing_ran, usage_outcome, ends_usage}
 use Rattle.sandhi_program.proofs.run.run.Goals as goal
 
 pub returns-in-Some-clause-outcome : goal.returns-in-Some-clause-outcome
@@ -28,7 +28,7 @@ returns-in-Some-clause-missing g c fault files old told written =
 pub returns-in-Some-clause-prefix : goal.returns-in-Some-clause-prefix
 returns-in-Some-clause-prefix g c files told =
     let s = rw c.as_slice.ensures.value at c.in-Some.ensures.some in
-    prefix_of (map string_bytes c.args.words.now.items) files _ _ (c.run_segment.ensures.some (map string_bytes c.args.words.now.items) files s told)
+    c.run_segment.ensures.prefix (map string_bytes c.args.words.now.items) files s told
 
 pub returns-in-Some-clause-read_fault : goal.returns-in-Some-clause-read_fault
 returns-in-Some-clause-read_fault g c fault =
@@ -48,3 +48,11 @@ returns-in-None-clause-outcome g c own files old told written =
       files = refl;
       told = rw same refl;
     }
+
+pub returns-in-None-clause-prefix : goal.returns-in-None-clause-prefix
+returns-in-None-clause-prefix g c files told =
+    let none = rw c.as_slice.ensures.value at c.in-None.ensures.none in
+    inr (_, usage_outcome (map string_bytes c.args.words.now.items) files none, c.finish.ensures.prefix)
+
+pub returns-in-None-clause-no_command : goal.returns-in-None-clause-no_command
+returns-in-None-clause-no_command g c none = ends_usage _ _ _ _ _ _ c.finish.ensures

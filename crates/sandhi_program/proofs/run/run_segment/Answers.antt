@@ -1,7 +1,7 @@
 -- The bytes that were read are the first of the told file.
 use Rattle.std.proofs.Common.{◌≡◌, ℕ, Some, subst, ap, sym}
 use Rattle.outside.specs.Files.{AreFirstBytes}
-use Rattle.sandhi_program.proofs.Runs.{first_content, ran_of, some_of}
+use Rattle.sandhi_program.proofs.Runs.{first_content, ran_of, prefix_of}
 use Rattle.sandhi_program.proofs.run.run_segment.Goals as goal
 
 pub returns-in-Ok-clause-outcome : goal.returns-in-Ok-clause-outcome
@@ -10,8 +10,8 @@ returns-in-Ok-clause-outcome g c own all files old s told written =
     let (content, there, e) = first_content files _ 33554433 _ first in
     ran_of all c.args.lex.now c.args.text.now files content _ _ _ _ _ _ old s there e (rw c.as_slice.ensures.value at c.write_segment.ensures) written own
 
-pub returns-in-Ok-clause-some : goal.returns-in-Ok-clause-some
-returns-in-Ok-clause-some g c all files s told =
+pub returns-in-Ok-clause-prefix : goal.returns-in-Ok-clause-prefix
+returns-in-Ok-clause-prefix g c all files s told =
     let first = rw told at c.in-Ok.ensures.value in
     let (content, there, e) = first_content files _ 33554433 _ first in
-    some_of all c.args.lex.now c.args.text.now files content _ _ _ _ _ _ s there e (rw c.as_slice.ensures.value at c.write_segment.ensures)
+    prefix_of all c.args.lex.now c.args.text.now files content _ _ _ _ _ _ s there e (rw c.as_slice.ensures.value at c.write_segment.ensures)
