@@ -8,15 +8,15 @@ use Rattle.lexicon_definitions.specs.Lexicons.{RuleSet, rule_of}
 use Rattle.segmentation_definitions.specs.Derivations.{Step}
 use Rattle.segmentation_definitions.specs.Listings.{compare_key_lists}
 use Rattle.session_definitions.specs.PrintedAnswers.{printed_steps, printed_form, printed_joint, printed_end}
-use Rattle.derivation.specs.declared.step.Step.{Step as Kept}
-use Rattle.derivation.specs.Steps.{keys_of, form_with, kept_behind, steps_from, steps_of, StandFrom}
+use Rattle.derivation.specs.declared.step.Step.{Step as ProgramStep}
+use Rattle.derivation.specs.Steps.{keys_of, form_with, step_behind, steps_from, steps_of, StandFrom}
 
 -- numbers compare as their successors do
 nat_cmp-suc : (m n : ℕ) → nat_cmp (suc m) (suc n) ≡ nat_cmp m n
 nat_cmp-suc m n = grind (arith, nat_tests)
 
 -- where one of two lists has ended, the lengths decide
-pub ended : (a b : List Kept) (i : ℕ) → i ≡ min (length a) (length b)
+pub ended : (a b : List ProgramStep) (i : ℕ) → i ≡ min (length a) (length b)
     → nat_cmp (length a) (length b) ≡ compare_key_lists (keys_of (drop i a)) (keys_of (drop i b))
 ended [] [] i e = let z : i ≡ 0 = omega arith in rw z refl
 ended [] (y ∷ b) i e = let z : i ≡ 0 = omega arith in rw z (grind (arith, nat_tests))
@@ -27,28 +27,28 @@ ended (x ∷ a) (y ∷ b) (suc i) e =
     in nat_cmp-suc (length a) (length b) ∙ ended a b i smaller
 
 -- the rule behind the step before the place
-abbrev pub rule_before : ℕ → List Kept → ℕ → Kept → ℕ
+abbrev pub rule_before : ℕ → List ProgramStep → ℕ → ProgramStep → ℕ
 rule_before before steps zero d = before
 rule_before before steps (suc j) d = (slice_index_or steps j d).rule
 
 -- at the first place, and at a later one
-pub rule_before-first : (before : ℕ) (steps : List Kept) (j : ℕ) (d : Kept) → j ≡ 0 → rule_before before steps j d ≡ before
+pub rule_before-first : (before : ℕ) (steps : List ProgramStep) (j : ℕ) (d : ProgramStep) → j ≡ 0 → rule_before before steps j d ≡ before
 rule_before-first before steps zero d e = refl
 rule_before-first before steps (suc j) d e = absurd (omega arith)
 
-pub rule_before-later : (before : ℕ) (steps : List Kept) (j : ℕ) (d : Kept) → 0 < j
+pub rule_before-later : (before : ℕ) (steps : List ProgramStep) (j : ℕ) (d : ProgramStep) → 0 < j
     → rule_before before steps j d ≡ (slice_index_or steps (j - 1) d).rule
 rule_before-later before steps zero d h = absurd (omega arith)
 rule_before-later before steps (suc j) d h = let e : suc j - 1 ≡ j = omega arith in rw e refl
 
 -- what every step of such a list keeps to
-pub record IsWithin (rules : RuleSet) (letters : List ℕ) (step : Kept) : Type 0 where
+pub record IsWithin (rules : RuleSet) (letters : List ℕ) (step : ProgramStep) : Type 0 where
   pub phase : step.phase < length rules.names
   pub rule : step.rule ≤ length rules.rules
   pub taken : step.at + step.taken ≤ length letters
 
 -- the step at a place is within the rule set and the line
-pub within : (rules : RuleSet) (letters : List ℕ) (steps : List Kept) (j : ℕ) (d : Kept) (start : ℕ) (lead : List ℕ)
+pub within : (rules : RuleSet) (letters : List ℕ) (steps : List ProgramStep) (j : ℕ) (d : ProgramStep) (start : ℕ) (lead : List ℕ)
     → StandFrom rules letters start lead steps → j < length steps → IsWithin rules letters (slice_index_or steps j d)
 within rules letters [] j d start lead h lt = absurd (omega arith)
 within rules letters (step ∷ steps) zero d start lead h lt =
@@ -57,7 +57,7 @@ within rules letters (step ∷ steps) (suc j) d start lead h lt =
     let smaller : j < length steps = omega arith in within rules letters steps j d _ _ h.1 smaller
 
 -- the rule before the step at a place is one of the rule set
-pub before_within : (rules : RuleSet) (letters : List ℕ) (steps : List Kept) (j : ℕ) (d : Kept) (before : ℕ) (start : ℕ) (lead : List ℕ)
+pub before_within : (rules : RuleSet) (letters : List ℕ) (steps : List ProgramStep) (j : ℕ) (d : ProgramStep) (before : ℕ) (start : ℕ) (lead : List ℕ)
     → StandFrom rules letters start lead steps → j < length steps → before ≤ length rules.rules
     → rule_before before steps j d ≤ length rules.rules
 before_within rules letters steps zero d before start lead h lt b = b
@@ -65,7 +65,7 @@ before_within rules letters steps (suc j) d before start lead h lt b =
     let smaller : j < length steps = omega arith in (within rules letters steps j d start lead h smaller).rule
 
 -- the form of the step at a place
-pub form_at : (rules : RuleSet) (letters : List ℕ) (before : ℕ) (steps : List Kept) (j : ℕ) (d : Kept) → j < length steps
+pub form_at : (rules : RuleSet) (letters : List ℕ) (before : ℕ) (steps : List ProgramStep) (j : ℕ) (d : ProgramStep) → j < length steps
     → slice_get (map (λ (step : Step). step.form) (steps_from rules letters (rule_of rules before).v steps)) j
     ≡ Some (form_with rules letters (rule_of rules (rule_before before steps j d)).v (slice_index_or steps j d))
 form_at rules letters before [] j d lt = absurd (omega arith)
@@ -76,17 +76,17 @@ form_at rules letters before (step ∷ steps) (suc (suc j)) d lt =
     let smaller : suc j < length steps = omega arith in form_at rules letters step.rule steps (suc j) d smaller
 
 -- steps of which the first is not the last print as its form, what stands behind it, and the rest
-pub printed_first : (rules : RuleSet) (letters : List ℕ) (before : ℕ) (step : Kept) (steps : List Kept) → 0 < length steps
+pub printed_first : (rules : RuleSet) (letters : List ℕ) (before : ℕ) (step : ProgramStep) (steps : List ProgramStep) → 0 < length steps
     → printed_steps rules (steps_from rules letters (rule_of rules before).v (step ∷ steps))
-    ≡ printed_form rules (kept_behind rules letters before step) ++ printed_joint rules step.rule
+    ≡ printed_form rules (step_behind rules letters before step) ++ printed_joint rules step.rule
     ++ printed_steps rules (steps_from rules letters (rule_of rules step.rule).v steps)
 printed_first rules letters before step [] more = absurd (omega arith)
 printed_first rules letters before step (next ∷ steps) more = refl
 
 -- the last step prints as its form and the end
-pub printed_last : (rules : RuleSet) (letters : List ℕ) (before : ℕ) (step : Kept) (steps : List Kept) → length steps ≡ 0
+pub printed_last : (rules : RuleSet) (letters : List ℕ) (before : ℕ) (step : ProgramStep) (steps : List ProgramStep) → length steps ≡ 0
     → printed_steps rules (steps_from rules letters (rule_of rules before).v (step ∷ steps))
-    ≡ printed_form rules (kept_behind rules letters before step) ++ printed_end rules step.rule
+    ≡ printed_form rules (step_behind rules letters before step) ++ printed_end rules step.rule
 printed_last rules letters before step [] none = refl
 printed_last rules letters before step (next ∷ steps) none = absurd (omega arith)
 
@@ -101,10 +101,10 @@ three_pieces text form ending later whole all is = append_assoc text form ending
 
 -- where text and what the steps from a place on print make the whole, so do text with the form there and what stands
 -- behind it, and what the later steps print
-pub printed_on : (rules : RuleSet) (letters : List ℕ) (before : ℕ) (steps : List Kept) (j : ℕ) (d : Kept) (text with_form with_joint whole : List ℕ)
+pub printed_on : (rules : RuleSet) (letters : List ℕ) (before : ℕ) (steps : List ProgramStep) (j : ℕ) (d : ProgramStep) (text with_form with_joint whole : List ℕ)
     → j + 1 < length steps
     → text ++ printed_steps rules (steps_from rules letters (rule_of rules before).v (drop j steps)) ≡ whole
-    → with_form ≡ text ++ printed_form rules (kept_behind rules letters before (slice_index_or steps j d))
+    → with_form ≡ text ++ printed_form rules (step_behind rules letters before (slice_index_or steps j d))
     → with_joint ≡ with_form ++ printed_joint rules (slice_index_or steps j d).rule
     → with_joint ++ printed_steps rules (steps_from rules letters (rule_of rules (slice_index_or steps j d).rule).v (drop (j + 1) steps)) ≡ whole
 printed_on rules letters before steps j d text with_form with_joint whole more printed form joint =
@@ -115,10 +115,10 @@ printed_on rules letters before steps j d text with_form with_joint whole more p
     in rw (joint, form) (four_pieces text _ _ _ _ whole printed (at ∙ first))
 
 -- where the step there is the last, text with its form and the end is the whole
-pub printed_out : (rules : RuleSet) (letters : List ℕ) (before : ℕ) (steps : List Kept) (j : ℕ) (d : Kept) (text with_form with_end whole : List ℕ)
+pub printed_out : (rules : RuleSet) (letters : List ℕ) (before : ℕ) (steps : List ProgramStep) (j : ℕ) (d : ProgramStep) (text with_form with_end whole : List ℕ)
     → j < length steps → length steps ≤ j + 1
     → text ++ printed_steps rules (steps_from rules letters (rule_of rules before).v (drop j steps)) ≡ whole
-    → with_form ≡ text ++ printed_form rules (kept_behind rules letters before (slice_index_or steps j d))
+    → with_form ≡ text ++ printed_form rules (step_behind rules letters before (slice_index_or steps j d))
     → with_end ≡ with_form ++ printed_end rules (slice_index_or steps j d).rule
     → with_end ++ printed_steps rules (steps_from rules letters (rule_of rules (slice_index_or steps j d).rule).v (drop (j + 1) steps)) ≡ whole
 printed_out rules letters before steps j d text with_form with_end whole low last printed form ending =
@@ -129,7 +129,7 @@ printed_out rules letters before steps j d text with_form with_end whole low las
     in rw (none, append-nil, ending, form) (three_pieces text _ _ _ whole printed (at ∙ only))
 
 -- the form of the step at a place, behind the rule that stands before it there, is that of the definitions
-pub form_found : {E : Type 0} (rules : RuleSet) (letters : List ℕ) (steps : List Kept) (j : ℕ) (d : Kept) (before : ℕ) (r : Result (List ℕ) E)
+pub form_found : {E : Type 0} (rules : RuleSet) (letters : List ℕ) (steps : List ProgramStep) (j : ℕ) (d : ProgramStep) (before : ℕ) (r : Result (List ℕ) E)
     → j < length steps → before ≡ rule_before 0 steps j d
     → IfOk r (λ word. word ≡ form_with rules letters (rule_of rules before).v (slice_index_or steps j d))
     → IfOk r (λ word. slice_get (map (λ (step : Step). step.form) (steps_of rules letters steps)) j ≡ Some word)

@@ -7,7 +7,7 @@ use Rattle.text_definitions.specs.Letters.{IsLetter}
 use Rattle.text_definitions.specs.Slp1.{word_of_slp1, slp1_table}
 use Rattle.lexicon_definitions.specs.Rules.{Rule, IsRule, IsSameTriple}
 use Rattle.lexicon_definitions.specs.Lexicons.{RuleSet, IsPhaseName, IsRuleSet}
-use Rattle.derivation.specs.declared.step.Step.{Step as Kept}
+use Rattle.derivation.specs.declared.step.Step.{Step as ProgramStep}
 use Rattle.derivation.specs.Steps.{StandIn}
 use Rattle.derivation.specs.Worked.{worked_rule, worked_rules}
 
@@ -113,7 +113,7 @@ worked_from names grammar plain rules first second third names_are grammar_is pl
     rw (names_are, grammar_is, plain_is, rules_are, is_first, is_second, is_third) refl
 
 -- the steps of ca, iti and uvAca over their line
-pub first_stand : (rules : RuleSet) (letters : List ℕ) (a b c : Kept) → rules ≡ worked_rules → word_of_slp1 (codes "cetyuvAca") ≡ Ok letters
+pub first_stand : (rules : RuleSet) (letters : List ℕ) (a b c : ProgramStep) → rules ≡ worked_rules → word_of_slp1 (codes "cetyuvAca") ≡ Ok letters
     → a ≡ record { phase = 0; rule = 1; at = 0; lead = 0; taken = 1 } → b ≡ record { phase = 0; rule = 2; at = 2; lead = 1; taken = 1 }
     → c ≡ record { phase = 0; rule = 0; at = 5; lead = 1; taken = 4 } → StandIn rules letters (a ∷ b ∷ c ∷ [])
 unfolding slp1_table word_of_slp1
@@ -131,7 +131,7 @@ first_stand rules letters a b c is_worked spelled is_a is_b is_c =
     )
 
 -- the steps of ca and devas over their line
-pub second_stand : (rules : RuleSet) (letters : List ℕ) (a b : Kept) → rules ≡ worked_rules → word_of_slp1 (codes "cadevaH") ≡ Ok letters
+pub second_stand : (rules : RuleSet) (letters : List ℕ) (a b : ProgramStep) → rules ≡ worked_rules → word_of_slp1 (codes "cadevaH") ≡ Ok letters
     → a ≡ record { phase = 0; rule = 0; at = 0; lead = 0; taken = 2 } → b ≡ record { phase = 0; rule = 3; at = 2; lead = 0; taken = 4 }
     → StandIn rules letters (a ∷ b ∷ [])
 unfolding slp1_table word_of_slp1

@@ -1,23 +1,14 @@
-ghost use Rattle.std.specs.Prelude.{◌≡◌, ◌+◌, ◌<◌, ◌≤◌, ◌++◌, length, map, slice_get, Some, IfOk, OnOk};
+ghost use Rattle.std.specs.Prelude.{◌≡◌, ◌+◌, ◌<◌, ◌≤◌, length, map, slice_get, Some, IfOk};
 ghost use Rattle.lexicon_definitions.specs.Lexicons.{rule_of};
 ghost use Rattle.derivation.specs.Steps.{StandIn, steps_of, form_with};
 
 use super::{RuleSet, Step};
-use phoneme::{Letter, Line, Memory, Word};
+use phoneme::{Line, Memory, Word};
 use std::alloc::Global;
 
-/// Appends the letters.
-fn push_all(word: &mut Word, letters: &[Letter]) -> Result<(), Memory>
-    ensures ok { OnOk result (word.new ≡ word.old ++ letters.now) }
-{
-    for letter in letters {
-        word.push(*letter)?;
-    }
-    Ok(())
-}
-
-/// The form of a step behind the rule with the number `before`.
-pub(crate) fn form_behind(
+/// The form of a step behind the rule with the number `before`, 0 for none: the letters that this rule supplies (its
+/// `v`), the letters of the line that the step takes, and the `u` of the step's rule (Huet 2005).
+pub fn form_behind(
     alloc: Global,
     rules: &RuleSet,
     line: &Line,
@@ -31,18 +22,18 @@ pub(crate) fn form_behind(
 {
     let mut form = Word::new(alloc);
     if let Some(rule) = rules.rule(before) {
-        push_all(&mut form, rule.v.as_slice())?;
+        form.extend_from_slice(rule.v.as_slice())?;
     }
     let at = step.at as usize;
     let end = at + step.taken as usize;
-    push_all(&mut form, &line.letters.as_slice()[at..end])?;
+    form.extend_from_slice(&line.letters.as_slice()[at..end])?;
     if let Some(rule) = rules.rule(step.rule) {
-        push_all(&mut form, rule.u.as_slice())?;
+        form.extend_from_slice(rule.u.as_slice())?;
     }
     Ok(form)
 }
 
-/// The form of the step at place `j`, counted from 0: its lead, the letters that it takes, and the `u` of its rule.
+/// The form of the step at place `j`, counted from 0, behind the rule of the step before it, if there is one (Huet 2005).
 pub fn form_of(
     alloc: Global,
     rules: &RuleSet,

@@ -15,7 +15,8 @@ fn compare_steps(a: &Step, b: &Step) -> Ordering
 }
 
 /// The order of answers: at the first step whose keys differ the smaller phase is first, then the larger number of
-/// letters taken, then the smaller rule; a list whose keys are a proper prefix of the other's is smaller.
+/// letters taken, then the smaller rule; a list whose keys are a proper prefix of the other's is smaller. The order is
+/// our own.
 pub fn compare(a: &[Step], b: &[Step]) -> Ordering
     ensures { result ≡ compare_key_lists (keys_of a.now) (keys_of b.now) }
 {

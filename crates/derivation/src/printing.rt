@@ -1,7 +1,6 @@
 ghost use Rattle.std.specs.Prelude.{◌≡◌, ◌+◌, ◌<◌, ◌≤◌, ◌++◌, length, IfOk, OnOk, string_bytes};
 ghost use Rattle.session_definitions.specs.PrintedAnswers.{printed_answer, printed_rule, printed_form, printed_joint, printed_end};
-ghost use Rattle.lexicon_definitions.specs.Lexicons.{rule_of};
-ghost use Rattle.derivation.specs.Steps.{StandIn, steps_of, kept_behind};
+ghost use Rattle.derivation.specs.Steps.{StandIn, steps_of, step_behind};
 
 use super::forms::form_behind;
 use super::{Rule, RuleSet, Step};
@@ -34,7 +33,7 @@ fn push_form(
     requires phase { step.now.phase < length rules.now.names }
     requires rule { step.now.rule ≤ length rules.now.rules }
     requires within { step.now.at + step.now.taken ≤ length line.now.letters }
-    ensures ok { OnOk result (string_bytes text.new ≡ string_bytes text.old ++ printed_form rules.now (kept_behind rules.now line.now.letters before step.now)) }
+    ensures ok { OnOk result (string_bytes text.new ≡ string_bytes text.old ++ printed_form rules.now (step_behind rules.now line.now.letters before step.now)) }
 {
     let form = form_behind(alloc, rules, line, before, step)?;
     text.push_str(print_slp1(alloc, &form)?.as_str())?;
@@ -75,7 +74,7 @@ fn push_end(alloc: Global, text: &mut String, rules: &RuleSet, number: u32) -> R
 
 /// The line of an answer with its number in the listing, counted from 1: `N: FORM[PHASE]`, then ` + FORM[PHASE]` for
 /// each further form that is joined unchanged and ` (u|v>w) FORM[PHASE]` for one behind a rule; a final rule stands at
-/// the end as ` (u|>w)`. Words are in SLP1.
+/// the end as ` (u|>w)`. Words are in SLP1. The layout is our own.
 pub fn print_derivation(
     alloc: Global,
     rules: &RuleSet,

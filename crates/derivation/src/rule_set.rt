@@ -82,6 +82,7 @@ impl RuleSet {
     {
         self.rules.as_slice()
     }
+
     /// The rule with this number, counted from 1; none for 0, which stands for no change.
     pub fn rule(&self, number: u32) -> Option<&Rule>
         requires { number ≤ length self.now.rules }

@@ -1,8 +1,9 @@
 ghost use Rattle.std.specs.Prelude.{◌≡◌};
 
-/// A step of a derivation: a form of a phase and the rule behind it, 0 for no change. The form's letters are the
-/// last `lead` ones that the rule before supplied, then the `taken` letters of the line from `at` on, then the `u` of
-/// the rule. `at`, `lead` and `taken` count letters, `at` from 0.
+/// A step of a derivation (Huet 2005): a form of a phase and the rule behind it. Phases count from 0 and rules from 1,
+/// where rule 0 is no change. The form's letters are the `lead` letters that the rule before supplies, which are all of
+/// its `v`, then the `taken` letters of the line from `at` on, then the `u` of the rule. `at`, `lead` and `taken` count
+/// letters, `at` from 0.
 #[derive(Clone, Copy, Debug, PartialEq, Eq)]
 pub struct Step {
     pub phase: u32,
@@ -12,7 +13,8 @@ pub struct Step {
     pub taken: u32,
 }
 
-/// The part of a step by which answers are ordered: phase, letters taken, rule.
+/// The part of a step by which answers are ordered, an order of our own: its phase, counted from 0, how many letters of
+/// the line it takes, and its rule, counted from 1, 0 for no change.
 #[derive(Clone, Copy, Debug, PartialEq, Eq)]
 pub struct Key {
     pub phase: u32,

@@ -1,14 +1,12 @@
-ghost use Rattle.std.specs.Prelude.{◌≡◌, ◌^◌, ◌<◌, Ok, [], ◌∷◌, length, codes, IfOk};
+ghost use Rattle.std.specs.Prelude.{◌≡◌, ◌^◌, ◌<◌, Ok, length, IfOk};
 ghost use Rattle.text_definitions.specs.Slp1.{word_of_slp1};
-ghost use Rattle.derivation.specs.Steps.{StandIn};
-ghost use Rattle.derivation.specs.Worked.{worked_rule, worked_rules};
+ghost use Rattle.derivation.specs.Worked.{worked_rules};
 
 use super::{Rule, RuleSet, Step, compare, form_of, print_derivation};
 use latin_schemes::{print_slp1, read_slp1};
 use phoneme::Line;
 use std::alloc::Global;
 use std::cmp::Ordering;
-use std::process::Abort;
 use std::test::Fail;
 
 fn make_line(alloc: Global, text: &[u8]) -> Result<Line, Fail>

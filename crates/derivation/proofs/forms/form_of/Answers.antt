@@ -1,12 +1,12 @@
 -- The step at the place stands in the line, and its form is that of the definitions.
 use Rattle.std.proofs.Common.{◌≡◌, ◌∙◌, [], arith, sym}
-use Rattle.derivation.specs.declared.step.Step.{Step as Kept}
+use Rattle.derivation.specs.declared.step.Step.{Step as ProgramStep}
 use Rattle.derivation.proofs.StepLemmas.{rule_before, rule_before-first, rule_before-later, within, before_within, form_found}
 use Rattle.derivation.proofs.forms.form_of.Goals as goal
 use Rattle.derivation.proofs.forms.form_of.Goals.{Joined-place-eq0, then-place-eq0, else-place-eq0}
 
 -- the step past the end
-abbrev nothing : Kept
+abbrev nothing : ProgramStep
 nothing = record { phase = 0; rule = 0; at = 0; lead = 0; taken = 0 }
 
 -- the number that the code chose is that of the rule before the step

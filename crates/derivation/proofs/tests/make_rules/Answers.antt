@@ -3,7 +3,6 @@ use Rattle.std.proofs.Common.{[], ◌∷◌, ap, subst, sym, ◌∙◌}
 use Rattle.lexicon_definitions.specs.Lexicons.{IsRuleSet}
 use Rattle.derivation.proofs.WorkedAnswers.{worked_is_rule_set, worked_from, first_rule, second_rule, third_rule}
 use Rattle.derivation.proofs.tests.make_rules.Goals as goal
-use Rattle.derivation.proofs.tests.make_rules.Goals.{After-new}
 
 pub new-requires-2 : goal.new-requires-2
 new-requires-2 c =
