@@ -9,7 +9,7 @@ use Rattle.text_definitions.specs.Slp1.{word_of_slp1, slp1_table}
 use Rattle.text_definitions.specs.Words.{compare_words}
 use Rattle.lexicon_definitions.specs.Rules.{Rule}
 use Rattle.lexicon_definitions.specs.Lexicons.{Lexicon as LexiconValue, RuleSet, Form, IsPhase, IsRuleSet, IsLexicon}
-use Rattle.segmentation_definitions.specs.WorkedLexicons.{word_ca, word_iti, word_uvaaca, word_api, word_u, word_asti, word_aasti, word_na, word_deva, word_datta, word_devadatta, word_devas, ceti_lexicon, uvaaca_lexicon, overlap_lexicon, naasti_lexicon, devadatta_lexicon, final_lexicon}
+use Rattle.segmentation_definitions.specs.WorkedLexicons.{word_asti, word_aasti, word_na, word_deva, word_datta, word_devadatta, naasti_lexicon, devadatta_lexicon}
 use Rattle.derivation.proofs.WorkedAnswers.{rule_is}
 use Rattle.derivation.specs.Worked.{worked_rule}
 use Rattle.segmenter.specs.declared.lexicon.Lexicon.{Lexicon}
@@ -87,43 +87,6 @@ rule_at_texts : (u v w : List ℕ) (after : ℕ) (rule : Rule) (a b c : List ℕ
 rule_at_texts u v w after rule a b c p q r spelled =
     rule_is rule u v w a b c after p q r spelled.u_is spelled.v_is spelled.w_is spelled.before_is spelled.after_is
 
-pub ceti_parts : (plain : List (ℕ × ℕ)) (rules : List Rule) (forms : List (List ℕ)) (first : Rule) (iti ca : List ℕ) → plain ≡ [] → rules ≡ first ∷ []
-    → forms ≡ iti ∷ ca ∷ [] → IsSpelled (codes "a") (codes "i") (codes "e") 1 first → Spells (codes "iti") iti → Spells (codes "ca") ca
-    → ArePartsOf ceti_lexicon plain rules forms
-unfolding slp1_table word_of_slp1
-ceti_parts plain rules forms first iti ca p r f one s t =
-    let rule = rule_at_texts (codes "a") (codes "i") (codes "e") 1 first _ _ _ refl refl refl one in
-    record {
-      rule_set = rw (p, r, rule) refl;
-      lists = rw (f, spelled_one (codes "iti") word_iti iti refl s, spelled_one (codes "ca") word_ca ca refl t) refl;
-    }
-
-pub uvaaca_parts : (plain : List (ℕ × ℕ)) (rules : List Rule) (forms : List (List ℕ)) (first second : Rule) (iti uvaaca ca : List ℕ) → plain ≡ []
-    → rules ≡ first ∷ second ∷ [] → forms ≡ iti ∷ uvaaca ∷ ca ∷ [] → IsSpelled (codes "a") (codes "i") (codes "e") 1 first
-    → IsSpelled (codes "i") (codes "u") (codes "yu") 1 second → Spells (codes "iti") iti → Spells (codes "uvAca") uvaaca → Spells (codes "ca") ca
-    → ArePartsOf uvaaca_lexicon plain rules forms
-unfolding slp1_table word_of_slp1
-uvaaca_parts plain rules forms first second iti uvaaca ca p r f one two s t v =
-    let rule = rule_at_texts (codes "a") (codes "i") (codes "e") 1 first _ _ _ refl refl refl one in
-    let rule' = rule_at_texts (codes "i") (codes "u") (codes "yu") 1 second _ _ _ refl refl refl two in
-    record {
-      rule_set = rw (p, r, rule, rule') refl;
-      lists = rw (f, spelled_one (codes "iti") word_iti iti refl s, spelled_one (codes "uvAca") word_uvaaca uvaaca refl t, spelled_one (codes "ca") word_ca ca refl v) refl;
-    }
-
-pub overlap_parts : (plain : List (ℕ × ℕ)) (rules : List Rule) (forms : List (List ℕ)) (first second : Rule) (api u ca : List ℕ) → plain ≡ []
-    → rules ≡ first ∷ second ∷ [] → forms ≡ api ∷ u ∷ ca ∷ [] → IsSpelled (codes "a") (codes "u") (codes "o") 1 first
-    → IsSpelled (codes "u") (codes "a") (codes "va") 1 second → Spells (codes "api") api → Spells (codes "u") u → Spells (codes "ca") ca
-    → ArePartsOf overlap_lexicon plain rules forms
-unfolding slp1_table word_of_slp1
-overlap_parts plain rules forms first second api u ca p r f one two s t v =
-    let rule = rule_at_texts (codes "a") (codes "u") (codes "o") 1 first _ _ _ refl refl refl one in
-    let rule' = rule_at_texts (codes "u") (codes "a") (codes "va") 1 second _ _ _ refl refl refl two in
-    record {
-      rule_set = rw (p, r, rule, rule') refl;
-      lists = rw (f, spelled_one (codes "api") word_api api refl s, spelled_one (codes "u") word_u u refl t, spelled_one (codes "ca") word_ca ca refl v) refl;
-    }
-
 pub naasti_parts : (plain : List (ℕ × ℕ)) (rules : List Rule) (forms : List (List ℕ)) (first second : Rule) (asti aasti na : List ℕ) → plain ≡ []
     → rules ≡ first ∷ second ∷ [] → forms ≡ asti ∷ aasti ∷ na ∷ [] → IsSpelled (codes "a") (codes "a") (codes "A") 1 first
     → IsSpelled (codes "a") (codes "A") (codes "A") 1 second → Spells (codes "asti") asti → Spells (codes "Asti") aasti → Spells (codes "na") na
@@ -145,16 +108,6 @@ devadatta_parts plain rules forms datta deva devadatta p r f s t v = record {
   rule_set = rw (p, r) refl;
   lists = rw (f, spelled_one (codes "datta") word_datta datta refl s, spelled_one (codes "deva") word_deva deva refl t, spelled_one (codes "devadatta") word_devadatta devadatta refl v) refl;
 }
-
-pub final_parts : (plain : List (ℕ × ℕ)) (rules : List Rule) (forms : List (List ℕ)) (first : Rule) (devas : List ℕ) → plain ≡ [] → rules ≡ first ∷ []
-    → forms ≡ devas ∷ [] → IsSpelled (codes "s") [] (codes "H") 0 first → Spells (codes "devas") devas → ArePartsOf final_lexicon plain rules forms
-unfolding slp1_table word_of_slp1
-final_parts plain rules forms first devas p r f one s =
-    let rule = rule_at_texts (codes "s") [] (codes "H") 0 first _ _ _ refl refl refl one in
-    record {
-      rule_set = rw (p, r, rule) refl;
-      lists = rw (f, spelled_one (codes "devas") word_devas devas refl s) refl;
-    }
 
 pub parts_are_thin : (plain : List (ℕ × ℕ)) (rules : List Rule) (forms : List (List ℕ)) (kept : Lexicon) → HasParts plain rules forms kept → IsThin kept
 parts_are_thin plain rules forms kept parts = record {

@@ -6,7 +6,7 @@ ghost use Rattle.segmenter.specs.Completions.{EndsLine, GoesOn, KeepsBlanks, Fit
 
 use super::Lexicon;
 use super::place::Place;
-use derivation::{RuleSet, Step};
+use derivation::{RuleSet, Step, form_behind};
 use phoneme::{Line, Memory, Word};
 use std::alloc::Global;
 
@@ -152,6 +152,6 @@ pub(crate) fn can_follow(
     if !fits_line(&lexicon.rules, line, step) {
         return Ok(false);
     }
-    let form = place.form(alloc, &lexicon.rules, line, step)?;
+    let form = form_behind(alloc, &lexicon.rules, line, place.rule, step)?;
     Ok(lexicon.has_form(step.phase, &form) && may_enter(&lexicon.rules, place, step.phase, &form))
 }

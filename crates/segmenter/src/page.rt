@@ -1,4 +1,4 @@
-ghost use Rattle.std.specs.Prelude.{◌≡◌, ◌<◌, ◌≤◌, [], length, map, IfOk, All};
+ghost use Rattle.std.specs.Prelude.{◌<◌, ◌≤◌, [], length, map, IfOk, All};
 ghost use Rattle.lexicon_definitions.specs.Lexicons.{Lexicon as LexiconValue, IsLexicon};
 ghost use Rattle.segmentation_definitions.specs.Listings.{IsPage, BeforeFirst};
 ghost use Rattle.derivation.specs.Steps.{StandIn, steps_of};
@@ -12,7 +12,8 @@ use phoneme::{Line, Memory};
 use std::alloc::Global;
 
 /// The page of `most` answers of the line before the first one, without choices: the first `most` answers in their
-/// order, or all where they are fewer, and whether an answer is left after them.
+/// order, or all where they are fewer, and whether an answer is left after them. Answers are those of Huet 2005; their
+/// order, by phase, then letters taken, then rule, is our own.
 pub fn first_page(alloc: Global, lexicon: &Lexicon, line: &Line, most: u32) -> Result<Found, Memory>
     requires kept { IsKept lexicon.now }
     requires thin { IsThin lexicon.now }

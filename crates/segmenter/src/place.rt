@@ -1,12 +1,12 @@
-ghost use Rattle.std.specs.Prelude.{◌≡◌, ◌<◌, ◌≤◌, ◌++◌, length, IfOk, OnOk};
+ghost use Rattle.std.specs.Prelude.{◌≡◌, ◌<◌, ◌≤◌, length, IfOk};
 ghost use Rattle.text_definitions.specs.Lines.{IsLine};
 ghost use Rattle.segmenter.specs.Forms.{IsKept};
-ghost use Rattle.segmenter.specs.Completions.{lead_at, form_at, IsCandidate, CanFollow, place_behind, rank};
+ghost use Rattle.segmenter.specs.Completions.{lead_at, CanFollow, place_behind, rank};
 
 use super::Lexicon;
 use super::candidate::end_of;
-use derivation::{RuleSet, Step};
-use phoneme::{Letter, Line, Memory, Word};
+use derivation::{RuleSet, Step, form_behind};
+use phoneme::{Letter, Line, Memory};
 use std::alloc::Global;
 
 /// Where the next form begins: behind how many letters, behind which rule (0 for none), and after which letter, where
@@ -37,32 +37,6 @@ impl Place {
         }
     }
 
-    /// The form of a step at the place: what the rule before supplies, the letters that it takes, and its rule's `u`.
-    pub fn form(
-        &self,
-        alloc: Global,
-        rules: &RuleSet,
-        line: &Line,
-        step: &Step,
-    ) -> Result<Word, Memory>
-        requires rule { self.now.rule ≤ length rules.now.rules }
-        requires candidate { IsCandidate rules.now line.now self.now step.now }
-        ensures ok { IfOk result (λ form. form ≡ form_at rules.now line.now self.now step.now) }
-    {
-        let mut form = Word::new(alloc);
-        if let Some(rule) = rules.rule(self.rule) {
-            push_all(&mut form, rule.v.as_slice())?;
-        }
-        push_all(
-            &mut form,
-            &line.letters.as_slice()[step.at as usize..end_of(step)],
-        )?;
-        if let Some(rule) = rules.rule(step.rule) {
-            push_all(&mut form, rule.u.as_slice())?;
-        }
-        Ok(form)
-    }
-
     /// The place behind a step that may follow at this one.
     pub fn behind(
         &self,
@@ -81,7 +55,7 @@ impl Place {
     {
         let end = end_of(step);
         if step.rule == 0 {
-            let form = self.form(alloc, &lexicon.rules, line, step)?;
+            let form = form_behind(alloc, &lexicon.rules, line, self.rule, step)?;
             Ok(Place {
                 at: end as u32,
                 rule: 0,
@@ -96,14 +70,4 @@ impl Place {
             })
         }
     }
-}
-
-/// Appends the letters.
-fn push_all(word: &mut Word, letters: &[Letter]) -> Result<(), Memory>
-    ensures ok { OnOk result (word.new ≡ word.old ++ letters.now) }
-{
-    for letter in letters {
-        word.push(*letter)?;
-    }
-    Ok(())
 }

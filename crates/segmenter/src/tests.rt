@@ -1,4 +1,4 @@
-ghost use Rattle.std.specs.Prelude.{◌≡◌, ◌^◌, ◌<◌, ◌≤◌, Ok, [], ◌∷◌, length, codes, IfOk};
+ghost use Rattle.std.specs.Prelude.{◌≡◌, ◌^◌, ◌<◌, ◌≤◌, Ok, [], ◌∷◌, length, IfOk};
 ghost use Rattle.text_definitions.specs.Slp1.{word_of_slp1};
 ghost use Rattle.lexicon_definitions.specs.Lexicons.{IsRuleSet};
 ghost use Rattle.segmenter.specs.Forms.{IsKept, IsThin};
@@ -34,15 +34,14 @@ fn make_rule(alloc: Global, u: &[u8], v: &[u8], w: &[u8]) -> Result<Rule, Fail>
     ensures v { IfOk result (λ rule. word_of_slp1 v.now ≡ Ok rule.v) }
     ensures w { IfOk result (λ rule. word_of_slp1 w.now ≡ Ok rule.w) }
     ensures before { IfOk result (λ rule. rule.before ≡ 1) }
-    ensures between { IfOk result (λ rule. 0 < length v.now → rule.after ≡ 1) }
-    ensures at_end { IfOk result (λ rule. length v.now ≡ 0 → rule.after ≡ 0) }
+    ensures after { IfOk result (λ rule. rule.after ≡ 1) }
 {
     Ok(Rule {
         u: read_slp1(alloc, u)?,
         v: read_slp1(alloc, v)?,
         w: read_slp1(alloc, w)?,
         before: 1,
-        after: if v.is_empty() { 0 } else { 1 },
+        after: 1,
     })
 }
 
@@ -74,49 +73,6 @@ fn make_lexicon(
     })
 }
 
-/// The forms `iti` and `ca`, and the rule `a|i>e`.
-fn ceti(alloc: Global) -> Result<Lexicon, Fail>
-    ensures kept { IfOk result (λ lexicon. IsKept lexicon) }
-    ensures thin { IfOk result (λ lexicon. IsThin lexicon) }
-{
-    let first = make_rule(alloc, b"a", b"i", b"e")?;
-    let iti = read_slp1(alloc, b"iti")?;
-    let ca = read_slp1(alloc, b"ca")?;
-    let rules = vec![in alloc; first]?;
-    let forms = vec![in alloc; iti, ca]?;
-    make_lexicon(alloc, Vec::new(alloc), rules, forms)
-}
-
-/// The forms `iti`, `uvAca` and `ca`, and the rules `a|i>e` and `i|u>yu`.
-fn uvaaca(alloc: Global) -> Result<Lexicon, Fail>
-    ensures kept { IfOk result (λ lexicon. IsKept lexicon) }
-    ensures thin { IfOk result (λ lexicon. IsThin lexicon) }
-{
-    let first = make_rule(alloc, b"a", b"i", b"e")?;
-    let second = make_rule(alloc, b"i", b"u", b"yu")?;
-    let iti = read_slp1(alloc, b"iti")?;
-    let uvaca = read_slp1(alloc, b"uvAca")?;
-    let ca = read_slp1(alloc, b"ca")?;
-    let rules = vec![in alloc; first, second]?;
-    let forms = vec![in alloc; iti, uvaca, ca]?;
-    make_lexicon(alloc, Vec::new(alloc), rules, forms)
-}
-
-/// The forms `api`, `u` and `ca`, and the rules `a|u>o` and `u|a>va`.
-fn overlap(alloc: Global) -> Result<Lexicon, Fail>
-    ensures kept { IfOk result (λ lexicon. IsKept lexicon) }
-    ensures thin { IfOk result (λ lexicon. IsThin lexicon) }
-{
-    let first = make_rule(alloc, b"a", b"u", b"o")?;
-    let second = make_rule(alloc, b"u", b"a", b"va")?;
-    let api = read_slp1(alloc, b"api")?;
-    let u = read_slp1(alloc, b"u")?;
-    let ca = read_slp1(alloc, b"ca")?;
-    let rules = vec![in alloc; first, second]?;
-    let forms = vec![in alloc; api, u, ca]?;
-    make_lexicon(alloc, Vec::new(alloc), rules, forms)
-}
-
 /// The forms `asti`, `Asti` and `na`, and the rules `a|a>A` and `a|A>A`.
 fn naasti(alloc: Global) -> Result<Lexicon, Fail>
     ensures kept { IfOk result (λ lexicon. IsKept lexicon) }
@@ -143,18 +99,6 @@ fn devadatta(alloc: Global) -> Result<Lexicon, Fail>
     let plain = make_plain(alloc, 1, 34)?;
     let forms = vec![in alloc; datta, deva, devadatta]?;
     make_lexicon(alloc, plain, Vec::new(alloc), forms)
-}
-
-/// The form `devas`, and the final rule `s|>H`.
-fn devah(alloc: Global) -> Result<Lexicon, Fail>
-    ensures kept { IfOk result (λ lexicon. IsKept lexicon) }
-    ensures thin { IfOk result (λ lexicon. IsThin lexicon) }
-{
-    let first = make_rule(alloc, b"s", b"", b"H")?;
-    let devas = read_slp1(alloc, b"devas")?;
-    let rules = vec![in alloc; first]?;
-    let forms = vec![in alloc; devas]?;
-    make_lexicon(alloc, Vec::new(alloc), rules, forms)
 }
 
 /// The first answers of the text, each with its number, and then whether there are more.
@@ -185,39 +129,22 @@ fn listing(
 }
 
 #[test]
-fn worked_lines_are_listed(rt: HostRuntime) -> Result<(), Fail> {
+fn a_page_tells_whether_answers_are_left(rt: HostRuntime) -> Result<(), Fail> {
     let alloc = rt.alloc();
-    let lexicon = ceti(alloc)?;
-    let text = listing(alloc, &lexicon, b"ceti", 0, 9)?;
-    assert_eq!(rt; text.as_str(), "1: ca[word] (a|i>e) iti[word] / end");
-    let text = listing(alloc, &lexicon, b"cet", 0, 9)?;
-    assert_eq!(rt; text.as_str(), "end");
-
-    let lexicon = uvaaca(alloc)?;
-    let text = listing(alloc, &lexicon, b"cetyuvAca", 0, 9)?;
-    assert_eq!(rt;
-        text.as_str(),
-        "1: ca[word] (a|i>e) iti[word] (i|u>yu) uvAca[word] / end"
-    );
-
-    let lexicon = overlap(alloc)?;
-    let text = listing(alloc, &lexicon, b"covapi", 0, 9)?;
-    assert_eq!(rt; text.as_str(), "end");
-
     let lexicon = naasti(alloc)?;
-    let text = listing(alloc, &lexicon, b"nAsti", 0, 9)?;
-    assert_eq!(rt;
-        text.as_str(),
-        "1: na[word] (a|a>A) asti[word] / 2: na[word] (a|A>A) Asti[word] / end"
-    );
+    let text = listing(alloc, &lexicon, b"nAsti", 0, 1)?;
+    assert_eq!(rt; text.as_str(), "1: na[word] (a|a>A) asti[word] / more");
     let text = listing(alloc, &lexicon, b"nAsti", 0, 2)?;
     assert_eq!(rt;
         text.as_str(),
         "1: na[word] (a|a>A) asti[word] / 2: na[word] (a|A>A) Asti[word] / end"
     );
-    let text = listing(alloc, &lexicon, b"nAsti", 0, 1)?;
-    assert_eq!(rt; text.as_str(), "1: na[word] (a|a>A) asti[word] / more");
+    Ok(())
+}
 
+#[test]
+fn a_blank_stands_between_forms(rt: HostRuntime) -> Result<(), Fail> {
+    let alloc = rt.alloc();
     let lexicon = devadatta(alloc)?;
     let text = listing(alloc, &lexicon, b"devadatta", 0, 9)?;
     assert_eq!(rt;
@@ -226,11 +153,5 @@ fn worked_lines_are_listed(rt: HostRuntime) -> Result<(), Fail> {
     );
     let text = listing(alloc, &lexicon, b"devadatta", 4, 9)?;
     assert_eq!(rt; text.as_str(), "1: deva[word] + datta[word] / end");
-
-    let lexicon = devah(alloc)?;
-    let text = listing(alloc, &lexicon, b"devaH", 0, 9)?;
-    assert_eq!(rt; text.as_str(), "1: devas[word] (s|>H) / end");
-    let text = listing(alloc, &lexicon, b"devas", 0, 9)?;
-    assert_eq!(rt; text.as_str(), "1: devas[word] / end");
     Ok(())
 }

@@ -10,7 +10,7 @@ use Rattle.segmenter.proofs.tests.naasti.Goals.{After-new}
 
 parts : (c : After-new) → ArePartsOf naasti_lexicon c.new.result.items c.in_ok-rules.rules.items c.in_ok-forms.forms.items
 parts c =
-    naasti_parts c.new.result.items c.in_ok-rules.rules.items c.in_ok-forms.forms.items c.in_ok-first.first c.in_ok-second.second c.in_ok-asti.asti c.in_ok-long_asti.long_asti c.in_ok-na.na c.new.ensures.items c.in_ok-rules.ensures.items c.in_ok-forms.ensures.items (record { u_is = c.in_ok-first.ensures.u; v_is = c.in_ok-first.ensures.v; w_is = c.in_ok-first.ensures.w; before_is = c.in_ok-first.ensures.before; after_is = c.in_ok-first.ensures.between (lit< tt) }) (record { u_is = c.in_ok-second.ensures.u; v_is = c.in_ok-second.ensures.v; w_is = c.in_ok-second.ensures.w; before_is = c.in_ok-second.ensures.before; after_is = c.in_ok-second.ensures.between (lit< tt) }) c.in_ok-asti.ensures.ok c.in_ok-long_asti.ensures.ok c.in_ok-na.ensures.ok
+    naasti_parts c.new.result.items c.in_ok-rules.rules.items c.in_ok-forms.forms.items c.in_ok-first.first c.in_ok-second.second c.in_ok-asti.asti c.in_ok-long_asti.long_asti c.in_ok-na.na c.new.ensures.items c.in_ok-rules.ensures.items c.in_ok-forms.ensures.items (record { u_is = c.in_ok-first.ensures.u; v_is = c.in_ok-first.ensures.v; w_is = c.in_ok-first.ensures.w; before_is = c.in_ok-first.ensures.before; after_is = c.in_ok-first.ensures.after }) (record { u_is = c.in_ok-second.ensures.u; v_is = c.in_ok-second.ensures.v; w_is = c.in_ok-second.ensures.w; before_is = c.in_ok-second.ensures.before; after_is = c.in_ok-second.ensures.after }) c.in_ok-asti.ensures.ok c.in_ok-long_asti.ensures.ok c.in_ok-na.ensures.ok
 
 pub make_lexicon-requires : goal.make_lexicon-requires
 make_lexicon-requires c = parts_are_rules naasti_lexicon _ _ _ naasti_is_lexicon (parts c)
