@@ -1,10 +1,10 @@
-pub mod KeptForms
+pub mod RisingForms
 pub mod Runs
 pub mod ThinOrders
 pub mod ThinLeads
 pub mod ThinGrammar
 pub mod ThinFields
-pub mod ThinKept
+pub mod ThinLawful
 pub mod ThinFollows
 pub mod ThinSteps
 pub mod ThinMade

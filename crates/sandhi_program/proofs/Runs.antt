@@ -1,13 +1,11 @@
 -- What a run of `segment` writes is the output of an outcome: the file as read is the whole file, where it is within the
 -- limit.
-use Rattle.std.proofs.Common.{◌≡◌, ℕ, ◌+◌, ◌<◌, ◌≤◌, List, [], ◌∷◌, ◌++◌, length, take, min, Option, Some, None, refl, sym, ap, subst, ◌∙◌, inl, inr, ◌⊎◌, arith, append-nil, length-take, codes}
+use Rattle.std.proofs.Common.{◌≡◌, ℕ, ◌≤◌, List, [], ◌++◌, length, take, min, Option, Some, None, refl, sym, ap, subst, ◌∙◌, inl, inr, arith, append-nil, length-take, codes}
 use Rattle.std.specs.Option.{option_map}
 use Rattle.std.proofs.lemmas.List.{take_all}
-use Rattle.outside.specs.Counts.{Rose}
-use Rattle.outside.specs.Files.{Files, contents_of, first_bytes, AreFirstBytes, Lacks}
+use Rattle.outside.specs.Files.{Files, contents_of, first_bytes}
 use Rattle.outside.specs.Told.{bytes_after, GrowsByPrefix}
-use Rattle.lexicon_definitions.specs.Lexicons.{Lexicon}
-use Rattle.source_definitions.specs.ThinTexts.{IsThinText, IsThinTextOf}
+use Rattle.source_definitions.specs.ThinTexts.{IsThinTextOf}
 use Rattle.session_definitions.specs.Outcomes as outcomes
 use Rattle.session_definitions.specs.Outcomes.{End, Outcome, IsOutcome, IsSegment, IsPlainText, IsCommand, IsUsage, IsMissing, IsNotBuilt, IsSegmented, Refused, Lacking, Unbuilt, Segmented, output_line}
 use Rattle.sandhi_program.specs.declared.status.Status.{Status}

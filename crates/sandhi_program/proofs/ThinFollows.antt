@@ -15,7 +15,7 @@ use Rattle.source_definitions.specs.ThinTexts.{IsTextOf}
 use Rattle.source_definitions.specs.ThinLines.{Entry, PlainLine, RuleLine, FormLine, EndLine, Contents, form_of, lexicon_of, entry_of, entries_of, all_entries}
 use Rattle.source_definitions.proofs.ThinShape.{plain_told_by, rule_told_by, form_told_by, plain_is, rules_are, forms_are, without_end, one_phase_has, rules_lawful}
 use Rattle.sandhi_program.specs.ThinReader.{AreDistinct, leads_of, MayFollow, MayFollowPlain, MayFollowRule, MayFollowForm}
-use Rattle.sandhi_program.specs.declared.thin_text.contents.Contents.{Contents as Kept}
+use Rattle.sandhi_program.specs.declared.thin_text.contents.Contents.{Contents as ReadContents}
 use Rattle.sandhi_program.proofs.ThinOrders.{sorted_front}
 use Rattle.sandhi_program.proofs.ThinLeads.{leads_front, fewest_leads}
 
@@ -212,26 +212,26 @@ module _ (full : Contents) (bytes : List ℕ) (t : IsTextOf (lexicon_of full) by
   leads_of_full = fewest_leads full (rules_lawful full bytes t) t.limits.rule_set.leads
 
   -- the entry may follow what was read so far
-  pub plain_follows : (kept : Kept) (front : Contents) (pair : ℕ × ℕ) (more : List Entry) → kept.plain.items ≡ front.plain → kept.rules.items ≡ front.rules
-      → kept.forms.items ≡ words_of front.forms → all_entries full ≡ so_far front kept.ended ++ PlainLine pair ∷ more → MayFollowPlain kept pair
-  plain_follows kept front pair more p r f e = record {
-    goes_on = end_before full front kept.ended (PlainLine pair) more e (omega arith);
-    no_rule = r ∙ rules_before full front kept.ended (PlainLine pair) more e (omega arith);
-    no_form = f ∙ ap words_of (forms_before full front kept.ended (PlainLine pair) more e (omega arith));
+  pub plain_follows : (contents : ReadContents) (front : Contents) (pair : ℕ × ℕ) (more : List Entry) → contents.plain.items ≡ front.plain → contents.rules.items ≡ front.rules
+      → contents.forms.items ≡ words_of front.forms → all_entries full ≡ so_far front contents.ended ++ PlainLine pair ∷ more → MayFollowPlain contents pair
+  plain_follows contents front pair more p r f e = record {
+    goes_on = end_before full front contents.ended (PlainLine pair) more e (omega arith);
+    no_rule = r ∙ rules_before full front contents.ended (PlainLine pair) more e (omega arith);
+    no_form = f ∙ ap words_of (forms_before full front contents.ended (PlainLine pair) more e (omega arith));
     rising =
         subst (λ pairs. IsStrictlySortedBy compare_pairs (pairs ++ pair ∷ [])) (sym p)
         (sorted_front compare_pairs (front.plain ++ pair ∷ []) (flat_map plain_told_by more)
-        (subst (IsStrictlySortedBy compare_pairs) (plain_further full front kept.ended pair more e) t.lexicon_itself.rules.rising));
+        (subst (IsStrictlySortedBy compare_pairs) (plain_further full front contents.ended pair more e) t.lexicon_itself.rules.rising));
   }
 
-  pub rule_follows : (kept : Kept) (front : Contents) (rule : Rule) (more : List Entry) → kept.rules.items ≡ front.rules → kept.forms.items ≡ words_of front.forms
-      → all_entries full ≡ so_far front kept.ended ++ RuleLine rule ∷ more → MayFollowRule kept rule
-  rule_follows kept front rule more r f e =
-      let whole = rules_further full front kept.ended rule more e in
+  pub rule_follows : (contents : ReadContents) (front : Contents) (rule : Rule) (more : List Entry) → contents.rules.items ≡ front.rules → contents.forms.items ≡ words_of front.forms
+      → all_entries full ≡ so_far front contents.ended ++ RuleLine rule ∷ more → MayFollowRule contents rule
+  rule_follows contents front rule more r f e =
+      let whole = rules_further full front contents.ended rule more e in
       let same = ap (λ (rules : List Rule). rules ++ rule ∷ []) (sym r) in
       record {
-        goes_on = end_before full front kept.ended (RuleLine rule) more e (omega arith);
-        no_form = f ∙ ap words_of (forms_before full front kept.ended (RuleLine rule) more e (omega arith));
+        goes_on = end_before full front contents.ended (RuleLine rule) more e (omega arith);
+        no_form = f ∙ ap words_of (forms_before full front contents.ended (RuleLine rule) more e (omega arith));
         distinct =
             subst AreDistinct same (pairs_front (λ left right. IsSameTriple left right → ⊥) (front.rules ++ rule ∷ []) (flat_map rule_told_by more)
             (subst AreDistinct whole t.lexicon_itself.rules.distinct));
@@ -249,15 +249,15 @@ module _ (full : Contents) (bytes : List ℕ) (t : IsTextOf (lexicon_of full) by
             omega arith;
       }
 
-  pub form_follows : (kept : Kept) (front : Contents) (letters stem : List ℕ) (more : List Entry) → kept.forms.items ≡ words_of front.forms
-      → all_entries full ≡ so_far front kept.ended ++ FormLine letters stem ∷ more → MayFollowForm kept letters
-  form_follows kept front letters stem more f e =
-      let whole = forms_further full front kept.ended letters stem more e in
+  pub form_follows : (contents : ReadContents) (front : Contents) (letters stem : List ℕ) (more : List Entry) → contents.forms.items ≡ words_of front.forms
+      → all_entries full ≡ so_far front contents.ended ++ FormLine letters stem ∷ more → MayFollowForm contents letters
+  form_follows contents front letters stem more f e =
+      let whole = forms_further full front contents.ended letters stem more e in
       let words = ap words_of whole ∙ map-append (λ (form : List ℕ × List ℕ). form.0) (front.forms ++ (letters, stem) ∷ []) (flat_map form_told_by more) in
       let pushed = map-append (λ (form : List ℕ × List ℕ). form.0) front.forms ((letters, stem) ∷ []) in
       let same = ap (λ (words : List (List ℕ)). words ++ letters ∷ []) (sym f) in
       record {
-        goes_on = end_before full front kept.ended (FormLine letters stem) more e (omega arith);
+        goes_on = end_before full front contents.ended (FormLine letters stem) more e (omega arith);
         rising =
             subst (IsStrictlySortedBy compare_words) (pushed ∙ same)
             (sorted_front compare_words (words_of (front.forms ++ (letters, stem) ∷ [])) (words_of (flat_map form_told_by more))
@@ -271,9 +271,9 @@ module _ (full : Contents) (bytes : List ℕ) (t : IsTextOf (lexicon_of full) by
             omega arith;
       }
 
-  pub entry_follows : (kept : Kept) (front : Contents) (entry : Entry) (more : List Entry) → kept.plain.items ≡ front.plain → kept.rules.items ≡ front.rules
-      → kept.forms.items ≡ words_of front.forms → all_entries full ≡ so_far front kept.ended ++ entry ∷ more → MayFollow kept entry
-  entry_follows kept front (PlainLine pair) more p r f e = plain_follows kept front pair more p r f e
-  entry_follows kept front (RuleLine rule) more p r f e = rule_follows kept front rule more r f e
-  entry_follows kept front (FormLine letters stem) more p r f e = form_follows kept front letters stem more f e
-  entry_follows kept front EndLine more p r f e = end_before full front kept.ended EndLine more e (omega arith)
+  pub entry_follows : (contents : ReadContents) (front : Contents) (entry : Entry) (more : List Entry) → contents.plain.items ≡ front.plain → contents.rules.items ≡ front.rules
+      → contents.forms.items ≡ words_of front.forms → all_entries full ≡ so_far front contents.ended ++ entry ∷ more → MayFollow contents entry
+  entry_follows contents front (PlainLine pair) more p r f e = plain_follows contents front pair more p r f e
+  entry_follows contents front (RuleLine rule) more p r f e = rule_follows contents front rule more r f e
+  entry_follows contents front (FormLine letters stem) more p r f e = form_follows contents front letters stem more f e
+  entry_follows contents front EndLine more p r f e = end_before full front contents.ended EndLine more e (omega arith)

@@ -1,10 +1,10 @@
 -- The grammar `word+` has no fault: but for its states that computes; it has one name, so that its states are the opening
 -- and at most one more, and no three of them differ.
-use Rattle.std.proofs.Common.{◌≡◌, ◌≢◌, ℕ, ◌<◌, ◌≤◌, ◌⊎◌, inl, inr, List, [], ◌∷◌, ◌++◌, length, get_or, codes, refl, sym, ap, subst, ◌∙◌, arith}
+use Rattle.std.proofs.Common.{◌≡◌, ◌≢◌, ℕ, ◌⊎◌, inl, inr, List, [], ◌∷◌, ◌++◌, get_or, codes, refl, sym, ap, subst, ◌∙◌, arith}
 use Rattle.std.specs.List.{Contains}
 use Rattle.std.specs.List.Sorted.{IsStrictlyIncreasing}
-use Rattle.lexicon_definitions.specs.Grammars.{Grammar, Name, OnceOrMore, State, Opening, After, IsPlaceAfter, IsStateAfter, IsLiveState}
-use Rattle.lexicon_definitions.specs.GrammarFaults.{Fault, Long, Syntax, UnknownPhase, Places, States, IsFirstFault, IsGrammarTextWithinLimits, HasMoreStates, IsStateOf}
+use Rattle.lexicon_definitions.specs.Grammars.{Grammar, Name, OnceOrMore, State, Opening, After, IsPlaceAfter}
+use Rattle.lexicon_definitions.specs.GrammarFaults.{Long, Syntax, UnknownPhase, Places, States, IsGrammarTextWithinLimits, HasMoreStates, IsStateOf}
 use Rattle.lexicon_definitions.specs.GrammarTexts.{grammar_of}
 use Rattle.lexicon_definitions.proofs.GrammarPlaces.{places_within}
 use Rattle.lexicon_definitions.proofs.GrammarLists.{all_at}

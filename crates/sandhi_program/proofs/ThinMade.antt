@@ -1,4 +1,4 @@
--- Contents that were read are those of a lexicon within the limits: each part by what was kept in order, and by what each
+-- Contents that were read are those of a lexicon within the limits: each part by what was contents in order, and by what each
 -- line is by itself.
 use Rattle.std.proofs.Common.{◌≡◌, ◌≢◌, ℕ, ◌≤◌, List, [], ◌∷◌, ◌++◌, length, get_or, map, codes, true, All, arith, refl, ◌∙◌, ap, subst, inl, inr, lit≤}
 use Rattle.std.specs.List.{AllByRecursion, AllPairs}
@@ -16,8 +16,8 @@ use Rattle.source_definitions.specs.Limits.{IsShortForm, IsWithinLimits}
 use Rattle.source_definitions.specs.ThinTexts.{HasSpelledStems}
 use Rattle.source_definitions.specs.ThinLines.{PlainLine, RuleLine, Contents, form_of, rules_of, lexicon_of, entry_of, entries_of, all_entries, text_telling, indeclinable, IsEntry, IsThinRule}
 use Rattle.source_definitions.proofs.ThinShape.{All-from_map}
-use Rattle.sandhi_program.specs.ThinReader.{IsKept, AreDistinct, IsThinContents, IsReadAs, leads_of}
-use Rattle.sandhi_program.specs.declared.thin_text.contents.Contents.{Contents as Kept}
+use Rattle.sandhi_program.specs.ThinReader.{IsLawfulSoFar, AreDistinct, IsThinContents, IsReadAs, leads_of}
+use Rattle.sandhi_program.specs.declared.thin_text.contents.Contents.{Contents as ReadContents}
 use Rattle.sandhi_program.proofs.ThinOrders.{sorted_one}
 use Rattle.sandhi_program.proofs.ThinGrammar.{thin_grammar}
 use Rattle.sandhi_program.proofs.ThinLeads.{most_leads}
@@ -68,8 +68,8 @@ each_form P forms step h = All-map P form_of forms (λ k d below. step (get_or f
 
 -- ---- the lexicon
 
-module _ (kept : Kept) (front : Contents) (p : kept.plain.items ≡ front.plain) (r : kept.rules.items ≡ front.rules) (f : kept.forms.items ≡ words_of front.forms)
-    (h : IsKept kept) (lawful : AllByRecursion IsEntry (entries_of front)) where
+module _ (contents : ReadContents) (front : Contents) (p : contents.plain.items ≡ front.plain) (r : contents.rules.items ≡ front.rules) (f : contents.forms.items ≡ words_of front.forms)
+    (h : IsLawfulSoFar contents) (lawful : AllByRecursion IsEntry (entries_of front)) where
   lawful_later : AllByRecursion IsEntry (rule_lines front.rules ++ form_lines front.forms)
   lawful_later = all_right IsEntry (plains front.plain) (rule_lines front.rules ++ form_lines front.forms) lawful
 
@@ -141,12 +141,12 @@ module _ (kept : Kept) (front : Contents) (p : kept.plain.items ≡ front.plain)
   }
 
 -- the front of a text that was read to its end
-pub read_whole : (kept : Kept) (text rest : List ℕ) → ReadUpTo kept text rest → rest ≡ [] → kept.ended ≡ true
-    → (full : Contents) × IsReadAs kept full × (text ≡ text_telling (all_entries full))
-read_whole kept text rest r none ended =
-    let whole = ended_now r.front kept.ended ended in
-    let lawful = all_left IsEntry (entries_of r.front) (end_if kept.ended) r.lawful in (
+pub read_whole : (contents : ReadContents) (text rest : List ℕ) → ReadUpTo contents text rest → rest ≡ [] → contents.ended ≡ true
+    → (full : Contents) × IsReadAs contents full × (text ≡ text_telling (all_entries full))
+read_whole contents text rest r none ended =
+    let whole = ended_now r.front contents.ended ended in
+    let lawful = all_left IsEntry (entries_of r.front) (end_if contents.ended) r.lawful in (
       r.front,
-      record { plain = r.plain; rules = r.rules; forms = r.forms; thin = made kept r.front r.plain r.rules r.forms r.kept_itself lawful },
-      r.text_is ∙ ap (λ more. text_telling (so_far r.front kept.ended) ++ more) none ∙ append-nil (text_telling (so_far r.front kept.ended)) ∙ ap text_telling whole,
+      record { plain = r.plain; rules = r.rules; forms = r.forms; thin = made contents r.front r.plain r.rules r.forms r.lawful_so_far lawful },
+      r.text_is ∙ ap (λ more. text_telling (so_far r.front contents.ended) ++ more) none ∙ append-nil (text_telling (so_far r.front contents.ended)) ∙ ap text_telling whole,
     )

@@ -11,32 +11,32 @@ use Rattle.source_definitions.specs.ThinLines.{Entry, PlainLine, RuleLine, FormL
 use Rattle.source_definitions.proofs.Marks.{is_free, free_from_All, no_cut}
 use Rattle.source_definitions.proofs.ThinEntries.{begins_telling, next_line, first_line, same_entry}
 use Rattle.source_definitions.proofs.ThinShape.{entries_lawful}
-use Rattle.sandhi_program.specs.ThinReader.{IsKept, MayFollow, Added}
-use Rattle.sandhi_program.specs.declared.thin_text.contents.Contents.{Contents as Kept}
+use Rattle.sandhi_program.specs.ThinReader.{IsLawfulSoFar, MayFollow, Added}
+use Rattle.sandhi_program.specs.declared.thin_text.contents.Contents.{Contents as ReadContents}
 use Rattle.sandhi_program.proofs.ThinFollows.{so_far, words_of, entry_follows}
 
--- what was kept is what the lines so far told, and these are the text up to the rest
-pub record ReadUpTo (kept : Kept) (text rest : List ℕ) : Type 0 where
+-- what was contents is what the lines so far told, and these are the text up to the rest
+pub record ReadUpTo (contents : ReadContents) (text rest : List ℕ) : Type 0 where
   pub front : Contents
-  pub plain : kept.plain.items ≡ front.plain
-  pub rules : kept.rules.items ≡ front.rules
-  pub forms : kept.forms.items ≡ words_of front.forms
-  pub lawful : AllByRecursion IsEntry (so_far front kept.ended)
-  pub text_is : text ≡ text_telling (so_far front kept.ended) ++ rest
-  pub kept_itself : IsKept kept
+  pub plain : contents.plain.items ≡ front.plain
+  pub rules : contents.rules.items ≡ front.rules
+  pub forms : contents.forms.items ≡ words_of front.forms
+  pub lawful : AllByRecursion IsEntry (so_far front contents.ended)
+  pub text_is : text ≡ text_telling (so_far front contents.ended) ++ rest
+  pub lawful_so_far : IsLawfulSoFar contents
 
 abbrev pub no_contents : Contents
 no_contents = record { plain = []; rules = []; forms = [] }
 
-pub nothing_read : (kept : Kept) (text : List ℕ) → IsKept kept → kept.plain.items ≡ [] → kept.rules.items ≡ [] → kept.forms.items ≡ [] → kept.ended ≡ false → ReadUpTo kept text text
-nothing_read kept text h p r f e = record {
+pub nothing_read : (contents : ReadContents) (text : List ℕ) → IsLawfulSoFar contents → contents.plain.items ≡ [] → contents.rules.items ≡ [] → contents.forms.items ≡ [] → contents.ended ≡ false → ReadUpTo contents text text
+nothing_read contents text h p r f e = record {
   front = no_contents;
   plain = p;
   rules = r;
   forms = f;
   lawful = subst (λ ended. AllByRecursion IsEntry (so_far no_contents ended)) (sym e) tt;
   text_is = ap (λ ended. text_telling (so_far no_contents ended) ++ text) (sym e);
-  kept_itself = h;
+  lawful_so_far = h;
 }
 
 -- ---- one line more
@@ -90,9 +90,9 @@ ended_now front true e = refl
 ended_now front false e = absurd (cc)
 
 -- what is read up to a line is read up to its end, where what it tells was added to the front
-read_further : (old new : Kept) (text line rest : List ℕ) (entry : Entry) (r : ReadUpTo old text (line ++ 10 ∷ rest)) → Tells line entry → (front : Contents)
+read_further : (old new : ReadContents) (text line rest : List ℕ) (entry : Entry) (r : ReadUpTo old text (line ++ 10 ∷ rest)) → Tells line entry → (front : Contents)
     → new.plain.items ≡ front.plain → new.rules.items ≡ front.rules → new.forms.items ≡ words_of front.forms
-    → so_far front new.ended ≡ so_far r.front old.ended ++ entry ∷ [] → IsKept new → ReadUpTo new text rest
+    → so_far front new.ended ≡ so_far r.front old.ended ++ entry ∷ [] → IsLawfulSoFar new → ReadUpTo new text rest
 read_further old new text line rest entry r t front p u f e h = record {
   front = front;
   plain = p;
@@ -104,7 +104,7 @@ read_further old new text line rest entry r t front p u f e h = record {
   text_is =
       r.text_is ∙ ap (λ here. text_telling (so_far r.front old.ended) ++ (here ++ 10 ∷ rest)) t.spelled
       ∙ telling_push (so_far r.front old.ended) entry rest ∙ ap (λ entries. text_telling entries ++ rest) (sym e);
-  kept_itself = h;
+  lawful_so_far = h;
 }
 
 no_words : (forms : List (List ℕ × List ℕ)) → words_of forms ≡ [] → forms ≡ []
@@ -117,8 +117,8 @@ push_to : (old_front front : Contents) (old new : Bool) (entry : Entry) → old 
 push_to old_front front old new entry e same pushed =
     not_ended front new (same ∙ e) ∙ pushed ∙ ap (λ entries. entries ++ entry ∷ []) (sym (not_ended old_front old e))
 
-pub read_line : (old new : Kept) (text line rest : List ℕ) (entry : Entry) → ReadUpTo old text (line ++ 10 ∷ rest) → Tells line entry → MayFollow old entry → Added old new entry
-    → IsKept new → ReadUpTo new text rest
+pub read_line : (old new : ReadContents) (text line rest : List ℕ) (entry : Entry) → ReadUpTo old text (line ++ 10 ∷ rest) → Tells line entry → MayFollow old entry → Added old new entry
+    → IsLawfulSoFar new → ReadUpTo new text rest
 read_line old new text line rest (PlainLine pair) r t m a h =
     let front = r.front in
     let next : Contents = record { plain = front.plain ++ pair ∷ []; rules = front.rules; forms = front.forms } in
@@ -174,34 +174,34 @@ has_end full front false e =
 
 module _ (full : Contents) (bytes text : List ℕ) (t : IsTextOf (lexicon_of full) bytes) (told : text ≡ text_telling (all_entries full)) where
   -- the text goes on with lines that tell something
-  goes_on : (kept : Kept) (rest : List ℕ) (r : ReadUpTo kept text rest)
-      → (more : List Entry) × (all_entries full ≡ so_far r.front kept.ended ++ more) × AllByRecursion IsEntry more × (text_telling more ≡ rest)
-  goes_on kept rest r =
-      begins_telling (so_far r.front kept.ended) (all_entries full) rest r.lawful (entries_lawful full bytes t) (sym told ∙ r.text_is)
+  goes_on : (contents : ReadContents) (rest : List ℕ) (r : ReadUpTo contents text rest)
+      → (more : List Entry) × (all_entries full ≡ so_far r.front contents.ended ++ more) × AllByRecursion IsEntry more × (text_telling more ≡ rest)
+  goes_on contents rest r =
+      begins_telling (so_far r.front contents.ended) (all_entries full) rest r.lawful (entries_lawful full bytes t) (sym told ∙ r.text_is)
 
   -- the next line tells something that may follow
-  pub next_follows : (kept : Kept) (line rest : List ℕ) → ReadUpTo kept text (line ++ 10 ∷ rest) → All (λ byte. byte ≢ 10) line
-      → (entry : Entry) × Tells line entry × MayFollow kept entry
-  next_follows kept line rest r h =
-      let whole = goes_on kept (line ++ 10 ∷ rest) r in
+  pub next_follows : (contents : ReadContents) (line rest : List ℕ) → ReadUpTo contents text (line ++ 10 ∷ rest) → All (λ byte. byte ≢ 10) line
+      → (entry : Entry) × Tells line entry × MayFollow contents entry
+  next_follows contents line rest r h =
+      let whole = goes_on contents (line ++ 10 ∷ rest) r in
       let next = next_line whole.0 line rest whole.2 (free_from_All 10 line h) whole.3 in
-      let e = whole.1 ∙ ap (λ entries. so_far r.front kept.ended ++ entries) next.2 in
-      (next.0, record { entry_itself = next.3; spelled = next.5 }, entry_follows full bytes t kept r.front next.0 next.1 r.plain r.rules r.forms e)
+      let e = whole.1 ∙ ap (λ entries. so_far r.front contents.ended ++ entries) next.2 in
+      (next.0, record { entry_itself = next.3; spelled = next.5 }, entry_follows full bytes t contents r.front next.0 next.1 r.plain r.rules r.forms e)
 
   -- what the line tells may follow
-  pub told_follows : (kept : Kept) (line rest : List ℕ) (entry : Entry) → ReadUpTo kept text (line ++ 10 ∷ rest) → All (λ byte. byte ≢ 10) line → Tells line entry → MayFollow kept entry
-  told_follows kept line rest entry r h s =
-      let next = next_follows kept line rest r h in
-      subst (MayFollow kept) (same_entry next.0 entry next.1.entry_itself s.entry_itself (sym next.1.spelled ∙ s.spelled)) next.2
+  pub told_follows : (contents : ReadContents) (line rest : List ℕ) (entry : Entry) → ReadUpTo contents text (line ++ 10 ∷ rest) → All (λ byte. byte ≢ 10) line → Tells line entry → MayFollow contents entry
+  told_follows contents line rest entry r h s =
+      let next = next_follows contents line rest r h in
+      subst (MayFollow contents) (same_entry next.0 entry next.1.entry_itself s.entry_itself (sym next.1.spelled ∙ s.spelled)) next.2
 
   no_more : (more : List Entry) (rest : List ℕ) → text_telling more ≡ rest → is_free 10 rest ≡ true → more ≡ []
   no_more [] rest e f = refl
   no_more (entry ∷ more) rest e f = absurd (no_cut 10 rest (line_of entry) (text_telling more) f (sym e ∙ first_line entry more))
 
   -- where no line is left, nothing is, and the last line was read
-  pub ends : (kept : Kept) (rest : List ℕ) → ReadUpTo kept text rest → All (λ byte. byte ≢ 10) rest → (rest ≡ []) × (kept.ended ≡ true)
-  ends kept rest r h =
-      let whole = goes_on kept rest r in
+  pub ends : (contents : ReadContents) (rest : List ℕ) → ReadUpTo contents text rest → All (λ byte. byte ≢ 10) rest → (rest ≡ []) × (contents.ended ≡ true)
+  ends contents rest r h =
+      let whole = goes_on contents rest r in
       let none = no_more whole.0 rest whole.3 (free_from_All 10 rest h) in
-      let all : all_entries full ≡ so_far r.front kept.ended = whole.1 ∙ ap (λ entries. so_far r.front kept.ended ++ entries) none ∙ append-nil (so_far r.front kept.ended) in
-      (sym whole.3 ∙ ap text_telling none, has_end full r.front kept.ended all)
+      let all : all_entries full ≡ so_far r.front contents.ended = whole.1 ∙ ap (λ entries. so_far r.front contents.ended ++ entries) none ∙ append-nil (so_far r.front contents.ended) in
+      (sym whole.3 ∙ ap text_telling none, has_end full r.front contents.ended all)

@@ -12,8 +12,8 @@ use Rattle.source_definitions.specs.ThinLines.{Contents, form_of, rules_of, lexi
 use Rattle.source_definitions.proofs.ThinShape.{thin_shape, text_told}
 use Rattle.segmenter.specs.Forms.{HasForms, lists_of}
 use Rattle.segmenter.specs.declared.lexicon.Lexicon.{Lexicon as Built}
-use Rattle.sandhi_program.specs.ThinReader.{IsThinContents, IsReadAs, rules_kept}
-use Rattle.sandhi_program.specs.declared.thin_text.contents.Contents.{Contents as Kept}
+use Rattle.sandhi_program.specs.ThinReader.{IsThinContents, IsReadAs, rules_read}
+use Rattle.sandhi_program.specs.declared.thin_text.contents.Contents.{Contents as ReadContents}
 
 -- ---- the rule set
 
@@ -22,11 +22,11 @@ pub one_name_is : {A : Type 0} (names before : List (String A)) (name : String A
 one_name_is names before name e none is =
     ap (map string_bytes) (e ∙ ap (λ xs. xs ++ name ∷ []) none) ∙ ap (λ bytes. bytes ∷ []) is
 
-pub rule_set_from : (kept : Kept) → IsRuleSet (rules_kept kept) → (names : List (List ℕ)) (grammar : List ℕ) → names ≡ codes "word" ∷ [] → grammar ≡ codes "word+"
-    → IsRuleSet (record { names = names; grammar = grammar; plain = kept.plain.items; rules = kept.rules.items })
-rule_set_from kept h names grammar n g =
-    let whole : rules_kept kept ≡ record { names = names; grammar = grammar; plain = kept.plain.items; rules = kept.rules.items } =
-    λ i. record { names = sym n i; grammar = sym g i; plain = kept.plain.items; rules = kept.rules.items } in
+pub rule_set_from : (contents : ReadContents) → IsRuleSet (rules_read contents) → (names : List (List ℕ)) (grammar : List ℕ) → names ≡ codes "word" ∷ [] → grammar ≡ codes "word+"
+    → IsRuleSet (record { names = names; grammar = grammar; plain = contents.plain.items; rules = contents.rules.items })
+rule_set_from contents h names grammar n g =
+    let whole : rules_read contents ≡ record { names = names; grammar = grammar; plain = contents.plain.items; rules = contents.rules.items } =
+    λ i. record { names = sym n i; grammar = sym g i; plain = contents.plain.items; rules = contents.rules.items } in
     subst IsRuleSet whole h
 
 -- ---- a thin text
@@ -63,9 +63,9 @@ letters_of : (forms : List (List ℕ × List ℕ)) → map (λ (form : Form). fo
 letters_of [] = refl
 letters_of (form ∷ forms) = ap (λ words. form.0 ∷ words) (letters_of forms)
 
-pub forms_from_contents : (built : Built) (kept : Kept) (full : Contents) → built.rules ≡ rules_kept kept → lists_of built ≡ kept.forms.items ∷ [] → IsReadAs kept full → HasForms built (lexicon_of full)
-forms_from_contents built kept full r l is =
-    let rules : rules_kept kept ≡ rules_of full = λ i. record { names = codes "word" ∷ []; grammar = codes "word+"; plain = is.plain i; rules = is.rules i } in
+pub forms_from_contents : (built : Built) (contents : ReadContents) (full : Contents) → built.rules ≡ rules_read contents → lists_of built ≡ contents.forms.items ∷ [] → IsReadAs contents full → HasForms built (lexicon_of full)
+forms_from_contents built contents full r l is =
+    let rules : rules_read contents ≡ rules_of full = λ i. record { names = codes "word" ∷ []; grammar = codes "word+"; plain = is.plain i; rules = is.rules i } in
     record {
       rules = sym (r ∙ rules);
       forms = ap (λ words. words ∷ []) (letters_of full.forms ∙ sym is.forms) ∙ sym l;

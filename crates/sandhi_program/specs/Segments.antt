@@ -2,7 +2,7 @@
 use Rattle.std.specs.Prelude.{◌≡◌, ℕ, ◌⊎◌, ◌<◌, List, [], length, Bool, Option, codes}
 use Rattle.lexicon_definitions.specs.Lexicons.{Lexicon, RuleSet}
 use Rattle.derivation.specs.Steps.{StandIn}
-use Rattle.derivation.specs.declared.step.Step.{Step as Kept}
+use Rattle.derivation.specs.declared.step.Step.{Step as ProgramStep}
 use Rattle.source_definitions.specs.ThinTexts.{IsThinText, IsThinTextOf}
 use Rattle.segmentation_definitions.specs.Derivations.{Step}
 use Rattle.segmentation_definitions.specs.Listings.{BeforeFirst, IsPage}
@@ -12,7 +12,7 @@ use Rattle.sandhi_program.specs.declared.status.Status.TheVariants.{Done, Memory
 use Rattle.sandhi_program.specs.Ends.{Finishes}
 
 -- the steps stand in the line one after another, and there is at least one
-pub record ArePrintable (rules : RuleSet) (letters : List ℕ) (steps : List Kept) : Type 0 where
+pub record ArePrintable (rules : RuleSet) (letters : List ℕ) (steps : List ProgramStep) : Type 0 where
   pub stand : StandIn rules letters steps
   pub some : 0 < length steps
 

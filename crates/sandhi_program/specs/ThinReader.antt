@@ -55,42 +55,42 @@ abbrev pub AreDistinct : List Rule → Type 0
 AreDistinct rules = AllPairs (λ left right. IsSameTriple left right → ⊥) rules
 
 -- what was read so far may stand in a lexicon within the limits
-pub record IsKept (kept : Contents) : Type 0 where
-  pub rising : IsStrictlySortedBy compare_pairs kept.plain.items
-  pub distinct : AreDistinct kept.rules.items
-  pub rules : length kept.rules.items ≤ 4000
-  pub leads_are : kept.leads.items ≡ leads_of kept.rules.items
-  pub leads : length kept.leads.items ≤ 256
-  pub rising_forms : IsStrictlySortedBy compare_words kept.forms.items
-  pub forms : length kept.forms.items ≤ 600000
+pub record IsLawfulSoFar (contents : Contents) : Type 0 where
+  pub rising : IsStrictlySortedBy compare_pairs contents.plain.items
+  pub distinct : AreDistinct contents.rules.items
+  pub rules : length contents.rules.items ≤ 4000
+  pub leads_are : contents.leads.items ≡ leads_of contents.rules.items
+  pub leads : length contents.leads.items ≤ 256
+  pub rising_forms : IsStrictlySortedBy compare_words contents.forms.items
+  pub forms : length contents.forms.items ≤ 600000
 
 -- a plain pair may follow: it is above those before, and neither a rule nor a form was read
-pub record MayFollowPlain (kept : Contents) (pair : ℕ × ℕ) : Type 0 where
-  pub goes_on : kept.ended ≡ false
-  pub no_rule : kept.rules.items ≡ []
-  pub no_form : kept.forms.items ≡ []
-  pub rising : IsStrictlySortedBy compare_pairs (kept.plain.items ++ pair ∷ [])
+pub record MayFollowPlain (contents : Contents) (pair : ℕ × ℕ) : Type 0 where
+  pub goes_on : contents.ended ≡ false
+  pub no_rule : contents.rules.items ≡ []
+  pub no_form : contents.forms.items ≡ []
+  pub rising : IsStrictlySortedBy compare_pairs (contents.plain.items ++ pair ∷ [])
 
 -- a rule may follow: it is none of those before, they do not become too many, and no form was read
-pub record MayFollowRule (kept : Contents) (rule : Rule) : Type 0 where
-  pub goes_on : kept.ended ≡ false
-  pub no_form : kept.forms.items ≡ []
-  pub distinct : AreDistinct (kept.rules.items ++ rule ∷ [])
-  pub rules : length (kept.rules.items ++ rule ∷ []) ≤ 4000
-  pub leads : length (leads_of (kept.rules.items ++ rule ∷ [])) ≤ 256
+pub record MayFollowRule (contents : Contents) (rule : Rule) : Type 0 where
+  pub goes_on : contents.ended ≡ false
+  pub no_form : contents.forms.items ≡ []
+  pub distinct : AreDistinct (contents.rules.items ++ rule ∷ [])
+  pub rules : length (contents.rules.items ++ rule ∷ []) ≤ 4000
+  pub leads : length (leads_of (contents.rules.items ++ rule ∷ [])) ≤ 256
 
 -- a form may follow: it is above those before, and they do not become too many
-pub record MayFollowForm (kept : Contents) (letters : List ℕ) : Type 0 where
-  pub goes_on : kept.ended ≡ false
-  pub rising : IsStrictlySortedBy compare_words (kept.forms.items ++ letters ∷ [])
-  pub forms : length (kept.forms.items ++ letters ∷ []) ≤ 600000
+pub record MayFollowForm (contents : Contents) (letters : List ℕ) : Type 0 where
+  pub goes_on : contents.ended ≡ false
+  pub rising : IsStrictlySortedBy compare_words (contents.forms.items ++ letters ∷ [])
+  pub forms : length (contents.forms.items ++ letters ∷ []) ≤ 600000
 
 -- a line that tells this may follow
 abbrev pub MayFollow : Contents → lines.Entry → Type 0
-MayFollow kept (PlainLine pair) = MayFollowPlain kept pair
-MayFollow kept (RuleLine rule) = MayFollowRule kept rule
-MayFollow kept (FormLine letters stem) = MayFollowForm kept letters
-MayFollow kept EndLine = kept.ended ≡ false
+MayFollow contents (PlainLine pair) = MayFollowPlain contents pair
+MayFollow contents (RuleLine rule) = MayFollowRule contents rule
+MayFollow contents (FormLine letters stem) = MayFollowForm contents letters
+MayFollow contents EndLine = contents.ended ≡ false
 
 -- the lists of both are the same, but those of pairs, rules and forms may grow by these
 pub record Grew (old new : Contents) (plain : List (ℕ × ℕ)) (rules : List Rule) (forms : List (List ℕ)) (ended : Bool) : Type 0 where
@@ -107,22 +107,22 @@ Added old new (FormLine letters stem) = Grew old new [] [] (letters ∷ []) old.
 Added old new EndLine = Grew old new [] [] [] true
 
 -- the rule set with these plain pairs and rules, of the one phase `word`
-abbrev pub rules_kept : Contents → RuleSet
-rules_kept kept =
+abbrev pub rules_read : Contents → RuleSet
+rules_read contents =
     record {
       names = codes "word" ∷ [];
       grammar = codes "word+";
-      plain = kept.plain.items;
-      rules = kept.rules.items;
+      plain = contents.plain.items;
+      rules = contents.rules.items;
     }
 
 -- the contents are those of a thin lexicon
 abbrev pub IsThinContents : lines.Contents → Type 0
 IsThinContents full = IsTextOf (lines.lexicon_of full) (text_of (lines.lexicon_of full))
 
--- what was kept is what the contents are without the stems, and these are those of a thin lexicon
-pub record IsReadAs (kept : Contents) (full : lines.Contents) : Type 0 where
-  pub plain : kept.plain.items ≡ full.plain
-  pub rules : kept.rules.items ≡ full.rules
-  pub forms : kept.forms.items ≡ map (λ form. form.0) full.forms
+-- what was contents is what the contents are without the stems, and these are those of a thin lexicon
+pub record IsReadAs (contents : Contents) (full : lines.Contents) : Type 0 where
+  pub plain : contents.plain.items ≡ full.plain
+  pub rules : contents.rules.items ≡ full.rules
+  pub forms : contents.forms.items ≡ map (λ form. form.0) full.forms
   pub thin : IsThinContents full

@@ -4,7 +4,7 @@ ghost use Rattle.source_definitions.specs.ThinTexts.{IsThinText, IsThinTextOf};
 ghost use Rattle.source_definitions.specs.ThinLines.{Contents as ContentsValue, head_text, lexicon_of as lexicon_value, text_telling, all_entries};
 ghost use Rattle.segmenter.specs.Forms.{HasForms, lists_of};
 ghost use Rattle.lexicon_definitions.specs.Lexicons.{IsRuleSet};
-ghost use Rattle.sandhi_program.specs.ThinReader.{IsReadAs, IsThinContents, rules_kept};
+ghost use Rattle.sandhi_program.specs.ThinReader.{IsReadAs, IsThinContents, rules_read};
 
 mod contents;
 mod cutting;
@@ -53,8 +53,8 @@ fn read_contents(alloc: Global, text: &[u8]) -> Result<Contents, ThinError>
 
 /// The lexicon with these contents, of the one phase `word`.
 fn lexicon_of(alloc: Global, contents: Contents) -> Result<Lexicon, Memory>
-    requires { IsRuleSet (rules_kept contents) }
-    ensures rules { IfOk result (λ lexicon. lexicon.rules ≡ rules_kept contents) }
+    requires { IsRuleSet (rules_read contents) }
+    ensures rules { IfOk result (λ lexicon. lexicon.rules ≡ rules_read contents) }
     ensures forms { IfOk result (λ lexicon. lists_of lexicon ≡ contents.forms.items ∷ []) }
 {
     let Contents {

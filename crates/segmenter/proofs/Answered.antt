@@ -11,7 +11,7 @@ use Rattle.segmentation_definitions.specs.Answers.{IsAnswer}
 use Rattle.segmentation_definitions.specs.LocalTests.{HasNoBlankInside, HasNoBlankBehind}
 use Rattle.segmentation_definitions.proofs.Coverings.{unchanged_at_zero, taken_length, RuleBehind, Unchanged, Changed, StandsIn, StandsBefore, StandsLast, AreInPlace, LastStep, EarlierStep, in_place}
 use Rattle.segmentation_definitions.proofs.LocalBlanks.{locally_from_seams}
-use Rattle.derivation.specs.declared.step.Step.{Step as Kept}
+use Rattle.derivation.specs.declared.step.Step.{Step as ProgramStep}
 use Rattle.derivation.specs.Steps.{entered_with, form_with, steps_from, steps_of, StandsAt}
 use Rattle.segmenter.specs.declared.lexicon.Lexicon.{Lexicon}
 use Rattle.segmenter.specs.declared.place.Place.{Place}
@@ -20,18 +20,18 @@ use Rattle.segmenter.proofs.CutLetters.{cut_parts, last_is}
 use Rattle.segmenter.proofs.Answering.{full, HaveForms, same_forms, rule_cases}
 
 -- the program's step for a step that begins at start with this lead
-abbrev pub kept_of : RuleSet → ℕ → List ℕ → Step → Kept
-kept_of rules start lead step =
+abbrev pub program_step_of : RuleSet → ℕ → List ℕ → Step → ProgramStep
+program_step_of rules start lead step =
     record { phase = step.phase; rule = step.rule; at = start; lead = length lead; taken = taken_by rules lead step }
 
-abbrev pub kept_from : RuleSet → ℕ → List ℕ → List Step → List Kept
-kept_from rules start lead [] = []
-kept_from rules start lead (step ∷ steps) =
-    kept_of rules start lead step ∷ kept_from rules (next_at rules start lead step) (rule_behind rules step).v steps
+abbrev pub program_steps_from : RuleSet → ℕ → List ℕ → List Step → List ProgramStep
+program_steps_from rules start lead [] = []
+program_steps_from rules start lead (step ∷ steps) =
+    program_step_of rules start lead step ∷ program_steps_from rules (next_at rules start lead step) (rule_behind rules step).v steps
 
 -- where the first step is read off the letters, its form and what is behind it
 pub record IsRead (rules : RuleSet) (letters : List ℕ) (start : ℕ) (lead : List ℕ) (step : Step) (behind : List ℕ) : Type 0 where
-  pub form : form_with rules letters lead (kept_of rules start lead step) ≡ step.form
+  pub form : form_with rules letters lead (program_step_of rules start lead step) ≡ step.form
   pub w : take (length (rule_behind rules step).w) (drop (start + taken_by rules lead step) letters) ≡ (rule_behind rules step).w
   pub rest : drop (next_at rules start lead step) letters ≡ behind
 
@@ -49,11 +49,11 @@ read_step rules letters start lead step taken behind e f =
 -- the program's steps have the answer's steps as theirs
 pub same_steps_from : (rules : RuleSet) (letters : List ℕ) (start : ℕ) (lead : List ℕ) (steps : List Step) (word rest : List ℕ)
     → drop start letters ≡ word → Covers rules lead steps word rest
-    → steps_from rules letters lead (kept_from rules start lead steps) ≡ steps
+    → steps_from rules letters lead (program_steps_from rules start lead steps) ≡ steps
 same_steps_from rules letters start lead [] word rest e covers = refl
 same_steps_from rules letters start lead (step ∷ steps) word rest e (taken, behind, f, g, covers) =
     let read = read_step rules letters start lead step taken behind f (e ∙ g) in
-    let first : entered_with rules letters lead (kept_of rules start lead step) ≡ step = λ i. record { phase = step.phase; form = read.form i; rule = step.rule } in
+    let first : entered_with rules letters lead (program_step_of rules start lead step) ≡ step = λ i. record { phase = step.phase; form = read.form i; rule = step.rule } in
     ap₂ (λ x xs. x ∷ xs) first (same_steps_from rules letters (next_at rules start lead step) (rule_behind rules step).v steps behind rest read.rest covers)
 
 -- ---- how the first of the steps is entered
@@ -79,10 +79,10 @@ after_if_met rules step next (inl (none, seam)) some = absurd (some none)
 after_if_met rules step next (inr (inner, after)) some = after
 
 entered_if_met : (rules : RuleSet) (line : Line) (place : Place) (step next : Step) → Meets rules step next
-    → form_at rules line place (kept_of rules place.at (lead_at rules place) step) ≡ step.form
-    → MayEnter rules (place_behind rules line place (kept_of rules place.at (lead_at rules place) step)) next.phase next.form
+    → form_at rules line place (program_step_of rules place.at (lead_at rules place) step) ≡ step.form
+    → MayEnter rules (place_behind rules line place (program_step_of rules place.at (lead_at rules place) step)) next.phase next.form
 entered_if_met rules line place step next meets same = record {
-  plain = if_last step.rule (form_at rules line place (kept_of rules place.at (lead_at rules place) step)) (λ last. IsPlain rules last (get_or next.form 0 0))
+  plain = if_last step.rule (form_at rules line place (program_step_of rules place.at (lead_at rules place) step)) (λ last. IsPlain rules last (get_or next.form 0 0))
       (λ none. subst (λ form. IsPlain rules (get_or form (length form - 1) 0) (get_or next.form 0 0)) (sym same) (plain_if_met rules step next meets none));
   precedes = after_if_met rules step next meets;
 }
@@ -130,7 +130,7 @@ final_if_last rules letters p last = elim last.rule [ inl none ↦ rw none refl 
 -- the first step stands in the line
 stands_at : (lexicon : Lexicon) (phases : List (List Form)) (letters : List ℕ) (start : ℕ) (lead : List ℕ) (step : Step) (behind : List ℕ)
     → IsLexicon (full lexicon phases) → StandsIn (full lexicon phases) (length letters) (here lexicon.rules start lead step)
-    → IsRead lexicon.rules letters start lead step behind → StandsAt lexicon.rules letters start lead (kept_of lexicon.rules start lead step)
+    → IsRead lexicon.rules letters start lead step behind → StandsAt lexicon.rules letters start lead (program_step_of lexicon.rules start lead step)
 stands_at lexicon phases letters start lead step behind lexical stands read = record {
   phase = omega (arith, stands.phase, lexical.count);
   rule = number_within lexicon.rules step stands.behind;
@@ -149,7 +149,7 @@ follows_if_last rules step (inl none) some = absurd (some none)
 follows_if_last rules step (inr final) some = final.2
 
 -- a line that ends behind the step doesn't go on
-pub not_both : (rules : RuleSet) (line : Line) (step : Kept) → EndsLine rules line step → GoesOn rules line step → ⊥
+pub not_both : (rules : RuleSet) (line : Line) (step : ProgramStep) → EndsLine rules line step → GoesOn rules line step → ⊥
 not_both rules line step ends goes = elim (rule_cases step.rule) [
   | inl none ↦ let w = (unchanged_at_zero rules step.rule none).w_empty in omega (arith, ends.all, goes.rest none)
   | inr some ↦ goes.inner some.1 ends.final
@@ -169,14 +169,14 @@ pub completes_from : (lexicon : Lexicon) (phases : List (List Form)) (line : Lin
     → AllByRecursion (HasNoBlankInside line.blanks) (placed_from lexicon.rules place.at (lead_at lexicon.rules place) steps)
     → HasNoBlankBehind line.blanks (placed_from lexicon.rules place.at (lead_at lexicon.rules place) steps)
     → IsEntered lexicon.rules place steps
-    → Completes lexicon line place (kept_from lexicon.rules place.at (lead_at lexicon.rules place) steps)
+    → Completes lexicon line place (program_steps_from lexicon.rules place.at (lead_at lexicon.rules place) steps)
 completes_from lexicon phases line place [] word same lexical e places forms joined ends covers inside behind enters = absurd ends
 completes_from lexicon phases line place (step ∷ []) word same lexical e places forms joined ends (taken, rest, f, g, covers) inside behind enters =
     let rules = lexicon.rules in
     let lead = lead_at rules place in
     let read = read_step rules line.letters place.at lead step taken rest f (e ∙ g) in
     let stands = last_of_all places in
-    let ends_line : EndsLine rules line (kept_of rules place.at lead step) = record {
+    let ends_line : EndsLine rules line (program_step_of rules place.at lead step) = record {
       all = stands.1.all;
       final = final_if_last rules (length line.letters) (here rules place.at lead step) stands.1;
     } in (
@@ -188,7 +188,7 @@ completes_from lexicon phases line place (step ∷ []) word same lexical e place
           blanks = record { inside = inside.0; last = λ l. behind };
           goes = inl ends_line;
         };
-        form = subst (λ words. Contains words (form_at rules line place (kept_of rules place.at lead step))) (same_forms lexicon phases step.phase same)
+        form = subst (λ words. Contains words (form_at rules line place (program_step_of rules place.at lead step))) (same_forms lexicon phases step.phase same)
             (subst (IsForm (full lexicon phases) step.phase) (sym read.form) forms.0);
         enters = subst (MayEnter rules place step.phase) (sym read.form) enters;
       },
@@ -197,11 +197,11 @@ completes_from lexicon phases line place (step ∷ []) word same lexical e place
 completes_from lexicon phases line place (step ∷ next ∷ steps) word same lexical e places forms joined ends (taken, rest, f, g, covers) inside behind enters =
     let rules = lexicon.rules in
     let lead = lead_at rules place in
-    let kept = kept_of rules place.at lead step in
+    let mine = program_step_of rules place.at lead step in
     let read = read_step rules line.letters place.at lead step taken rest f (e ∙ g) in
     let stands = first_of places in
     let next_stands = first_stands stands.2 in
-    let goes_on : GoesOn rules line kept = record {
+    let goes_on : GoesOn rules line mine = record {
       inner = inner_if_before stands.1;
       rest = left_behind stands.0 stands.1 next_stands;
     } in (
@@ -210,27 +210,27 @@ completes_from lexicon phases line place (step ∷ next ∷ steps) word same lex
         fits = record {
           behind = read.w;
           follows = follows_if_met rules step next joined.0;
-          blanks = record { inside = inside.0; last = λ l. absurd (not_both rules line kept l goes_on) };
+          blanks = record { inside = inside.0; last = λ l. absurd (not_both rules line mine l goes_on) };
           goes = inr goes_on;
         };
-        form = subst (λ words. Contains words (form_at rules line place kept)) (same_forms lexicon phases step.phase same)
+        form = subst (λ words. Contains words (form_at rules line place mine)) (same_forms lexicon phases step.phase same)
             (subst (IsForm (full lexicon phases) step.phase) (sym read.form) forms.0);
         enters = subst (MayEnter rules place step.phase) (sym read.form) enters;
       },
       goes_on,
-      completes_from lexicon phases line (place_behind rules line place kept) (next ∷ steps) rest same lexical read.rest stands.2 forms.1 joined.1 ends covers
+      completes_from lexicon phases line (place_behind rules line place mine) (next ∷ steps) rest same lexical read.rest stands.2 forms.1 joined.1 ends covers
           inside.1 behind (entered_if_met rules line place step next joined.0 read.form),
     )
 
 -- each answer is the list of steps of one list that completes the line
 pub answered_by : (lexicon : Lexicon) (phases : List (List Form)) (line : Line) (steps : List Step) → HaveForms lexicon phases → IsLexicon (full lexicon phases)
     → IsAnswer (full lexicon phases) line [] steps
-    → (kept : List Kept) × Completes lexicon line opening kept × (steps_of lexicon.rules line.letters kept ≡ steps)
+    → (mine : List ProgramStep) × Completes lexicon line opening mine × (steps_of lexicon.rules line.letters mine ≡ steps)
 answered_by lexicon phases line steps same lexical answer =
     let rules = lexicon.rules in
     let derives = answer.derives in
     let locally = locally_from_seams (full lexicon phases) line steps lexical derives answer.blanks_kept in (
-      kept_from rules 0 [] steps,
+      program_steps_from rules 0 [] steps,
       completes_from lexicon phases line opening steps line.letters same lexical refl (in_place (full lexicon phases) line.letters steps lexical derives)
           derives.forms derives.joined derives.ends derives.covers locally.inside locally.behind (entered_first rules steps),
       same_steps_from rules line.letters 0 [] steps line.letters [] refl derives.covers,

@@ -13,12 +13,12 @@ use Rattle.segmentation_definitions.specs.Answers.{IsAnswer, KeepsChoice}
 use Rattle.segmentation_definitions.specs.LocalTests.{HasNoBlankInside, HasNoBlankBehind, KeepsBlanksLocally}
 use Rattle.segmentation_definitions.proofs.LocalBlanks.{seams_from_locally}
 use Rattle.segmentation_definitions.proofs.Sorted.{not_Contains-nil}
-use Rattle.derivation.specs.declared.step.Step.{Step as Kept}
+use Rattle.derivation.specs.declared.step.Step.{Step as ProgramStep}
 use Rattle.derivation.specs.Steps.{entered_with, form_with, steps_from, steps_of, StandFrom, StandIn, places_of}
 use Rattle.derivation.proofs.PlacedSteps.{same_places}
 use Rattle.segmenter.specs.declared.lexicon.Lexicon.{Lexicon}
 use Rattle.segmenter.specs.declared.place.Place.{Place}
-use Rattle.segmenter.specs.Forms.{lists_of, list_of, IsKept, IsThin}
+use Rattle.segmenter.specs.Forms.{lists_of, list_of, HasRisingLists, IsThin}
 use Rattle.segmenter.specs.Completions.{lead_at, form_at, EndsLine, GoesOn, CanFollow, last_of, place_behind, opening, Completes}
 use Rattle.segmenter.proofs.CutLetters.{parts_behind, first_and_rest, front_and_last, get_or-map_nil}
 use Rattle.segmenter.proofs.GrammarWords.{thin_tree, thin_word}
@@ -37,7 +37,7 @@ same_forms lexicon phases phase same =
     get_or-map_nil (λ (form : Form). form.letters) phases phase ∙ ap (λ lists. get_or lists phase []) same
 
 -- the steps stand in the line
-pub stand_from : (lexicon : Lexicon) (line : Line) (place : Place) (steps : List Kept) → Completes lexicon line place steps
+pub stand_from : (lexicon : Lexicon) (line : Line) (place : Place) (steps : List ProgramStep) → Completes lexicon line place steps
     → StandFrom lexicon.rules line.letters place.at (lead_at lexicon.rules place) steps
 stand_from lexicon line place [] c = tt
 stand_from lexicon line place (step ∷ []) c = (c.0.stands, tt)
@@ -45,7 +45,7 @@ stand_from lexicon line place (step ∷ next ∷ steps) c =
     (c.0.stands, stand_from lexicon line (place_behind lexicon.rules line place step) (next ∷ steps) c.2)
 
 -- their forms are forms of their phases
-pub forms_from : (lexicon : Lexicon) (phases : List (List Form)) (line : Line) (place : Place) (steps : List Kept) → HaveForms lexicon phases
+pub forms_from : (lexicon : Lexicon) (phases : List (List Form)) (line : Line) (place : Place) (steps : List ProgramStep) → HaveForms lexicon phases
     → Completes lexicon line place steps → AreForms (full lexicon phases) (steps_from lexicon.rules line.letters (lead_at lexicon.rules place) steps)
 forms_from lexicon phases line place [] same c = tt
 forms_from lexicon phases line place (step ∷ []) same c =
@@ -56,7 +56,7 @@ forms_from lexicon phases line place (step ∷ next ∷ steps) same c = (
 )
 
 -- they cover what is left of the word
-pub covers_from : (lexicon : Lexicon) (line : Line) (place : Place) (steps : List Kept) → Completes lexicon line place steps
+pub covers_from : (lexicon : Lexicon) (line : Line) (place : Place) (steps : List ProgramStep) → Completes lexicon line place steps
     → Covers lexicon.rules (lead_at lexicon.rules place) (steps_from lexicon.rules line.letters (lead_at lexicon.rules place) steps)
     (drop place.at line.letters) []
 covers_from lexicon line place [] c = absurd c
@@ -82,9 +82,9 @@ covers_from lexicon line place (step ∷ next ∷ steps) c =
     )
 
 -- a form of the lexicon has a letter
-pub form_some : (lexicon : Lexicon) (phase : ℕ) (form : List ℕ) → IsKept lexicon → Contains (list_of lexicon phase) form → form ≢ []
-form_some lexicon phase form kept m = elim (cases_lt phase (length (lists_of lexicon))) [
-  | inl below ↦ All-contains (λ word. word ≢ []) (list_of lexicon phase) form (kept.not_empty phase [] below) m
+pub form_some : (lexicon : Lexicon) (phase : ℕ) (form : List ℕ) → HasRisingLists lexicon → Contains (list_of lexicon phase) form → form ≢ []
+form_some lexicon phase form rising m = elim (cases_lt phase (length (lists_of lexicon))) [
+  | inl below ↦ All-contains (λ word. word ≢ []) (list_of lexicon phase) form (rising.not_empty phase [] below) m
   | inr above ↦ absurd (not_Contains-nil form (subst (λ words. Contains words form) (get_or_past (lists_of lexicon) phase [] above) m))
 ]
 
@@ -97,18 +97,18 @@ pub rule_cases : (rule : ℕ) → (rule ≡ 0) ⊎ ((0 < rule) × (rule ≢ 0))
 rule_cases zero = inl refl
 rule_cases (suc rule) = inr (omega arith, λ e. omega arith)
 
-meets_from : (lexicon : Lexicon) (line : Line) (place : Place) (step next : Kept) → IsKept lexicon → CanFollow lexicon line place step
+meets_from : (lexicon : Lexicon) (line : Line) (place : Place) (step next : ProgramStep) → HasRisingLists lexicon → CanFollow lexicon line place step
     → GoesOn lexicon.rules line step → CanFollow lexicon line (place_behind lexicon.rules line place step) next
     → Meets lexicon.rules (entered_with lexicon.rules line.letters (lead_at lexicon.rules place) step)
     (entered_with lexicon.rules line.letters (rule_of lexicon.rules step.rule).v next)
-meets_from lexicon line place step next kept can goes then =
+meets_from lexicon line place step next rising can goes then =
     let rules = lexicon.rules in
     let form = form_at rules line place step in
     let later = form_with rules line.letters (rule_of rules step.rule).v next in
     elim (rule_cases step.rule) [
       | inl none ↦
-          let parts = front_and_last form (form_some lexicon step.phase form kept can.form) in
-          let parts' = first_and_rest later (form_some lexicon next.phase later kept then.form) in
+          let parts = front_and_last form (form_some lexicon step.phase form rising can.form) in
+          let parts' = first_and_rest later (form_some lexicon next.phase later rising then.form) in
           inl (
             none,
             (
@@ -124,26 +124,26 @@ meets_from lexicon line place step next kept can goes then =
       | inr some ↦ inr (((some.0, can.stands.rule), goes.inner some.1, can.fits.follows some.1), then.enters.precedes some.1)
     ]
 
-pub joined_from : (lexicon : Lexicon) (line : Line) (place : Place) (steps : List Kept) → IsKept lexicon → Completes lexicon line place steps
+pub joined_from : (lexicon : Lexicon) (line : Line) (place : Place) (steps : List ProgramStep) → HasRisingLists lexicon → Completes lexicon line place steps
     → AreJoined lexicon.rules (steps_from lexicon.rules line.letters (lead_at lexicon.rules place) steps)
-joined_from lexicon line place [] kept c = tt
-joined_from lexicon line place (step ∷ []) kept c = tt
-joined_from lexicon line place (step ∷ next ∷ []) kept c =
-    (meets_from lexicon line place step next kept c.0 c.1 c.2.0, tt)
-joined_from lexicon line place (step ∷ next ∷ third ∷ steps) kept c = (
-  meets_from lexicon line place step next kept c.0 c.1 c.2.0,
-  joined_from lexicon line (place_behind lexicon.rules line place step) (next ∷ third ∷ steps) kept c.2,
+joined_from lexicon line place [] rising c = tt
+joined_from lexicon line place (step ∷ []) rising c = tt
+joined_from lexicon line place (step ∷ next ∷ []) rising c =
+    (meets_from lexicon line place step next rising c.0 c.1 c.2.0, tt)
+joined_from lexicon line place (step ∷ next ∷ third ∷ steps) rising c = (
+  meets_from lexicon line place step next rising c.0 c.1 c.2.0,
+  joined_from lexicon line (place_behind lexicon.rules line place step) (next ∷ third ∷ steps) rising c.2,
 )
 
 -- behind the last one stands no change or a final rule
-ends_alone : (lexicon : Lexicon) (line : Line) (place : Place) (step : Kept) → CanFollow lexicon line place step → EndsLine lexicon.rules line step
+ends_alone : (lexicon : Lexicon) (line : Line) (place : Place) (step : ProgramStep) → CanFollow lexicon line place step → EndsLine lexicon.rules line step
     → (step.rule ≡ 0) ⊎ HasFinalRule lexicon.rules (entered_with lexicon.rules line.letters (lead_at lexicon.rules place) step)
 ends_alone lexicon line place step can ends = elim (rule_cases step.rule) [
   | inl none ↦ inl none
   | inr some ↦ inr ((some.0, can.stands.rule), ends.final, can.fits.follows some.1)
 ]
 
-pub ends_from : (lexicon : Lexicon) (line : Line) (place : Place) (steps : List Kept) → Completes lexicon line place steps
+pub ends_from : (lexicon : Lexicon) (line : Line) (place : Place) (steps : List ProgramStep) → Completes lexicon line place steps
     → EndsWell lexicon.rules (steps_from lexicon.rules line.letters (lead_at lexicon.rules place) steps)
 ends_from lexicon line place [] c = absurd c
 ends_from lexicon line place (step ∷ []) c = ends_alone lexicon line place step c.0 c.1
@@ -151,14 +151,14 @@ ends_from lexicon line place (step ∷ next ∷ steps) c =
     ends_from lexicon line (place_behind lexicon.rules line place step) (next ∷ steps) c.2
 
 -- no blank stands inside what one takes, and none behind the beginning of the last
-pub inside_from : (lexicon : Lexicon) (line : Line) (place : Place) (steps : List Kept) → Completes lexicon line place steps
+pub inside_from : (lexicon : Lexicon) (line : Line) (place : Place) (steps : List ProgramStep) → Completes lexicon line place steps
     → AllByRecursion (HasNoBlankInside line.blanks) (places_of lexicon.rules line.letters (lead_at lexicon.rules place) steps)
 inside_from lexicon line place [] c = tt
 inside_from lexicon line place (step ∷ []) c = (c.0.fits.blanks.inside, tt)
 inside_from lexicon line place (step ∷ next ∷ steps) c =
     (c.0.fits.blanks.inside, inside_from lexicon line (place_behind lexicon.rules line place step) (next ∷ steps) c.2)
 
-pub behind_from : (lexicon : Lexicon) (line : Line) (place : Place) (steps : List Kept) → Completes lexicon line place steps
+pub behind_from : (lexicon : Lexicon) (line : Line) (place : Place) (steps : List ProgramStep) → Completes lexicon line place steps
     → HasNoBlankBehind line.blanks (places_of lexicon.rules line.letters (lead_at lexicon.rules place) steps)
 behind_from lexicon line place [] c = tt
 behind_from lexicon line place (step ∷ []) c = c.0.fits.blanks.last c.1
@@ -166,7 +166,7 @@ behind_from lexicon line place (step ∷ next ∷ steps) c =
     behind_from lexicon line (place_behind lexicon.rules line place step) (next ∷ steps) c.2
 
 -- each phase is the only one
-pub phases_from : (lexicon : Lexicon) (line : Line) (place : Place) (steps : List Kept) → IsThin lexicon → Completes lexicon line place steps
+pub phases_from : (lexicon : Lexicon) (line : Line) (place : Place) (steps : List ProgramStep) → IsThin lexicon → Completes lexicon line place steps
     → AllByRecursion (λ phase. phase ≡ 0) (phases_of (steps_from lexicon.rules line.letters (lead_at lexicon.rules place) steps))
 phases_from lexicon line place [] thin c = tt
 phases_from lexicon line place (step ∷ []) thin c =
@@ -175,25 +175,25 @@ phases_from lexicon line place (step ∷ next ∷ steps) thin c =
     let one = ap length thin.names in
     (omega (arith, c.0.stands.phase), phases_from lexicon line (place_behind lexicon.rules line place step) (next ∷ steps) thin c.2)
 
-pub some_steps : (lexicon : Lexicon) (line : Line) (place : Place) (lead : List ℕ) (steps : List Kept) → Completes lexicon line place steps
+pub some_steps : (lexicon : Lexicon) (line : Line) (place : Place) (lead : List ℕ) (steps : List ProgramStep) → Completes lexicon line place steps
     → phases_of (steps_from lexicon.rules line.letters lead steps) ≢ []
 some_steps lexicon line place lead [] c e = c
 some_steps lexicon line place lead (step ∷ steps) c e = cc
 
-pub stand_in : (lexicon : Lexicon) (line : Line) (steps : List Kept) → Completes lexicon line opening steps → StandIn lexicon.rules line.letters steps
+pub stand_in : (lexicon : Lexicon) (line : Line) (steps : List ProgramStep) → Completes lexicon line opening steps → StandIn lexicon.rules line.letters steps
 stand_in lexicon line steps c = stand_from lexicon line opening steps c
 
 -- lists that complete the line are answers
-pub answer_from : (lexicon : Lexicon) (phases : List (List Form)) (line : Line) (steps : List Kept) → IsKept lexicon → IsThin lexicon → IsLine line
+pub answer_from : (lexicon : Lexicon) (phases : List (List Form)) (line : Line) (steps : List ProgramStep) → HasRisingLists lexicon → IsThin lexicon → IsLine line
     → IsLexicon (full lexicon phases) → HaveForms lexicon phases → Completes lexicon line opening steps
     → IsAnswer (full lexicon phases) line [] (steps_of lexicon.rules line.letters steps)
-answer_from lexicon phases line steps kept thin is lexical same c =
+answer_from lexicon phases line steps rising thin is lexical same c =
     let rules = lexicon.rules in
     let these = steps_of rules line.letters steps in
     let places = sym (same_places rules line.letters steps (stand_in lexicon line steps c)) in
     let derives : Derives (full lexicon phases) these line.letters = record {
       forms = forms_from lexicon phases line opening steps same c;
-      joined = joined_from lexicon line opening steps kept c;
+      joined = joined_from lexicon line opening steps rising c;
       ends = ends_from lexicon line opening steps c;
       covers = covers_from lexicon line opening steps c;
     } in

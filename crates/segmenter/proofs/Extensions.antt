@@ -25,7 +25,7 @@ use Rattle.derivation.specs.Steps.{key_of, keys_of}
 use Rattle.segmenter.specs.declared.lexicon.Lexicon.{Lexicon}
 use Rattle.segmenter.specs.declared.place.Place.{Place}
 use Rattle.segmenter.specs.declared.found.Found.{Found}
-use Rattle.segmenter.specs.Forms.{IsKept}
+use Rattle.segmenter.specs.Forms.{HasRisingLists}
 use Rattle.segmenter.specs.Firsts.{AreAll}
 use Rattle.segmenter.specs.Completions.{lead_at, form_at, EndsLine, GoesOn, CanFollow, place_behind, rank, Completes, compare_steps}
 use Rattle.segmenter.specs.Pages.{compare_lists, answers_of, TakesAnswer, AppendsFirst}
@@ -311,12 +311,12 @@ rank_cases zero = inl (refl, refl)
 rank_cases (suc rule) = inr (omega arith, refl)
 
 -- and is above the one before it, where the rule behind the step has a w
-pub rank_rises : (lexicon : Lexicon) (line : Line) (place : Place) (step : Step) → IsKept lexicon → CanFollow lexicon line place step
+pub rank_rises : (lexicon : Lexicon) (line : Line) (place : Place) (step : Step) → HasRisingLists lexicon → CanFollow lexicon line place step
     → (step.rule ≡ 0) ⊎ (0 < length (rule_of lexicon.rules step.rule).w) → rank place < rank (place_behind lexicon.rules line place step)
-rank_rises lexicon line place step kept can h =
+rank_rises lexicon line place step rising can h =
     let rules = lexicon.rules in
     let form = form_at rules line place step in
-    let some = some_letters (form_some lexicon step.phase form kept can.form) in
+    let some = some_letters (form_some lexicon step.phase form rising can.form) in
     let taken = length_taken line.letters step.at step.taken can.stands.taken in
     let parts : length form ≡ length (lead_at rules place) + step.taken + length (rule_of rules step.rule).u =
     simp length-append (omega (arith, taken)) in

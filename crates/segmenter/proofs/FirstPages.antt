@@ -11,11 +11,11 @@ use Rattle.segmentation_definitions.specs.Answers.{IsAnswer}
 use Rattle.segmentation_definitions.specs.Listings.{IsPage, BeforeFirst, compare_answers, compare_key_lists}
 use Rattle.segmentation_definitions.proofs.KeyLists.{compare_answers_total}
 use Rattle.segmentation_definitions.proofs.Sorted.{not_Less-itself}
-use Rattle.derivation.specs.declared.step.Step.{Step as Kept}
+use Rattle.derivation.specs.declared.step.Step.{Step as ProgramStep}
 use Rattle.derivation.specs.Steps.{steps_of, StandIn}
 use Rattle.derivation.proofs.PlacedSteps.{same_keys}
 use Rattle.segmenter.specs.declared.lexicon.Lexicon.{Lexicon}
-use Rattle.segmenter.specs.Forms.{IsKept, IsThin, HasForms}
+use Rattle.segmenter.specs.Forms.{HasRisingLists, IsThin, HasForms}
 use Rattle.segmenter.specs.Firsts.{AreFirst}
 use Rattle.segmenter.specs.Completions.{opening, Completes}
 use Rattle.segmenter.specs.Pages.{compare_lists, AppendsFirst}
@@ -24,7 +24,7 @@ use Rattle.segmenter.proofs.Answering.{full, HaveForms, stand_in, answer_from}
 use Rattle.segmenter.proofs.Answered.{answered_by}
 
 -- the steps of the definitions rise as the program's do
-answers_rise : (rules : RuleSet) (letters : List ℕ) (left right : List Kept) → StandIn rules letters left → StandIn rules letters right
+answers_rise : (rules : RuleSet) (letters : List ℕ) (left right : List ProgramStep) → StandIn rules letters left → StandIn rules letters right
     → compare_lists left right ≡ Less → compare_answers rules (steps_of rules letters left) (steps_of rules letters right) ≡ Less
 answers_rise rules letters left right p q l =
     sym (ap₂ compare_key_lists (same_keys rules letters left p) (same_keys rules letters right q)) ∙ l
@@ -50,7 +50,7 @@ page_of_first lexicon line most answers more first at_most full =
       );
     }
 
-module _ (lexicon : Lexicon) (line : Line) (most : ℕ) (lists : List (List Kept)) (more : Bool) (kept : IsKept lexicon) (thin : IsThin lexicon)
+module _ (lexicon : Lexicon) (line : Line) (most : ℕ) (lists : List (List ProgramStep)) (more : Bool) (rising : HasRisingLists lexicon) (thin : IsThin lexicon)
     (is : IsLine line) (first : AreFirst compare_lists (Completes lexicon line opening) lists more) (at_most : length lists ≤ most)
     (all_taken : more ≡ true → length lists ≡ most) where
   page_with : (phases : List (List Form)) → HaveForms lexicon phases → IsLexicon (full lexicon phases)
@@ -58,12 +58,12 @@ module _ (lexicon : Lexicon) (line : Line) (most : ℕ) (lists : List (List Kept
   page_with phases same lexical =
       let f = steps_of lexicon.rules line.letters in
       let P = Completes lexicon line opening in
-      let rise : (x z : List Kept) → P x → P z → compare_lists x z ≡ Less → compare_answers lexicon.rules (f x) (f z) ≡ Less =
+      let rise : (x z : List ProgramStep) → P x → P z → compare_lists x z ≡ Less → compare_answers lexicon.rules (f x) (f z) ≡ Less =
       λ x z p q. answers_rise lexicon.rules line.letters x z (stand_in lexicon line x p) (stand_in lexicon line z q) in
       let count : length (map f lists) ≡ length lists = simp length-map in
       page_of_first (full lexicon phases) line most (map f lists) more
       (first_images compare_lists (compare_answers lexicon.rules) f P rise (IsAnswer (full lexicon phases) line []) lists more
-      (λ steps c. answer_from lexicon phases line steps kept thin is lexical same c)
+      (λ steps c. answer_from lexicon phases line steps rising thin is lexical same c)
       (λ steps answer. answered_by lexicon phases line steps same lexical answer) first)
       (omega arith) (λ e. count ∙ all_taken e)
 
@@ -76,21 +76,21 @@ module _ (lexicon : Lexicon) (line : Line) (most : ℕ) (lists : List (List Kept
       (page_with lexical.phases has.forms (subst IsLexicon same is_lexicon))
 
 -- each list that completes the line stands in it
-pub stand_all : (lexicon : Lexicon) (line : Line) (lists : List (List Kept)) (more : Bool)
+pub stand_all : (lexicon : Lexicon) (line : Line) (lists : List (List ProgramStep)) (more : Bool)
     → AreFirst compare_lists (Completes lexicon line opening) lists more → All (StandIn lexicon.rules line.letters) lists
 stand_all lexicon line lists more first =
     All-by (StandIn lexicon.rules line.letters) lists (λ steps m. stand_in lexicon line steps (first.only steps m))
 
-some_step : (lexicon : Lexicon) (line : Line) (steps : List Kept) → Completes lexicon line opening steps → 0 < length steps
+some_step : (lexicon : Lexicon) (line : Line) (steps : List ProgramStep) → Completes lexicon line opening steps → 0 < length steps
 some_step lexicon line [] c = absurd c
 some_step lexicon line (step ∷ steps) c = omega arith
 
-pub some_all : (lexicon : Lexicon) (line : Line) (lists : List (List Kept)) (more : Bool)
+pub some_all : (lexicon : Lexicon) (line : Line) (lists : List (List ProgramStep)) (more : Bool)
     → AreFirst compare_lists (Completes lexicon line opening) lists more → All (λ steps. 0 < length steps) lists
 some_all lexicon line lists more first = All-by (λ steps. 0 < length steps) lists (λ steps m. some_step lexicon line steps (first.only steps m))
 
 -- what is appended to nothing behind nothing
-pub first_from_appends : (lexicon : Lexicon) (line : Line) (most : ℕ) (path : List Kept) (before after : List (List Kept)) (more : Bool) → path ≡ [] → before ≡ []
+pub first_from_appends : (lexicon : Lexicon) (line : Line) (most : ℕ) (path : List ProgramStep) (before after : List (List ProgramStep)) (more : Bool) → path ≡ [] → before ≡ []
     → AppendsFirst (Completes lexicon line opening) most path before after more → AreFirst compare_lists (Completes lexicon line opening) after more
 first_from_appends lexicon line most path before after more p b appends =
     let alone : map (λ rest. path ++ rest) appends.rests ≡ appends.rests = ap (λ q. map (λ rest. q ++ rest) appends.rests) p ∙ map-id appends.rests in

@@ -13,7 +13,7 @@ use Rattle.segmentation_definitions.specs.WorkedLexicons.{word_asti, word_aasti,
 use Rattle.derivation.proofs.WorkedAnswers.{rule_is}
 use Rattle.derivation.specs.Worked.{worked_rule}
 use Rattle.segmenter.specs.declared.lexicon.Lexicon.{Lexicon}
-use Rattle.segmenter.specs.Forms.{lists_of, AreCounted, IsKept, IsThin, HasForms}
+use Rattle.segmenter.specs.Forms.{lists_of, AreCounted, HasRisingLists, IsThin, HasForms}
 use Rattle.segmenter.specs.Worked.{thin_rules, HasParts}
 use Rattle.segmenter.proofs.FirstOnes.{sorted-map}
 
@@ -26,10 +26,10 @@ phase_rises forms phase =
     (λ x z p q l. l) forms (λ z m. tt) phase.rising
 
 -- what has the forms and the rules of a lexicon may be searched
-pub kept_from_forms : (kept : Lexicon) (lexical : LexiconValue) → HasForms kept lexical → IsLexicon lexical → AreCounted lexical.rules → IsKept kept
-kept_from_forms kept lexical has is counted =
-    let lists : map letters_of lexical.phases ≡ lists_of kept = has.forms in
-    let count : length (lists_of kept) ≡ length lexical.phases = ap length (sym lists) ∙ simp length-map in
+pub lists_rise : (program : Lexicon) (lexical : LexiconValue) → HasForms program lexical → IsLexicon lexical → AreCounted lexical.rules → HasRisingLists program
+lists_rise program lexical has is counted =
+    let lists : map letters_of lexical.phases ≡ lists_of program = has.forms in
+    let count : length (lists_of program) ≡ length lexical.phases = ap length (sym lists) ∙ simp length-map in
     record {
       count = count ∙ is.count ∙ ap (λ (rules : RuleSet). length rules.names) has.rules;
       rising = subst (All (IsStrictlySortedBy compare_words)) lists
@@ -61,10 +61,10 @@ pub parts_are_rules : (lexical : LexiconValue) (plain : List (ℕ × ℕ)) (rule
     → ArePartsOf lexical plain rules forms → IsRuleSet (thin_rules plain rules)
 parts_are_rules lexical plain rules forms is parts = subst IsRuleSet parts.rule_set is.rules
 
-pub parts_are_kept : (lexical : LexiconValue) (plain : List (ℕ × ℕ)) (rules : List Rule) (forms : List (List ℕ)) → IsLexicon lexical
-    → AreCounted lexical.rules → ArePartsOf lexical plain rules forms → (kept : Lexicon) → HasParts plain rules forms kept → IsKept kept
-parts_are_kept lexical plain rules forms is counted parts kept made =
-    kept_from_forms kept lexical (record { rules = parts.rule_set ∙ sym made.rule_set; forms = parts.lists ∙ sym made.lists }) is counted
+pub parts_rise : (lexical : LexiconValue) (plain : List (ℕ × ℕ)) (rules : List Rule) (forms : List (List ℕ)) → IsLexicon lexical
+    → AreCounted lexical.rules → ArePartsOf lexical plain rules forms → (program : Lexicon) → HasParts plain rules forms program → HasRisingLists program
+parts_rise lexical plain rules forms is counted parts program made =
+    lists_rise program lexical (record { rules = parts.rule_set ∙ sym made.rule_set; forms = parts.lists ∙ sym made.lists }) is counted
 
 -- a rule whose words are spelled so
 pub record IsSpelled (u v w : List ℕ) (after : ℕ) (rule : Rule) : Type 0 where
@@ -109,8 +109,8 @@ devadatta_parts plain rules forms datta deva devadatta p r f s t v = record {
   lists = rw (f, spelled_one (codes "datta") word_datta datta refl s, spelled_one (codes "deva") word_deva deva refl t, spelled_one (codes "devadatta") word_devadatta devadatta refl v) refl;
 }
 
-pub parts_are_thin : (plain : List (ℕ × ℕ)) (rules : List Rule) (forms : List (List ℕ)) (kept : Lexicon) → HasParts plain rules forms kept → IsThin kept
-parts_are_thin plain rules forms kept parts = record {
+pub parts_are_thin : (plain : List (ℕ × ℕ)) (rules : List Rule) (forms : List (List ℕ)) (program : Lexicon) → HasParts plain rules forms program → IsThin program
+parts_are_thin plain rules forms program parts = record {
   names = ap (λ (set : RuleSet). set.names) parts.rule_set;
   grammar = ap (λ (set : RuleSet). set.grammar) parts.rule_set;
 }

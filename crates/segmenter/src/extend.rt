@@ -1,6 +1,6 @@
 ghost use Rattle.std.specs.Prelude.{◌≡◌, ◌≤◌, false, length, OnOk};
 ghost use Rattle.text_definitions.specs.Lines.{IsLine};
-ghost use Rattle.segmenter.specs.Forms.{IsKept};
+ghost use Rattle.segmenter.specs.Forms.{HasRisingLists};
 ghost use Rattle.segmenter.specs.Completions.{Completes};
 ghost use Rattle.segmenter.specs.Pages.{answers_of, AppendsFirst};
 
@@ -23,7 +23,7 @@ pub(crate) fn extend(
     path: &mut Vec<Step>,
     found: &mut Found,
 ) -> Result<(), Memory>
-    requires kept { IsKept lexicon.now }
+    requires lists { HasRisingLists lexicon.now }
     requires line { IsLine line.now }
     requires rule { place.rule ≤ length lexicon.now.rules.rules }
     requires within { place.at ≤ length line.now.letters }

@@ -1,5 +1,5 @@
 ghost use Rattle.std.specs.Prelude.{◌<◌, ◌↔◌, length, IsTrue, Contains};
-ghost use Rattle.segmenter.specs.Forms.{IsKept, list_of};
+ghost use Rattle.segmenter.specs.Forms.{HasRisingLists, list_of};
 
 use derivation::RuleSet;
 use phoneme::Word;
@@ -14,7 +14,7 @@ pub struct Lexicon {
 impl Lexicon {
     /// Whether the word is a form of the phase.
     pub(crate) fn has_form(&self, phase: u32, word: &Word) -> bool
-        requires kept { IsKept self.now }
+        requires lists { HasRisingLists self.now }
         requires phase { phase < length self.now.rules.names }
         ensures { IsTrue result ↔ Contains (list_of self.now phase) word.now }
     {

@@ -2,7 +2,7 @@ ghost use Rattle.std.specs.Prelude.{◌<◌, ◌≤◌, [], length, map, IfOk, A
 ghost use Rattle.lexicon_definitions.specs.Lexicons.{Lexicon as LexiconValue, IsLexicon};
 ghost use Rattle.segmentation_definitions.specs.Listings.{IsPage, BeforeFirst};
 ghost use Rattle.derivation.specs.Steps.{StandIn, steps_of};
-ghost use Rattle.segmenter.specs.Forms.{IsKept, IsThin, HasForms};
+ghost use Rattle.segmenter.specs.Forms.{HasRisingLists, IsThin, HasForms};
 ghost use Rattle.segmenter.specs.Pages.{answers_of};
 
 use super::extend::extend;
@@ -12,10 +12,10 @@ use phoneme::{Line, Memory};
 use std::alloc::Global;
 
 /// The page of `most` answers of the line before the first one, without choices: the first `most` answers in their
-/// order, or all where they are fewer, and whether an answer is left after them. Answers are those of Huet 2005; their
-/// order, by phase, then letters taken, then rule, is our own.
+/// order, or all where they are fewer, and whether an answer is left after them. What an answer is stands in Huet 2005;
+/// the order, that of `derivation::compare`, is our own.
 pub fn first_page(alloc: Global, lexicon: &Lexicon, line: &Line, most: u32) -> Result<Found, Memory>
-    requires kept { IsKept lexicon.now }
+    requires lists { HasRisingLists lexicon.now }
     requires thin { IsThin lexicon.now }
     requires some { 1 ≤ most }
     requires limit { most ≤ 10000 }

@@ -1,6 +1,6 @@
 ghost use Rattle.std.specs.Prelude.{◌≡◌, ◌<◌, ◌≤◌, length, IfOk};
 ghost use Rattle.text_definitions.specs.Lines.{IsLine};
-ghost use Rattle.segmenter.specs.Forms.{IsKept};
+ghost use Rattle.segmenter.specs.Forms.{HasRisingLists};
 ghost use Rattle.segmenter.specs.Completions.{lead_at, CanFollow, place_behind, rank};
 
 use super::Lexicon;
@@ -45,7 +45,7 @@ impl Place {
         line: &Line,
         step: &Step,
     ) -> Result<Place, Memory>
-        requires kept { IsKept lexicon.now }
+        requires lists { HasRisingLists lexicon.now }
         requires line { IsLine line.now }
         requires rule { self.now.rule ≤ length lexicon.now.rules.rules }
         requires follows { CanFollow lexicon.now line.now self.now step.now }

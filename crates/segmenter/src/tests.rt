@@ -1,7 +1,7 @@
 ghost use Rattle.std.specs.Prelude.{◌≡◌, ◌^◌, ◌<◌, ◌≤◌, Ok, [], ◌∷◌, length, IfOk};
 ghost use Rattle.text_definitions.specs.Slp1.{word_of_slp1};
 ghost use Rattle.lexicon_definitions.specs.Lexicons.{IsRuleSet};
-ghost use Rattle.segmenter.specs.Forms.{IsKept, IsThin};
+ghost use Rattle.segmenter.specs.Forms.{HasRisingLists, IsThin};
 ghost use Rattle.segmenter.specs.Worked.{thin_rules, HasParts};
 
 use super::{Lexicon, first_page};
@@ -75,7 +75,7 @@ fn make_lexicon(
 
 /// The forms `asti`, `Asti` and `na`, and the rules `a|a>A` and `a|A>A`.
 fn naasti(alloc: Global) -> Result<Lexicon, Fail>
-    ensures kept { IfOk result (λ lexicon. IsKept lexicon) }
+    ensures lists { IfOk result (λ lexicon. HasRisingLists lexicon) }
     ensures thin { IfOk result (λ lexicon. IsThin lexicon) }
 {
     let first = make_rule(alloc, b"a", b"a", b"A")?;
@@ -90,7 +90,7 @@ fn naasti(alloc: Global) -> Result<Lexicon, Fail>
 
 /// The forms `datta`, `deva` and `devadatta`, and the plain pair `a`, `d`.
 fn devadatta(alloc: Global) -> Result<Lexicon, Fail>
-    ensures kept { IfOk result (λ lexicon. IsKept lexicon) }
+    ensures lists { IfOk result (λ lexicon. HasRisingLists lexicon) }
     ensures thin { IfOk result (λ lexicon. IsThin lexicon) }
 {
     let datta = read_slp1(alloc, b"datta")?;
@@ -109,7 +109,7 @@ fn listing(
     blank: u32,
     most: u32,
 ) -> Result<String, Fail>
-    requires kept { IsKept lexicon.now }
+    requires lists { HasRisingLists lexicon.now }
     requires thin { IsThin lexicon.now }
     requires some { 1 ≤ most }
     requires limit { most ≤ 10000 }

@@ -4,7 +4,7 @@ ghost use Rattle.std.specs.declared.cmp.Ordering.TheVariants.{Less};
 ghost use Rattle.text_definitions.specs.Words.{compare_words};
 ghost use Rattle.lexicon_definitions.specs.Rules.{IsSameTriple};
 ghost use Rattle.lexicon_definitions.specs.Lexicons.{compare_pairs};
-ghost use Rattle.sandhi_program.specs.ThinReader.{told_of, IsKept, MayFollow, MayFollowPlain, MayFollowRule, MayFollowForm, Added, Grew};
+ghost use Rattle.sandhi_program.specs.ThinReader.{told_of, IsLawfulSoFar, MayFollow, MayFollowPlain, MayFollowRule, MayFollowForm, Added, Grew};
 
 use super::ThinError;
 use super::entry::Entry;
@@ -89,7 +89,7 @@ fn has_triple(rules: &[Rule], rule: &Rule) -> bool
 impl Contents {
     /// What no line told.
     pub(super) fn new(alloc: Global) -> Contents
-        ensures kept { IsKept result }
+        ensures lawful { IsLawfulSoFar result }
         ensures plain { result.plain.items ≡ [] }
         ensures rules { result.rules.items ≡ [] }
         ensures forms { result.forms.items ≡ [] }
@@ -105,10 +105,10 @@ impl Contents {
     }
 
     fn add_plain(&mut self, left: Letter, right: Letter) -> Result<(), ThinError>
-        requires { IsKept self.old }
+        requires { IsLawfulSoFar self.old }
         ensures ok { OnOk result (MayFollowPlain self.old (left, right)) }
         ensures grew { OnOk result (Grew self.old self.new ((left, right) ∷ []) [] [] self.old.ended) }
-        ensures kept { OnOk result (IsKept self.new) }
+        ensures lawful { OnOk result (IsLawfulSoFar self.new) }
         ensures not_thin { result ≡ Err ThinError.NotThin → MayFollowPlain self.old (left, right) → ⊥ }
     {
         if self.ended || !self.rules.is_empty() || !self.forms.is_empty() {
@@ -122,10 +122,10 @@ impl Contents {
     }
 
     fn add_rule(&mut self, alloc: Global, rule: Rule) -> Result<(), ThinError>
-        requires { IsKept self.old }
+        requires { IsLawfulSoFar self.old }
         ensures ok { OnOk result (MayFollowRule self.old rule) }
         ensures grew { OnOk result (Grew self.old self.new [] (rule ∷ []) [] self.old.ended) }
-        ensures kept { OnOk result (IsKept self.new) }
+        ensures lawful { OnOk result (IsLawfulSoFar self.new) }
         ensures not_thin { result ≡ Err ThinError.NotThin → MayFollowRule self.old rule → ⊥ }
     {
         if self.ended || !self.forms.is_empty() || self.rules.len() >= RULE_COUNT {
@@ -140,10 +140,10 @@ impl Contents {
     }
 
     fn add_form(&mut self, letters: Word) -> Result<(), ThinError>
-        requires { IsKept self.old }
+        requires { IsLawfulSoFar self.old }
         ensures ok { OnOk result (MayFollowForm self.old letters) }
         ensures grew { OnOk result (Grew self.old self.new [] [] (letters ∷ []) self.old.ended) }
-        ensures kept { OnOk result (IsKept self.new) }
+        ensures lawful { OnOk result (IsLawfulSoFar self.new) }
         ensures not_thin { result ≡ Err ThinError.NotThin → MayFollowForm self.old letters → ⊥ }
     {
         if self.ended || self.forms.len() >= FORM_COUNT {
@@ -157,10 +157,10 @@ impl Contents {
     }
 
     fn add_end(&mut self) -> Result<(), ThinError>
-        requires { IsKept self.old }
+        requires { IsLawfulSoFar self.old }
         ensures ok { OnOk result (self.old.ended ≡ false) }
         ensures grew { OnOk result (Grew self.old self.new [] [] [] true) }
-        ensures kept { OnOk result (IsKept self.new) }
+        ensures lawful { OnOk result (IsLawfulSoFar self.new) }
         ensures not_thin { result ≡ Err ThinError.NotThin → self.old.ended ≡ false → ⊥ }
     {
         if self.ended {
@@ -173,10 +173,10 @@ impl Contents {
     /// Adds what the next line told. `NotThin` where a line that tells this may not follow those before: kinds of lines
     /// fall, pairs or forms do not rise, a rule was there before, or there are too many.
     pub(super) fn add(&mut self, alloc: Global, entry: Entry) -> Result<(), ThinError>
-        requires { IsKept self.old }
+        requires { IsLawfulSoFar self.old }
         ensures ok { OnOk result (MayFollow self.old (told_of entry)) }
         ensures added { OnOk result (Added self.old self.new (told_of entry)) }
-        ensures kept { OnOk result (IsKept self.new) }
+        ensures lawful { OnOk result (IsLawfulSoFar self.new) }
         ensures not_thin { result ≡ Err ThinError.NotThin → MayFollow self.old (told_of entry) → ⊥ }
     {
         match entry {

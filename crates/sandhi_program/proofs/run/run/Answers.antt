@@ -1,13 +1,9 @@
 -- The words are those of `segment`, or of no command; the run has one outcome.
-use Rattle.std.proofs.Common.{◌≡◌, ℕ, Some, refl, sym, subst, ap, ◌∙◌, inl, inr, ◌⊎◌, map, string_bytes}
-use Rattle.outside.specs.Files.{Lacks}
+use Rattle.std.proofs.Common.{refl, ap, ◌∙◌, inl, inr, map, string_bytes}
 use Rattle.outside.specs.Told.{bytes_after}
-use Rattle.sandhi_program.specs.declared.status.Status.{Status}
-use Rattle.sandhi_program.specs.declared.status.Status.TheVariants as status
 use Rattle.std.specs.Prelude.{codes}
 use Rattle.session_definitions.specs.Outcomes as outcomes
 use Rattle.session_definitions.specs.Outcomes.{output_line}
-use Rattle.sandhi_program.specs.Ends.{Ran}
 use Rattle.sandhi_program.proofs.Runs.{missing_ran, usage_outcome, ends_usage}
 use Rattle.sandhi_program.proofs.run.run.Goals as goal
 

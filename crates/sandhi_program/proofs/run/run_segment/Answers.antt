@@ -1,6 +1,4 @@
 -- The bytes that were read are the first of the told file.
-use Rattle.std.proofs.Common.{◌≡◌, ℕ, Some, subst, ap, sym}
-use Rattle.outside.specs.Files.{AreFirstBytes}
 use Rattle.sandhi_program.proofs.Runs.{first_content, ran_of, prefix_of}
 use Rattle.sandhi_program.proofs.run.run_segment.Goals as goal
 

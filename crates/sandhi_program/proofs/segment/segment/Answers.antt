@@ -1,22 +1,22 @@
--- What is kept of a lexicon has its forms, rising; what was found is its page.
-use Rattle.std.proofs.Common.{◌≡◌, ℕ, ◌<◌, List, [], length, map, refl, ap, sym, subst, ◌∙◌, string_bytes}
+-- What is read of a lexicon has its forms, rising; what was found is its page.
+use Rattle.std.proofs.Common.{◌<◌, List, [], length, map, ap, sym, subst, ◌∙◌}
 use Rattle.text_definitions.specs.Lines.{Line}
 use Rattle.lexicon_definitions.specs.Lexicons.{RuleSet}
 use Rattle.segmentation_definitions.specs.Listings.{BeforeFirst, IsPage}
 use Rattle.session_definitions.specs.Outcomes.{printed_page}
 use Rattle.derivation.specs.Steps.{StandIn, steps_of}
-use Rattle.derivation.specs.declared.step.Step.{Step as Kept}
-use Rattle.sandhi_program.proofs.KeptForms.{kept_of, all_from_map, map_twice}
+use Rattle.derivation.specs.declared.step.Step.{Step as ProgramStep}
+use Rattle.sandhi_program.proofs.RisingForms.{has_rising_lists, all_from_map, map_twice}
 use Rattle.sandhi_program.proofs.segment.segment.Goals as goal
 
-pub first_page-requires-clause-kept : goal.first_page-requires-clause-kept
-first_page-requires-clause-kept c =
-    let (full, text, forms) = c.in-Ok.ensures.ok in kept_of _ full text.text.lexicon_itself text.text.limits forms
+pub first_page-requires-clause-lists : goal.first_page-requires-clause-lists
+first_page-requires-clause-lists c =
+    let (full, text, forms) = c.in-Ok.ensures.ok in has_rising_lists _ full text.text.lexicon_itself text.text.limits forms
 
 pub print_page-requires-clause-stand : goal.print_page-requires-clause-stand
 print_page-requires-clause-stand c k d lt = record {
   stand = all_from_map (StandIn c.in-Ok.lexicon.rules c.in_ok-line.line.letters) (λ v. v.items) c.in_ok-found.found.answers.items c.in_ok-found.ensures.stand k d lt;
-  some = all_from_map (λ (steps : List Kept). 0 < length steps) (λ v. v.items) c.in_ok-found.found.answers.items c.in_ok-found.ensures.not_empty k d lt;
+  some = all_from_map (λ (steps : List ProgramStep). 0 < length steps) (λ v. v.items) c.in_ok-found.found.answers.items c.in_ok-found.ensures.not_empty k d lt;
 }
 
 pub returns-clause-ok : goal.returns-clause-ok

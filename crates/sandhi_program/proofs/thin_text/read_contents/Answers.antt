@@ -12,7 +12,7 @@ use Rattle.sandhi_program.proofs.thin_text.read_contents.Goals.{else-is_empty-vi
 
 pub loop-line-init : goal.loop-line-init
 loop-line-init c =
-    nothing_read c.new-contents.result c.args.text.now c.new-contents.ensures.kept c.new-contents.ensures.plain c.new-contents.ensures.rules c.new-contents.ensures.forms
+    nothing_read c.new-contents.result c.args.text.now c.new-contents.ensures.lawful c.new-contents.ensures.plain c.new-contents.ensures.rules c.new-contents.ensures.forms
     c.new-contents.ensures.goes_on
 
 pub returns-in_err-entry_of-clause-not_thin : goal.returns-in_err-entry_of-clause-not_thin
@@ -32,7 +32,7 @@ pub loop-line-preserved : goal.loop-line-preserved
 loop-line-preserved c =
     let here = subst (ReadUpTo c.loop-line.contents c.args.text.now) c.in-Some.ensures.0 c.loop-line.invariant in
     read_line c.loop-line.contents c.add.new.self c.args.text.now c.in-Some.line.now c.in-Some.behind.now (told_of c.in_ok-entry_of.field-0) here c.in_ok-entry_of.ensures.ok
-    c.in_ok-add.ensures.ok c.in_ok-add.ensures.added c.in_ok-add.ensures.kept
+    c.in_ok-add.ensures.ok c.in_ok-add.ensures.added c.in_ok-add.ensures.lawful
 
 pub returns-then-contents-clause-ok : goal.returns-then-contents-clause-ok
 returns-then-contents-clause-ok c =

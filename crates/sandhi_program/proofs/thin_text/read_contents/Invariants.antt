@@ -1,4 +1,4 @@
--- What was kept is what the lines so far told.
+-- What was read is what the lines so far told.
 use Rattle.std.proofs.Common.{length}
 use Rattle.sandhi_program.proofs.ThinSteps.{ReadUpTo}
 use Rattle.sandhi_program.proofs.thin_text.read_contents.Given as goal

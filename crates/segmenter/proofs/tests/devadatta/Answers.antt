@@ -3,8 +3,8 @@ use Rattle.std.proofs.Common.{lit<}
 use Rattle.std.proofs.lemmas.Result.{IfOk-weaker}
 use Rattle.segmentation_definitions.specs.WorkedLexicons.{devadatta_lexicon}
 use Rattle.segmentation_definitions.proofs.SmallLexicons.{devadatta_is_lexicon}
-use Rattle.segmenter.specs.Forms.{IsKept}
-use Rattle.segmenter.proofs.WorkedForms.{ArePartsOf, thin_counted, parts_are_rules, parts_are_kept, devadatta_parts}
+use Rattle.segmenter.specs.Forms.{HasRisingLists}
+use Rattle.segmenter.proofs.WorkedForms.{ArePartsOf, thin_counted, parts_are_rules, parts_rise, devadatta_parts}
 use Rattle.segmenter.proofs.tests.devadatta.Goals as goal
 use Rattle.segmenter.proofs.tests.devadatta.Goals.{After-new}
 
@@ -15,9 +15,9 @@ parts c =
 pub make_lexicon-requires : goal.make_lexicon-requires
 make_lexicon-requires c = parts_are_rules devadatta_lexicon _ _ _ devadatta_is_lexicon (parts c)
 
-pub returns-clause-kept : goal.returns-clause-kept
-returns-clause-kept c =
-    IfOk-weaker c.make_lexicon.result _ IsKept
-    (λ kept made. parts_are_kept devadatta_lexicon _ _ _ devadatta_is_lexicon (thin_counted _ _ (lit< tt) tt)
-    (parts (goal.at.returns-clause-kept c).After-new) kept made)
+pub returns-clause-lists : goal.returns-clause-lists
+returns-clause-lists c =
+    IfOk-weaker c.make_lexicon.result _ HasRisingLists
+    (λ program made. parts_rise devadatta_lexicon _ _ _ devadatta_is_lexicon (thin_counted _ _ (lit< tt) tt)
+    (parts (goal.at.returns-clause-lists c).After-new) program made)
     c.make_lexicon.ensures

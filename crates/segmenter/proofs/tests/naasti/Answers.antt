@@ -3,8 +3,8 @@ use Rattle.std.proofs.Common.{lit<}
 use Rattle.std.proofs.lemmas.Result.{IfOk-weaker}
 use Rattle.segmentation_definitions.specs.WorkedLexicons.{naasti_lexicon}
 use Rattle.segmentation_definitions.proofs.SmallLexicons.{naasti_is_lexicon}
-use Rattle.segmenter.specs.Forms.{IsKept}
-use Rattle.segmenter.proofs.WorkedForms.{ArePartsOf, thin_counted, parts_are_rules, parts_are_kept, naasti_parts}
+use Rattle.segmenter.specs.Forms.{HasRisingLists}
+use Rattle.segmenter.proofs.WorkedForms.{ArePartsOf, thin_counted, parts_are_rules, parts_rise, naasti_parts}
 use Rattle.segmenter.proofs.tests.naasti.Goals as goal
 use Rattle.segmenter.proofs.tests.naasti.Goals.{After-new}
 
@@ -15,9 +15,9 @@ parts c =
 pub make_lexicon-requires : goal.make_lexicon-requires
 make_lexicon-requires c = parts_are_rules naasti_lexicon _ _ _ naasti_is_lexicon (parts c)
 
-pub returns-clause-kept : goal.returns-clause-kept
-returns-clause-kept c =
-    IfOk-weaker c.make_lexicon.result _ IsKept
-    (λ kept made. parts_are_kept naasti_lexicon _ _ _ naasti_is_lexicon (thin_counted _ _ (lit< tt) (lit< tt, (lit< tt, tt)))
-    (parts (goal.at.returns-clause-kept c).After-new) kept made)
+pub returns-clause-lists : goal.returns-clause-lists
+returns-clause-lists c =
+    IfOk-weaker c.make_lexicon.result _ HasRisingLists
+    (λ program made. parts_rise naasti_lexicon _ _ _ naasti_is_lexicon (thin_counted _ _ (lit< tt) (lit< tt, (lit< tt, tt)))
+    (parts (goal.at.returns-clause-lists c).After-new) program made)
     c.make_lexicon.ensures

@@ -5,7 +5,7 @@ use Rattle.std.specs.List.{Any}
 use Rattle.sandhi_program.specs.ThinReader.{with_lead}
 use Rattle.sandhi_program.specs.declared.thin_text.error.ThinError.TheVariants.{NotThin}
 use Rattle.sandhi_program.proofs.ThinFields.{handed_on}
-use Rattle.sandhi_program.proofs.ThinKept.{not_distinct, rule_follows, too_many_leads, kept_with_rule, not_true, no_items}
+use Rattle.sandhi_program.proofs.ThinLawful.{not_distinct, rule_follows, too_many_leads, lawful_with_rule, not_true, no_items}
 use Rattle.sandhi_program.proofs.thin_text.contents.Contents.add_rule.Goals as goal
 
 pub returns-then-has_triple-clause-not_thin : goal.returns-then-has_triple-clause-not_thin
@@ -27,8 +27,8 @@ returns-clause-ok c =
     (subst (λ (rules : List Rule). Any (λ other. IsSameTriple other c.args.rule) rules → ⊥) c.as_slice.ensures.value
     (not_true c.has_triple.result _ c.has_triple.ensures c.if-has_triple.false)) (omega arith)
 
-pub returns-clause-kept : goal.returns-clause-kept
-returns-clause-kept c =
+pub returns-clause-lawful : goal.returns-clause-lawful
+returns-clause-lawful c =
     let v : c.rule.inside.v ≡ c.args.rule.v = ap (λ (r : Rule). r.v) c.rule.view_is in
     let leads = c.in_ok-add_lead.ensures.ok ∙ ap (λ (w : List ℕ). with_lead c.args.self.now.leads.items w) v in
-    kept_with_rule c.args.self.now _ c.args.rule c.requires (returns-clause-ok c) refl refl c.in_ok-push.ensures.items leads
+    lawful_with_rule c.args.self.now _ c.args.rule c.requires (returns-clause-ok c) refl refl c.in_ok-push.ensures.items leads

@@ -5,11 +5,11 @@ use Rattle.std.specs.List.Sorted.{IsStrictlySortedBy}
 use Rattle.std.specs.Ordering.{on}
 use Rattle.std.specs.declared.cmp.Ordering.TheVariants.{Less}
 use Rattle.std.proofs.lemmas.List.{length-map, get_or-map}
-use Rattle.std.proofs.lemmas.List.Elements.{All-from_recursion, recursion_from_All, All-map}
+use Rattle.std.proofs.lemmas.List.Elements.{All-map}
 use Rattle.text_definitions.specs.Words.{compare_words}
-use Rattle.lexicon_definitions.specs.Lexicons.{Lexicon, Form, IsLexicon, IsPhase}
-use Rattle.segmenter.specs.declared.lexicon.Lexicon.{Lexicon as Kept}
-use Rattle.segmenter.specs.Forms.{lists_of, AreCounted, IsKept, HasForms}
+use Rattle.lexicon_definitions.specs.Lexicons.{Lexicon, Form, IsLexicon}
+use Rattle.segmenter.specs.declared.lexicon.Lexicon.{Lexicon as ProgramLexicon}
+use Rattle.segmenter.specs.Forms.{AreCounted, HasRisingLists, HasForms}
 use Rattle.source_definitions.specs.Limits.{IsWithinLimits}
 
 -- words behind a word, one by one
@@ -37,8 +37,8 @@ counted_of full l = record {
   by_lead = λ k d lt. let short = (l.rule_set.short_rules k d lt).v in omega arith;
 }
 
-pub kept_of : (kept : Kept) (full : Lexicon) → IsLexicon full → IsWithinLimits full → HasForms kept full → IsKept kept
-kept_of kept full h l f = record {
+pub has_rising_lists : (program : ProgramLexicon) (full : Lexicon) → IsLexicon full → IsWithinLimits full → HasForms program full → HasRisingLists program
+has_rising_lists program full h l f = record {
   count = ap length (sym f.forms) ∙ length-map full.phases words_of ∙ h.count ∙ ap (λ rules. length rules.names) f.rules;
   rising = subst (All (λ (list : List (List ℕ)). IsStrictlySortedBy compare_words list)) f.forms
       (All-map (λ (list : List (List ℕ)). IsStrictlySortedBy compare_words list) words_of full.phases

@@ -9,7 +9,7 @@ use Rattle.std.specs.List.Sorted.{IsStrictlySortedBy}
 use Rattle.text_definitions.specs.Words.{compare_words}
 use Rattle.lexicon_definitions.specs.Rules.{Rule, IsSameTriple}
 use Rattle.lexicon_definitions.specs.Lexicons.{compare_pairs}
-use Rattle.sandhi_program.specs.ThinReader.{IsKept, MayFollowRule, AreDistinct, leads_of, with_lead}
+use Rattle.sandhi_program.specs.ThinReader.{IsLawfulSoFar, MayFollowRule, AreDistinct, leads_of, with_lead}
 use Rattle.sandhi_program.specs.declared.thin_text.contents.Contents.{Contents}
 use Rattle.sandhi_program.proofs.ThinOrders.{sorted_nil}
 use Rattle.sandhi_program.proofs.ThinLeads.{leads_push}
@@ -17,8 +17,8 @@ use Rattle.sandhi_program.proofs.ThinLeads.{leads_push}
 distinct_none : AreDistinct []
 distinct_none = λ i j d below inside. absurd (omega arith)
 
-pub kept_none : (kept : Contents) → kept.plain.items ≡ [] → kept.rules.items ≡ [] → kept.leads.items ≡ [] → kept.forms.items ≡ [] → IsKept kept
-kept_none kept p r l f = record {
+pub lawful_from_none : (contents : Contents) → contents.plain.items ≡ [] → contents.rules.items ≡ [] → contents.leads.items ≡ [] → contents.forms.items ≡ [] → IsLawfulSoFar contents
+lawful_from_none contents p r l f = record {
   rising = subst (IsStrictlySortedBy compare_pairs) (sym p) (sorted_nil compare_pairs);
   distinct = subst AreDistinct (sym r) distinct_none;
   rules = let none = ap length r in omega arith;
@@ -45,26 +45,26 @@ not_distinct rules rule h (k, other, below, is, same) =
     let apart = h k (length rules) other below (omega (arith, long)) in
     apart (subst (λ r. IsSameTriple r (get_or (rules ++ rule ∷ []) (length rules) other)) (sym (first ∙ is)) (subst (λ r. IsSameTriple other r) (sym last) same))
 
-pub rule_follows : (kept : Contents) (rule : Rule) → IsKept kept → kept.ended ≡ false → kept.forms.items ≡ [] → length kept.rules.items < 4000
-    → (Any (λ other. IsSameTriple other rule) kept.rules.items → ⊥) → length (with_lead kept.leads.items rule.v) ≤ 256 → MayFollowRule kept rule
-rule_follows kept rule h e f below n leads = record {
+pub rule_follows : (contents : Contents) (rule : Rule) → IsLawfulSoFar contents → contents.ended ≡ false → contents.forms.items ≡ [] → length contents.rules.items < 4000
+    → (Any (λ other. IsSameTriple other rule) contents.rules.items → ⊥) → length (with_lead contents.leads.items rule.v) ≤ 256 → MayFollowRule contents rule
+rule_follows contents rule h e f below n leads = record {
   goes_on = e;
   no_form = f;
-  distinct = distinct_push kept.rules.items rule h.distinct n;
-  rules = let long = length_push kept.rules.items rule in omega arith;
-  leads = let same = ap length (leads_push kept.rules.items rule ∙ ap (λ before. with_lead before rule.v) (sym h.leads_are)) in omega arith;
+  distinct = distinct_push contents.rules.items rule h.distinct n;
+  rules = let long = length_push contents.rules.items rule in omega arith;
+  leads = let same = ap length (leads_push contents.rules.items rule ∙ ap (λ before. with_lead before rule.v) (sym h.leads_are)) in omega arith;
 }
 
 -- the leads are too many
-pub too_many_leads : (kept : Contents) (rule : Rule) → IsKept kept → (length (with_lead kept.leads.items rule.v) ≤ 256 → ⊥) → MayFollowRule kept rule → ⊥
-too_many_leads kept rule h n m =
-    let same = ap length (leads_push kept.rules.items rule ∙ ap (λ before. with_lead before rule.v) (sym h.leads_are)) in
+pub too_many_leads : (contents : Contents) (rule : Rule) → IsLawfulSoFar contents → (length (with_lead contents.leads.items rule.v) ≤ 256 → ⊥) → MayFollowRule contents rule → ⊥
+too_many_leads contents rule h n m =
+    let same = ap length (leads_push contents.rules.items rule ∙ ap (λ before. with_lead before rule.v) (sym h.leads_are)) in
     let within = m.leads in
     n (omega arith)
 
-pub kept_with_rule : (old new : Contents) (rule : Rule) → IsKept old → MayFollowRule old rule → new.plain.items ≡ old.plain.items → new.forms.items ≡ old.forms.items
-    → new.rules.items ≡ old.rules.items ++ rule ∷ [] → new.leads.items ≡ with_lead old.leads.items rule.v → IsKept new
-kept_with_rule old new rule h m p f r l =
+pub lawful_with_rule : (old new : Contents) (rule : Rule) → IsLawfulSoFar old → MayFollowRule old rule → new.plain.items ≡ old.plain.items → new.forms.items ≡ old.forms.items
+    → new.rules.items ≡ old.rules.items ++ rule ∷ [] → new.leads.items ≡ with_lead old.leads.items rule.v → IsLawfulSoFar new
+lawful_with_rule old new rule h m p f r l =
     let leads_are : new.leads.items ≡ leads_of new.rules.items =
     l ∙ ap (λ before. with_lead before rule.v) h.leads_are ∙ sym (leads_push old.rules.items rule) ∙ sym (ap leads_of r) in
     record {
