@@ -13,6 +13,11 @@ use Rattle.lexicon_definitions.specs.Rules.{Rule}
 use Rattle.source_definitions.specs.ThinLines.{Entry, PlainLine, RuleLine, FormLine, EndLine, IsEntry, IsShortWord, IsThinRule, Tells}
 use Rattle.source_definitions.proofs.Marks.{free_from_All, cut_once, no_cut}
 use Rattle.source_definitions.proofs.SpelledWords.{spelled_from_read, word_from_read, read_from_spelled, length-spelling, free_of_blank, free_of_bar, free_of_sign}
+use Rattle.latin_schemes.specs.Faults.{IsFaultOf}
+use Rattle.latin_schemes.specs.declared.spell_error.SpellError.{SpellError}
+use Rattle.latin_schemes.specs.declared.spell_error.SpellError.TheVariants.{Fault, Memory}
+use Rattle.sandhi_program.specs.declared.thin_text.error.ThinError.TheVariants.{NotThin}
+use Rattle.sandhi_program.specs.Refusals.{thin_error}
 use Rattle.sandhi_program.specs.ThinReader.{IsSpelling}
 use Rattle.source_definitions.proofs.ThinEntries.{joined, plain_fields, rule_field, form_fields, spelled, line_is}
 
@@ -233,6 +238,12 @@ spelling_from_read most text word e short =
 
 pub not_read : (most : ℕ) (text word : List ℕ) (fault : SpellingFault) → IsSpelling most text word → word_of_slp1 text ≡ Err fault → ⊥
 not_read most text word fault s e = let read = read_from_spelled text word s.word_itself s.spelled in cc
+
+-- where reading is refused, and not for want of memory, no word is spelled
+pub refused : (most : ℕ) (text word : List ℕ) (error : SpellError) → NotThin ≡ thin_error error → IsFaultOf error (word_of_slp1 text)
+    → IsSpelling most text word → ⊥
+refused most text word (Fault fault) not_thin is s = not_read most text word _ s is
+refused most text word Memory not_thin is s = cc
 
 pub empty_from_test : (text : List ℕ) (test : Bool) → test ≡ (length text == 0) → test ≡ true → text ≡ []
 empty_from_test [] test e t = refl

@@ -1,3 +1,4 @@
 pub mod Ends
 pub mod Segments
 pub mod ThinReader
+pub mod Refusals

@@ -36,6 +36,32 @@ impl From<Memory> for SegmentError {
     }
 }
 
+impl From<SpellError> for SegmentError {
+    ghost use Rattle.sandhi_program.specs.Refusals.{error_of_spelling};
+
+    ghost from_gives = { λ spelling e. e ≡ error_of_spelling spelling };
+
+    fn from(refused: SpellError) -> SegmentError {
+        match refused {
+            SpellError::Fault(_) => SegmentError::NotBuilt,
+            SpellError::Memory => SegmentError::Memory,
+        }
+    }
+}
+
+impl From<ThinError> for SegmentError {
+    ghost use Rattle.sandhi_program.specs.Refusals.{error_of_thin};
+
+    ghost from_gives = { λ thin e. e ≡ error_of_thin thin };
+
+    fn from(refused: ThinError) -> SegmentError {
+        match refused {
+            ThinError::NotThin => SegmentError::NotBuilt,
+            ThinError::Memory => SegmentError::Memory,
+        }
+    }
+}
+
 impl From<AllocError> for SegmentError {
     ghost use Rattle.sandhi_program.specs.declared.segment.SegmentError.TheVariants as variant;
 
@@ -52,11 +78,7 @@ fn line_of(alloc: Global, text: &str) -> Result<Line, SegmentError>
     ensures ok { IfOk result (λ line. IsPlainText text.now line.letters × (line ≡ plain_line line.letters)) }
     ensures not_built { result ≡ Err SegmentError.NotBuilt → (word : List ℕ) → IsPlainText text.now word → ⊥ }
 {
-    let letters = match read_slp1(alloc, text.as_bytes()) {
-        Ok(word) => word,
-        Err(SpellError::Memory) => return Err(SegmentError::Memory),
-        Err(SpellError::Fault(_)) => return Err(SegmentError::NotBuilt),
-    };
+    let letters = read_slp1(alloc, text.as_bytes())?;
     let count = letters.as_slice().len();
     if count == 0 || count > LINE_LETTERS {
         return Err(SegmentError::NotBuilt);
@@ -135,11 +157,7 @@ pub(crate) fn segment(alloc: Global, bytes: &[u8], text: &str) -> Result<String,
     ensures not_built { result ≡ Err SegmentError.NotBuilt
         → (IsThinText bytes.now → ⊥) ⊎ ((word : List ℕ) → IsPlainText text.now word → ⊥) }
 {
-    let lexicon = match read_thin(alloc, bytes) {
-        Ok(lexicon) => lexicon,
-        Err(ThinError::Memory) => return Err(SegmentError::Memory),
-        Err(ThinError::NotThin) => return Err(SegmentError::NotBuilt),
-    };
+    let lexicon = read_thin(alloc, bytes)?;
     let line = line_of(alloc, text)?;
     let found = first_page(alloc, &lexicon, &line, PAGE_ANSWERS)?;
     Ok(print_page(alloc, &lexicon.rules, &line, &found)?)

@@ -5,7 +5,7 @@ ghost use Rattle.sandhi_program.specs.ThinReader.{IsSpelling, told_of};
 use super::ThinError;
 use super::cutting::{after, cut, is_same};
 use derivation::Rule;
-use latin_schemes::{SpellError, read_slp1};
+use latin_schemes::read_slp1;
 use phoneme::{Letter, Word};
 use std::alloc::Global;
 
@@ -33,11 +33,7 @@ fn word_of(alloc: Global, text: &[u8], most: usize) -> Result<Word, ThinError>
     if text.len() > most {
         return Err(ThinError::NotThin);
     }
-    match read_slp1(alloc, text) {
-        Ok(word) => Ok(word),
-        Err(SpellError::Fault(_)) => Err(ThinError::NotThin),
-        Err(SpellError::Memory) => Err(ThinError::Memory),
-    }
+    Ok(read_slp1(alloc, text)?)
 }
 
 /// The word of 1 to this many letters that the bytes spell in SLP1.

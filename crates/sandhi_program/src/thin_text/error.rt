@@ -1,6 +1,7 @@
 ghost use Rattle.std.specs.Prelude.{◌≡◌};
 ghost use Rattle.sandhi_program.specs.declared.thin_text.error.ThinError.TheVariants.{Memory as ThinMemory};
 
+use latin_schemes::SpellError;
 use phoneme::Memory;
 use std::alloc::{AllocError, AllocFailed};
 
@@ -16,6 +17,19 @@ impl From<Memory> for ThinError {
 
     fn from(_refused: Memory) -> ThinError {
         ThinError::Memory
+    }
+}
+
+impl From<SpellError> for ThinError {
+    ghost use Rattle.sandhi_program.specs.Refusals.{thin_error};
+
+    ghost from_gives = { λ spelling e. e ≡ thin_error spelling };
+
+    fn from(refused: SpellError) -> ThinError {
+        match refused {
+            SpellError::Fault(_) => ThinError::NotThin,
+            SpellError::Memory => ThinError::Memory,
+        }
     }
 }
 

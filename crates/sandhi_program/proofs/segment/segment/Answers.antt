@@ -11,21 +11,21 @@ use Rattle.sandhi_program.proofs.segment.segment.Goals as goal
 
 pub first_page-requires-clause-lists : goal.first_page-requires-clause-lists
 first_page-requires-clause-lists c =
-    let (full, text, forms) = c.in-Ok.ensures.ok in has_rising_lists _ full text.text.lexicon_itself text.text.limits forms
+    let (full, text, forms) = c.in_ok-lexicon.ensures.ok in has_rising_lists _ full text.text.lexicon_itself text.text.limits forms
 
 pub print_page-requires-clause-stand : goal.print_page-requires-clause-stand
 print_page-requires-clause-stand c k d lt = record {
-  stand = all_from_map (StandIn c.in-Ok.lexicon.rules c.in_ok-line.line.letters) (λ v. v.items) c.in_ok-found.found.answers.items c.in_ok-found.ensures.stand k d lt;
+  stand = all_from_map (StandIn c.in_ok-lexicon.lexicon.rules c.in_ok-line.line.letters) (λ v. v.items) c.in_ok-found.found.answers.items c.in_ok-found.ensures.stand k d lt;
   some = all_from_map (λ (steps : List ProgramStep). 0 < length steps) (λ v. v.items) c.in_ok-found.found.answers.items c.in_ok-found.ensures.not_empty k d lt;
 }
 
 pub returns-clause-ok : goal.returns-clause-ok
 returns-clause-ok c =
-    let (full, text, forms) = c.in-Ok.ensures.ok in
+    let (full, text, forms) = c.in_ok-lexicon.ensures.ok in
     let (spelled, is_line) = c.in_ok-line.ensures.ok in
     let found = c.in_ok-found.found in
     let letters = c.in_ok-line.line.letters in
-    let rules = c.in-Ok.lexicon.rules in
+    let rules = c.in_ok-lexicon.lexicon.rules in
     let page = c.in_ok-found.ensures.page full text.text.lexicon_itself forms in
     let twice = map_twice (steps_of rules letters) (λ v. v.items) found.answers.items in record {
       lexicon = full;
