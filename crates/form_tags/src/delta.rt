@@ -36,8 +36,8 @@ pub fn from_delta(alloc: Global, form: &[Letter], delta: &Delta) -> Result<Analy
     ensures ok { IfOk result (λ analysis. text_analysis analysis ≡ analysis_by form.now (text_delta delta.now)) }
     ensures tag { IfOk result (λ analysis. analysis.tag ≡ delta.now.tag) }
 {
-    let kept = form.len() - delta.cut as usize;
-    let mut stem = Word::from_slice(alloc, &form[..kept])?;
+    let shared = form.len() - delta.cut as usize;
+    let mut stem = Word::from_slice(alloc, &form[..shared])?;
     stem.extend_from_slice(delta.append.as_slice())?;
     Ok(Analysis {
         stem,

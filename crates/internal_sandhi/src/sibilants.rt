@@ -1,4 +1,4 @@
-ghost use Rattle.std.specs.Prelude.{◌≡◌, ◌<◌, ◌≤◌, ◌↔◌, length, IsTrue};
+ghost use Rattle.std.specs.Prelude.{◌<◌, ◌≤◌, ◌↔◌, length, IsTrue};
 ghost use Rattle.source_definitions.specs.InternalSandhi.{IsAfterTurner, IsTurningSibilant, TurnsSibilants};
 
 use super::letters::{

@@ -1,4 +1,4 @@
-ghost use Rattle.std.specs.Prelude.{◌≡◌, ◌*◌, ◌<◌, IsTrue, ◌↔◌, is_some, length};
+ghost use Rattle.std.specs.Prelude.{◌≡◌, ◌<◌, IsTrue, ◌↔◌, is_some, length};
 ghost use Rattle.phase_automaton.specs.Automata.{start_state, next_state, is_accepting, IsStateIn, IsTable};
 
 use super::state::State;

@@ -1,4 +1,4 @@
-ghost use Rattle.std.specs.Prelude.{◌≡◌, ◌+◌, ◌^◌, ◌<◌, ◌≤◌, length, Option};
+ghost use Rattle.std.specs.Prelude.{◌≡◌, ◌+◌, ◌^◌, ◌<◌, ◌≤◌, length};
 ghost use Rattle.lexicon_definitions.specs.GrammarTexts.{is_name_byte as is_name_byte_of};
 ghost use Rattle.lexicon_definitions.specs.GrammarFaults.{may_follow_item as follows_item, may_stand as stands, after_symbol as behind_symbol, after_byte as behind_byte, syntax_fault as syntax_fault_of};
 ghost use Rattle.phase_automaton.specs.Walks.{walk_of};

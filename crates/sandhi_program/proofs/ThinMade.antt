@@ -1,5 +1,5 @@
--- Contents that were read are those of a lexicon within the limits: each part by what was contents in order, and by what each
--- line is by itself.
+-- Contents that were read are those of a lexicon within the limits: each part by what is lawful so far, and by what each line
+-- is by itself.
 use Rattle.std.proofs.Common.{◌≡◌, ◌≢◌, ℕ, ◌≤◌, List, [], ◌∷◌, ◌++◌, length, get_or, map, codes, true, All, arith, refl, ◌∙◌, ap, subst, inl, inr, lit≤}
 use Rattle.std.specs.List.{AllByRecursion, AllPairs}
 use Rattle.std.specs.List.Sorted.{IsStrictlySortedBy}

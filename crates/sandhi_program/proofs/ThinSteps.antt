@@ -15,7 +15,7 @@ use Rattle.sandhi_program.specs.ThinReader.{IsLawfulSoFar, MayFollow, Added}
 use Rattle.sandhi_program.specs.declared.thin_text.contents.Contents.{Contents as ReadContents}
 use Rattle.sandhi_program.proofs.ThinFollows.{so_far, words_of, entry_follows}
 
--- what was contents is what the lines so far told, and these are the text up to the rest
+-- what was read is what the lines so far told, and these are the text up to the rest
 pub record ReadUpTo (contents : ReadContents) (text rest : List ℕ) : Type 0 where
   pub front : Contents
   pub plain : contents.plain.items ≡ front.plain

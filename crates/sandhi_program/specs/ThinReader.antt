@@ -120,7 +120,7 @@ rules_read contents =
 abbrev pub IsThinContents : lines.Contents → Type 0
 IsThinContents full = IsTextOf (lines.lexicon_of full) (text_of (lines.lexicon_of full))
 
--- what was contents is what the contents are without the stems, and these are those of a thin lexicon
+-- what was read is the full contents without the stems, and these are those of a thin lexicon
 pub record IsReadAs (contents : Contents) (full : lines.Contents) : Type 0 where
   pub plain : contents.plain.items ≡ full.plain
   pub rules : contents.rules.items ≡ full.rules

@@ -1,17 +1,16 @@
 ghost use Rattle.std.specs.Prelude.{◌≡◌, ◌<◌, ◌≤◌, ◌^◌, ◌⊎◌, ◌++◌, ℕ, List, length, map, All, IfOk, OnOk, string_bytes, Err};
 ghost use Rattle.derivation.specs.Steps.{StandIn, steps_of};
 ghost use Rattle.session_definitions.specs.PrintedAnswers.{printed_answer};
-ghost use Rattle.sandhi_program.specs.Segments.{ArePrintable};
 ghost use Rattle.session_definitions.specs.Outcomes.{IsPlainText, line_of as plain_line, output_line, printed_answers, printed_rest, printed_page};
 ghost use Rattle.source_definitions.specs.ThinTexts.{IsThinText};
-ghost use Rattle.sandhi_program.specs.Segments.{IsSegmentOutput};
+ghost use Rattle.sandhi_program.specs.Segments.{ArePrintable, IsSegmentOutput};
 
 use super::thin_text::{ThinError, read_thin};
 use derivation::{RuleSet, Step, print_derivation};
 use latin_schemes::{SpellError, read_slp1};
 use phoneme::{Line, Memory};
-use segmenter::{Found, Lexicon, first_page};
-use std::alloc::{AllocError, AllocFailed, Global};
+use segmenter::{Found, first_page};
+use std::alloc::{AllocError, Global};
 
 /// The most answers of the page that `segment` prints.
 const PAGE_ANSWERS: u32 = 10_000;

@@ -1,9 +1,8 @@
-ghost use Rattle.std.specs.Prelude.{◌≡◌, ◌≢◌, ℕ, List, [], ◌∷◌, ◌++◌, codes, IfOk, MatchOption, Err};
-ghost use Rattle.lexicon_definitions.specs.Lexicons.{Lexicon as LexiconValue};
+ghost use Rattle.std.specs.Prelude.{◌≡◌, ◌≢◌, ℕ, List, [], ◌∷◌, ◌++◌, IfOk, MatchOption, Err};
+ghost use Rattle.lexicon_definitions.specs.Lexicons.{Lexicon as LexiconValue, IsRuleSet};
 ghost use Rattle.source_definitions.specs.ThinTexts.{IsThinText, IsThinTextOf};
-ghost use Rattle.source_definitions.specs.ThinLines.{Contents as ContentsValue, head_text, lexicon_of as lexicon_value, text_telling, all_entries};
+ghost use Rattle.source_definitions.specs.ThinLines.{Contents as ContentsValue, head_text, text_telling, all_entries};
 ghost use Rattle.segmenter.specs.Forms.{HasForms, lists_of};
-ghost use Rattle.lexicon_definitions.specs.Lexicons.{IsRuleSet};
 ghost use Rattle.sandhi_program.specs.ThinReader.{IsReadAs, IsThinContents, rules_read};
 
 mod contents;
