@@ -10,7 +10,7 @@ use derivation::{RuleSet, Step, print_derivation};
 use latin_schemes::{SpellError, read_slp1};
 use phoneme::{Line, Memory};
 use segmenter::{Found, first_page};
-use std::alloc::{AllocError, Global};
+use std::alloc::Global;
 
 /// The most answers of the page that `segment` prints.
 const PAGE_ANSWERS: u32 = 10_000;
@@ -58,16 +58,6 @@ impl From<ThinError> for SegmentError {
             ThinError::NotThin => SegmentError::NotBuilt,
             ThinError::Memory => SegmentError::Memory,
         }
-    }
-}
-
-impl From<AllocError> for SegmentError {
-    ghost use Rattle.sandhi_program.specs.declared.segment.SegmentError.TheVariants as variant;
-
-    ghost from_gives = { λ _ e. e ≡ variant.Memory };
-
-    fn from(_refused: AllocError) -> SegmentError {
-        SegmentError::Memory
     }
 }
 

@@ -3,7 +3,7 @@ ghost use Rattle.sandhi_program.specs.declared.thin_text.error.ThinError.TheVari
 
 use latin_schemes::SpellError;
 use phoneme::Memory;
-use std::alloc::{AllocError, AllocFailed};
+use std::alloc::AllocFailed;
 
 /// Why bytes gave no lexicon.
 #[derive(Clone, Copy, Debug, PartialEq, Eq)]
@@ -30,14 +30,6 @@ impl From<SpellError> for ThinError {
             SpellError::Fault(_) => ThinError::NotThin,
             SpellError::Memory => ThinError::Memory,
         }
-    }
-}
-
-impl From<AllocError> for ThinError {
-    ghost from_gives = { λ _ e. e ≡ ThinMemory };
-
-    fn from(_refused: AllocError) -> ThinError {
-        ThinError::Memory
     }
 }
 
