@@ -7,9 +7,9 @@ use Rattle.std.proofs.lemmas.Bool.Decides.{nat_tests}
 use Rattle.lexicon_definitions.specs.Lexicons.{RuleSet, rule_of}
 use Rattle.segmentation_definitions.specs.Derivations.{Step}
 use Rattle.segmentation_definitions.specs.Listings.{compare_key_lists}
-use Rattle.session_definitions.specs.PrintedAnswers.{printed_steps, printed_form, printed_joint, printed_end}
+use Rattle.segmentation_definitions.specs.PrintedAnswers.{printed_steps, printed_form, printed_joint, printed_end}
 use Rattle.derivation.specs.declared.step.Step.{Step as ProgramStep}
-use Rattle.derivation.specs.Steps.{keys_of, form_with, step_behind, steps_from, steps_of, StandFrom}
+use Rattle.derivation.specs.Steps.{keys_of, form_with, step_after, steps_from, steps_of, StandFrom}
 
 -- numbers compare as their successors do
 nat_cmp-suc : (m n : ℕ) → nat_cmp (suc m) (suc n) ≡ nat_cmp m n
@@ -26,7 +26,7 @@ ended (x ∷ a) (y ∷ b) (suc i) e =
     let smaller : i ≡ min (length a) (length b) = omega arith
     in nat_cmp-suc (length a) (length b) ∙ ended a b i smaller
 
--- the rule behind the step before the place
+-- the rule after the step before the place
 abbrev pub rule_before : ℕ → List ProgramStep → ℕ → ProgramStep → ℕ
 rule_before before steps zero d = before
 rule_before before steps (suc j) d = (slice_index_or steps j d).rule
@@ -75,10 +75,10 @@ form_at rules letters before (step ∷ steps) (suc zero) d lt =
 form_at rules letters before (step ∷ steps) (suc (suc j)) d lt =
     let smaller : suc j < length steps = omega arith in form_at rules letters step.rule steps (suc j) d smaller
 
--- steps of which the first is not the last print as its form, what stands behind it, and the rest
+-- steps of which the first is not the last print as its form, what stands after it, and the rest
 pub printed_first : (rules : RuleSet) (letters : List ℕ) (before : ℕ) (step : ProgramStep) (steps : List ProgramStep) → 0 < length steps
     → printed_steps rules (steps_from rules letters (rule_of rules before).v (step ∷ steps))
-    ≡ printed_form rules (step_behind rules letters before step) ++ printed_joint rules step.rule
+    ≡ printed_form rules (step_after rules letters before step) ++ printed_joint rules step.rule
     ++ printed_steps rules (steps_from rules letters (rule_of rules step.rule).v steps)
 printed_first rules letters before step [] more = absurd (omega arith)
 printed_first rules letters before step (next ∷ steps) more = refl
@@ -86,7 +86,7 @@ printed_first rules letters before step (next ∷ steps) more = refl
 -- the last step prints as its form and the end
 pub printed_last : (rules : RuleSet) (letters : List ℕ) (before : ℕ) (step : ProgramStep) (steps : List ProgramStep) → length steps ≡ 0
     → printed_steps rules (steps_from rules letters (rule_of rules before).v (step ∷ steps))
-    ≡ printed_form rules (step_behind rules letters before step) ++ printed_end rules step.rule
+    ≡ printed_form rules (step_after rules letters before step) ++ printed_end rules step.rule
 printed_last rules letters before step [] none = refl
 printed_last rules letters before step (next ∷ steps) none = absurd (omega arith)
 
@@ -100,11 +100,11 @@ three_pieces : (text form ending later whole : List ℕ) → text ++ later ≡ w
 three_pieces text form ending later whole all is = append_assoc text form ending ∙ ap (λ xs. text ++ xs) (sym is) ∙ all
 
 -- where text and what the steps from a place on print make the whole, so do text with the form there and what stands
--- behind it, and what the later steps print
+-- after it, and what the later steps print
 pub printed_on : (rules : RuleSet) (letters : List ℕ) (before : ℕ) (steps : List ProgramStep) (j : ℕ) (d : ProgramStep) (text with_form with_joint whole : List ℕ)
     → j + 1 < length steps
     → text ++ printed_steps rules (steps_from rules letters (rule_of rules before).v (drop j steps)) ≡ whole
-    → with_form ≡ text ++ printed_form rules (step_behind rules letters before (slice_index_or steps j d))
+    → with_form ≡ text ++ printed_form rules (step_after rules letters before (slice_index_or steps j d))
     → with_joint ≡ with_form ++ printed_joint rules (slice_index_or steps j d).rule
     → with_joint ++ printed_steps rules (steps_from rules letters (rule_of rules (slice_index_or steps j d).rule).v (drop (j + 1) steps)) ≡ whole
 printed_on rules letters before steps j d text with_form with_joint whole more printed form joint =
@@ -118,7 +118,7 @@ printed_on rules letters before steps j d text with_form with_joint whole more p
 pub printed_out : (rules : RuleSet) (letters : List ℕ) (before : ℕ) (steps : List ProgramStep) (j : ℕ) (d : ProgramStep) (text with_form with_end whole : List ℕ)
     → j < length steps → length steps ≤ j + 1
     → text ++ printed_steps rules (steps_from rules letters (rule_of rules before).v (drop j steps)) ≡ whole
-    → with_form ≡ text ++ printed_form rules (step_behind rules letters before (slice_index_or steps j d))
+    → with_form ≡ text ++ printed_form rules (step_after rules letters before (slice_index_or steps j d))
     → with_end ≡ with_form ++ printed_end rules (slice_index_or steps j d).rule
     → with_end ++ printed_steps rules (steps_from rules letters (rule_of rules (slice_index_or steps j d).rule).v (drop (j + 1) steps)) ≡ whole
 printed_out rules letters before steps j d text with_form with_end whole low last printed form ending =
@@ -128,12 +128,12 @@ printed_out rules letters before steps j d text with_form with_end whole low las
     in let only = printed_last rules letters before here (drop (j + 1) steps) (ap length none)
     in rw (none, append-nil, ending, form) (three_pieces text _ _ _ whole printed (at ∙ only))
 
--- the form of the step at a place, behind the rule that stands before it there, is that of the definitions
+-- the form of the step at a place, after the rule that stands before it there, is that of the definitions
 pub form_found : {E : Type 0} (rules : RuleSet) (letters : List ℕ) (steps : List ProgramStep) (j : ℕ) (d : ProgramStep) (before : ℕ) (r : Result (List ℕ) E)
     → j < length steps → before ≡ rule_before 0 steps j d
     → IfOk r (λ word. word ≡ form_with rules letters (rule_of rules before).v (slice_index_or steps j d))
     → IfOk r (λ word. slice_get (map (λ (step : Step). step.form) (steps_of rules letters steps)) j ≡ Some word)
 form_found rules letters steps j d before r low same =
-    let behind : ℕ → List ℕ = λ n. form_with rules letters (rule_of rules n).v (slice_index_or steps j d)
-    in IfOk-weaker r (λ word. word ≡ behind before) (λ word. slice_get (map (λ (step : Step). step.form) (steps_of rules letters steps)) j ≡ Some word)
-    (λ word is. form_at rules letters 0 steps j d low ∙ ap (λ form. Some form) (sym (is ∙ ap behind same)))
+    let following : ℕ → List ℕ = λ n. form_with rules letters (rule_of rules n).v (slice_index_or steps j d)
+    in IfOk-weaker r (λ word. word ≡ following before) (λ word. slice_get (map (λ (step : Step). step.form) (steps_of rules letters steps)) j ≡ Some word)
+    (λ word is. form_at rules letters 0 steps j d low ∙ ap (λ form. Some form) (sym (is ∙ ap following same)))

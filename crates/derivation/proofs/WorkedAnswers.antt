@@ -120,11 +120,11 @@ unfolding slp1_table word_of_slp1
 first_stand rules letters a b c is_worked spelled is_a is_b is_c =
     let line : letters ≡ 22 ∷ 10 ∷ 32 ∷ 42 ∷ 5 ∷ 45 ∷ 2 ∷ 22 ∷ 1 ∷ [] = spelled_one (codes "cetyuvAca") _ letters refl spelled
     in rw (is_worked, line, is_a, is_b, is_c) (
-      record { phase = omega arith; rule = omega arith; at = refl; lead_length = refl; taken = omega arith; behind = refl },
+      record { phase = omega arith; rule = omega arith; at = refl; lead_length = refl; taken = omega arith; following = refl },
       (
-        record { phase = omega arith; rule = omega arith; at = refl; lead_length = refl; taken = omega arith; behind = refl },
+        record { phase = omega arith; rule = omega arith; at = refl; lead_length = refl; taken = omega arith; following = refl },
         (
-          record { phase = omega arith; rule = omega arith; at = refl; lead_length = refl; taken = omega arith; behind = refl },
+          record { phase = omega arith; rule = omega arith; at = refl; lead_length = refl; taken = omega arith; following = refl },
           tt,
         ),
       ),
@@ -138,9 +138,9 @@ unfolding slp1_table word_of_slp1
 second_stand rules letters a b is_worked spelled is_a is_b =
     let line : letters ≡ 22 ∷ 1 ∷ 34 ∷ 10 ∷ 45 ∷ 1 ∷ 16 ∷ [] = spelled_one (codes "cadevaH") _ letters refl spelled
     in rw (is_worked, line, is_a, is_b) (
-      record { phase = omega arith; rule = omega arith; at = refl; lead_length = refl; taken = omega arith; behind = refl },
+      record { phase = omega arith; rule = omega arith; at = refl; lead_length = refl; taken = omega arith; following = refl },
       (
-        record { phase = omega arith; rule = omega arith; at = refl; lead_length = refl; taken = omega arith; behind = refl },
+        record { phase = omega arith; rule = omega arith; at = refl; lead_length = refl; taken = omega arith; following = refl },
         tt,
       ),
     )

@@ -26,9 +26,9 @@ abbrev pub entered_with : RuleSet → List ℕ → List ℕ → ProgramStep → 
 entered_with rules letters lead step =
     record { phase = step.phase; form = form_with rules letters lead step; rule = step.rule }
 
--- the step of the definitions, behind the rule with this number
-abbrev pub step_behind : RuleSet → List ℕ → ℕ → ProgramStep → Step
-step_behind rules letters before step = entered_with rules letters (rule_of rules before).v step
+-- the step of the definitions, after the rule with this number
+abbrev pub step_after : RuleSet → List ℕ → ℕ → ProgramStep → Step
+step_after rules letters before step = entered_with rules letters (rule_of rules before).v step
 
 -- the steps of the definitions, where the first is entered with the lead
 abbrev pub steps_from : RuleSet → List ℕ → List ℕ → List ProgramStep → List Step
@@ -48,7 +48,7 @@ pub record StandsAt (rules : RuleSet) (letters : List ℕ) (start : ℕ) (lead :
   pub at : step.at ≡ start
   pub lead_length : step.lead ≡ length lead
   pub taken : step.at + step.taken ≤ length letters
-  pub behind : take (length (rule_of rules step.rule).w) (drop (step.at + step.taken) letters) ≡ (rule_of rules step.rule).w
+  pub following : take (length (rule_of rules step.rule).w) (drop (step.at + step.taken) letters) ≡ (rule_of rules step.rule).w
 
 -- each step stands where the one before ends, with the lead that it leaves
 abbrev pub StandFrom : RuleSet → List ℕ → ℕ → List ℕ → List ProgramStep → Type 0

@@ -6,9 +6,9 @@ use super::{RuleSet, Step};
 use phoneme::{Line, Memory, Word};
 use std::alloc::Global;
 
-/// The form of a step behind the rule with the number `before`, 0 for none: the letters that this rule supplies (its
+/// The form of a step after the rule with the number `before`, 0 for none: the letters that this rule supplies (its
 /// `v`), the letters of the line that the step takes, and the `u` of the step's rule (Huet 2005).
-pub fn form_behind(
+pub fn form_after(
     alloc: Global,
     rules: &RuleSet,
     line: &Line,
@@ -33,7 +33,7 @@ pub fn form_behind(
     Ok(form)
 }
 
-/// The form of the step at place `j`, counted from 0, behind the rule of the step before it, if there is one (Huet 2005).
+/// The form of the step at place `j`, counted from 0, after the rule of the step before it, if there is one (Huet 2005).
 pub fn form_of(
     alloc: Global,
     rules: &RuleSet,
@@ -47,5 +47,5 @@ pub fn form_of(
 {
     let place = j as usize;
     let before = if place == 0 { 0 } else { steps[place - 1].rule };
-    form_behind(alloc, rules, line, before, &steps[place])
+    form_after(alloc, rules, line, before, &steps[place])
 }

@@ -11,7 +11,7 @@ mod step;
 #[cfg(test)]
 mod tests;
 
-pub use forms::{form_behind, form_of};
+pub use forms::{form_after, form_of};
 pub use laws::steps_keep_places_and_keys;
 pub use ordering::compare;
 pub use printing::print_derivation;

@@ -1,8 +1,8 @@
 ghost use Rattle.std.specs.Prelude.{◌≡◌, ◌+◌, ◌<◌, ◌≤◌, ◌++◌, length, IfOk, OnOk, string_bytes};
-ghost use Rattle.session_definitions.specs.PrintedAnswers.{printed_answer, printed_rule, printed_form, printed_joint, printed_end};
-ghost use Rattle.derivation.specs.Steps.{StandIn, steps_of, step_behind};
+ghost use Rattle.segmentation_definitions.specs.PrintedAnswers.{printed_answer, printed_rule, printed_form, printed_joint, printed_end};
+ghost use Rattle.derivation.specs.Steps.{StandIn, steps_of, step_after};
 
-use super::forms::form_behind;
+use super::forms::form_after;
 use super::{Rule, RuleSet, Step};
 use latin_schemes::print_slp1;
 use phoneme::{Line, Memory};
@@ -20,7 +20,7 @@ fn push_rule(alloc: Global, text: &mut String, rule: &Rule) -> Result<(), Memory
     Ok(())
 }
 
-/// `FORM[PHASE]`, for a step behind the rule with the number `before`.
+/// `FORM[PHASE]`, for a step after the rule with the number `before`.
 fn push_form(
     alloc: Global,
     text: &mut String,
@@ -33,9 +33,9 @@ fn push_form(
     requires phase { step.now.phase < length rules.now.names }
     requires rule { step.now.rule ≤ length rules.now.rules }
     requires within { step.now.at + step.now.taken ≤ length line.now.letters }
-    ensures ok { OnOk result (string_bytes text.new ≡ string_bytes text.old ++ printed_form rules.now (step_behind rules.now line.now.letters before step.now)) }
+    ensures ok { OnOk result (string_bytes text.new ≡ string_bytes text.old ++ printed_form rules.now (step_after rules.now line.now.letters before step.now)) }
 {
-    let form = form_behind(alloc, rules, line, before, step)?;
+    let form = form_after(alloc, rules, line, before, step)?;
     text.push_str(print_slp1(alloc, &form)?.as_str())?;
     text.push_str("[")?;
     text.push_str(rules.phases()[step.phase as usize].as_str())?;
@@ -43,7 +43,7 @@ fn push_form(
     Ok(())
 }
 
-/// What stands between a form with this rule behind it and the next form.
+/// What stands between a form with this rule after it and the next form.
 fn push_joint(alloc: Global, text: &mut String, rules: &RuleSet, number: u32) -> Result<(), Memory>
     requires { number ≤ length rules.now.rules }
     ensures ok { OnOk result (string_bytes text.new ≡ string_bytes text.old ++ printed_joint rules.now number) }
@@ -59,7 +59,7 @@ fn push_joint(alloc: Global, text: &mut String, rules: &RuleSet, number: u32) ->
     Ok(())
 }
 
-/// What stands behind the last form, with this rule behind it.
+/// What stands after the last form, with this rule after it.
 fn push_end(alloc: Global, text: &mut String, rules: &RuleSet, number: u32) -> Result<(), Memory>
     requires { number ≤ length rules.now.rules }
     ensures ok { OnOk result (string_bytes text.new ≡ string_bytes text.old ++ printed_end rules.now number) }
@@ -73,7 +73,7 @@ fn push_end(alloc: Global, text: &mut String, rules: &RuleSet, number: u32) -> R
 }
 
 /// The line of an answer with its number in the listing, counted from 1: `N: FORM[PHASE]`, then ` + FORM[PHASE]` for
-/// each further form that is joined unchanged and ` (u|v>w) FORM[PHASE]` for one behind a rule; a final rule stands at
+/// each further form that is joined unchanged and ` (u|v>w) FORM[PHASE]` for one after a rule; a final rule stands at
 /// the end as ` (u|>w)`. Words are in SLP1. The layout is our own.
 pub fn print_derivation(
     alloc: Global,

@@ -1,6 +1,6 @@
 ghost use Rattle.std.specs.Prelude.{◌≡◌};
 
-/// A step of a derivation (Huet 2005): a form of a phase and the rule behind it. Phases count from 0 and rules from 1,
+/// A step of a derivation (Huet 2005): a form of a phase and the rule after it. Phases count from 0 and rules from 1,
 /// where rule 0 is no change. The form's letters are the `lead` letters that the rule before supplies, which are all of
 /// its `v`, then the `taken` letters of the line from `at` on, then the `u` of the rule. `at`, `lead` and `taken` count
 /// letters, `at` from 0.

@@ -9,9 +9,9 @@ use Rattle.text_definitions.specs.Devanagari.{close_with_a, word_of_points, word
 use Rattle.latin_schemes.specs.Faults.{IsFaultOf}
 use Rattle.latin_schemes.specs.declared.spell_error.SpellError.{SpellError}
 
-pub reads_point : (old new : List ℕ) (bare after : Bool) (at before behind point : ℕ) (text rest : List ℕ) → at ≡ before → text ≡ encode_utf8 point ++ rest → behind ≡ before + length (encode_utf8 point) → IsUtf8 text → ((points : List ℕ) → with_front new (word_of_points (at + length (encode_utf8 point)) after points) ≡ with_front old (word_of_points at bare (point ∷ points))) → with_front new (word_of_points behind after (chars rest)) ≡ with_front old (word_of_points before bare (chars text))
-reads_point old new bare after at before behind point text rest here begins moved utf8 took =
-    let next : behind ≡ at + length (encode_utf8 point) = omega arith in
+pub reads_point : (old new : List ℕ) (bare after : Bool) (at before following point : ℕ) (text rest : List ℕ) → at ≡ before → text ≡ encode_utf8 point ++ rest → following ≡ before + length (encode_utf8 point) → IsUtf8 text → ((points : List ℕ) → with_front new (word_of_points (at + length (encode_utf8 point)) after points) ≡ with_front old (word_of_points at bare (point ∷ points))) → with_front new (word_of_points following after (chars rest)) ≡ with_front old (word_of_points before bare (chars text))
+reads_point old new bare after at before following point text rest here begins moved utf8 took =
+    let next : following ≡ at + length (encode_utf8 point) = omega arith in
     ap (λ p. with_front new (word_of_points p after (chars rest))) next
     ∙ took (chars rest)
     ∙ ap (λ p. with_front old (word_of_points p bare (point ∷ chars rest))) here
@@ -35,7 +35,7 @@ pub reads_text : (text : List ℕ) → IsUtf8 text → word_of_points 0 false (c
 unfolding word_of_devanagari
 reads_text text utf8 = sym (ap (λ b. cond b (word_of_points 0 false (chars text)) (Err (NotUtf8 (utf8_valid_len text)))) (is_utf8-from_IsUtf8 text utf8))
 
--- any other is at fault behind its longest valid front
+-- any other is at fault after its longest valid front
 pub reads_broken : (text : List ℕ) (place : ℕ) → ¬ (IsUtf8 text) → place ≡ utf8_valid_len text → word_of_devanagari text ≡ Err (NotUtf8 place)
 unfolding word_of_devanagari
 reads_broken text place broken at =

@@ -14,7 +14,7 @@ pub enum Point {
     Virama,
     /// A vowel that stands alone, a mark, a consonant or the avagraha.
     Letter(Letter),
-    /// The sign of a vowel behind a consonant.
+    /// The sign of a vowel after a consonant.
     Sign(Letter),
     /// None of these.
     Foreign,

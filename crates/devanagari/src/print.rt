@@ -16,7 +16,7 @@ static LETTERS: [char; 50] = [
     '\u{0939}', '\u{093D}',
 ];
 
-/// The sign of each vowel behind a consonant, by code from 2.
+/// The sign of each vowel after a consonant, by code from 2.
 static SIGNS: [char; 12] = [
     '\u{093E}', '\u{093F}', '\u{0940}', '\u{0941}', '\u{0942}', '\u{0943}', '\u{0944}', '\u{0962}',
     '\u{0947}', '\u{0948}', '\u{094B}', '\u{094C}',
@@ -25,8 +25,8 @@ static SIGNS: [char; 12] = [
 /// The sign that a consonant has no vowel.
 const VIRAMA: char = '\u{094D}';
 
-/// The spelling of a word in Devanagari, as UTF-8. A vowel behind a consonant is its sign, and a consonant with no
-/// vowel behind it has the virama.
+/// The spelling of a word in Devanagari, as UTF-8. A vowel after a consonant is its sign, and a consonant with no
+/// vowel after it has the virama.
 #[tactic(auto, unfolding(text_definitions::specs::Devanagari::devanagari_of_word), using(crate::proofs::Letters::points_more))]
 pub fn print_devanagari(alloc: Global, word: &Word) -> Result<String, Memory>
     ensures ok { IfOk result (λ text. string_bytes text ≡ devanagari_of_word word.now) }
@@ -43,7 +43,7 @@ pub fn print_devanagari(alloc: Global, word: &Word) -> Result<String, Memory>
     Ok(text)
 }
 
-/// Appends the letter, behind a consonant that has no vowel yet or not.
+/// Appends the letter, after a consonant that has no vowel yet or not.
 #[tactic(auto, unfolding(text_definitions::specs::Devanagari::devanagari_table, text_definitions::specs::Devanagari::devanagari_signs))]
 fn push_letter(text: &mut String, bare: bool, letter: Letter) -> Result<(), Memory>
     ensures ok { OnOk result (string_bytes text.new

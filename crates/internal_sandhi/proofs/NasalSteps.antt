@@ -2,8 +2,8 @@
 use Rattle.std.proofs.Common.{◌≡◌, ℕ, ◌+◌, ◌-◌, ◌<◌, ◌≤◌, ◌⊎◌, ◌↔◌, Bool, true, false, IsTrue, List, length, slice_index, slice_set, arith, inl, inr, ⊎_elim, ◌∙◌, sym, refl, ap, get_or}
 use Rattle.std.proofs.lemmas.Bool.{cases_lt, false≢true}
 use Rattle.std.proofs.lemmas.List.{get_or-set_same, get_or-set_other, get_or_past, get_or_read}
-use Rattle.source_definitions.specs.InternalSandhi.{IsTurningNasal, IsAfterTurned, IsReached, TurnsLaterNasal, LetsNasalTurn, FollowsTurningNasal, letter_n, letter_R}
-use Rattle.source_definitions.proofs.NasalReach.{SameBelow, IsReached-along, IsTurningNasal-along}
+use Rattle.morphology_definitions.specs.InternalSandhi.{IsTurningNasal, IsAfterTurned, IsReached, TurnsLaterNasal, LetsNasalTurn, FollowsTurningNasal, letter_n, letter_R}
+use Rattle.morphology_definitions.proofs.NasalReach.{SameBelow, IsReached-along, IsTurningNasal-along}
 use Rattle.internal_sandhi.proofs.Turning.{IsTurnedBelow, SameTurns, IsTurnedBelow-turn, IsTurnedBelow-stay}
 
 abbrev pub NasalsTurned : ℕ → ℕ → List ℕ → List ℕ → Type 0

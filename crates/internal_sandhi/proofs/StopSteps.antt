@@ -2,7 +2,7 @@
 use Rattle.std.proofs.Common.{◌≡◌, ℕ, ◌+◌, ◌-◌, ◌<◌, ◌≤◌, ◌↔◌, List, length, slice_index, slice_set, if◌then◌else◌, ◌==◌, arith, ⊎_elim, inl, inr, ap, ◌∙◌}
 use Rattle.std.proofs.lemmas.Bool.Decides.{nat_tests}
 use Rattle.std.proofs.lemmas.Bool.{cases_lt}
-use Rattle.source_definitions.specs.InternalSandhi.{IsTurningStop, letter_t, letter_w, letter_W, letter_z}
+use Rattle.morphology_definitions.specs.InternalSandhi.{IsTurningStop, letter_t, letter_w, letter_W, letter_z}
 use Rattle.internal_sandhi.proofs.Turning.{IsTurnedBelow, IsDone, IsTurnedBelow-turn, IsTurnedBelow-stay}
 
 abbrev pub lingual_stop : ℕ → ℕ

@@ -2,7 +2,7 @@
 use Rattle.std.proofs.Common.{◌≡◌, ◌≢◌, ℕ, ◌+◌, ◌<◌, ◌≤◌, ◌⊎◌, List, length, slice_index, slice_set, arith, inl, inr, ◌∙◌, ⊎_elim}
 use Rattle.std.proofs.lemmas.List.{get_or-set_same, get_or-set_other}
 use Rattle.std.proofs.lemmas.Bool.{cases_lt}
-use Rattle.source_definitions.specs.InternalSandhi.{TurnsFrom}
+use Rattle.morphology_definitions.specs.InternalSandhi.{TurnsFrom}
 
 -- the letter at a place has turned where it had to, else it is the old one
 pub record IsDone (Turns : Type 0) (turned was is_now : ℕ) : Type 0 where

@@ -1,6 +1,6 @@
 ghost use Rattle.std.specs.Prelude.{◌≡◌, ◌↔◌, IsTrue};
 ghost use Rattle.text_definitions.specs.Letters.{IsLetter};
-ghost use Rattle.source_definitions.specs.InternalSandhi.{TurnsNextSibilant, LetsSibilantTurn, KeepsSibilant, TurnsLaterNasal, LetsNasalTurn, FollowsTurningNasal};
+ghost use Rattle.morphology_definitions.specs.InternalSandhi.{TurnsNextSibilant, LetsSibilantTurn, KeepsSibilant, TurnsLaterNasal, LetsNasalTurn, FollowsTurningNasal};
 
 use phoneme::{Group, Letter};
 

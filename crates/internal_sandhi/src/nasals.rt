@@ -1,5 +1,5 @@
 ghost use Rattle.std.specs.Prelude.{◌≡◌, ◌+◌, ◌<◌, ◌≤◌, ◌↔◌, ◌⊎◌, length, slice_index, IsTrue};
-ghost use Rattle.source_definitions.specs.InternalSandhi.{FollowsTurningNasal, LetsNasalTurn, TurnsLaterNasal, TurnsNasals, letter_n};
+ghost use Rattle.morphology_definitions.specs.InternalSandhi.{FollowsTurningNasal, LetsNasalTurn, TurnsLaterNasal, TurnsNasals, letter_n};
 
 use super::letters::{
     LINGUAL_N, N, follows_turning_nasal, lets_nasal_turn, letter, turns_later_nasal,

@@ -1,5 +1,5 @@
 ghost use Rattle.std.specs.Prelude.{◌++◌, IfOk};
-ghost use Rattle.source_definitions.specs.InternalSandhi.{IsJoined};
+ghost use Rattle.morphology_definitions.specs.InternalSandhi.{IsJoined};
 
 use super::nasals::turn_nasals;
 use super::sibilants::turn_sibilants;

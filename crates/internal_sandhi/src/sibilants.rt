@@ -1,5 +1,5 @@
 ghost use Rattle.std.specs.Prelude.{◌<◌, ◌≤◌, ◌↔◌, length, IsTrue};
-ghost use Rattle.source_definitions.specs.InternalSandhi.{IsAfterTurner, IsTurningSibilant, TurnsSibilants};
+ghost use Rattle.morphology_definitions.specs.InternalSandhi.{IsAfterTurner, IsTurningSibilant, TurnsSibilants};
 
 use super::letters::{
     LINGUAL_S, S, keeps_sibilant, lets_sibilant_turn, letter, turns_next_sibilant,

@@ -1,5 +1,5 @@
 ghost use Rattle.std.specs.Prelude.{◌≡◌, ◌<◌, ◌≤◌, ◌↔◌, ◌⊎◌, ◌==◌, if◌then◌else◌, length, IsTrue};
-ghost use Rattle.source_definitions.specs.InternalSandhi.{IsTurningStop, TurnsStops, letter_t, letter_T, letter_w, letter_W};
+ghost use Rattle.morphology_definitions.specs.InternalSandhi.{IsTurningStop, TurnsStops, letter_t, letter_T, letter_w, letter_W};
 
 use super::letters::{LINGUAL_S, LINGUAL_T, LINGUAL_TH, T, TH, letter};
 use phoneme::Letter;

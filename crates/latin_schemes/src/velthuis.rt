@@ -7,7 +7,7 @@ use super::{SpellError, SpellFault};
 use phoneme::Word;
 use std::alloc::Global;
 
-/// The place where the next spelling is to begin: behind a separator `_` that stands at the place, unless the text
+/// The place where the next spelling is to begin: after a separator `_` that stands at the place, unless the text
 /// begins there, or else the place itself.
 fn next_spelling(text: &[u8], at: usize) -> usize
     requires { at < length text.now }

@@ -27,7 +27,7 @@ pub fn front(text: &[u8]) -> Option<(Letter, usize)>
     Some((letter, 1))
 }
 
-/// Whether the bytes with one more behind them are a spelling.
+/// Whether the bytes with one more after them are a spelling.
 #[tactic(auto, using(text_definitions::proofs::VelthuisTable::not_lengthened))]
 pub fn is_lengthened(spelling: &[u8], next: u8) -> bool
     requires { 0 < length spelling.now }

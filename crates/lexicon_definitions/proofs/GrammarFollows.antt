@@ -1,5 +1,5 @@
 -- By cases on the syntax tree, each list cut at one element: which marks a reading can begin with, end with, and have one
--- behind another, of a tree from those of its parts.
+-- after another, of a tree from those of its parts.
 use Rattle.std.proofs.Common.{◌≡◌, ◌≢◌, ◌⊎◌, inl, inr, ℕ, ◌+◌, ◌↔◌, List, [], ◌∷◌, ◌++◌, refl, sym, ap, ◌∙◌, append_assoc, subst}
 use Rattle.std.specs.List.{AllByRecursion}
 use Rattle.std.proofs.lemmas.List.{append-nil}
@@ -189,7 +189,7 @@ at_most_once_last inner from m = ((λ h. to h.0 h.1), (λ h. (h.0, inr h.1)))
     to f (inl e) = absurd (nil_is_no_cut f m [] (sym e))
     to f (inr a) = (f, a)
 
--- ---- one mark behind another
+-- ---- one mark after another
 pub name_pair : (phase from : ℕ) (x y : Mark) → IsPair (Name phase) from x y → ⊥
 name_pair phase from x y h = go h.0 h.2
   where
@@ -197,7 +197,7 @@ name_pair phase from x y h = go h.0 h.2
     go [] e = cc
     go (z ∷ front) e = nil_is_no_cut front x (y ∷ h.1) (cc)
 
--- one mark behind another in parts that are joined: both in one part, or at the end of one and the beginning of another
+-- one mark after another in parts that are joined: both in one part, or at the end of one and the beginning of another
 parts_pair : (inner : Grammar) (from : ℕ) (x y : Mark) (f r : List Mark) (parts : List (List Mark))
     → f ++ x ∷ y ∷ r ≡ joined parts → AllByRecursion (Reads inner from) parts
     → IsPair inner from x y ⊎ (IsLast inner from x × IsFirst inner from y)

@@ -1,9 +1,9 @@
--- What was read spells the levels that stand open, token by token: the items of a level one behind another, behind the
--- sequences before the last `|`, behind the levels around them.
+-- What was read spells the levels that stand open, token by token: the items of a level one after another, after the
+-- sequences before the last `|`, after the levels around them.
 use Rattle.std.proofs.Common.{◌≡◌, ◌≢◌, ℕ, List, [], ◌∷◌, ◌++◌, refl, sym, ap, ◌∙◌, append_assoc, subst}
 use Rattle.lexicon_definitions.specs.Grammars.{Grammar, Sequence, Either}
 use Rattle.lexicon_definitions.specs.GrammarTexts.{Token, Open, Close, Bar, Level, empty_level, sequence_tree, expression_tree, level_tree, with_item, with_newest, change_newest, after_close}
-use Rattle.lexicon_definitions.specs.GrammarSyntax.{IsExpression, IsSequence, IsItem, one_sequence, either, one_item, item_behind, bracketed}
+use Rattle.lexicon_definitions.specs.GrammarSyntax.{IsExpression, IsSequence, IsItem, one_sequence, either, one_item, item_after, bracketed}
 
 module _ (names : List (List ℕ)) where
   -- these tokens spell the items, the newest last
@@ -38,7 +38,7 @@ module _ (names : List (List ℕ)) where
       subst (λ ts. IsSequence names item ts) (sym (h.2 ∙ ap (λ front. front ++ h.1) h.3)) (one_item h.4)
   items_sequence (item ∷ before ∷ items) tokens some h =
       subst (λ ts. IsSequence names (Sequence (sequence_tree (before ∷ items)) item) ts) (sym h.2)
-      (item_behind (items_sequence (before ∷ items) h.0 (λ e. cc) h.3) h.4)
+      (item_after (items_sequence (before ∷ items) h.0 (λ e. cc) h.3) h.4)
 
   pub level_expression : (level : Level) (tokens : List Token) → level.items ≢ [] → LevelSpells level tokens
       → IsExpression names (level_tree level) tokens

@@ -23,7 +23,7 @@ in_tail x xs y h = (suc h.0, omega (arith, h.1), h.2)
 pub in_nil : (y : ℕ) → Contains [] y → ⊥
 in_nil y h = omega (arith, h.1)
 
--- the head of a rising list is below what stands behind it
+-- the head of a rising list is below what stands after it
 head_below : (x : ℕ) (xs : List ℕ) (y : ℕ) → IsStrictlySortedBy nat_cmp (x ∷ xs) → Contains xs y → x < y
 head_below x xs y s h =
     let below = below_from_sorted (x ∷ xs) 0 (suc h.0) y s (omega arith) (omega (arith, h.1)) in

@@ -1,12 +1,12 @@
 -- Tokens that spell an expression stand where tokens may stand: by recursion on how they are spelled, before any tokens that
--- come behind them.
+-- come after them.
 use Rattle.std.proofs.Common.{◌≡◌, ℕ, ◌+◌, ◌-◌, Bool, true, false, nat_lt, List, [], ◌∷◌, ◌++◌, refl, sym, ap, ◌∙◌, append_assoc, arith}
 use Rattle.std.specs.Prelude.{◌&&◌, ◌||◌, not}
 use Rattle.std.proofs.lemmas.Bool.{lt-ltb}
 use Rattle.std.proofs.lemmas.List.{append-nil}
 use Rattle.lexicon_definitions.specs.Grammars.{Grammar}
 use Rattle.lexicon_definitions.specs.GrammarTexts.{Token, Word, Open, Close, Bar, Star, Plus, Question, Other}
-use Rattle.lexicon_definitions.specs.GrammarSyntax.{IsExpression, IsSequence, IsItem, one_sequence, either, one_item, item_behind, name, bracketed, any_times, once_or_more, at_most_once}
+use Rattle.lexicon_definitions.specs.GrammarSyntax.{IsExpression, IsSequence, IsItem, one_sequence, either, one_item, item_after, name, bracketed, any_times, once_or_more, at_most_once}
 
 -- the tokens may stand where so many brackets are open and an item is needed or is not, and nothing is missing at their end
 abbrev pub tokens_stand : ℕ → Bool → List Token → Bool
@@ -21,7 +21,7 @@ tokens_stand open_brackets needs_item (Plus ∷ tokens) = not needs_item && toke
 tokens_stand open_brackets needs_item (Question ∷ tokens) = not needs_item && tokens_stand open_brackets false tokens
 tokens_stand open_brackets needs_item (Other byte ∷ tokens) = false
 
--- behind these tokens an item was read, wherever they stand
+-- after these tokens an item was read, wherever they stand
 abbrev StandAsItem : List Token → Type 0
 StandAsItem tokens = (open_brackets : ℕ) (needs_item : Bool) (more : List Token)
     → tokens_stand open_brackets needs_item (tokens ++ more) ≡ tokens_stand open_brackets false more
@@ -44,7 +44,7 @@ mutual
 
   sequence_stands : (names : List (List ℕ)) {tree : Grammar} {tokens : List Token} → IsSequence names tree tokens → StandAsItem tokens
   sequence_stands names (one_item i) = item_stands names i
-  sequence_stands names (item_behind {front = front} {rest = rest} s i) = λ open_brackets needs_item more.
+  sequence_stands names (item_after {front = front} {rest = rest} s i) = λ open_brackets needs_item more.
       ap (tokens_stand open_brackets needs_item) (append_assoc front rest more)
       ∙ (sequence_stands names s open_brackets needs_item (rest ++ more)
       ∙ item_stands names i open_brackets false more)

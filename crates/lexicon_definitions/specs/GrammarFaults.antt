@@ -40,7 +40,7 @@ after_symbol walk byte =
     else if byte == 41 then record { open_brackets = walk.open_brackets - 1; needs_item = false; name_length = 0 }
     else record { open_brackets = walk.open_brackets; needs_item = byte == 124; name_length = 0 }
 
--- what is known behind a byte that may stand: an item is needed after `(` and `|`, and was read after a name, `)`, `*`,
+-- what is known after a byte that may stand: an item is needed after `(` and `|`, and was read after a name, `)`, `*`,
 -- `+` and `?`; a blank leaves that as it is
 abbrev pub after_byte : Walk → ℕ → Walk
 after_byte walk byte =

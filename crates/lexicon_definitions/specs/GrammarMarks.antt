@@ -1,4 +1,4 @@
--- Which names of a grammar can begin a word, end one and stand right behind one another (own, after the position automata
+-- Which names of a grammar can begin a word, end one and stand right after one another (own, after the position automata
 -- of regular languages).
 use Rattle.std.proofs.Common.{◌≡◌, ℕ, zero, suc, List, [], ◌∷◌, ◌++◌}
 use Rattle.lexicon_definitions.specs.Grammars.{Grammar, Mark, Reads, IsPlaceAfter}
@@ -11,7 +11,7 @@ IsFirst g from mark = (rest : List Mark) × Reads g from (mark ∷ rest)
 abbrev pub IsLast : Grammar → ℕ → Mark → Type 0
 IsLast g from mark = (front : List Mark) × Reads g from (front ++ mark ∷ [])
 
--- some reading has the second mark right behind the first
+-- some reading has the second mark right after the first
 abbrev pub IsPair : Grammar → ℕ → Mark → Mark → Type 0
 IsPair g from first second = (front : List Mark) × (rest : List Mark) × Reads g from (front ++ first ∷ second ∷ rest)
 

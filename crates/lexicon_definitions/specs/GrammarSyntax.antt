@@ -1,5 +1,5 @@
--- How a tree of a phase grammar is written: an expression is sequences with `|` between, a sequence is items one behind
--- another, and an item is a name or an expression in brackets, with signs of repetition behind it (own).
+-- How a tree of a phase grammar is written: an expression is sequences with `|` between, a sequence is items one after
+-- another, and an item is a name or an expression in brackets, with signs of repetition after it (own).
 use Rattle.std.specs.Prelude.{ℕ, List, [], ◌∷◌, ◌++◌}
 use Rattle.lexicon_definitions.specs.Grammars.{Grammar, Name, Sequence, Either, AnyTimes, OnceOrMore, AtMostOnce}
 use Rattle.lexicon_definitions.specs.GrammarTexts.{Token, Word, Open, Close, Bar, Star, Plus, Question, phase_named}
@@ -14,7 +14,7 @@ mutual
   -- the tokens spell the tree as a sequence
   pub data IsSequence (names : List (List ℕ)) : Grammar → List Token → Type 0 where
     one_item : {tree : Grammar} {tokens : List Token} → IsItem names tree tokens → IsSequence names tree tokens
-    item_behind : {first second : Grammar} {front rest : List Token} → IsSequence names first front → IsItem names second rest
+    item_after : {first second : Grammar} {front rest : List Token} → IsSequence names first front → IsItem names second rest
         → IsSequence names (Sequence first second) (front ++ rest)
 
   -- the tokens spell the tree as an item

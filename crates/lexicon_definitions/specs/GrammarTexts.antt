@@ -92,7 +92,7 @@ with_newest change (item ∷ items) = change item ∷ items
 abbrev pub change_newest : (Grammar → Grammar) → Level → Level
 change_newest change level = record { sequences = level.sequences; items = with_newest change level.items }
 
--- the level behind a closed bracket
+-- the level after a closed bracket
 abbrev pub after_close : Level → List Level → List Level
 after_close level [] = level ∷ []
 after_close level (outer ∷ levels) = with_item (level_tree level) outer ∷ levels

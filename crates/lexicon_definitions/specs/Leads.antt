@@ -1,4 +1,4 @@
--- What an inner rule says of the form behind it (own).
+-- What an inner rule says of the form after it (own).
 use Rattle.std.specs.Prelude.{◌≡◌, ℕ, ◌<◌, ◌≤◌, ◌↔◌, List, length, Contains}
 use Rattle.std.specs.declared.cmp.Ordering.{Ordering}
 use Rattle.std.specs.Ordering.{nat_cmp, ordering_then}
@@ -7,7 +7,7 @@ use Rattle.text_definitions.specs.Words.{compare_words}
 use Rattle.lexicon_definitions.specs.Rules.{IsInner}
 use Rattle.lexicon_definitions.specs.Lexicons.{RuleSet, rule_of}
 
--- the letters that begin the form behind the rule, and the set of the phases that it may have
+-- the letters that begin the form after the rule, and the set of the phases that it may have
 pub record Lead : Type 0 where
   pub v : List ℕ
   pub after : ℕ

@@ -9,3 +9,4 @@ pub mod GrammarFaults
 pub mod GrammarMarks
 pub mod Leads
 pub mod GrammarSyntax
+pub mod Limits

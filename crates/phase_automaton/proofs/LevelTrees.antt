@@ -31,14 +31,14 @@ pub link_within : (old new : List Place) (piece : Piece) (tree : Grammar) (from 
     → IsLinked old new piece.last to → ChangesWithin old new from (from + count_names tree)
 link_within old new piece tree from to h linked = record {
   before = λ k below. linked.others k (λ x. let w = ends_within tree from k ((h.last k).0 x) in omega (arith, w.0));
-  behind = λ k above. linked.others k (λ x. let w = ends_within tree from k ((h.last k).0 x) in omega (arith, w.1));
+  following = λ k above. linked.others k (λ x. let w = ends_within tree from k ((h.last k).0 x) in omega (arith, w.1));
 }
 
 pub no_change : (places : List Place) (from until : ℕ) → ChangesWithin places places from until
-no_change places from until = record { before = λ k h. refl; behind = λ k h. refl }
+no_change places from until = record { before = λ k h. refl; following = λ k h. refl }
 
 wider : (old new : List Place) (a b c d : ℕ) → a ≤ b → c ≤ d → ChangesWithin old new b c → ChangesWithin old new a d
-wider old new a b c d h k w = record { before = λ i l. w.before i (omega arith); behind = λ i l. w.behind i (omega arith) }
+wider old new a b c d h k w = record { before = λ i l. w.before i (omega arith); following = λ i l. w.following i (omega arith) }
 
 -- ---- two parts that are joined
 pub joined_both : (old new : List Place) (sequence item result : Piece) → IsLinked old new sequence.last item.first
@@ -159,7 +159,7 @@ module _ (old new : List Place) (level : Level) (joined : Option Piece) (j : Are
     item = (
       refl,
       keep_piece old new item tree until (omega (arith, j.count))
-          (λ k x y. (j.within open_level.items h.middle h.newest until h.sequence h.item).behind k x) p,
+          (λ k x y. (j.within open_level.items h.middle h.newest until h.sequence h.item).following k x) p,
     );
   }
 

@@ -63,7 +63,7 @@ module _ (all old new : List Place) (before after : Reader) (open_level changed 
               keep_levels old new (reverse before.outer.items) levels from (omega (arith, keeps.count)) (λ k below. w.before k below) h.stack.2,
             ));
         opening = w.before 0 above ∙ h.opening;
-        fresh = λ k past. w.behind k (omega (arith, met, past)) ∙ h.fresh k (omega (arith, met, past));
+        fresh = λ k past. w.following k (omega (arith, met, past)) ∙ h.fresh k (omega (arith, met, past));
       }
 
 -- one name more
@@ -93,7 +93,7 @@ name_step all old new before after item open_level levels within none piece keep
             keep_levels old new (reverse before.outer.items) levels from (omega (arith, keeps.count)) (λ k below. w.before k below) h.stack.2,
           ));
       opening = w.before 0 above ∙ h.opening;
-      fresh = λ k past. w.behind k (omega (arith, met, past)) ∙ h.fresh k (omega (arith, met, past));
+      fresh = λ k past. w.following k (omega (arith, met, past)) ∙ h.fresh k (omega (arith, met, past));
     }
 
 reverse_push : {A : Type 0} (xs : List A) (x : A) → reverse (xs ++ x ∷ []) ≡ x ∷ reverse xs
@@ -149,7 +149,7 @@ close_step all old middle new before after outer item open_level open_outer leve
                 (λ k below. v.before k below ∙ w.before k (omega arith)) stack.2.2,
           );
       opening = v.before 0 above ∙ (w.before 0 (omega arith) ∙ h.opening);
-      fresh = λ k past. v.behind k (omega (arith, met, past)) ∙ (w.behind k (omega (arith, met, past)) ∙ h.fresh k (omega (arith, met, past)));
+      fresh = λ k past. v.following k (omega (arith, met, past)) ∙ (w.following k (omega (arith, met, past)) ∙ h.fresh k (omega (arith, met, past)));
     }
 
 pub new_reader : (all : List Place) (reader : Reader) → reader.met ≡ 1 → reader.outer.items ≡ []
@@ -203,6 +203,6 @@ whole_step all old new reader result level h keeps finished =
         let w = keeps.within level from reader.met l in (
           subst (λ n. IsPiece new piece (level_tree level) n) rest part.1,
           keeps.count ∙ h.count,
-          λ k past. w.behind k (omega (arith, part.0, rest, past)) ∙ h.fresh k (omega (arith, part.0, rest, past)),
+          λ k past. w.following k (omega (arith, part.0, rest, past)) ∙ h.fresh k (omega (arith, part.0, rest, past)),
         )
     go (Some piece) (code ∷ codes) from l rest part = absurd rest

@@ -99,7 +99,7 @@ letter_begins walk byte n named m =
 first_is : (byte : ℕ) (text : List ℕ) → is_name_byte byte ≡ true → first_name (byte ∷ text) ≡ byte ∷ first_name text
 first_is byte text n = cond_true (is_name_byte byte) (byte ∷ first_name text) [] n
 
--- the walk behind a byte of a name
+-- the walk after a byte of a name
 abbrev name_more : Walk → Walk
 name_more walk = record { open_brackets = walk.open_brackets; needs_item = false; name_length = walk.name_length + 1 }
 
@@ -178,7 +178,7 @@ record Stands (in_name : Bool) (walk : Walk) (at : ℕ) (text : List ℕ) : Type
   name_is_item : in_name ≡ true → walk.needs_item ≡ false
   names : NamesStand in_name walk at text
 
--- a byte that may stand, and what is known behind it
+-- a byte that may stand, and what is known after it
 abbrev Goes : Bool → Walk → ℕ → ℕ → List ℕ → Type 0
 Goes in_name walk at byte text = (may_stand walk byte ≡ true) × Stands in_name (after_byte walk byte) (at + 1) text
 

@@ -47,7 +47,7 @@ pub record IsLevel (places : List Place) (level : Level) (open_level : OpenLevel
 -- the places outside of these are the same
 pub record ChangesWithin (old new : List Place) (from until : ℕ) : Type 0 where
   pub before : (k : ℕ) → k < from → place_at new k ≡ place_at old k
-  pub behind : (k : ℕ) → until ≤ k → place_at new k ≡ place_at old k
+  pub following : (k : ℕ) → until ≤ k → place_at new k ≡ place_at old k
 
 -- no place changes but those of the level
 pub record KeepsOthers (old new : List Place) (level : Level) : Type 0 where

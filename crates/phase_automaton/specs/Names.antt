@@ -17,6 +17,6 @@ opening_place = record { phase = 0; follow = record { bits = 0 } }
 abbrev pub place_of_name : List (List ℕ) → PlacedName → Place
 place_of_name names name = record { phase = phase_named names name.bytes; follow = record { bits = 0 } }
 
--- the places of a text's names, behind the place before them
+-- the places of a text's names, after the place before them
 abbrev pub places_of : List (List ℕ) → List ℕ → List Place
 places_of names text = opening_place ∷ map (place_of_name names) (names_from 0 text)

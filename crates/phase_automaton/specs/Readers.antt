@@ -47,7 +47,7 @@ pub record IsNet (places : List Place) (ends : PlaceSet) (grammar : Grammar) : T
   pub final : (place : ℕ) → HasPlace ends place ↔ IsFinal grammar place
   pub within : (before place : ℕ) → Follows places before place → place < length places
 
--- the piece stands for the whole tree, whose names begin at place 1, and nothing follows place 0 or one behind the tree
+-- the piece stands for the whole tree, whose names begin at place 1, and nothing follows place 0 or one after the tree
 abbrev pub IsWhole : List Place → List Place → Option Piece → Grammar → Type 0
 IsWhole all places None grammar = ⊥
 IsWhole all places (Some piece) grammar =

@@ -48,7 +48,7 @@ StandsFor sets None Has = (place : ℕ) → Has place → ⊥
 StandsFor sets (Some number) Has =
     (number < length sets) × ((place : ℕ) → HasPlace (set_at sets number) place ↔ Has place)
 
--- the sets are these, and perhaps more behind them
+-- the sets are these, and perhaps more after them
 pub record Extends (old new : List PlaceSet) : Type 0 where
   pub longer : length old ≤ length new
   pub same : (i : ℕ) → i < length old → set_at new i ≡ set_at old i

@@ -51,7 +51,7 @@ impl Level {
         }
     }
 
-    /// This level behind a `|`.
+    /// This level after a `|`.
     pub(crate) fn with_bar(self, places: &mut [Place]) -> Level
         requires { length places.old ≤ 64 }
         ensures others { KeepsOthers places.old places.new self }
@@ -100,7 +100,7 @@ impl Level {
     }
 }
 
-/// The one piece, and the other behind it, as far as they are there.
+/// The one piece, and the other after it, as far as they are there.
 fn joined(sequence: Option<Piece>, item: Option<Piece>, places: &mut [Place]) -> Option<Piece>
     requires { length places.old ≤ 64 }
     ensures { AreJoined places.old places.new sequence item result }

@@ -36,7 +36,7 @@ fn phase_of(names: &[String], name: &[u8]) -> Option<u32>
     None
 }
 
-/// The places of a text's names, behind place 0, each with its phase and with nothing that follows yet. Refuses the first
+/// The places of a text's names, after place 0, each with its phase and with nothing that follows yet. Refuses the first
 /// name that is that of no phase.
 pub(crate) fn read_places(
     alloc: Global,

@@ -31,7 +31,7 @@ impl Piece {
         }
     }
 
-    /// This piece, and the next one behind it.
+    /// This piece, and the next one after it.
     pub(crate) fn then(self, next: Piece, places: &mut [Place]) -> Piece
         requires { length places.old ≤ 64 }
         ensures linked { IsLinked places.old places.new self.last next.first }

@@ -1,6 +1,6 @@
 ghost use Rattle.std.specs.Prelude.{◌≡◌, ◌+◌, ◌^◌, ◌<◌, ◌≤◌, length};
 ghost use Rattle.lexicon_definitions.specs.GrammarTexts.{is_name_byte as is_name_byte_of};
-ghost use Rattle.lexicon_definitions.specs.GrammarFaults.{may_follow_item as follows_item, may_stand as stands, after_symbol as behind_symbol, after_byte as behind_byte, syntax_fault as syntax_fault_of};
+ghost use Rattle.lexicon_definitions.specs.GrammarFaults.{may_follow_item as follows_item, may_stand as stands, after_symbol as following_symbol, after_byte as following_byte, syntax_fault as syntax_fault_of};
 ghost use Rattle.phase_automaton.specs.Walks.{walk_of};
 
 /// Whether a byte can stand in a name: a small letter, a digit or `_`.
@@ -43,7 +43,7 @@ impl Walk {
 
     fn after_symbol(self, byte: u8) -> Walk
         requires { self.open_brackets + 1 < 2 ^ 32 }
-        ensures { walk_of result ≡ behind_symbol (walk_of self) byte }
+        ensures { walk_of result ≡ following_symbol (walk_of self) byte }
     {
         Walk {
             open_brackets: match byte {
@@ -59,7 +59,7 @@ impl Walk {
     fn after(self, byte: u8) -> Walk
         requires brackets { self.open_brackets + 1 < 2 ^ 32 }
         requires name { self.name_length + 1 < 2 ^ 32 }
-        ensures { walk_of result ≡ behind_byte (walk_of self) byte }
+        ensures { walk_of result ≡ following_byte (walk_of self) byte }
     {
         if is_name_byte(byte) {
             Walk {

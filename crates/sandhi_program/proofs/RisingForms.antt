@@ -10,20 +10,20 @@ use Rattle.text_definitions.specs.Words.{compare_words}
 use Rattle.lexicon_definitions.specs.Lexicons.{Lexicon, Form, IsLexicon}
 use Rattle.segmenter.specs.declared.lexicon.Lexicon.{Lexicon as ProgramLexicon}
 use Rattle.segmenter.specs.Forms.{AreCounted, HasRisingLists, HasForms}
-use Rattle.source_definitions.specs.Limits.{IsWithinLimits}
+use Rattle.lexicon_definitions.specs.Limits.{IsWithinLimits}
 
--- words behind a word, one by one
-each_behind : (word : List ℕ) (forms : List Form) → AllByRecursion (λ (form : Form). compare_words word form.letters ≡ Less) forms
+-- words after a word, one by one
+each_after : (word : List ℕ) (forms : List Form) → AllByRecursion (λ (form : Form). compare_words word form.letters ≡ Less) forms
     → AllByRecursion (λ (other : List ℕ). compare_words word other ≡ Less) (map (λ (form : Form). form.letters) forms)
-each_behind word [] h = tt
-each_behind word (form ∷ forms) h = (h.0, each_behind word forms h.1)
+each_after word [] h = tt
+each_after word (form ∷ forms) h = (h.0, each_after word forms h.1)
 
 -- forms that rise by their letters have letters that rise
 letters_rise : (forms : List Form) → IsStrictlySortedBy (on (λ (form : Form). form.letters) compare_words) forms
     → IsStrictlySortedBy compare_words (map (λ (form : Form). form.letters) forms)
 unfolding IsStrictlySortedBy
 letters_rise [] h = tt
-letters_rise (form ∷ forms) h = (each_behind form.letters forms h.0, letters_rise forms h.1)
+letters_rise (form ∷ forms) h = (each_after form.letters forms h.0, letters_rise forms h.1)
 
 -- the letters of the forms of a phase
 abbrev words_of : List Form → List (List ℕ)

@@ -5,9 +5,9 @@ use Rattle.std.specs.Option.{option_map}
 use Rattle.std.proofs.lemmas.List.{take_all}
 use Rattle.outside.specs.Files.{Files, contents_of, first_bytes}
 use Rattle.outside.specs.Told.{bytes_after, GrowsByPrefix}
-use Rattle.source_definitions.specs.ThinTexts.{IsThinTextOf}
-use Rattle.session_definitions.specs.Outcomes as outcomes
-use Rattle.session_definitions.specs.Outcomes.{End, Outcome, IsOutcome, IsSegment, IsPlainText, IsCommand, IsUsage, IsMissing, IsNotBuilt, IsSegmented, Refused, Lacking, Unbuilt, Segmented, output_line}
+use Rattle.thin_text_definitions.specs.ThinTexts.{IsThinTextOf}
+use Rattle.run_definitions.specs.Outcomes as outcomes
+use Rattle.run_definitions.specs.Outcomes.{End, Outcome, IsOutcome, IsSegment, IsPlainText, IsCommand, IsUsage, IsMissing, IsNotBuilt, IsSegmented, Refused, Lacking, Unbuilt, Segmented, output_line}
 use Rattle.sandhi_program.specs.declared.status.Status.{Status}
 use Rattle.sandhi_program.specs.declared.status.Status.TheVariants.{Done, Memory, Usage, ReadFault, WriteFault, NotBuilt}
 use Rattle.sandhi_program.specs.Ends.{Tells, Ran, WritesPrefix, IsOwn, EndsUsage, Finishes}

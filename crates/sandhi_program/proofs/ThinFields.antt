@@ -10,16 +10,16 @@ use Rattle.text_definitions.specs.Words.{IsWord}
 use Rattle.text_definitions.specs.Slp1.{slp1_of_word, word_of_slp1}
 use Rattle.text_definitions.specs.Spellings.{SpellingFault}
 use Rattle.lexicon_definitions.specs.Rules.{Rule}
-use Rattle.source_definitions.specs.ThinLines.{Entry, PlainLine, RuleLine, FormLine, EndLine, IsEntry, IsShortWord, IsThinRule, Tells}
-use Rattle.source_definitions.proofs.Marks.{free_from_All, cut_once, no_cut}
-use Rattle.source_definitions.proofs.SpelledWords.{spelled_from_read, word_from_read, read_from_spelled, length-spelling, free_of_blank, free_of_bar, free_of_sign}
+use Rattle.thin_text_definitions.specs.ThinLines.{Entry, PlainLine, RuleLine, FormLine, EndLine, IsEntry, IsShortWord, IsThinRule, Tells}
+use Rattle.list_laws.proofs.Marks.{free_from_All, cut_once, no_cut}
+use Rattle.text_definitions.proofs.SpelledWords.{spelled_from_read, word_from_read, read_from_spelled, length-spelling, free_of_blank, free_of_bar, free_of_sign}
 use Rattle.latin_schemes.specs.Faults.{IsFaultOf}
 use Rattle.latin_schemes.specs.declared.spell_error.SpellError.{SpellError}
 use Rattle.latin_schemes.specs.declared.spell_error.SpellError.TheVariants.{Fault, Memory}
 use Rattle.sandhi_program.specs.declared.thin_text.error.ThinError.TheVariants.{NotThin}
 use Rattle.sandhi_program.specs.Refusals.{thin_error}
 use Rattle.sandhi_program.specs.ThinReader.{IsSpelling}
-use Rattle.source_definitions.proofs.ThinEntries.{joined, plain_fields, rule_field, form_fields, spelled, line_is}
+use Rattle.thin_text_definitions.proofs.ThinEntries.{joined, plain_fields, rule_field, form_fields, spelled, line_is}
 
 -- the line in the other form
 to_spelled : (line : List ℕ) (entry : Entry) → Tells line entry → line ≡ spelled entry

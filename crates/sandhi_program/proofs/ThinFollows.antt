@@ -10,10 +10,10 @@ use Rattle.std.proofs.lemmas.List.Concat.{flat_map-append}
 use Rattle.text_definitions.specs.Words.{compare_words}
 use Rattle.lexicon_definitions.specs.Rules.{Rule, IsSameTriple}
 use Rattle.lexicon_definitions.specs.Lexicons.{Form, IsPhase, compare_pairs}
-use Rattle.source_definitions.specs.Limits.{count_lines}
-use Rattle.source_definitions.specs.ThinTexts.{IsTextOf}
-use Rattle.source_definitions.specs.ThinLines.{Entry, PlainLine, RuleLine, FormLine, EndLine, Contents, form_of, lexicon_of, entry_of, entries_of, all_entries}
-use Rattle.source_definitions.proofs.ThinShape.{plain_told_by, rule_told_by, form_told_by, plain_is, rules_are, forms_are, without_end, one_phase_has, rules_lawful}
+use Rattle.lexicon_definitions.specs.Limits.{count_lines}
+use Rattle.thin_text_definitions.specs.ThinTexts.{IsTextOf}
+use Rattle.thin_text_definitions.specs.ThinLines.{Entry, PlainLine, RuleLine, FormLine, EndLine, Contents, form_of, lexicon_of, entry_of, entries_of, all_entries}
+use Rattle.thin_text_definitions.proofs.ThinShape.{plain_told_by, rule_told_by, form_told_by, plain_is, rules_are, forms_are, without_end, one_phase_has, rules_lawful}
 use Rattle.sandhi_program.specs.ThinReader.{AreDistinct, leads_of, MayFollow, MayFollowPlain, MayFollowRule, MayFollowForm}
 use Rattle.sandhi_program.specs.declared.thin_text.contents.Contents.{Contents as ReadContents}
 use Rattle.sandhi_program.proofs.ThinOrders.{sorted_front}
@@ -30,22 +30,22 @@ so_far front ended = entries_of front ++ end_if ended
 
 -- ---- kinds rise
 
--- the kind of a line, and the least kind of one behind it
+-- the kind of a line, and the least kind of one after it
 abbrev pub kind_of : Entry → ℕ
 kind_of (PlainLine pair) = 0
 kind_of (RuleLine rule) = 1
 kind_of (FormLine letters stem) = 2
 kind_of EndLine = 3
 
-abbrev pub kind_behind : Entry → ℕ
-kind_behind (PlainLine pair) = 0
-kind_behind (RuleLine rule) = 1
-kind_behind (FormLine letters stem) = 2
-kind_behind EndLine = 4
+abbrev pub kind_after : Entry → ℕ
+kind_after (PlainLine pair) = 0
+kind_after (RuleLine rule) = 1
+kind_after (FormLine letters stem) = 2
+kind_after EndLine = 4
 
 abbrev pub Rises : ℕ → List Entry → Type 0
 Rises low [] = Unit {0}
-Rises low (entry ∷ entries) = (low ≤ kind_of entry) × Rises (kind_behind entry) entries
+Rises low (entry ∷ entries) = (low ≤ kind_of entry) × Rises (kind_after entry) entries
 
 forms_rise : (low : ℕ) (forms : List (List ℕ × List ℕ)) → low ≤ 2 → Rises low (map entry_of forms ++ EndLine ∷ [])
 forms_rise low [] h = (omega arith, tt)
@@ -72,7 +72,7 @@ all_rise contents =
     (plain_rises contents.plain _ (rules_rise 0 contents.rules (map entry_of contents.forms ++ EndLine ∷ []) (omega arith)
     (λ k h. forms_rise k contents.forms (omega arith))))
 
-kind_grows : (entry : Entry) → kind_of entry ≤ kind_behind entry
+kind_grows : (entry : Entry) → kind_of entry ≤ kind_after entry
 kind_grows (PlainLine pair) = omega arith
 kind_grows (RuleLine rule) = omega arith
 kind_grows (FormLine letters stem) = omega arith
@@ -80,14 +80,14 @@ kind_grows EndLine = omega arith
 
 rises_to : (low : ℕ) (front : List Entry) (entry : Entry) (more : List Entry) → Rises low (front ++ entry ∷ more) → low ≤ kind_of entry
 rises_to low [] entry more h = h.0
-rises_to low (first ∷ front) entry more h = omega (arith, kind_grows first, h.0, rises_to (kind_behind first) front entry more h.1)
+rises_to low (first ∷ front) entry more h = omega (arith, kind_grows first, h.0, rises_to (kind_after first) front entry more h.1)
 
 -- nothing in front is of a later kind
 earlier_kinds : (low : ℕ) (front : List Entry) (entry : Entry) (more : List Entry) → Rises low (front ++ entry ∷ more)
-    → AllByRecursion (λ first. kind_behind first ≤ kind_of entry) front
+    → AllByRecursion (λ first. kind_after first ≤ kind_of entry) front
 earlier_kinds low [] entry more h = tt
 earlier_kinds low (first ∷ front) entry more h =
-    (rises_to (kind_behind first) front entry more h.1, earlier_kinds (kind_behind first) front entry more h.1)
+    (rises_to (kind_after first) front entry more h.1, earlier_kinds (kind_after first) front entry more h.1)
 
 all_left : {X : Type 0} (P : X → Type 0) (xs ys : List X) → AllByRecursion P (xs ++ ys) → AllByRecursion P xs
 all_left P [] ys h = tt
@@ -97,42 +97,42 @@ all_right : {X : Type 0} (P : X → Type 0) (xs ys : List X) → AllByRecursion 
 all_right P [] ys h = h
 all_right P (x ∷ xs) ys h = all_right P xs ys h.1
 
-no_rules : (rules : List Rule) (kind : ℕ) → kind < 1 → AllByRecursion (λ first. kind_behind first ≤ kind) (map (λ rule. RuleLine rule) rules) → rules ≡ []
+no_rules : (rules : List Rule) (kind : ℕ) → kind < 1 → AllByRecursion (λ first. kind_after first ≤ kind) (map (λ rule. RuleLine rule) rules) → rules ≡ []
 no_rules [] kind low h = refl
 no_rules (rule ∷ rules) kind low h = absurd (omega (arith, h.0))
 
-no_forms : (forms : List (List ℕ × List ℕ)) (kind : ℕ) → kind < 2 → AllByRecursion (λ first. kind_behind first ≤ kind) (map entry_of forms) → forms ≡ []
+no_forms : (forms : List (List ℕ × List ℕ)) (kind : ℕ) → kind < 2 → AllByRecursion (λ first. kind_after first ≤ kind) (map entry_of forms) → forms ≡ []
 no_forms [] kind low h = refl
 no_forms (form ∷ forms) kind low h = absurd (omega (arith, h.0))
 
-no_end : (ended : Bool) (kind : ℕ) → kind < 4 → AllByRecursion (λ first. kind_behind first ≤ kind) (end_if ended) → ended ≡ false
+no_end : (ended : Bool) (kind : ℕ) → kind < 4 → AllByRecursion (λ first. kind_after first ≤ kind) (end_if ended) → ended ≡ false
 no_end true kind low h = absurd (omega (arith, h.0))
 no_end false kind low h = refl
 
 module _ (full front : Contents) (ended : Bool) (entry : Entry) (more : List Entry) (e : all_entries full ≡ so_far front ended ++ entry ∷ more) where
-  earlier : AllByRecursion (λ first. kind_behind first ≤ kind_of entry) (so_far front ended)
+  earlier : AllByRecursion (λ first. kind_after first ≤ kind_of entry) (so_far front ended)
   earlier = earlier_kinds 0 (so_far front ended) entry more (subst (Rises 0) e (all_rise full))
 
-  earlier_entries : AllByRecursion (λ first. kind_behind first ≤ kind_of entry) (entries_of front)
-  earlier_entries = all_left (λ first. kind_behind first ≤ kind_of entry) (entries_of front) (end_if ended) earlier
+  earlier_entries : AllByRecursion (λ first. kind_after first ≤ kind_of entry) (entries_of front)
+  earlier_entries = all_left (λ first. kind_after first ≤ kind_of entry) (entries_of front) (end_if ended) earlier
 
-  earlier_rules_forms : AllByRecursion (λ first. kind_behind first ≤ kind_of entry) (map (λ rule. RuleLine rule) front.rules ++ map entry_of front.forms)
+  earlier_rules_forms : AllByRecursion (λ first. kind_after first ≤ kind_of entry) (map (λ rule. RuleLine rule) front.rules ++ map entry_of front.forms)
   earlier_rules_forms =
-      all_right (λ first. kind_behind first ≤ kind_of entry) (map (λ pair. PlainLine pair) front.plain)
+      all_right (λ first. kind_after first ≤ kind_of entry) (map (λ pair. PlainLine pair) front.plain)
       (map (λ rule. RuleLine rule) front.rules ++ map entry_of front.forms) earlier_entries
 
   pub rules_before : kind_of entry < 1 → front.rules ≡ []
   rules_before low =
       no_rules front.rules (kind_of entry) low
-      (all_left (λ first. kind_behind first ≤ kind_of entry) (map (λ rule. RuleLine rule) front.rules) (map entry_of front.forms) earlier_rules_forms)
+      (all_left (λ first. kind_after first ≤ kind_of entry) (map (λ rule. RuleLine rule) front.rules) (map entry_of front.forms) earlier_rules_forms)
 
   pub forms_before : kind_of entry < 2 → front.forms ≡ []
   forms_before low =
       no_forms front.forms (kind_of entry) low
-      (all_right (λ first. kind_behind first ≤ kind_of entry) (map (λ rule. RuleLine rule) front.rules) (map entry_of front.forms) earlier_rules_forms)
+      (all_right (λ first. kind_after first ≤ kind_of entry) (map (λ rule. RuleLine rule) front.rules) (map entry_of front.forms) earlier_rules_forms)
 
   pub end_before : kind_of entry < 4 → ended ≡ false
-  end_before low = no_end ended (kind_of entry) low (all_right (λ first. kind_behind first ≤ kind_of entry) (entries_of front) (end_if ended) earlier)
+  end_before low = no_end ended (kind_of entry) low (all_right (λ first. kind_after first ≤ kind_of entry) (entries_of front) (end_if ended) earlier)
 
 -- ---- the front of a lexicon
 

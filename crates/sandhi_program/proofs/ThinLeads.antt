@@ -14,14 +14,14 @@ use Rattle.std.proofs.lemmas.List.{get_or_default}
 use Rattle.std.proofs.lemmas.Map.Keys.{sorted_tail}
 use Rattle.lexicon_definitions.specs.Rules.{Rule, IsInner, no_change}
 use Rattle.lexicon_definitions.specs.Leads.{Lead, compare_leads, IsLeadOf, AreLeads}
-use Rattle.source_definitions.specs.ThinLines.{Contents, rules_of, IsThinRule}
-use Rattle.segmentation_definitions.proofs.Sorted.{Contains-first, Contains-later, Contains-cons_cases, not_Contains-nil, Less-from_later, same_sorted}
+use Rattle.thin_text_definitions.specs.ThinLines.{Contents, rules_of, IsThinRule}
+use Rattle.list_laws.proofs.Sorted.{Contains-first, Contains-later, Contains-cons_cases, not_Contains-nil, Less-from_later, same_sorted}
 use Rattle.sandhi_program.proofs.ThinOrders.{words_total, sorted_nil, sorted_one, same_word}
 use Rattle.sandhi_program.specs.ThinReader.{put, with_word, with_lead, leads_from, leads_of}
 
 -- ---- a loop over the words
 
--- behind a smaller word
+-- after a smaller word
 pub with_word_more : (word : List ℕ) (words : List (List ℕ)) (i : ℕ) → i < length words → compare_words (get_or words i []) word ≡ Less
     → with_word word words ≡ take i words ++ with_word word (drop i words)
     → with_word word words ≡ take (i + 1) words ++ with_word word (drop (i + 1) words)

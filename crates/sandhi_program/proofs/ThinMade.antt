@@ -12,10 +12,10 @@ use Rattle.text_definitions.specs.Letters.{IsLetter}
 use Rattle.lexicon_definitions.specs.Analyses.{Analysis, compare_analyses}
 use Rattle.lexicon_definitions.specs.Rules.{Rule}
 use Rattle.lexicon_definitions.specs.Lexicons.{Form, IsRuleSet, IsAnalysis, IsFormEntry, IsPhase, IsPhaseName, compare_pairs}
-use Rattle.source_definitions.specs.Limits.{IsShortForm, IsWithinLimits}
-use Rattle.source_definitions.specs.ThinTexts.{HasSpelledStems}
-use Rattle.source_definitions.specs.ThinLines.{PlainLine, RuleLine, Contents, form_of, rules_of, lexicon_of, entry_of, entries_of, all_entries, text_telling, indeclinable, IsEntry, IsThinRule}
-use Rattle.source_definitions.proofs.ThinShape.{All-from_map}
+use Rattle.lexicon_definitions.specs.Limits.{IsShortForm, IsWithinLimits}
+use Rattle.thin_text_definitions.specs.ThinTexts.{HasSpelledStems}
+use Rattle.thin_text_definitions.specs.ThinLines.{PlainLine, RuleLine, Contents, form_of, rules_of, lexicon_of, entry_of, entries_of, all_entries, text_telling, indeclinable, IsEntry, IsThinRule}
+use Rattle.thin_text_definitions.proofs.ThinShape.{All-from_map}
 use Rattle.sandhi_program.specs.ThinReader.{IsLawfulSoFar, AreDistinct, IsThinContents, IsReadAs, leads_of}
 use Rattle.sandhi_program.specs.declared.thin_text.contents.Contents.{Contents as ReadContents}
 use Rattle.sandhi_program.proofs.ThinOrders.{sorted_one}

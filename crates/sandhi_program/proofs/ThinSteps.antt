@@ -6,11 +6,11 @@ use Rattle.std.proofs.lemmas.List.{append_assoc, append-nil, map-append}
 use Rattle.std.proofs.lemmas.List.Concat.{flat_map-append}
 use Rattle.std.proofs.lemmas.List.Elements.{recursion_from_All, All-from_recursion, All-push}
 use Rattle.lexicon_definitions.specs.Rules.{Rule}
-use Rattle.source_definitions.specs.ThinTexts.{IsTextOf}
-use Rattle.source_definitions.specs.ThinLines.{Entry, PlainLine, RuleLine, FormLine, EndLine, Contents, lexicon_of, entry_of, entries_of, all_entries, line_of, text_telling, IsEntry, Tells}
-use Rattle.source_definitions.proofs.Marks.{is_free, free_from_All, no_cut}
-use Rattle.source_definitions.proofs.ThinEntries.{begins_telling, next_line, first_line, same_entry}
-use Rattle.source_definitions.proofs.ThinShape.{entries_lawful}
+use Rattle.thin_text_definitions.specs.ThinTexts.{IsTextOf}
+use Rattle.thin_text_definitions.specs.ThinLines.{Entry, PlainLine, RuleLine, FormLine, EndLine, Contents, lexicon_of, entry_of, entries_of, all_entries, line_of, text_telling, IsEntry, Tells}
+use Rattle.list_laws.proofs.Marks.{is_free, free_from_All, no_cut}
+use Rattle.thin_text_definitions.proofs.ThinEntries.{begins_telling, next_line, first_line, same_entry}
+use Rattle.thin_text_definitions.proofs.ThinShape.{entries_lawful}
 use Rattle.sandhi_program.specs.ThinReader.{IsLawfulSoFar, MayFollow, Added}
 use Rattle.sandhi_program.specs.declared.thin_text.contents.Contents.{Contents as ReadContents}
 use Rattle.sandhi_program.proofs.ThinFollows.{so_far, words_of, entry_follows}

@@ -5,11 +5,11 @@ use Rattle.std.specs.declared.string.String.{String}
 use Rattle.std.proofs.lemmas.List.{append_cancel_left}
 use Rattle.std.proofs.lemmas.List.Elements.{All-map, All-from_recursion}
 use Rattle.lexicon_definitions.specs.Lexicons.{Form, IsRuleSet}
-use Rattle.source_definitions.specs.LexiconTexts.{text_of}
-use Rattle.source_definitions.specs.Limits.{file_limit}
-use Rattle.source_definitions.specs.ThinTexts.{IsTextOf, IsThin, IsThinForm, IsThinTextOf, IsThinText}
-use Rattle.source_definitions.specs.ThinLines.{Contents, form_of, rules_of, lexicon_of, all_entries, text_telling, head_text}
-use Rattle.source_definitions.proofs.ThinShape.{thin_shape, text_told}
+use Rattle.lexicon_text_definitions.specs.LexiconTexts.{text_of}
+use Rattle.lexicon_definitions.specs.Limits.{file_limit}
+use Rattle.thin_text_definitions.specs.ThinTexts.{IsTextOf, IsThin, IsThinForm, IsThinTextOf, IsThinText}
+use Rattle.thin_text_definitions.specs.ThinLines.{Contents, form_of, rules_of, lexicon_of, all_entries, text_telling, head_text}
+use Rattle.thin_text_definitions.proofs.ThinShape.{thin_shape, text_told}
 use Rattle.segmenter.specs.Forms.{HasForms, lists_of}
 use Rattle.segmenter.specs.declared.lexicon.Lexicon.{Lexicon as Built}
 use Rattle.sandhi_program.specs.ThinReader.{IsThinContents, IsReadAs, rules_read}
@@ -37,7 +37,7 @@ thin_text_is bytes (lexicon, t) =
     let told = subst (λ l. IsTextOf l bytes) shape.1 t.text in
     (shape.0, subst (IsTextOf (lexicon_of shape.0)) told.text told, told.text ∙ text_told shape.0)
 
--- the text behind its three first lines
+-- the text after its three first lines
 pub body_is : (bytes text : List ℕ) → bytes ≡ head_text ++ text → IsThinText bytes → (full : Contents) × IsThinContents full × (text ≡ text_telling (all_entries full))
 body_is bytes text e t =
     let found = thin_text_is bytes t in

@@ -3,8 +3,8 @@ use Rattle.std.specs.Prelude.{◌≡◌, ℕ, ◌++◌, ◌⊎◌, List, Option,
 use Rattle.outside.specs.Counts.{Rose}
 use Rattle.outside.specs.Files.{Files}
 use Rattle.outside.specs.Told.{bytes_after, GrowsByPrefix}
-use Rattle.session_definitions.specs.Outcomes as outcomes
-use Rattle.session_definitions.specs.Outcomes.{End, Outcome, IsOutcome}
+use Rattle.run_definitions.specs.Outcomes as outcomes
+use Rattle.run_definitions.specs.Outcomes.{End, Outcome, IsOutcome}
 use Rattle.sandhi_program.specs.declared.status.Status.{Status}
 use Rattle.sandhi_program.specs.declared.status.Status.TheVariants.{Done, Memory, Usage, ReadFault, WriteFault, NotBuilt}
 

@@ -3,10 +3,10 @@ use Rattle.std.specs.Prelude.{◌≡◌, ℕ, ◌⊎◌, ◌<◌, List, [], leng
 use Rattle.lexicon_definitions.specs.Lexicons.{Lexicon, RuleSet}
 use Rattle.derivation.specs.Steps.{StandIn}
 use Rattle.derivation.specs.declared.step.Step.{Step as ProgramStep}
-use Rattle.source_definitions.specs.ThinTexts.{IsThinText, IsThinTextOf}
+use Rattle.thin_text_definitions.specs.ThinTexts.{IsThinText, IsThinTextOf}
 use Rattle.segmentation_definitions.specs.Derivations.{Step}
 use Rattle.segmentation_definitions.specs.Listings.{BeforeFirst, IsPage}
-use Rattle.session_definitions.specs.Outcomes.{IsPlainText, line_of, output_line, printed_page}
+use Rattle.run_definitions.specs.Outcomes.{IsPlainText, line_of, output_line, printed_page}
 use Rattle.sandhi_program.specs.declared.status.Status.{Status}
 use Rattle.sandhi_program.specs.declared.status.Status.TheVariants.{Done, Memory, NotBuilt}
 use Rattle.sandhi_program.specs.Ends.{Finishes}

@@ -7,10 +7,10 @@ use Rattle.text_definitions.specs.Words.{IsWord, compare_words}
 use Rattle.text_definitions.specs.Slp1.{slp1_of_word}
 use Rattle.lexicon_definitions.specs.Rules.{Rule, IsSameTriple}
 use Rattle.lexicon_definitions.specs.Lexicons.{RuleSet, compare_pairs}
-use Rattle.source_definitions.specs.LexiconTexts.{text_of}
-use Rattle.source_definitions.specs.ThinTexts.{IsTextOf}
-use Rattle.source_definitions.specs.ThinLines as lines
-use Rattle.source_definitions.specs.ThinLines.{PlainLine, RuleLine, FormLine, EndLine}
+use Rattle.lexicon_text_definitions.specs.LexiconTexts.{text_of}
+use Rattle.thin_text_definitions.specs.ThinTexts.{IsTextOf}
+use Rattle.thin_text_definitions.specs.ThinLines as lines
+use Rattle.thin_text_definitions.specs.ThinLines.{PlainLine, RuleLine, FormLine, EndLine}
 use Rattle.sandhi_program.specs.declared.thin_text.entry.Entry.{Entry}
 use Rattle.sandhi_program.specs.declared.thin_text.entry.Entry.TheVariants as entries
 use Rattle.sandhi_program.specs.declared.thin_text.contents.Contents.{Contents}

@@ -1,5 +1,5 @@
 ghost use Rattle.std.specs.Prelude.{◌≡◌, ◌↔◌, map, string_bytes, IsTrue, IfSome, IfNone};
-ghost use Rattle.session_definitions.specs.Outcomes.{IsArgument, IsSegment, IsCommand};
+ghost use Rattle.run_definitions.specs.Outcomes.{IsArgument, IsSegment, IsCommand};
 
 /// The greatest length of a word, in bytes.
 const WORD_LIMIT: usize = 65536;

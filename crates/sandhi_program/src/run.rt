@@ -1,7 +1,7 @@
 ghost use Rattle.std.specs.Prelude.{◌≡◌, ◌^◌, ◌<◌, ◌⊎◌, ℕ, List, length, map, string_bytes, Some};
 ghost use Rattle.outside.specs.Counts.{Rose};
 ghost use Rattle.outside.specs.Files.{Files, Lacks};
-ghost use Rattle.session_definitions.specs.Outcomes.{IsCommand, IsSegment};
+ghost use Rattle.run_definitions.specs.Outcomes.{IsCommand, IsSegment};
 ghost use Rattle.sandhi_program.specs.Ends.{Ran, WritesPrefix, IsOwn, EndsUsage, Finishes};
 ghost use Rattle.sandhi_program.specs.Segments.{WroteSegment};
 

@@ -1,8 +1,8 @@
 ghost use Rattle.std.specs.Prelude.{◌≡◌, ◌<◌, ◌≤◌, ◌^◌, ◌⊎◌, ◌++◌, ℕ, List, length, map, All, IfOk, OnOk, string_bytes, Err};
 ghost use Rattle.derivation.specs.Steps.{StandIn, steps_of};
-ghost use Rattle.session_definitions.specs.PrintedAnswers.{printed_answer};
-ghost use Rattle.session_definitions.specs.Outcomes.{IsPlainText, line_of as plain_line, output_line, printed_answers, printed_rest, printed_page};
-ghost use Rattle.source_definitions.specs.ThinTexts.{IsThinText};
+ghost use Rattle.segmentation_definitions.specs.PrintedAnswers.{printed_answer};
+ghost use Rattle.run_definitions.specs.Outcomes.{IsPlainText, line_of as plain_line, output_line, printed_answers, printed_rest, printed_page};
+ghost use Rattle.thin_text_definitions.specs.ThinTexts.{IsThinText};
 ghost use Rattle.sandhi_program.specs.Segments.{ArePrintable, IsSegmentOutput};
 
 use super::thin_text::{ThinError, read_thin};

@@ -1,7 +1,7 @@
 ghost use Rattle.std.specs.Prelude.{◌≡◌, ◌≢◌, ℕ, List, [], ◌∷◌, ◌++◌, IfOk, MatchOption, Err};
 ghost use Rattle.lexicon_definitions.specs.Lexicons.{Lexicon as LexiconValue, IsRuleSet};
-ghost use Rattle.source_definitions.specs.ThinTexts.{IsThinText, IsThinTextOf};
-ghost use Rattle.source_definitions.specs.ThinLines.{Contents as ContentsValue, head_text, text_telling, all_entries};
+ghost use Rattle.thin_text_definitions.specs.ThinTexts.{IsThinText, IsThinTextOf};
+ghost use Rattle.thin_text_definitions.specs.ThinLines.{Contents as ContentsValue, head_text, text_telling, all_entries};
 ghost use Rattle.segmenter.specs.Forms.{HasForms, lists_of};
 ghost use Rattle.sandhi_program.specs.ThinReader.{IsReadAs, IsThinContents, rules_read};
 
@@ -32,16 +32,16 @@ fn after_head(text: &[u8]) -> Option<&[u8]>
     after(text, b"slx 1\nphase word\ngrammar word+\n")
 }
 
-/// What the lines behind the first three tell, from a plain pair on to the last line.
+/// What the lines after the first three tell, from a plain pair on to the last line.
 fn read_contents(alloc: Global, text: &[u8]) -> Result<Contents, ThinError>
     ensures ok { IfOk result (λ contents. (full : ContentsValue) × IsReadAs contents full × (text.now ≡ text_telling (all_entries full))) }
     ensures not_thin { result ≡ Err ThinError.NotThin → (full : ContentsValue) → IsThinContents full → text.now ≢ text_telling (all_entries full) }
 {
     let mut contents = Contents::new(alloc);
     let mut rest = text;
-    while let Some((line, behind)) = cut(rest, b'\n') {
+    while let Some((line, following)) = cut(rest, b'\n') {
         contents.add(alloc, entry_of(alloc, line)?)?;
-        rest = behind;
+        rest = following;
     }
     if rest.is_empty() && contents.ended {
         Ok(contents)

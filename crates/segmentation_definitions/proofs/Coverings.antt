@@ -5,7 +5,7 @@ use Rattle.std.proofs.lemmas.List.{get_or_past}
 use Rattle.std.proofs.lemmas.List.Elements.{All-map, All-contains, All-nil}
 use Rattle.lexicon_definitions.specs.Rules.{Rule, IsRule, IsFinal, no_change}
 use Rattle.lexicon_definitions.specs.Lexicons.{Lexicon, RuleSet, Form, rule_of, forms_of, IsForm, IsRuleSet, IsFormEntry, IsLexicon}
-use Rattle.segmentation_definitions.specs.Derivations.{Step, rule_behind, IsRuleNumber, Meets, AreForms, AreJoined, EndsWell, Covers, Derives}
+use Rattle.segmentation_definitions.specs.Derivations.{Step, rule_after, IsRuleNumber, Meets, AreForms, AreJoined, EndsWell, Covers, Derives}
 use Rattle.segmentation_definitions.specs.Items.{Placed, placed, placed_from, taken_by, next_at, covered_from}
 
 pub some_letters : {xs : List ℕ} → xs ≢ [] → 0 < length xs
@@ -60,24 +60,24 @@ phase_within lexicon phase form of_phase = elim (cases_lt phase (length lexicon.
 
 -- ---- one step
 
--- what the first step of a covering takes, and what is behind it
-pub record TakesFirst (rules : RuleSet) (lead : List ℕ) (step : Step) (word behind : List ℕ) : Type 0 where
-  pub parts : length step.form ≡ length lead + taken_by rules lead step + length (rule_behind rules step).u
-  pub rest : length word ≡ taken_by rules lead step + length (rule_behind rules step).w + length behind
+-- what the first step of a covering takes, and what is after it
+pub record TakesFirst (rules : RuleSet) (lead : List ℕ) (step : Step) (word following : List ℕ) : Type 0 where
+  pub parts : length step.form ≡ length lead + taken_by rules lead step + length (rule_after rules step).u
+  pub rest : length word ≡ taken_by rules lead step + length (rule_after rules step).w + length following
 
-pub takes_first : (rules : RuleSet) (lead : List ℕ) (step : Step) (word taken behind : List ℕ)
-    → step.form ≡ lead ++ taken ++ (rule_behind rules step).u
-    → word ≡ taken ++ (rule_behind rules step).w ++ behind → TakesFirst rules lead step word behind
-takes_first rules lead step word taken behind e f =
-    let form = length_of_parts step.form lead taken (rule_behind rules step).u e in
-    let whole = length_of_parts word taken (rule_behind rules step).w behind f in
+pub takes_first : (rules : RuleSet) (lead : List ℕ) (step : Step) (word taken following : List ℕ)
+    → step.form ≡ lead ++ taken ++ (rule_after rules step).u
+    → word ≡ taken ++ (rule_after rules step).w ++ following → TakesFirst rules lead step word following
+takes_first rules lead step word taken following e f =
+    let form = length_of_parts step.form lead taken (rule_after rules step).u e in
+    let whole = length_of_parts word taken (rule_after rules step).w following f in
     record { parts = omega arith; rest = omega arith }
 
 -- the letters that the taken ones are, as many as `taken_by` says
 pub taken_length : (rules : RuleSet) (lead : List ℕ) (step : Step) (taken : List ℕ)
-    → step.form ≡ lead ++ taken ++ (rule_behind rules step).u → taken_by rules lead step ≡ length taken
+    → step.form ≡ lead ++ taken ++ (rule_after rules step).u → taken_by rules lead step ≡ length taken
 taken_length rules lead step taken e =
-    let form = length_of_parts step.form lead taken (rule_behind rules step).u e in omega arith
+    let form = length_of_parts step.form lead taken (rule_after rules step).u e in omega arith
 
 -- what is covered and the rest are together the whole
 pub covered_length : (rules : RuleSet) (start : ℕ) (lead : List ℕ) (steps : List Step) (word rest : List ℕ)
@@ -85,17 +85,17 @@ pub covered_length : (rules : RuleSet) (start : ℕ) (lead : List ℕ) (steps : 
 covered_length rules start lead [] word rest covers = omega (arith, ap length covers)
 covered_length rules start lead (step ∷ steps) word rest covers =
     let first = takes_first rules lead step word covers.0 covers.1 covers.2 covers.3 in
-    omega (arith, covered_length rules (next_at rules start lead step) (rule_behind rules step).v steps covers.1 rest covers.4)
+    omega (arith, covered_length rules (next_at rules start lead step) (rule_after rules step).v steps covers.1 rest covers.4)
 
 -- ---- a step in its place
 
--- the rule behind a step: none, or one of the rules with u and w
-pub data RuleBehind (rules : RuleSet) (step : Step) : Type 0 where
-  Unchanged : step.rule ≡ 0 → IsUnchanged (rule_behind rules step) → RuleBehind rules step
-  Changed : IsRuleNumber rules step.rule → 0 < length (rule_behind rules step).u → 0 < length (rule_behind rules step).w → RuleBehind rules step
+-- the rule after a step: none, or one of the rules with u and w
+pub data RuleAfter (rules : RuleSet) (step : Step) : Type 0 where
+  Unchanged : step.rule ≡ 0 → IsUnchanged (rule_after rules step) → RuleAfter rules step
+  Changed : IsRuleNumber rules step.rule → 0 < length (rule_after rules step).u → 0 < length (rule_after rules step).w → RuleAfter rules step
 
-pub rule_behind_of_number : (rules : RuleSet) (step : Step) → IsRuleSet rules → (step.rule ≡ 0) ⊎ IsRuleNumber rules step.rule → RuleBehind rules step
-rule_behind_of_number rules step set h = elim h [
+pub rule_after_of_number : (rules : RuleSet) (step : Step) → IsRuleSet rules → (step.rule ≡ 0) ⊎ IsRuleNumber rules step.rule → RuleAfter rules step
+rule_after_of_number rules step set h = elim h [
   | inl none ↦ Unchanged none (unchanged_at_zero rules step.rule none)
   | inr number ↦ let strict = (rule_at_number rules step.rule set number).strict in
       Changed number (some_letters strict.0) (some_letters strict.1)
@@ -104,21 +104,21 @@ rule_behind_of_number rules step set h = elim h [
 -- a step of a derivation of a word with this many letters, in its place
 pub record StandsIn (lexicon : Lexicon) (letters : ℕ) (p : Placed) : Type 0 where
   pub phase : p.step.phase < length lexicon.phases
-  pub not_empty : 0 < p.lead + p.taken + length (rule_behind lexicon.rules p.step).u
-  pub within : p.at + p.taken + length (rule_behind lexicon.rules p.step).w ≤ letters
+  pub not_empty : 0 < p.lead + p.taken + length (rule_after lexicon.rules p.step).u
+  pub within : p.at + p.taken + length (rule_after lexicon.rules p.step).w ≤ letters
   pub begun : (p.lead ≡ 0) ⊎ (0 < p.at)
-  pub behind : RuleBehind lexicon.rules p.step
+  pub following : RuleAfter lexicon.rules p.step
 
 -- two neighbours in a derivation
 pub record StandsBefore (rules : RuleSet) (p q : Placed) : Type 0 where
-  pub at : q.at ≡ p.at + p.taken + length (rule_behind rules p.step).w
-  pub lead : q.lead ≡ length (rule_behind rules p.step).v
-  pub rule : (p.step.rule ≡ 0) ⊎ (IsRuleNumber rules p.step.rule × (0 < length (rule_behind rules p.step).v))
+  pub at : q.at ≡ p.at + p.taken + length (rule_after rules p.step).w
+  pub lead : q.lead ≡ length (rule_after rules p.step).v
+  pub rule : (p.step.rule ≡ 0) ⊎ (IsRuleNumber rules p.step.rule × (0 < length (rule_after rules p.step).v))
 
 -- the last step of a derivation
 pub record StandsLast (rules : RuleSet) (letters : ℕ) (p : Placed) : Type 0 where
-  pub all : p.at + p.taken + length (rule_behind rules p.step).w ≡ letters
-  pub rule : (p.step.rule ≡ 0) ⊎ (IsRuleNumber rules p.step.rule × IsFinal (rule_behind rules p.step))
+  pub all : p.at + p.taken + length (rule_after rules p.step).w ≡ letters
+  pub rule : (p.step.rule ≡ 0) ⊎ (IsRuleNumber rules p.step.rule × IsFinal (rule_after rules p.step))
 
 -- the steps of a derivation of a word with this many letters, or the last ones of them, in their places
 pub data AreInPlace (lexicon : Lexicon) (letters : ℕ) : List Placed → Type 0 where
@@ -127,18 +127,18 @@ pub data AreInPlace (lexicon : Lexicon) (letters : ℕ) : List Placed → Type 0
       → AreInPlace lexicon letters (q ∷ ps) → AreInPlace lexicon letters (p ∷ q ∷ ps)
 
 -- how the first of the steps stands in its place, from its equations
-first_stands : (lexicon : Lexicon) (letters start : ℕ) (lead : List ℕ) (step : Step) (word behind : List ℕ) → IsLexicon lexicon
+first_stands : (lexicon : Lexicon) (letters start : ℕ) (lead : List ℕ) (step : Step) (word following : List ℕ) → IsLexicon lexicon
     → IsForm lexicon step.phase step.form → (step.rule ≡ 0) ⊎ IsRuleNumber lexicon.rules step.rule
-    → TakesFirst lexicon.rules lead step word behind → start + length word ≡ letters → (length lead ≡ 0) ⊎ (0 < start)
+    → TakesFirst lexicon.rules lead step word following → start + length word ≡ letters → (length lead ≡ 0) ⊎ (0 < start)
     → StandsIn lexicon letters (record { step = step; at = start; lead = length lead; taken = taken_by lexicon.rules lead step })
-first_stands lexicon letters start lead step word behind is form number first whole begun =
+first_stands lexicon letters start lead step word following is form number first whole begun =
     let some = form_not_empty lexicon step.phase step.form is form in
     record {
       phase = phase_within lexicon step.phase step.form form;
       not_empty = omega (arith, first.parts);
       within = omega (arith, first.rest);
       begun = begun;
-      behind = rule_behind_of_number lexicon.rules step is.rules number;
+      following = rule_after_of_number lexicon.rules step is.rules number;
     }
 
 number_if_met : (rules : RuleSet) (step next : Step) → Meets rules step next → (step.rule ≡ 0) ⊎ IsRuleNumber rules step.rule
@@ -147,10 +147,10 @@ number_if_met rules step next meets = elim meets [ inl plain ↦ inl plain.0 | i
 number_if_last : (rules : RuleSet) (step : Step) → EndsWell rules (step ∷ []) → (step.rule ≡ 0) ⊎ IsRuleNumber rules step.rule
 number_if_last rules step ends = elim ends [ inl none ↦ inl none | inr final ↦ inr final.0 ]
 
-begun_behind : (rules : RuleSet) (step : Step) (start taken : ℕ) → RuleBehind rules step
-    → (length (rule_behind rules step).v ≡ 0) ⊎ (0 < start + taken + length (rule_behind rules step).w)
-begun_behind rules step start taken (Unchanged none empty) = inl empty.v_empty
-begun_behind rules step start taken (Changed number u w) = inr (omega arith)
+begun_after : (rules : RuleSet) (step : Step) (start taken : ℕ) → RuleAfter rules step
+    → (length (rule_after rules step).v ≡ 0) ⊎ (0 < start + taken + length (rule_after rules step).w)
+begun_after rules step start taken (Unchanged none empty) = inl empty.v_empty
+begun_after rules step start taken (Changed number u w) = inr (omega arith)
 
 -- the steps that cover the end of a word stand in their places
 pub in_place_from : (lexicon : Lexicon) (letters start : ℕ) (lead : List ℕ) (steps : List Step) (word : List ℕ) → IsLexicon lexicon
@@ -175,9 +175,9 @@ in_place_from lexicon letters start lead (step ∷ next ∷ steps) word is forms
       lead = refl;
       rule = elim joined.0 [ inl plain ↦ inl plain.0 | inr inner ↦ inr (inner.0.0, some_letters inner.0.1) ];
     })
-    (in_place_from lexicon letters (next_at lexicon.rules start lead step) (rule_behind lexicon.rules step).v (next ∷ steps) covers.1 is
+    (in_place_from lexicon letters (next_at lexicon.rules start lead step) (rule_after lexicon.rules step).v (next ∷ steps) covers.1 is
     forms.1 joined.1 ends covers.4 (omega (arith, first.rest))
-    (begun_behind lexicon.rules step start (taken_by lexicon.rules lead step) (rule_behind_of_number lexicon.rules step is.rules number)))
+    (begun_after lexicon.rules step start (taken_by lexicon.rules lead step) (rule_after_of_number lexicon.rules step is.rules number)))
 
 -- the steps of a derivation stand in their places
 pub in_place : (lexicon : Lexicon) (word : List ℕ) (steps : List Step) → IsLexicon lexicon → Derives lexicon steps word

@@ -11,7 +11,7 @@ use Rattle.std.proofs.lemmas.Cmp.{nat_cmp_total, lists_total, then_total, on_tot
 use Rattle.std.proofs.lemmas.Map.Lookups.{CmpEqualImpliesEq, exact_unsigned}
 use Rattle.std.proofs.lemmas.List.{append_assoc}
 use Rattle.lexicon_definitions.specs.Lexicons.{RuleSet, rule_of}
-use Rattle.segmentation_definitions.specs.Derivations.{Step, rule_behind, Covers}
+use Rattle.segmentation_definitions.specs.Derivations.{Step, rule_after, Covers}
 use Rattle.segmentation_definitions.specs.Items.{taken_by, placed_from}
 use Rattle.segmentation_definitions.specs.Listings.{Key, key_of, keys_of, compare_answers, compare_keys, compare_key_lists}
 use Rattle.segmentation_definitions.proofs.Coverings.{taken_length}
@@ -58,7 +58,7 @@ exact_lists R exact (x ∷ xs) (y ∷ ys) e =
 pub compare_key_lists_exact : CmpEqualImpliesEq compare_key_lists
 compare_key_lists_exact = exact_lists compare_keys compare_keys_exact
 
--- lists of the same length at the front of one list are the same, and so is what is behind them
+-- lists of the same length at the front of one list are the same, and so is what is after them
 same_parts : {A : Type 0} (a b x y : List A) → length a ≡ length b → a ++ x ≡ b ++ y → (a ≡ b) × (x ≡ y)
 same_parts [] [] x y l e = (refl, e)
 same_parts [] (d ∷ b) x y l e = cc
@@ -84,18 +84,18 @@ key_at rules lead step = record { phase = step.phase; taken = taken_by rules lea
 
 -- two first steps over one word with the same lead and the same key are the same, and leave the same rest
 pub same_first_step : (rules : RuleSet) (lead lead' word word' : List ℕ) (x y : Step) (t b u c : List ℕ) → lead ≡ lead' → word ≡ word'
-    → x.form ≡ lead ++ t ++ (rule_behind rules x).u → word ≡ t ++ (rule_behind rules x).w ++ b
-    → y.form ≡ lead' ++ u ++ (rule_behind rules y).u → word' ≡ u ++ (rule_behind rules y).w ++ c
+    → x.form ≡ lead ++ t ++ (rule_after rules x).u → word ≡ t ++ (rule_after rules x).w ++ b
+    → y.form ≡ lead' ++ u ++ (rule_after rules y).u → word' ≡ u ++ (rule_after rules y).w ++ c
     → key_at rules lead x ≡ key_at rules lead' y → (x ≡ y) × (b ≡ c)
 same_first_step rules lead lead' word word' x y t b u c l w fx wx fy wy k =
     let same_count = ap (λ (key : Key). key.taken) k in
     let count : length t ≡ length u = sym (taken_length rules lead x t fx) ∙ same_count ∙ taken_length rules lead' y u fy in
     let number : x.rule ≡ y.rule = ap (λ (key : Key). key.rule) k in
-    let rule : rule_behind rules x ≡ rule_behind rules y = ap (rule_of rules) number in
-    let parts = λ (step : Step) (taken behind : List ℕ). append_assoc taken (rule_behind rules step).w behind in
+    let rule : rule_after rules x ≡ rule_after rules y = ap (rule_of rules) number in
+    let parts = λ (step : Step) (taken following : List ℕ). append_assoc taken (rule_after rules step).w following in
     let same_word = sym (parts x t b) ∙ sym wx ∙ w ∙ wy ∙ parts y u c in
     let outer = same_parts t u _ _ count same_word in
-    let inner = same_parts (rule_behind rules x).w (rule_behind rules y).w b c (ap (λ r. length r.w) rule) outer.1 in
+    let inner = same_parts (rule_after rules x).w (rule_after rules y).w b c (ap (λ r. length r.w) rule) outer.1 in
     let taken : t ≡ u = outer.0 in
     let form : x.form ≡ y.form = cc in
     (same_step x y (ap (λ (key : Key). key.phase) k) form number, inner.1)
@@ -111,6 +111,6 @@ same_steps rules (x ∷ xs) (y ∷ ys) i j lead lead' word word' rest rest' l w 
     let keys = same_cons _ _ _ _ e in
     let first = same_first_step rules lead lead' word word' x y t b u c l w fx wx fy wy keys.0 in
     let here : x ≡ y = first.0 in
-    let leads = ap (λ step. (rule_behind rules step).v) here in
+    let leads = ap (λ step. (rule_after rules step).v) here in
     let later : xs ≡ ys = same_steps rules xs ys _ _ _ _ b c rest rest' leads first.1 p q keys.1 in
     cc

@@ -23,7 +23,7 @@ use Rattle.segmentation_definitions.specs.StepBounds.{key_count, answer_bound}
 use Rattle.segmentation_definitions.proofs.Coverings.{in_place}
 use Rattle.segmentation_definitions.proofs.KeyLists.{compare_keys_exact}
 use Rattle.segmentation_definitions.proofs.RisingPlaces.{IsKeyWithin, keys_within, length_placed, steps_bounded}
-use Rattle.segmentation_definitions.proofs.Sorted.{All-from_Contains}
+use Rattle.list_laws.proofs.Sorted.{All-from_Contains}
 
 -- one comparison after another gives Less where the first does, or the second where the first is Equal
 Less_from_then : (a b : Ordering) → ordering_then a b ≡ Less → (a ≡ Less) ⊎ ((a ≡ Equal) × (b ≡ Less))
@@ -38,7 +38,7 @@ less_from_then x y b e = elim (Less_from_then (nat_cmp x y) b e) [
   | inr (q, l) ↦ inr (ranked x y Equal (sym q), l)
 ]
 
--- a number whose first digit is smaller is smaller, and one whose first digit is the same where what is behind is smaller
+-- a number whose first digit is smaller is smaller, and one whose first digit is the same where what is after is smaller
 smaller_digits : (base a b c d : ℕ) → c < base → (a < b) ⊎ ((a ≡ b) × (c < d)) → a * base + c < b * base + d
 smaller_digits base a b c d within (inl less) =
     let front : suc a * base ≤ b * base = mul-le-mul_right base less in
@@ -91,7 +91,7 @@ module _ (lexicon : Lexicon) (letters : ℕ) where
       let smaller_upper = smaller_digits (letters + 1) x.phase y.phase (letters - x.taken) (letters - y.taken) (omega arith) in
       let parts : (upper x < upper y) ⊎ ((upper x ≡ upper y) × (x.rule < y.rule)) = elim (less_from_then x.phase y.phase _ less) [
         | inl phase ↦ inl (smaller_upper (inl phase))
-        | inr (phase, behind) ↦ elim (less_from_then y.taken x.taken _ behind) [
+        | inr (phase, following) ↦ elim (less_from_then y.taken x.taken _ following) [
           | inl taken ↦ inl (smaller_upper (inr (phase, omega arith)))
           | inr (taken, rule) ↦ inr (let front = ap (λ n. n * (letters + 1)) phase in omega arith, ranked x.rule y.rule Less (sym rule))
         ]

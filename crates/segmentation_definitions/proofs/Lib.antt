@@ -1,4 +1,3 @@
-pub mod Candidates
 pub mod Coverings
 pub mod Fronts
 pub mod ItemOrder
@@ -10,8 +9,3 @@ pub mod LocalBlanks
 pub mod LocalChoices
 pub mod RisingPlaces
 pub mod SameRests
-pub mod WrittenLexicons
-pub mod SmallLexicons
-pub mod SmallAnswers
-pub mod SmallListings
-pub mod Sorted

@@ -1,6 +1,6 @@
 -- A listing is strictly sorted, so its elements determine it. So do those of a page: an answer of one page that another has
--- not comes behind the other, which is full, so both have the same first answer, and by induction the same later ones. What
--- is above a position and behind a page is what is above the page's last answer; so a page and the listing above its last
+-- not comes after the other, which is full, so both have the same first answer, and by induction the same later ones. What
+-- is above a position and after a page is what is above the page's last answer; so a page and the listing above its last
 -- answer are together the listing above its position, and pages that follow one another are together a listing.
 use Rattle.std.proofs.Common.{◌≡◌, ◌≢◌, ℕ, ◌≤◌, ◌⊎◌, ◌↔◌, inl, inr, Bool, true, false, IsTrue, List, [], ◌∷◌, ◌++◌, length, take, drop, refl, sym, subst, arith}
 use Rattle.std.specs.List.{Contains, flat_map}
@@ -14,9 +14,9 @@ use Rattle.lexicon_definitions.specs.Lexicons.{Lexicon, RuleSet}
 use Rattle.segmentation_definitions.specs.Derivations.{Step}
 use Rattle.segmentation_definitions.specs.Items.{Choice}
 use Rattle.segmentation_definitions.specs.Answers.{IsAnswer}
-use Rattle.segmentation_definitions.specs.Listings.{compare_answers, Position, BeforeFirst, AtAnswer, PastLast, IsAbove, IsListingAbove, ComesBehind, IsPage, Page, position_after, ArePages}
+use Rattle.segmentation_definitions.specs.Listings.{compare_answers, Position, BeforeFirst, AtAnswer, PastLast, IsAbove, IsListingAbove, ComesAfter, IsPage, Page, position_after, ArePages}
 use Rattle.segmentation_definitions.proofs.KeyLists.{compare_answers_total}
-use Rattle.segmentation_definitions.proofs.Sorted.{Contains-first, Contains-from_take, Contains-from_drop, Contains-parts, Less-from_later, not_Contains-nil, not_behind, behind_front, sorted_front, sorted_append, same_fronts, same_sorted}
+use Rattle.list_laws.proofs.Sorted.{Contains-first, Contains-from_take, Contains-from_drop, Contains-parts, Less-from_later, not_Contains-nil, not_after, following_front, sorted_front, sorted_append, same_fronts, same_sorted}
 
 -- what is above an answer that is above a position is above the position
 pub IsAbove-trans : (rules : RuleSet) (position : Position) (x y : List Step) → IsAbove rules position x → compare_answers rules x y ≡ Less
@@ -46,22 +46,22 @@ element_from_not (x ∷ xs) n = (x, Contains-first x xs)
 not_from_element : {A : Type 0} (xs : List A) (x : A) → Contains xs x → xs ≢ []
 not_from_element xs x m e = not_Contains-nil x (subst (λ ys. Contains ys x) e m)
 
--- a front behind which there is an element is full
+-- a front after which there is an element is full
 full_front : {A : Type 0} (count : ℕ) (xs : List A) (x : A) → Contains (drop count xs) x → length (take count xs) ≡ count
 full_front count xs x (k, below, at) = omega (arith, length-take count xs, length-drop count xs)
 
--- what is above a position and behind a page at it is above the page's last answer
+-- what is above a position and after a page at it is above the page's last answer
 above_last : (rules : RuleSet) (page : List (List Step)) (position : Position) (steps : List Step) → IsAbove rules position steps
-    → ComesBehind rules page steps → IsAbove rules (position_after position page) steps
+    → ComesAfter rules page steps → IsAbove rules (position_after position page) steps
 above_last rules [] position steps a b = a
 above_last rules (x ∷ page) position steps a b =
     above_last rules page (AtAnswer x) steps (All-head (λ before. compare_answers rules before steps ≡ Less) x page b)
     (All-tail (λ before. compare_answers rules before steps ≡ Less) x page b)
 
--- what is above the last answer of a page is above the page's position and behind the page
+-- what is above the last answer of a page is above the page's position and after the page
 from_above_last : (rules : RuleSet) (page : List (List Step)) (position : Position) (steps : List Step)
     → ((before : List Step) → Contains page before → IsAbove rules position before) → IsStrictlySortedBy (compare_answers rules) page
-    → IsAbove rules (position_after position page) steps → IsAbove rules position steps × ComesBehind rules page steps
+    → IsAbove rules (position_after position page) steps → IsAbove rules position steps × ComesAfter rules page steps
 from_above_last rules [] position steps p s a = (a, All-nil (λ before. compare_answers rules before steps ≡ Less))
 from_above_last rules (x ∷ page) position steps p s a =
     let o = compare_answers_total rules in
@@ -80,12 +80,12 @@ module _ (lexicon : Lexicon) (line : Line) (choices : List Choice) where
       (λ steps m. q.complete steps (p.only_answers steps m) (p.only_above steps m))
       (λ steps m. p.complete steps (q.only_answers steps m) (q.only_above steps m))
 
-  -- an answer of a page is on another page of that size at that position, or comes behind it
-  on_page_or_behind : (position : Position) (count : ℕ) (left right : List (List Step)) (left_more right_more : Bool)
+  -- an answer of a page is on another page of that size at that position, or comes after it
+  on_page_or_after : (position : Position) (count : ℕ) (left right : List (List Step)) (left_more right_more : Bool)
       → IsPage lexicon line choices position count left left_more → IsPage lexicon line choices position count right right_more
       → (steps : List Step) → Contains left steps
-      → Contains right steps ⊎ ((length left ≤ length right) × ComesBehind lexicon.rules right steps)
-  on_page_or_behind position count left right left_more right_more p q steps m =
+      → Contains right steps ⊎ ((length left ≤ length right) × ComesAfter lexicon.rules right steps)
+  on_page_or_after position count left right left_more right_more p q steps m =
       let few = p.at_most in
       elim (q.first steps (p.only_answers steps m) (p.only_above steps m)) [ inl n ↦ inl n | inr (full, b) ↦ inr (omega arith, b) ]
 
@@ -94,16 +94,16 @@ module _ (lexicon : Lexicon) (line : Line) (choices : List Choice) where
       → IsPage lexicon line choices position count left left_more → IsPage lexicon line choices position count right right_more
       → (left ≡ right) × (left_more ≡ right_more)
   same_page position count left right left_more right_more p q =
-      let f = on_page_or_behind position count left right left_more right_more p q in
-      let g = on_page_or_behind position count right left right_more left_more q p in
+      let f = on_page_or_after position count left right left_more right_more p q in
+      let g = on_page_or_after position count right left right_more left_more q p in
       let e = same_fronts (compare_answers_total lexicon.rules) left right p.rising q.rising f g in (
         e,
         same_answers left_more right_more p.left
             (subst (λ page. IsTrue right_more ↔ ((steps : List Step) × IsAnswer lexicon line choices steps
-            × IsAbove lexicon.rules position steps × ComesBehind lexicon.rules page steps)) (sym e) q.left),
+            × IsAbove lexicon.rules position steps × ComesAfter lexicon.rules page steps)) (sym e) q.left),
       )
 
-  -- a page behind which no answer is left is the whole listing above its position
+  -- a page after which no answer is left is the whole listing above its position
   listing_from_last_page : (position : Position) (count : ℕ) (page : List (List Step)) (more : Bool)
       → IsPage lexicon line choices position count page more → more ≡ false → IsListingAbove lexicon line choices position page
   listing_from_last_page position count page more p e =
@@ -122,17 +122,17 @@ module _ (lexicon : Lexicon) (line : Line) (choices : List Choice) where
       → IsPage lexicon line choices position count page more → IsListingAbove lexicon line choices (position_after position page) rest
       → IsListingAbove lexicon line choices position (page ++ rest)
   listing_from_page position count page rest more p r =
-      let behind = λ (steps : List Step) (m : Contains rest steps).
+      let following = λ (steps : List Step) (m : Contains rest steps).
       from_above_last lexicon.rules page position steps p.only_above p.rising (r.only_above steps m) in
       record {
-        rising = sorted_append (compare_answers_total lexicon.rules) page rest p.rising r.rising (λ steps m. (behind steps m).1);
+        rising = sorted_append (compare_answers_total lexicon.rules) page rest p.rising r.rising (λ steps m. (following steps m).1);
         only_answers = λ steps m. elim (Contains-append_cases page rest steps m) [
           | inl n ↦ p.only_answers steps n
           | inr n ↦ r.only_answers steps n
         ];
         only_above = λ steps m. elim (Contains-append_cases page rest steps m) [
           | inl n ↦ p.only_above steps n
-          | inr n ↦ (behind steps n).0
+          | inr n ↦ (following steps n).0
         ];
         complete = λ steps a l. elim (p.first steps a l) [
           | inl n ↦ Contains-append_left page rest steps n
@@ -140,7 +140,7 @@ module _ (lexicon : Lexicon) (line : Line) (choices : List Choice) where
         ];
       }
 
-  -- pages that follow one another from a position, up to one behind which no answer is left, are together the listing above it
+  -- pages that follow one another from a position, up to one after which no answer is left, are together the listing above it
   pub listing_from_pages : (pages : List Page) (position : Position) (last : Page)
       → ArePages lexicon line choices position (pages ++ last ∷ []) → last.more ≡ false
       → IsListingAbove lexicon line choices position (flat_map (λ page. page.answers) (pages ++ last ∷ []))
@@ -151,7 +151,7 @@ module _ (lexicon : Lexicon) (line : Line) (choices : List Choice) where
       listing_from_page position page.count page.answers _ page.more p.0
       (listing_from_pages pages (position_after position page.answers) last p.1 e)
 
-  -- the front of a listing is a page, and more tells whether the listing has anything behind it
+  -- the front of a listing is a page, and more tells whether the listing has anything after it
   page_from_front : (position : Position) (count : ℕ) (answers : List (List Step)) (more : Bool)
       → IsListingAbove lexicon line choices position answers → (IsTrue more ↔ (drop count answers ≢ []))
       → IsPage lexicon line choices position count (take count answers) more
@@ -168,17 +168,17 @@ module _ (lexicon : Lexicon) (line : Line) (choices : List Choice) where
         at_most = omega (arith, length-take count answers);
         first = λ steps a l. elim (Contains-parts count answers steps (p.complete steps a l)) [
           | inl m ↦ inl m
-          | inr m ↦ inr (full_front count answers steps m, behind_front o front rest steps rising m)
+          | inr m ↦ inr (full_front count answers steps m, following_front o front rest steps rising m)
         ];
         left = (
           λ t. let (steps, m) : (steps : List Step) × Contains rest steps = element_from_not rest (e.0 t) in (
             steps,
             p.only_answers steps (Contains-from_drop count answers steps m),
             p.only_above steps (Contains-from_drop count answers steps m),
-            behind_front o front rest steps rising m,
+            following_front o front rest steps rising m,
           ),
           λ (steps, a, l, b). elim (Contains-parts count answers steps (p.complete steps a l)) [
-            | inl m ↦ absurd (not_behind o front steps m b)
+            | inl m ↦ absurd (not_after o front steps m b)
             | inr m ↦ e.1 (not_from_element rest steps m)
           ],
         );

@@ -23,7 +23,7 @@ not_last {lexicon = lexicon} {p = p} {q = q} stands before at_end = elim at_end 
   | inl final ↦ elim before.rule [ inl none ↦ omega (arith, final.0.0) | inr inner ↦ omega (arith, inner.1, ap length final.1) ]
   | inr all ↦
       let none = unchanged_at_zero lexicon.rules p.step.rule all.0 in
-      elim stands.behind [ Unchanged no_rule empty ↦ omega (arith, all.1, none.v_empty, empty.u_empty) | Changed number u w ↦ omega (arith, all.1, none.v_empty) ]
+      elim stands.following [ Unchanged no_rule empty ↦ omega (arith, all.1, none.v_empty, empty.u_empty) | Changed number u w ↦ omega (arith, all.1, none.v_empty) ]
 ]
 
 pub is_last : {rules : RuleSet} {letters : ℕ} {p : Placed} → StandsLast rules letters p → IsLast rules letters p
@@ -63,12 +63,12 @@ contained_item item (p ∷ ps) h = elim h [
 ]
 
 -- the place of an item of the steps is not below the first step's
-item_behind : {lexicon : Lexicon} {letters : ℕ} {p : Placed} {ps : List Placed} (item : Item) → AreInPlace lexicon letters (p ∷ ps)
+item_after : {lexicon : Lexicon} {letters : ℕ} {p : Placed} {ps : List Placed} (item : Item) → AreInPlace lexicon letters (p ∷ ps)
     → IsItemOf item (p ∷ ps) → place_at p ≤ place_of item
-item_behind item (LastStep stands last) h = elim h [ inl here ↦ omega (arith, ap place_of here) | inr later ↦ elim later [ ] ]
-item_behind item (EarlierStep stands before rest) h = elim h [
+item_after item (LastStep stands last) h = elim h [ inl here ↦ omega (arith, ap place_of here) | inr later ↦ elim later [ ] ]
+item_after item (EarlierStep stands before rest) h = elim h [
   | inl here ↦ omega (arith, ap place_of here)
-  | inr later ↦ omega (arith, place_rises stands before, item_behind item rest later)
+  | inr later ↦ omega (arith, place_rises stands before, item_after item rest later)
 ]
 
 -- ---- one kept item
@@ -85,7 +85,7 @@ allows_own rules letters is_first p item own =
     record {
       here = λ same. own;
       between = λ earlier above. absurd (omega arith);
-      behind = λ last. omega arith;
+      following = λ last. omega arith;
       before = λ first. omega arith;
     }
 
@@ -94,20 +94,20 @@ allows_before : (rules : RuleSet) (letters : ℕ) (p : Placed) (item : Item) →
 allows_before rules letters p item below = record {
   here = λ same. absurd (omega arith);
   between = λ earlier above. absurd (omega arith);
-  behind = λ last. omega arith;
+  following = λ last. omega arith;
   before = λ first. absurd (false≢true first);
 }
 
 -- a step that is not the last allows an item from the next one's place on
-allows_behind : {lexicon : Lexicon} {letters : ℕ} {p q : Placed} (is_first : Bool) (item : Item) → StandsIn lexicon letters p → StandsIn lexicon letters q
+allows_after : {lexicon : Lexicon} {letters : ℕ} {p q : Placed} (is_first : Bool) (item : Item) → StandsIn lexicon letters p → StandsIn lexicon letters q
     → StandsBefore lexicon.rules p q → place_at q ≤ place_of item → AllowsKept lexicon.rules letters is_first p item
-allows_behind is_first item stands next before above =
+allows_after is_first item stands next before above =
     let rises = place_rises stands before in
     let same = next_place_is before in
     record {
       here = λ equal. absurd (omega arith);
-      between = λ earlier behind. omega arith;
-      behind = λ last. absurd (not_last next before last);
+      between = λ earlier following. omega arith;
+      following = λ last. absurd (not_last next before last);
       before = λ first. omega arith;
     }
 
@@ -125,14 +125,14 @@ all_allow_item {lexicon = lexicon} {letters = letters} is_first item (LastStep {
 ]
 all_allow_item {lexicon = lexicon} {letters = letters} is_first item (EarlierStep {p = p} stands before rest) h = elim h [
   | inl here ↦ (allows_own lexicon.rules letters is_first p item here, all_allow_before item rest (omega (arith, place_rises stands before, ap place_of here)))
-  | inr later ↦ (allows_behind is_first item stands (stands_first rest) before (item_behind item rest later), all_allow_item false item rest later)
+  | inr later ↦ (allows_after is_first item stands (stands_first rest) before (item_after item rest later), all_allow_item false item rest later)
 ]
 
 item_if_allowed : {lexicon : Lexicon} {letters : ℕ} {p : Placed} {ps : List Placed} (is_first : Bool) (item : Item) → AreInPlace lexicon letters (p ∷ ps)
     → place_at p ≤ place_of item → AllAllowOne lexicon.rules letters true item is_first (p ∷ ps) → IsItemOf item (p ∷ ps)
 item_if_allowed is_first item (LastStep {p = p} stands last) above allow = elim (cases_order (place_of item) (place_at p)) [
   | inl same ↦ inl (allow.0.here same)
-  | inr apart ↦ absurd (omega (arith, apart, allow.0.behind (is_last last)))
+  | inr apart ↦ absurd (omega (arith, apart, allow.0.following (is_last last)))
 ]
 item_if_allowed is_first item (EarlierStep {p = p} stands before rest) above allow = elim (cases_order (place_of item) (place_at p)) [
   | inl same ↦ inl (allow.0.here same)

@@ -1,10 +1,10 @@
--- Places rise: a step behind which no rule stands has a letter of its own or a lead, and a rule's w is not empty; the rest
+-- Places rise: a step after which no rule stands has a letter of its own or a lead, and a rule's w is not empty; the rest
 -- is arithmetic on the facts of `AreInPlace`, by induction over the steps in their places.
 use Rattle.std.proofs.Common.{◌≡◌, ℕ, zero, suc, ◌+◌, ◌*◌, ◌<◌, ◌≤◌, ◌⊎◌, inl, inr, List, [], ◌∷◌, length, map, All, refl, ap, arith, add-one}
 use Rattle.std.specs.List.Sorted.{IsStrictlyIncreasing}
 use Rattle.std.proofs.lemmas.List.Elements.{All-cons, All-nil}
 use Rattle.lexicon_definitions.specs.Lexicons.{Lexicon, RuleSet, IsLexicon}
-use Rattle.segmentation_definitions.specs.Derivations.{Step, rule_behind, Derives}
+use Rattle.segmentation_definitions.specs.Derivations.{Step, rule_after, Derives}
 use Rattle.segmentation_definitions.specs.Items.{Placed, placed_from, next_at, item_of, place_of, after_lead}
 use Rattle.segmentation_definitions.specs.Listings.{Key, key_of}
 use Rattle.segmentation_definitions.specs.LocalTests.{place_at}
@@ -19,12 +19,12 @@ pub place_rises : {lexicon : Lexicon} {letters : ℕ} {p q : Placed} → StandsI
 place_rises {p = p} {q = q} stands before =
     let here = after_lead_cases p.lead in
     let next = after_lead_cases q.lead in
-    elim stands.behind [ Unchanged none empty ↦ omega arith | Changed number u w ↦ omega arith ]
+    elim stands.following [ Unchanged none empty ↦ omega arith | Changed number u w ↦ omega arith ]
 
 pub place_within : {lexicon : Lexicon} {letters : ℕ} {p : Placed} → StandsIn lexicon letters p → (1 ≤ place_at p) × (place_at p ≤ 2 * letters)
 place_within {p = p} stands =
     let here = after_lead_cases p.lead in
-    elim stands.behind [ Unchanged none empty ↦ (omega arith, omega arith) | Changed number u w ↦ (omega arith, omega arith) ]
+    elim stands.following [ Unchanged none empty ↦ (omega arith, omega arith) | Changed number u w ↦ (omega arith, omega arith) ]
 
 rising_cons : (x y : ℕ) (ys : List ℕ) → x < y → IsStrictlyIncreasing (y ∷ ys) → IsStrictlyIncreasing (x ∷ y ∷ ys)
 rising_cons x y ys lt rest zero within = lt
@@ -50,7 +50,7 @@ steps_within (EarlierStep stands before rest) = omega (arith, place_rises stands
 
 pub length_placed : (rules : RuleSet) (start : ℕ) (lead : List ℕ) (steps : List Step) → length (placed_from rules start lead steps) ≡ length steps
 length_placed rules start lead [] = refl
-length_placed rules start lead (step ∷ steps) = ap suc (length_placed rules (next_at rules start lead step) (rule_behind rules step).v steps)
+length_placed rules start lead (step ∷ steps) = ap suc (length_placed rules (next_at rules start lead step) (rule_after rules step).v steps)
 
 pub steps_bounded : (lexicon : Lexicon) (word : List ℕ) (steps : List Step) → IsLexicon lexicon → Derives lexicon steps word → length steps ≤ 2 * length word
 steps_bounded lexicon word [] is derives = omega arith
@@ -62,7 +62,7 @@ abbrev pub IsKeyWithin : Lexicon → ℕ → Key → Type 0
 IsKeyWithin lexicon letters key = (key.phase < length lexicon.phases) × (key.taken ≤ letters) × (key.rule ≤ length lexicon.rules.rules)
 
 pub key_within : {lexicon : Lexicon} {letters : ℕ} {p : Placed} → StandsIn lexicon letters p → IsKeyWithin lexicon letters (key_of p)
-key_within stands = elim stands.behind [
+key_within stands = elim stands.following [
   | Unchanged none empty ↦ (stands.phase, omega arith, omega arith)
   | Changed number u w ↦ (stands.phase, omega arith, number.1)
 ]

@@ -11,26 +11,26 @@ use Rattle.lexicon_definitions.proofs.GrammarPlaces.{same_places_go_on, same_sta
 use Rattle.segmentation_definitions.specs.Derivations.{Step, phases_of, Covers, Derives}
 use Rattle.segmentation_definitions.specs.Items.{Placed, Choice, placed, placed_from, covered_from}
 use Rattle.segmentation_definitions.specs.Answers.{IsAnswer}
-use Rattle.segmentation_definitions.specs.LocalTests.{HasNoBlankInside, HasNoBlankBehind, KeepsBlanksLocally, AllAllow}
+use Rattle.segmentation_definitions.specs.LocalTests.{HasNoBlankInside, HasNoBlankAfterLast, KeepsBlanksLocally, AllAllow}
 use Rattle.segmentation_definitions.specs.Configurations.{Configuration, Start, entrance_after, EndsAt, IsFront, PassesTests}
 use Rattle.segmentation_definitions.proofs.LocalBlanks.{locally_from_seams, seams_from_locally}
 use Rattle.segmentation_definitions.proofs.LocalChoices.{allowed_if_kept, kept_if_allowed}
-use Rattle.segmentation_definitions.proofs.Fronts.{lead_behind, covers_split, covers_join, same_rest_behind, placed-append, lead_of, lead_of_entrance, no_start_behind, JoinedBoth, joined_split, joined_join, ends_right, ends_join}
+use Rattle.segmentation_definitions.proofs.Fronts.{lead_after, covers_split, covers_join, same_rest_after, placed-append, lead_of, lead_of_entrance, no_start_after, JoinedBoth, joined_split, joined_join, ends_right, ends_join}
 
--- the last of two lists of placed steps decides whether a blank stands behind
+-- the last of two lists of placed steps decides whether a blank stands after
 blank_right : (blanks : List ℕ) (ps : List Placed) (q : Placed) (qs : List Placed)
-    → HasNoBlankBehind blanks (ps ++ q ∷ qs) → HasNoBlankBehind blanks (q ∷ qs)
+    → HasNoBlankAfterLast blanks (ps ++ q ∷ qs) → HasNoBlankAfterLast blanks (q ∷ qs)
 blank_right blanks [] q qs h = h
 blank_right blanks (p ∷ []) q qs h = h
 blank_right blanks (p ∷ second ∷ ps) q qs h = blank_right blanks (second ∷ ps) q qs h
 
 blank_join : (blanks : List ℕ) (ps : List Placed) (q : Placed) (qs : List Placed)
-    → HasNoBlankBehind blanks (q ∷ qs) → HasNoBlankBehind blanks (ps ++ q ∷ qs)
+    → HasNoBlankAfterLast blanks (q ∷ qs) → HasNoBlankAfterLast blanks (ps ++ q ∷ qs)
 blank_join blanks [] q qs h = h
 blank_join blanks (p ∷ []) q qs h = h
 blank_join blanks (p ∷ second ∷ ps) q qs h = blank_join blanks (second ∷ ps) q qs h
 
--- steps behind a first one are none of them first
+-- steps after a first one are none of them first
 module _ (rules : RuleSet) (line_length : ℕ) (choices : List Choice) where
   allow_right : (is_first : Bool) (p : Placed) (ps qs : List Placed)
       → AllAllow rules line_length choices is_first ((p ∷ ps) ++ qs) → AllAllow rules line_length choices false qs
@@ -51,40 +51,40 @@ pub record SameEnds (lexicon : Lexicon) (line : Line) (choices : List Choice) (l
   pub front : IsFront lexicon right line.letters
   pub tests : PassesTests lexicon.rules line choices right
 
--- both lists are empty or neither is, so what stands behind them is first behind both or behind neither
+-- both lists are empty or neither is, so what stands after them is first after both or after neither
 choices_right : (lexicon : Lexicon) (line : Line) (choices : List Choice) (left right : List Step) (qs : List Placed)
     → SameEnds lexicon line choices left right
     → AllAllow lexicon.rules (length line.letters) choices true (placed lexicon.rules left ++ qs)
     → AllAllow lexicon.rules (length line.letters) choices true (placed lexicon.rules right ++ qs)
 choices_right lexicon line choices [] [] qs ends h = h
 choices_right lexicon line choices [] (step ∷ right) qs ends h =
-    absurd (no_start_behind lexicon.rules step right (sym ends.entrance))
+    absurd (no_start_after lexicon.rules step right (sym ends.entrance))
 choices_right lexicon line choices (step ∷ left) [] qs ends h =
-    absurd (no_start_behind lexicon.rules step left ends.entrance)
+    absurd (no_start_after lexicon.rules step left ends.entrance)
 choices_right lexicon line choices (step ∷ left) (other ∷ right) qs ends h =
     allow_join lexicon.rules (length line.letters) choices true _ _ qs ends.tests.choices_allowed
     (allow_right lexicon.rules (length line.letters) choices true _ _ qs h)
 
 module _ (lexicon : Lexicon) (line : Line) (choices : List Choice) (left right : List Step) (next : Step) (steps : List Step)
     (is : IsLexicon lexicon) (ends : SameEnds lexicon line choices left right) where
-  same_lead : lead_behind lexicon.rules [] left ≡ lead_behind lexicon.rules [] right
+  same_lead : lead_after lexicon.rules [] left ≡ lead_after lexicon.rules [] right
   same_lead =
       lead_of_entrance lexicon.rules Start left
       ∙ (ap lead_of ends.entrance ∙ sym (lead_of_entrance lexicon.rules Start right))
 
-  -- the rest stands behind both at the same places
+  -- the rest stands after both at the same places
   same_placed :
-      placed_from lexicon.rules (covered_from lexicon.rules 0 [] left) (lead_behind lexicon.rules [] left) (next ∷ steps)
-      ≡ placed_from lexicon.rules (covered_from lexicon.rules 0 [] right) (lead_behind lexicon.rules [] right) (next ∷ steps)
+      placed_from lexicon.rules (covered_from lexicon.rules 0 [] left) (lead_after lexicon.rules [] left) (next ∷ steps)
+      ≡ placed_from lexicon.rules (covered_from lexicon.rules 0 [] right) (lead_after lexicon.rules [] right) (next ∷ steps)
   same_placed =
-      ap (λ at. placed_from lexicon.rules at (lead_behind lexicon.rules [] left) (next ∷ steps)) ends.covered
+      ap (λ at. placed_from lexicon.rules at (lead_after lexicon.rules [] left) (next ∷ steps)) ends.covered
       ∙ ap (λ lead. placed_from lexicon.rules (covered_from lexicon.rules 0 [] right) lead (next ∷ steps)) same_lead
 
   derives_right : Derives lexicon (left ++ next ∷ steps) line.letters → Derives lexicon (right ++ next ∷ steps) line.letters
   derives_right d =
       let both = covers_split lexicon.rules [] left (next ∷ steps) line.letters [] d.covers in
       let joined = joined_split lexicon.rules left next steps d.joined in
-      let behind = same_rest_behind lexicon.rules left right line.letters both.between ends.front.rest both.first ends.front.covers ends.covered in
+      let following = same_rest_after lexicon.rules left right line.letters both.between ends.front.rest both.first ends.front.covers ends.covered in
       let rest = subst (λ lead. Covers lexicon.rules lead (next ∷ steps) both.between []) same_lead both.second in
       record {
         forms = all_append (λ (step : Step). IsForm lexicon step.phase step.form) right (next ∷ steps) ends.front.forms
@@ -93,14 +93,14 @@ module _ (lexicon : Lexicon) (line : Line) (choices : List Choice) (left right :
             (subst (λ e. JoinedBoth lexicon.rules e next steps) ends.entrance joined);
         ends = ends_join lexicon.rules right next steps (ends_right lexicon.rules left next steps d.ends);
         covers = covers_join lexicon.rules [] right (next ∷ steps) line.letters ends.front.rest [] ends.front.covers
-            (subst (λ b. Covers lexicon.rules (lead_behind lexicon.rules [] right) (next ∷ steps) b []) behind rest);
+            (subst (λ b. Covers lexicon.rules (lead_after lexicon.rules [] right) (next ∷ steps) b []) following rest);
       }
 
-  same_places_behind :
+  same_places_after :
       placed lexicon.rules (right ++ next ∷ steps)
       ≡ placed lexicon.rules right
-      ++ placed_from lexicon.rules (covered_from lexicon.rules 0 [] left) (lead_behind lexicon.rules [] left) (next ∷ steps)
-  same_places_behind =
+      ++ placed_from lexicon.rules (covered_from lexicon.rules 0 [] left) (lead_after lexicon.rules [] left) (next ∷ steps)
+  same_places_after =
       placed-append lexicon.rules 0 [] right (next ∷ steps) ∙ ap (λ qs. placed lexicon.rules right ++ qs) (sym same_placed)
 
   accepted_right : IsPhaseWord lexicon.rules (phases_of (left ++ next ∷ steps))
@@ -116,13 +116,13 @@ module _ (lexicon : Lexicon) (line : Line) (choices : List Choice) (left right :
   blanks_right h =
       let cut = placed-append lexicon.rules 0 [] left (next ∷ steps) in
       let inside = subst (AllByRecursion (HasNoBlankInside line.blanks)) cut h.inside in
-      let behind = subst (HasNoBlankBehind line.blanks) cut h.behind in
+      let following = subst (HasNoBlankAfterLast line.blanks) cut h.following in
       record {
-        inside = subst (AllByRecursion (HasNoBlankInside line.blanks)) (sym same_places_behind)
+        inside = subst (AllByRecursion (HasNoBlankInside line.blanks)) (sym same_places_after)
             (all_append (HasNoBlankInside line.blanks) _ _ ends.tests.no_blank_inside
             (all_right (HasNoBlankInside line.blanks) (placed lexicon.rules left) _ inside));
-        behind = subst (HasNoBlankBehind line.blanks) (sym same_places_behind)
-            (blank_join line.blanks (placed lexicon.rules right) _ _ (blank_right line.blanks (placed lexicon.rules left) _ _ behind));
+        following = subst (HasNoBlankAfterLast line.blanks) (sym same_places_after)
+            (blank_join line.blanks (placed lexicon.rules right) _ _ (blank_right line.blanks (placed lexicon.rules left) _ _ following));
       }
 
   allowed_right : AllAllow lexicon.rules (length line.letters) choices true (placed lexicon.rules (left ++ next ∷ steps))
@@ -130,7 +130,7 @@ module _ (lexicon : Lexicon) (line : Line) (choices : List Choice) (left right :
   allowed_right h =
       let cut = placed-append lexicon.rules 0 [] left (next ∷ steps) in
       let P : List Placed → Type 0 = λ ps. AllAllow lexicon.rules (length line.letters) choices true ps in
-      subst P (sym same_places_behind) (choices_right lexicon line choices left right _ ends (subst P cut h))
+      subst P (sym same_places_after) (choices_right lexicon line choices left right _ ends (subst P cut h))
 
   answer_right : IsLine line → IsAnswer lexicon line choices (left ++ next ∷ steps)
       → IsAnswer lexicon line choices (right ++ next ∷ steps)

@@ -3,15 +3,15 @@
 use Rattle.std.specs.Prelude.{ℕ, ◌+◌, ◌≤◌, ◌⊎◌, MatchBool, List, [], ◌∷◌, length, All, Contains}
 use Rattle.text_definitions.specs.Lines.{Line}
 use Rattle.lexicon_definitions.specs.Lexicons.{Lexicon, RuleSet, IsPhaseWord}
-use Rattle.segmentation_definitions.specs.Derivations.{Step, rule_behind, phases_of, Derives}
+use Rattle.segmentation_definitions.specs.Derivations.{Step, rule_after, phases_of, Derives}
 use Rattle.segmentation_definitions.specs.Items.{Placed, placed, Item, items_of, Choice}
 
--- the blank stands at the seam behind the step: in the w behind it or at one of its ends
+-- the blank stands at the seam after the step: in the w after it or at one of its ends
 abbrev pub IsAtSeam : RuleSet → ℕ → Placed → Type 0
 IsAtSeam rules blank p =
-    (p.at + p.taken ≤ blank) × (blank ≤ p.at + p.taken + length (rule_behind rules p.step).w)
+    (p.at + p.taken ≤ blank) × (blank ≤ p.at + p.taken + length (rule_after rules p.step).w)
 
--- the blank stands at the seam behind some step that is not the last
+-- the blank stands at the seam after some step that is not the last
 abbrev pub IsAtSomeSeam : RuleSet → ℕ → List Placed → Type 0
 IsAtSomeSeam rules blank [] = ⊥
 IsAtSomeSeam rules blank (p ∷ []) = ⊥

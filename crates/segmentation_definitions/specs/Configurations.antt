@@ -4,7 +4,7 @@ use Rattle.std.specs.List.{AllByRecursion}
 use Rattle.text_definitions.specs.Lines.{Line}
 use Rattle.lexicon_definitions.specs.Grammars.{State, IsStateAfter, IsLiveState}
 use Rattle.lexicon_definitions.specs.Lexicons.{Lexicon, RuleSet, tree_of}
-use Rattle.segmentation_definitions.specs.Derivations.{Step, rule_behind, phases_of, HasInnerRule, AreForms, AreJoined, Covers}
+use Rattle.segmentation_definitions.specs.Derivations.{Step, rule_after, phases_of, HasInnerRule, AreForms, AreJoined, Covers}
 use Rattle.segmentation_definitions.specs.Items.{Choice, placed, covered_from}
 use Rattle.segmentation_definitions.specs.Answers.{IsAnswer}
 use Rattle.segmentation_definitions.specs.LocalTests.{HasNoBlankInside, AllAllow}
@@ -26,30 +26,30 @@ pub record Configuration : Type 0 where
 abbrev pub last_letter : List ℕ → ℕ
 last_letter form = slice_index form (length form - 1)
 
--- how the form behind the step is entered
-abbrev pub entrance_behind : RuleSet → Step → Entrance
-entrance_behind rules step =
+-- how the form after the step is entered
+abbrev pub entrance_after_step : RuleSet → Step → Entrance
+entrance_after_step rules step =
     if step.rule == 0 then Plain (last_letter step.form)
-    else Lead (rule_behind rules step).v (rule_behind rules step).after
+    else Lead (rule_after rules step).v (rule_after rules step).after
 
--- how the form behind the steps is entered, where the first is entered so
+-- how the form after the steps is entered, where the first is entered so
 abbrev pub entrance_after : RuleSet → Entrance → List Step → Entrance
 entrance_after rules entrance [] = entrance
-entrance_after rules entrance (step ∷ steps) = entrance_after rules (entrance_behind rules step) steps
+entrance_after rules entrance (step ∷ steps) = entrance_after rules (entrance_after_step rules step) steps
 
--- the steps end at the configuration, which is asked only of steps behind which a derivation goes on
+-- the steps end at the configuration, which is asked only of steps after which a derivation goes on
 pub record EndsAt (rules : RuleSet) (steps : List Step) (configuration : Configuration) : Type 0 where
   pub covered : configuration.at ≡ covered_from rules 0 [] steps
   pub entrance : configuration.entrance ≡ entrance_after rules Start steps
   pub state : IsStateAfter (tree_of rules) (phases_of steps) configuration.state
 
--- behind the last step, if there is one, there is no change or an inner rule that may follow its phase
+-- after the last step, if there is one, there is no change or an inner rule that may follow its phase
 abbrev pub GoesOn : RuleSet → List Step → Type 0
 GoesOn rules [] = Unit {0}
 GoesOn rules (step ∷ []) = (step.rule ≡ 0) ⊎ HasInnerRule rules step
 GoesOn rules (step ∷ next ∷ steps) = GoesOn rules (next ∷ steps)
 
--- each step is lawful so far: the steps cover a front of the word, and behind the last there is no change or an inner rule
+-- each step is lawful so far: the steps cover a front of the word, and after the last there is no change or an inner rule
 pub record IsFront (lexicon : Lexicon) (steps : List Step) (word : List ℕ) : Type 0 where
   pub forms : AreForms lexicon steps
   pub joined : AreJoined lexicon.rules steps

@@ -4,15 +4,15 @@ use Rattle.std.specs.List.{AllByRecursion}
 use Rattle.lexicon_definitions.specs.Rules.{Rule, IsInner, IsFinal, HasPhase}
 use Rattle.lexicon_definitions.specs.Lexicons.{Lexicon, RuleSet, rule_of, IsPlain, IsForm}
 
--- a phase, a form of it, and the number of the rule behind the form; 0 is no change
+-- a phase, a form of it, and the number of the rule after the form; 0 is no change
 pub record Step : Type 0 where
   pub phase : ℕ
   pub form : List ℕ
   pub rule : ℕ
 
--- the rule behind the step; u, v and w are empty where there is no change
-abbrev pub rule_behind : RuleSet → Step → Rule
-rule_behind rules step = rule_of rules step.rule
+-- the rule after the step; u, v and w are empty where there is no change
+abbrev pub rule_after : RuleSet → Step → Rule
+rule_after rules step = rule_of rules step.rule
 
 -- the number is that of a rule
 abbrev pub IsRuleNumber : RuleSet → ℕ → Type 0
@@ -24,21 +24,21 @@ IsPlainSeam rules left right =
     (front : List ℕ) × (last : ℕ) × (first : ℕ) × (rest : List ℕ) × (left ≡ front ++ last ∷ []) × (right ≡ first ∷ rest)
     × IsPlain rules last first
 
--- behind the step stands an inner rule that may follow the step's phase
+-- after the step stands an inner rule that may follow the step's phase
 abbrev pub HasInnerRule : RuleSet → Step → Type 0
 HasInnerRule rules step =
-    IsRuleNumber rules step.rule × IsInner (rule_behind rules step) × HasPhase (rule_behind rules step).before step.phase
+    IsRuleNumber rules step.rule × IsInner (rule_after rules step) × HasPhase (rule_after rules step).before step.phase
 
--- behind the step stands a final rule that may follow the step's phase
+-- after the step stands a final rule that may follow the step's phase
 abbrev pub HasFinalRule : RuleSet → Step → Type 0
 HasFinalRule rules step =
-    IsRuleNumber rules step.rule × IsFinal (rule_behind rules step) × HasPhase (rule_behind rules step).before step.phase
+    IsRuleNumber rules step.rule × IsFinal (rule_after rules step) × HasPhase (rule_after rules step).before step.phase
 
 -- the step meets the next one unchanged over a plain pair, or by an inner rule that may precede the next one's phase
 abbrev pub Meets : RuleSet → Step → Step → Type 0
 Meets rules step next =
     ((step.rule ≡ 0) × IsPlainSeam rules step.form next.form)
-    ⊎ (HasInnerRule rules step × HasPhase (rule_behind rules step).after next.phase)
+    ⊎ (HasInnerRule rules step × HasPhase (rule_after rules step).after next.phase)
 
 -- each step's form is a form of its phase
 abbrev pub AreForms : Lexicon → List Step → Type 0
@@ -50,21 +50,21 @@ AreJoined rules [] = Unit {0}
 AreJoined rules (step ∷ []) = Unit {0}
 AreJoined rules (step ∷ next ∷ steps) = Meets rules step next × AreJoined rules (next ∷ steps)
 
--- there is a last step, and behind it there is no change or a final rule that may follow its phase
+-- there is a last step, and after it there is no change or a final rule that may follow its phase
 abbrev pub EndsWell : RuleSet → List Step → Type 0
 EndsWell rules [] = ⊥
 EndsWell rules (step ∷ []) = (step.rule ≡ 0) ⊎ HasFinalRule rules step
 EndsWell rules (step ∷ next ∷ steps) = EndsWell rules (next ∷ steps)
 
 -- from a lead that the rule before supplied, the steps cover the word up to a rest: each form is the lead before it, then
--- the letters that it takes from the word, then the u behind it; these letters are followed by the w behind it
+-- the letters that it takes from the word, then the u after it; these letters are followed by the w after it
 abbrev pub Covers : RuleSet → List ℕ → List Step → List ℕ → List ℕ → Type 0
 Covers rules lead [] word rest = word ≡ rest
 Covers rules lead (step ∷ steps) word rest =
-    (taken : List ℕ) × (behind : List ℕ)
-    × (step.form ≡ lead ++ taken ++ (rule_behind rules step).u)
-    × (word ≡ taken ++ (rule_behind rules step).w ++ behind)
-    × Covers rules (rule_behind rules step).v steps behind rest
+    (taken : List ℕ) × (following : List ℕ)
+    × (step.form ≡ lead ++ taken ++ (rule_after rules step).u)
+    × (word ≡ taken ++ (rule_after rules step).w ++ following)
+    × Covers rules (rule_after rules step).v steps following rest
 
 -- the steps derive the word
 pub record Derives (lexicon : Lexicon) (steps : List Step) (word : List ℕ) : Type 0 where

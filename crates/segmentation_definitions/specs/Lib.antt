@@ -5,4 +5,4 @@ pub mod Listings
 pub mod LocalTests
 pub mod Configurations
 pub mod StepBounds
-pub mod WorkedLexicons
+pub mod PrintedAnswers

@@ -70,20 +70,20 @@ pub record IsNext (lexicon : Lexicon) (line : Line) (choices : List Choice) (pos
   pub above : IsAbove lexicon.rules position next
   pub least : (other : List Step) → IsAnswer lexicon line choices other → IsAbove lexicon.rules position other → compare_answers lexicon.rules next other ≢ Greater
 
--- the answer comes behind each of these
-abbrev pub ComesBehind : RuleSet → List (List Step) → List Step → Type 0
-ComesBehind rules earlier steps = All (λ before. compare_answers rules before steps ≡ Less) earlier
+-- the answer comes after each of these
+abbrev pub ComesAfter : RuleSet → List (List Step) → List Step → Type 0
+ComesAfter rules earlier steps = All (λ before. compare_answers rules before steps ≡ Less) earlier
 
 -- a page of count answers at a position has the first count answers above it, or all of them where they are fewer: what is
--- above and not on the page comes behind a full page; more says whether there is such an answer
+-- above and not on the page comes after a full page; more says whether there is such an answer
 pub record IsPage (lexicon : Lexicon) (line : Line) (choices : List Choice) (position : Position) (count : ℕ) (page : List (List Step)) (more : Bool) : Type 0 where
   pub rising : IsStrictlySortedBy (compare_answers lexicon.rules) page
   pub only_answers : (steps : List Step) → Contains page steps → IsAnswer lexicon line choices steps
   pub only_above : (steps : List Step) → Contains page steps → IsAbove lexicon.rules position steps
   pub at_most : length page ≤ count
   pub first : (steps : List Step) → IsAnswer lexicon line choices steps → IsAbove lexicon.rules position steps
-      → Contains page steps ⊎ ((length page ≡ count) × ComesBehind lexicon.rules page steps)
-  pub left : IsTrue more ↔ ((steps : List Step) × IsAnswer lexicon line choices steps × IsAbove lexicon.rules position steps × ComesBehind lexicon.rules page steps)
+      → Contains page steps ⊎ ((length page ≡ count) × ComesAfter lexicon.rules page steps)
+  pub left : IsTrue more ↔ ((steps : List Step) × IsAnswer lexicon line choices steps × IsAbove lexicon.rules position steps × ComesAfter lexicon.rules page steps)
 
 -- the position at the last of these answers, or the given position where there is none
 abbrev pub position_after : Position → List (List Step) → Position

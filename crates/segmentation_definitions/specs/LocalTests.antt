@@ -2,7 +2,7 @@
 use Rattle.std.specs.Prelude.{◌≡◌, ◌≢◌, ℕ, ◌+◌, ◌*◌, ◌<◌, ◌≤◌, ◌⊎◌, true, false, Bool, List, [], ◌∷◌, length, All}
 use Rattle.std.specs.List.{AllByRecursion}
 use Rattle.lexicon_definitions.specs.Lexicons.{RuleSet}
-use Rattle.segmentation_definitions.specs.Derivations.{Step, rule_behind, IsRuleNumber}
+use Rattle.segmentation_definitions.specs.Derivations.{Step, rule_after, IsRuleNumber}
 use Rattle.lexicon_definitions.specs.Rules.{IsFinal}
 use Rattle.segmentation_definitions.specs.Items.{Placed, placed, item_of, place_of, after_lead, Item, Choice}
 
@@ -10,37 +10,37 @@ use Rattle.segmentation_definitions.specs.Items.{Placed, placed, item_of, place_
 abbrev pub HasNoBlankInside : List ℕ → Placed → Type 0
 HasNoBlankInside blanks p = All (λ blank. p.at < blank → blank < p.at + p.taken → ⊥) blanks
 
--- no blank stands behind the beginning of the last step
-abbrev pub HasNoBlankBehind : List ℕ → List Placed → Type 0
-HasNoBlankBehind blanks [] = Unit {0}
-HasNoBlankBehind blanks (p ∷ []) = All (λ blank. blank ≤ p.at) blanks
-HasNoBlankBehind blanks (p ∷ q ∷ ps) = HasNoBlankBehind blanks (q ∷ ps)
+-- no blank stands after the beginning of the last step
+abbrev pub HasNoBlankAfterLast : List ℕ → List Placed → Type 0
+HasNoBlankAfterLast blanks [] = Unit {0}
+HasNoBlankAfterLast blanks (p ∷ []) = All (λ blank. blank ≤ p.at) blanks
+HasNoBlankAfterLast blanks (p ∷ q ∷ ps) = HasNoBlankAfterLast blanks (q ∷ ps)
 
--- no blank stands inside the letters that a step takes or behind the beginning of the last step
+-- no blank stands inside the letters that a step takes or after the beginning of the last step
 pub record KeepsBlanksLocally (rules : RuleSet) (blanks : List ℕ) (steps : List Step) : Type 0 where
   pub inside : AllByRecursion (HasNoBlankInside blanks) (placed rules steps)
-  pub behind : HasNoBlankBehind blanks (placed rules steps)
+  pub following : HasNoBlankAfterLast blanks (placed rules steps)
 
 -- the place of a step is that of its item
 abbrev pub place_at : Placed → ℕ
 place_at p = place_of (item_of p)
 
--- in a line of this length the step is last: its rule is final, or there is no change and the line ends behind it
+-- in a line of this length the step is last: its rule is final, or there is no change and the line ends after it
 abbrev pub IsLast : RuleSet → ℕ → Placed → Type 0
 IsLast rules line_length p =
-    (IsRuleNumber rules p.step.rule × IsFinal (rule_behind rules p.step))
+    (IsRuleNumber rules p.step.rule × IsFinal (rule_after rules p.step))
     ⊎ ((p.step.rule ≡ 0) × (p.at + p.taken ≡ line_length))
 
 -- the place of whatever step follows this one; where there is no change, the next step has no lead
 abbrev pub next_place : RuleSet → Placed → ℕ
-next_place rules p = 2 * (p.at + p.taken + length (rule_behind rules p.step).w) + after_lead p.step.rule
+next_place rules p = 2 * (p.at + p.taken + length (rule_after rules p.step).w) + after_lead p.step.rule
 
 -- what the step alone tells of a kept item: at the step's place it is the step's item; between the step and the place of
--- the next, behind a last step and before a first step there is none
+-- the next, after a last step and before a first step there is none
 pub record AllowsKept (rules : RuleSet) (line_length : ℕ) (is_first : Bool) (p : Placed) (item : Item) : Type 0 where
   pub here : place_of item ≡ place_at p → item ≡ item_of p
   pub between : (IsLast rules line_length p → ⊥) → place_at p < place_of item → next_place rules p ≤ place_of item
-  pub behind : IsLast rules line_length p → place_of item ≤ place_at p
+  pub following : IsLast rules line_length p → place_of item ≤ place_at p
   pub before : is_first ≡ true → place_at p ≤ place_of item
 
 -- a step allows a kept item as above, and a rejected item where it is not the step's

@@ -10,17 +10,17 @@ use Rattle.lexicon_definitions.specs.Lexicons.{Lexicon as LexiconValue, Form, ru
 use Rattle.segmentation_definitions.specs.Derivations.{HasFinalRule, Meets, AreForms, AreJoined, EndsWell, Covers, Derives, phases_of}
 use Rattle.segmentation_definitions.specs.Items.{items_of}
 use Rattle.segmentation_definitions.specs.Answers.{IsAnswer, KeepsChoice}
-use Rattle.segmentation_definitions.specs.LocalTests.{HasNoBlankInside, HasNoBlankBehind, KeepsBlanksLocally}
+use Rattle.segmentation_definitions.specs.LocalTests.{HasNoBlankInside, HasNoBlankAfterLast, KeepsBlanksLocally}
 use Rattle.segmentation_definitions.proofs.LocalBlanks.{seams_from_locally}
-use Rattle.segmentation_definitions.proofs.Sorted.{not_Contains-nil}
+use Rattle.list_laws.proofs.Sorted.{not_Contains-nil}
 use Rattle.derivation.specs.declared.step.Step.{Step as ProgramStep}
 use Rattle.derivation.specs.Steps.{entered_with, form_with, steps_from, steps_of, StandFrom, StandIn, places_of}
 use Rattle.derivation.proofs.PlacedSteps.{same_places}
 use Rattle.segmenter.specs.declared.lexicon.Lexicon.{Lexicon}
 use Rattle.segmenter.specs.declared.place.Place.{Place}
 use Rattle.segmenter.specs.Forms.{lists_of, list_of, HasRisingLists, IsThin}
-use Rattle.segmenter.specs.Completions.{lead_at, form_at, EndsLine, GoesOn, CanFollow, last_of, place_behind, opening, Completes}
-use Rattle.segmenter.proofs.CutLetters.{parts_behind, first_and_rest, front_and_last, get_or-map_nil}
+use Rattle.segmenter.specs.Completions.{lead_at, form_at, EndsLine, GoesOn, CanFollow, last_of, place_after, opening, Completes}
+use Rattle.segmenter.proofs.CutLetters.{parts_after, first_and_rest, front_and_last, get_or-map_nil}
 use Rattle.segmenter.proofs.GrammarWords.{thin_tree, thin_word}
 
 -- the lexicon of the definitions with the rules of the one that is searched
@@ -42,7 +42,7 @@ pub stand_from : (lexicon : Lexicon) (line : Line) (place : Place) (steps : List
 stand_from lexicon line place [] c = tt
 stand_from lexicon line place (step ∷ []) c = (c.0.stands, tt)
 stand_from lexicon line place (step ∷ next ∷ steps) c =
-    (c.0.stands, stand_from lexicon line (place_behind lexicon.rules line place step) (next ∷ steps) c.2)
+    (c.0.stands, stand_from lexicon line (place_after lexicon.rules line place step) (next ∷ steps) c.2)
 
 -- their forms are forms of their phases
 pub forms_from : (lexicon : Lexicon) (phases : List (List Form)) (line : Line) (place : Place) (steps : List ProgramStep) → HaveForms lexicon phases
@@ -52,7 +52,7 @@ forms_from lexicon phases line place (step ∷ []) same c =
     (subst (λ forms. Contains forms (form_at lexicon.rules line place step)) (sym (same_forms lexicon phases step.phase same)) c.0.form, tt)
 forms_from lexicon phases line place (step ∷ next ∷ steps) same c = (
   subst (λ forms. Contains forms (form_at lexicon.rules line place step)) (sym (same_forms lexicon phases step.phase same)) c.0.form,
-  forms_from lexicon phases line (place_behind lexicon.rules line place step) (next ∷ steps) same c.2,
+  forms_from lexicon phases line (place_after lexicon.rules line place step) (next ∷ steps) same c.2,
 )
 
 -- they cover what is left of the word
@@ -62,23 +62,23 @@ pub covers_from : (lexicon : Lexicon) (line : Line) (place : Place) (steps : Lis
 covers_from lexicon line place [] c = absurd c
 covers_from lexicon line place (step ∷ []) c =
     let w = (rule_of lexicon.rules step.rule).w in
-    let behind = drop (step.at + step.taken + length w) line.letters in (
+    let following = drop (step.at + step.taken + length w) line.letters in (
       take step.taken (drop step.at line.letters),
-      behind,
+      following,
       refl,
-      subst (λ at. drop at line.letters ≡ take step.taken (drop step.at line.letters) ++ w ++ behind) c.0.stands.at
-          (parts_behind line.letters w step.at step.taken c.0.stands.behind),
+      subst (λ at. drop at line.letters ≡ take step.taken (drop step.at line.letters) ++ w ++ following) c.0.stands.at
+          (parts_after line.letters w step.at step.taken c.0.stands.following),
       drop_all (step.at + step.taken + length w) line.letters (omega (arith, c.1.all)),
     )
 covers_from lexicon line place (step ∷ next ∷ steps) c =
     let w = (rule_of lexicon.rules step.rule).w in
-    let behind = drop (step.at + step.taken + length w) line.letters in (
+    let following = drop (step.at + step.taken + length w) line.letters in (
       take step.taken (drop step.at line.letters),
-      behind,
+      following,
       refl,
-      subst (λ at. drop at line.letters ≡ take step.taken (drop step.at line.letters) ++ w ++ behind) c.0.stands.at
-          (parts_behind line.letters w step.at step.taken c.0.stands.behind),
-      covers_from lexicon line (place_behind lexicon.rules line place step) (next ∷ steps) c.2,
+      subst (λ at. drop at line.letters ≡ take step.taken (drop step.at line.letters) ++ w ++ following) c.0.stands.at
+          (parts_after line.letters w step.at step.taken c.0.stands.following),
+      covers_from lexicon line (place_after lexicon.rules line place step) (next ∷ steps) c.2,
     )
 
 -- a form of the lexicon has a letter
@@ -98,7 +98,7 @@ rule_cases zero = inl refl
 rule_cases (suc rule) = inr (omega arith, λ e. omega arith)
 
 meets_from : (lexicon : Lexicon) (line : Line) (place : Place) (step next : ProgramStep) → HasRisingLists lexicon → CanFollow lexicon line place step
-    → GoesOn lexicon.rules line step → CanFollow lexicon line (place_behind lexicon.rules line place step) next
+    → GoesOn lexicon.rules line step → CanFollow lexicon line (place_after lexicon.rules line place step) next
     → Meets lexicon.rules (entered_with lexicon.rules line.letters (lead_at lexicon.rules place) step)
     (entered_with lexicon.rules line.letters (rule_of lexicon.rules step.rule).v next)
 meets_from lexicon line place step next rising can goes then =
@@ -132,10 +132,10 @@ joined_from lexicon line place (step ∷ next ∷ []) rising c =
     (meets_from lexicon line place step next rising c.0 c.1 c.2.0, tt)
 joined_from lexicon line place (step ∷ next ∷ third ∷ steps) rising c = (
   meets_from lexicon line place step next rising c.0 c.1 c.2.0,
-  joined_from lexicon line (place_behind lexicon.rules line place step) (next ∷ third ∷ steps) rising c.2,
+  joined_from lexicon line (place_after lexicon.rules line place step) (next ∷ third ∷ steps) rising c.2,
 )
 
--- behind the last one stands no change or a final rule
+-- after the last one stands no change or a final rule
 ends_alone : (lexicon : Lexicon) (line : Line) (place : Place) (step : ProgramStep) → CanFollow lexicon line place step → EndsLine lexicon.rules line step
     → (step.rule ≡ 0) ⊎ HasFinalRule lexicon.rules (entered_with lexicon.rules line.letters (lead_at lexicon.rules place) step)
 ends_alone lexicon line place step can ends = elim (rule_cases step.rule) [
@@ -148,22 +148,22 @@ pub ends_from : (lexicon : Lexicon) (line : Line) (place : Place) (steps : List 
 ends_from lexicon line place [] c = absurd c
 ends_from lexicon line place (step ∷ []) c = ends_alone lexicon line place step c.0 c.1
 ends_from lexicon line place (step ∷ next ∷ steps) c =
-    ends_from lexicon line (place_behind lexicon.rules line place step) (next ∷ steps) c.2
+    ends_from lexicon line (place_after lexicon.rules line place step) (next ∷ steps) c.2
 
--- no blank stands inside what one takes, and none behind the beginning of the last
+-- no blank stands inside what one takes, and none after the beginning of the last
 pub inside_from : (lexicon : Lexicon) (line : Line) (place : Place) (steps : List ProgramStep) → Completes lexicon line place steps
     → AllByRecursion (HasNoBlankInside line.blanks) (places_of lexicon.rules line.letters (lead_at lexicon.rules place) steps)
 inside_from lexicon line place [] c = tt
 inside_from lexicon line place (step ∷ []) c = (c.0.fits.blanks.inside, tt)
 inside_from lexicon line place (step ∷ next ∷ steps) c =
-    (c.0.fits.blanks.inside, inside_from lexicon line (place_behind lexicon.rules line place step) (next ∷ steps) c.2)
+    (c.0.fits.blanks.inside, inside_from lexicon line (place_after lexicon.rules line place step) (next ∷ steps) c.2)
 
-pub behind_from : (lexicon : Lexicon) (line : Line) (place : Place) (steps : List ProgramStep) → Completes lexicon line place steps
-    → HasNoBlankBehind line.blanks (places_of lexicon.rules line.letters (lead_at lexicon.rules place) steps)
-behind_from lexicon line place [] c = tt
-behind_from lexicon line place (step ∷ []) c = c.0.fits.blanks.last c.1
-behind_from lexicon line place (step ∷ next ∷ steps) c =
-    behind_from lexicon line (place_behind lexicon.rules line place step) (next ∷ steps) c.2
+pub following_from : (lexicon : Lexicon) (line : Line) (place : Place) (steps : List ProgramStep) → Completes lexicon line place steps
+    → HasNoBlankAfterLast line.blanks (places_of lexicon.rules line.letters (lead_at lexicon.rules place) steps)
+following_from lexicon line place [] c = tt
+following_from lexicon line place (step ∷ []) c = c.0.fits.blanks.last c.1
+following_from lexicon line place (step ∷ next ∷ steps) c =
+    following_from lexicon line (place_after lexicon.rules line place step) (next ∷ steps) c.2
 
 -- each phase is the only one
 pub phases_from : (lexicon : Lexicon) (line : Line) (place : Place) (steps : List ProgramStep) → IsThin lexicon → Completes lexicon line place steps
@@ -173,7 +173,7 @@ phases_from lexicon line place (step ∷ []) thin c =
     let one = ap length thin.names in (omega (arith, c.0.stands.phase), tt)
 phases_from lexicon line place (step ∷ next ∷ steps) thin c =
     let one = ap length thin.names in
-    (omega (arith, c.0.stands.phase), phases_from lexicon line (place_behind lexicon.rules line place step) (next ∷ steps) thin c.2)
+    (omega (arith, c.0.stands.phase), phases_from lexicon line (place_after lexicon.rules line place step) (next ∷ steps) thin c.2)
 
 pub some_steps : (lexicon : Lexicon) (line : Line) (place : Place) (lead : List ℕ) (steps : List ProgramStep) → Completes lexicon line place steps
     → phases_of (steps_from lexicon.rules line.letters lead steps) ≢ []
@@ -199,7 +199,7 @@ answer_from lexicon phases line steps rising thin is lexical same c =
     } in
     let locally : KeepsBlanksLocally rules line.blanks these = record {
       inside = subst (AllByRecursion (HasNoBlankInside line.blanks)) places (inside_from lexicon line opening steps c);
-      behind = subst (HasNoBlankBehind line.blanks) places (behind_from lexicon line opening steps c);
+      following = subst (HasNoBlankAfterLast line.blanks) places (following_from lexicon line opening steps c);
     } in
     let tree = thin_tree rules.names rules.grammar thin.names thin.grammar in
     record {

@@ -1,5 +1,5 @@
 -- The steps that may follow at a place, by phase, then by falling count of letters, then by rule: each loop appends those of
--- its range, and a later one's come behind those of an earlier one.
+-- its range, and a later one's come after those of an earlier one.
 use Rattle.std.proofs.Common.{◌≡◌, ℕ, ◌+◌, ◌-◌, ◌<◌, ◌⊎◌, inl, inr, List, [], ◌∷◌, ◌++◌, length, refl, sym, subst, ◌∙◌, arith}
 use Rattle.std.specs.Ordering.{nat_cmp}
 use Rattle.std.specs.Cmp.{nat_cmp_is}
@@ -9,9 +9,9 @@ use Rattle.text_definitions.specs.Lines.{Line}
 use Rattle.derivation.specs.declared.step.Step.{Step}
 use Rattle.segmenter.specs.declared.lexicon.Lexicon.{Lexicon}
 use Rattle.segmenter.specs.declared.place.Place.{Place}
-use Rattle.segmenter.specs.Firsts.{AreAll, AppendsAll}
+use Rattle.list_laws.specs.Firsts.{AreAll, AppendsAll}
 use Rattle.segmenter.specs.Completions.{lead_at, CanFollow, compare_steps}
-use Rattle.segmenter.proofs.FirstOnes.{all_with, appends_none, appends_one, appends_with, appends_both}
+use Rattle.list_laws.proofs.FirstOnes.{all_with, appends_none, appends_one, appends_with, appends_both}
 
 -- ---- the order of steps
 

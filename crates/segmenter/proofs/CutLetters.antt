@@ -1,18 +1,18 @@
--- What a step takes of the letters, and what stands behind it: by the laws of `take` and `drop`.
+-- What a step takes of the letters, and what stands after it: by the laws of `take` and `drop`.
 use Rattle.std.proofs.Common.{◌≡◌, ◌≢◌, ℕ, zero, suc, ◌+◌, ◌-◌, List, [], ◌∷◌, ◌++◌, length, take, drop, get_or, map, refl, sym, ap, ◌∙◌, arith, length-append, append_assoc}
 use Rattle.std.proofs.lemmas.List.{take-append-drop, drop-drop}
 use Rattle.std.proofs.Math.Seq.{take-append_seam, drop-append_seam, get_or-append_seam}
 
--- the letters from a place on are those taken, the w behind them, and the rest
-pub parts_behind : (letters w : List ℕ) (at taken : ℕ) → take (length w) (drop (at + taken) letters) ≡ w
+-- the letters from a place on are those taken, the w after them, and the rest
+pub parts_after : (letters w : List ℕ) (at taken : ℕ) → take (length w) (drop (at + taken) letters) ≡ w
     → drop at letters ≡ take taken (drop at letters) ++ w ++ drop (at + taken + length w) letters
-parts_behind letters w at taken here =
-    let behind : drop (at + taken) letters ≡ w ++ drop (at + taken + length w) letters =
+parts_after letters w at taken here =
+    let following : drop (at + taken) letters ≡ w ++ drop (at + taken + length w) letters =
     sym (take-append-drop (length w) (drop (at + taken) letters)) ∙ ap (λ v. v ++ drop (length w) (drop (at + taken) letters)) here
     ∙ ap (λ rest. w ++ rest) (drop-drop (length w) (at + taken) letters) in
     let all : drop at letters ≡ take taken (drop at letters) ++ drop (at + taken) letters =
     sym (take-append-drop taken (drop at letters)) ∙ ap (λ rest. take taken (drop at letters) ++ rest) (drop-drop taken at letters) in
-    all ∙ ap (λ rest. take taken (drop at letters) ++ rest) behind ∙ sym (append_assoc (take taken (drop at letters)) w (drop (at + taken + length w) letters))
+    all ∙ ap (λ rest. take taken (drop at letters) ++ rest) following ∙ sym (append_assoc (take taken (drop at letters)) w (drop (at + taken + length w) letters))
 
 -- and where the letters from a place on are such parts, they stand at these places
 pub record AreCut (letters : List ℕ) (at count : ℕ) (taken w rest : List ℕ) : Type 0 where
@@ -24,12 +24,12 @@ pub cut_parts : (letters : List ℕ) (at count : ℕ) (taken w rest : List ℕ) 
     → drop at letters ≡ taken ++ w ++ rest → AreCut letters at count taken w rest
 cut_parts letters at count taken w rest c e =
     let e' : drop at letters ≡ taken ++ (w ++ rest) = e ∙ append_assoc taken w rest in
-    let behind : drop (at + count) letters ≡ w ++ rest =
+    let following : drop (at + count) letters ≡ w ++ rest =
     sym (drop-drop count at letters) ∙ ap (drop count) e' ∙ ap (λ n. drop n (taken ++ (w ++ rest))) c ∙ drop-append_seam taken (w ++ rest) in
     record {
       taken_is = ap (take count) e' ∙ ap (λ n. take n (taken ++ (w ++ rest))) c ∙ take-append_seam taken (w ++ rest);
-      w_is = ap (take (length w)) behind ∙ take-append_seam w rest;
-      rest_is = sym (drop-drop (length w) (at + count) letters) ∙ ap (drop (length w)) behind ∙ drop-append_seam w rest;
+      w_is = ap (take (length w)) following ∙ take-append_seam w rest;
+      rest_is = sym (drop-drop (length w) (at + count) letters) ∙ ap (drop (length w)) following ∙ drop-append_seam w rest;
     }
 
 -- a form that is not empty has a first letter, and a last one

@@ -1,5 +1,5 @@
 -- The lists that complete the line from a place, by their first step: those that begin with a smaller step come before those
--- that begin with a larger, and those that begin with one step are that step before what completes the line behind it.
+-- that begin with a larger, and those that begin with one step are that step before what completes the line after it.
 use Rattle.std.proofs.Common.{◌≡◌, ℕ, zero, suc, ◌+◌, ◌*◌, ◌-◌, ◌<◌, ◌≤◌, ◌⊎◌, inl, inr, Bool, true, false, List, [], ◌∷◌, ◌++◌, length, take, drop, map, get_or, min, refl, sym, ap, ap₂, ◌∙◌, subst, arith, length-append, length-take, length-drop}
 use Rattle.std.specs.List.{Contains}
 use Rattle.std.specs.List.Sorted.{IsStrictlySortedBy}
@@ -19,17 +19,17 @@ use Rattle.segmentation_definitions.specs.Items.{after_lead}
 use Rattle.segmentation_definitions.specs.Listings.{compare_keys}
 use Rattle.segmentation_definitions.proofs.Coverings.{unchanged_at_zero, some_letters}
 use Rattle.segmentation_definitions.proofs.KeyLists.{compare_keys_total}
-use Rattle.segmentation_definitions.proofs.Sorted.{Contains-first, Contains-cons_cases, not_Contains-nil}
+use Rattle.list_laws.proofs.Sorted.{Contains-first, Contains-cons_cases, not_Contains-nil}
 use Rattle.derivation.specs.declared.step.Step.{Step}
 use Rattle.derivation.specs.Steps.{key_of, keys_of}
 use Rattle.segmenter.specs.declared.lexicon.Lexicon.{Lexicon}
 use Rattle.segmenter.specs.declared.place.Place.{Place}
 use Rattle.segmenter.specs.declared.found.Found.{Found}
 use Rattle.segmenter.specs.Forms.{HasRisingLists}
-use Rattle.segmenter.specs.Firsts.{AreAll}
-use Rattle.segmenter.specs.Completions.{lead_at, form_at, EndsLine, GoesOn, CanFollow, place_behind, rank, Completes, compare_steps}
+use Rattle.list_laws.specs.Firsts.{AreAll}
+use Rattle.segmenter.specs.Completions.{lead_at, form_at, EndsLine, GoesOn, CanFollow, place_after, rank, Completes, compare_steps}
 use Rattle.segmenter.specs.Pages.{compare_lists, answers_of, TakesAnswer, AppendsFirst}
-use Rattle.segmenter.proofs.FirstOnes.{none_at_all, one_in_all, first_with, all_from_first, first_from_all, first_of_both, first_before, first_images}
+use Rattle.list_laws.proofs.FirstOnes.{none_at_all, one_in_all, first_with, all_from_first, first_from_all, first_of_both, first_before, first_images}
 use Rattle.segmenter.proofs.Answering.{form_some}
 use Rattle.segmenter.proofs.Answered.{not_both}
 
@@ -49,9 +49,9 @@ begins_before Q R less (a ∷ x) (b ∷ y) p q =
     let first : compare_keys (key_of a) (key_of b) ≡ Less = less a b p q in
     ap (λ o. ordering_then o (slice_cmp compare_keys (keys_of x) (keys_of y))) first
 
--- behind the same step lists are in their own order
-rise_behind : (step : Step) (x y : List Step) → compare_lists x y ≡ Less → compare_lists (step ∷ x) (step ∷ y) ≡ Less
-rise_behind step x y less =
+-- after the same step lists are in their own order
+rise_after : (step : Step) (x y : List Step) → compare_lists x y ≡ Less → compare_lists (step ∷ x) (step ∷ y) ≡ Less
+rise_after step x y less =
     let same : compare_keys (key_of step) (key_of step) ≡ Equal = tied_itself compare_keys_total (key_of step) in
     ap (λ o. ordering_then o (slice_cmp compare_keys (keys_of x) (keys_of y))) same ∙ less
 
@@ -59,7 +59,7 @@ rise_behind step x y less =
 less_first : {X : Type 0} (R : X → X → Ordering) (x : X) (xs : List X) → IsStrictlySortedBy R (x ∷ xs) → (y : X) → Contains xs y → R x y ≡ Less
 less_first R x xs s y m = All-contains (λ z. R x z ≡ Less) xs y (All-from_recursion (λ z. R x z ≡ Less) xs (sorted_head R x xs s)) m
 
--- what stands in the front of a rising list is below what stands behind it
+-- what stands in the front of a rising list is below what stands after it
 less_across : {X : Type 0} (R : X → X → Ordering) (front later : List X) → IsStrictlySortedBy R (front ++ later)
     → (x y : X) → Contains front x → Contains later y → R x y ≡ Less
 less_across R [] later s x y m n = absurd (not_Contains-nil x m)
@@ -68,10 +68,10 @@ less_across R (z ∷ front) later s x y m n = elim (Contains-cons_cases z front 
   | inr k ↦ less_across R front later (sorted_tail R z (front ++ later) s) x y k n
 ]
 
-map_behind : (path : List Step) (step : Step) (rests : List (List Step))
+map_after : (path : List Step) (step : Step) (rests : List (List Step))
     → map (λ rest. (path ++ step ∷ []) ++ rest) rests ≡ map (λ rest. path ++ rest) (map (λ rest. step ∷ rest) rests)
-map_behind path step [] = refl
-map_behind path step (rest ∷ rests) = ap₂ (λ x xs. x ∷ xs) (append_assoc path (step ∷ []) rest) (map_behind path step rests)
+map_after path step [] = refl
+map_after path step (rest ∷ rests) = ap₂ (λ x xs. x ∷ xs) (append_assoc path (step ∷ []) rest) (map_after path step rests)
 
 -- ---- one property after another
 
@@ -171,33 +171,33 @@ module _ (lexicon : Lexicon) (line : Line) (place : Place) (most : ℕ) (path : 
             })
       ]
 
-  -- goes on behind the step
+  -- goes on after the step
   with_step : (step : Step) → CanFollow lexicon line place step → GoesOn lexicon.rules line step → (x : List Step)
-      → Completes lexicon line (place_behind lexicon.rules line place step) x → Begins lexicon line place (λ s. s ≡ step) (step ∷ x)
+      → Completes lexicon line (place_after lexicon.rules line place step) x → Begins lexicon line place (λ s. s ≡ step) (step ∷ x)
   with_step step can goes [] c = absurd c
   with_step step can goes (next ∷ x) c = ((can, goes, c), refl)
 
-  behind_step : (step : Step) → CanFollow lexicon line place step → GoesOn lexicon.rules line step → (y : List Step) → Begins lexicon line place (λ s. s ≡ step) y
-      → (x : List Step) × Completes lexicon line (place_behind lexicon.rules line place step) x × (step ∷ x ≡ y)
-  behind_step step can goes [] h = absurd h.0
-  behind_step step can goes (s ∷ []) h =
+  following_step : (step : Step) → CanFollow lexicon line place step → GoesOn lexicon.rules line step → (y : List Step) → Begins lexicon line place (λ s. s ≡ step) y
+      → (x : List Step) × Completes lexicon line (place_after lexicon.rules line place step) x × (step ∷ x ≡ y)
+  following_step step can goes [] h = absurd h.0
+  following_step step can goes (s ∷ []) h =
       absurd (not_both lexicon.rules line step (subst (EndsLine lexicon.rules line) h.1 h.0.1) goes)
-  behind_step step can goes (s ∷ next ∷ steps) h = (
+  following_step step can goes (s ∷ next ∷ steps) h = (
     next ∷ steps,
-    subst (λ t. Completes lexicon line (place_behind lexicon.rules line place t) (next ∷ steps)) h.1 h.0.2,
+    subst (λ t. Completes lexicon line (place_after lexicon.rules line place t) (next ∷ steps)) h.1 h.0.2,
     ap (λ t. t ∷ next ∷ steps) (sym h.1),
   )
 
   pub goes_deeper : (step : Step) (before after : List (List Step)) (more : Bool) → CanFollow lexicon line place step → GoesOn lexicon.rules line step
-      → AppendsFirst (Completes lexicon line (place_behind lexicon.rules line place step)) most (path ++ step ∷ []) before after more
+      → AppendsFirst (Completes lexicon line (place_after lexicon.rules line place step)) most (path ++ step ∷ []) before after more
       → AppendsFirst (Begins lexicon line place (λ s. s ≡ step)) most path before after more
   goes_deeper step before after more can goes appends =
-      let P = Completes lexicon line (place_behind lexicon.rules line place step) in
+      let P = Completes lexicon line (place_after lexicon.rules line place step) in
       record {
         rests = map (λ rest. step ∷ rest) appends.rests;
-        is = appends.is ∙ ap (λ xs. before ++ xs) (map_behind path step appends.rests);
-        first = first_images compare_lists compare_lists (λ rest. step ∷ rest) P (λ x z p q l. rise_behind step x z l)
-            (Begins lexicon line place (λ s. s ≡ step)) appends.rests more (with_step step can goes) (behind_step step can goes) appends.first;
+        is = appends.is ∙ ap (λ xs. before ++ xs) (map_after path step appends.rests);
+        first = first_images compare_lists compare_lists (λ rest. step ∷ rest) P (λ x z p q l. rise_after step x z l)
+            (Begins lexicon line place (λ s. s ≡ step)) appends.rests more (with_step step can goes) (following_step step can goes) appends.first;
         at_most = appends.at_most;
         full = appends.full;
       }
@@ -300,19 +300,19 @@ w_within letters w at e within =
     let m : min (length w) (length letters - at) ≡ length w = simp (length-take, length-drop) at l in
     omega arith
 
--- the place behind a step that may follow lies in the line
-pub behind_within : (lexicon : Lexicon) (line : Line) (place : Place) (step : Step) → CanFollow lexicon line place step
+-- the place after a step that may follow lies in the line
+pub following_within : (lexicon : Lexicon) (line : Line) (place : Place) (step : Step) → CanFollow lexicon line place step
     → step.at + step.taken + length (rule_of lexicon.rules step.rule).w ≤ length line.letters
-behind_within lexicon line place step can =
-    w_within line.letters (rule_of lexicon.rules step.rule).w (step.at + step.taken) can.stands.behind can.stands.taken
+following_within lexicon line place step can =
+    w_within line.letters (rule_of lexicon.rules step.rule).w (step.at + step.taken) can.stands.following can.stands.taken
 
 rank_cases : (rule : ℕ) → ((rule ≡ 0) × (after_lead rule ≡ 1)) ⊎ ((0 < rule) × (after_lead rule ≡ 0))
 rank_cases zero = inl (refl, refl)
 rank_cases (suc rule) = inr (omega arith, refl)
 
--- and is above the one before it, where the rule behind the step has a w
+-- and is above the one before it, where the rule after the step has a w
 pub rank_rises : (lexicon : Lexicon) (line : Line) (place : Place) (step : Step) → HasRisingLists lexicon → CanFollow lexicon line place step
-    → (step.rule ≡ 0) ⊎ (0 < length (rule_of lexicon.rules step.rule).w) → rank place < rank (place_behind lexicon.rules line place step)
+    → (step.rule ≡ 0) ⊎ (0 < length (rule_of lexicon.rules step.rule).w) → rank place < rank (place_after lexicon.rules line place step)
 rank_rises lexicon line place step rising can h =
     let rules = lexicon.rules in
     let form = form_at rules line place step in
@@ -365,7 +365,7 @@ module _ (lexicon : Lexicon) (line : Line) (place : Place) (most : ℕ) (steps :
       begin_more lexicon line place most old_path steps index (get_or steps index d) (answers_of old) (answers_of found) (answers_of after) after.more
       way.all d below refl way.appends these
 
-  -- the line ends behind the step
+  -- the line ends after the step
   pub step_ends : (with_step : List Step) (after : Found) → EndsLine lexicon.rules line (get_or steps index d)
       → with_step ≡ path ++ get_or steps index d ∷ [] → TakesAnswer most with_step found after
       → AppendsFirst (Begins lexicon line place (Contains (take (index + 1) steps))) most old_path (answers_of old) (answers_of after) after.more
@@ -376,16 +376,16 @@ module _ (lexicon : Lexicon) (line : Line) (place : Place) (most : ℕ) (steps :
       (takes_last lexicon line place most old_path step found after here_follows ends way.no_more way.appends.at_most
       (subst (λ answer. TakesAnswer most answer found after) same takes))
 
-  -- the line goes on behind the step
-  pub step_goes_on : (with_step : List Step) (behind : Place) (after : Found) → (EndsLine lexicon.rules line (get_or steps index d) → ⊥)
-      → with_step ≡ path ++ get_or steps index d ∷ [] → behind ≡ place_behind lexicon.rules line place (get_or steps index d)
-      → AppendsFirst (Completes lexicon line behind) most with_step (answers_of found) (answers_of after) after.more
+  -- the line goes on after the step
+  pub step_goes_on : (with_step : List Step) (following : Place) (after : Found) → (EndsLine lexicon.rules line (get_or steps index d) → ⊥)
+      → with_step ≡ path ++ get_or steps index d ∷ [] → following ≡ place_after lexicon.rules line place (get_or steps index d)
+      → AppendsFirst (Completes lexicon line following) most with_step (answers_of found) (answers_of after) after.more
       → AppendsFirst (Begins lexicon line place (Contains (take (index + 1) steps))) most old_path (answers_of old) (answers_of after) after.more
-  step_goes_on with_step behind after not_ends e b appends =
+  step_goes_on with_step following after not_ends e b appends =
       let step = get_or steps index d in
       let same : with_step ≡ old_path ++ step ∷ [] = e ∙ ap (λ p. p ++ step ∷ []) way.same_path in
       let goes : GoesOn lexicon.rules line step = elim here_follows.fits.goes [ inl ends ↦ absurd (not_ends ends) | inr on ↦ on ] in
       next_step after
       (goes_deeper lexicon line place most old_path step (answers_of found) (answers_of after) after.more here_follows goes
-      (subst (λ p. AppendsFirst (Completes lexicon line (place_behind lexicon.rules line place step)) most p (answers_of found) (answers_of after) after.more) same
+      (subst (λ p. AppendsFirst (Completes lexicon line (place_after lexicon.rules line place step)) most p (answers_of found) (answers_of after) after.more) same
       (subst (λ q. AppendsFirst (Completes lexicon line q) most with_step (answers_of found) (answers_of after) after.more) b appends)))

@@ -10,16 +10,16 @@ use Rattle.segmentation_definitions.specs.Derivations.{Step}
 use Rattle.segmentation_definitions.specs.Answers.{IsAnswer}
 use Rattle.segmentation_definitions.specs.Listings.{IsPage, BeforeFirst, compare_answers, compare_key_lists}
 use Rattle.segmentation_definitions.proofs.KeyLists.{compare_answers_total}
-use Rattle.segmentation_definitions.proofs.Sorted.{not_Less-itself}
+use Rattle.list_laws.proofs.Sorted.{not_Less-itself}
 use Rattle.derivation.specs.declared.step.Step.{Step as ProgramStep}
 use Rattle.derivation.specs.Steps.{steps_of, StandIn}
 use Rattle.derivation.proofs.PlacedSteps.{same_keys}
 use Rattle.segmenter.specs.declared.lexicon.Lexicon.{Lexicon}
 use Rattle.segmenter.specs.Forms.{HasRisingLists, IsThin, HasForms}
-use Rattle.segmenter.specs.Firsts.{AreFirst}
+use Rattle.list_laws.specs.Firsts.{AreFirst}
 use Rattle.segmenter.specs.Completions.{opening, Completes}
 use Rattle.segmenter.specs.Pages.{compare_lists, AppendsFirst}
-use Rattle.segmenter.proofs.FirstOnes.{first_images, All-by}
+use Rattle.list_laws.proofs.FirstOnes.{first_images, All-by}
 use Rattle.segmenter.proofs.Answering.{full, HaveForms, stand_in, answer_from}
 use Rattle.segmenter.proofs.Answered.{answered_by}
 
@@ -89,7 +89,7 @@ pub some_all : (lexicon : Lexicon) (line : Line) (lists : List (List ProgramStep
     → AreFirst compare_lists (Completes lexicon line opening) lists more → All (λ steps. 0 < length steps) lists
 some_all lexicon line lists more first = All-by (λ steps. 0 < length steps) lists (λ steps m. some_step lexicon line steps (first.only steps m))
 
--- what is appended to nothing behind nothing
+-- what is appended to nothing after nothing
 pub first_from_appends : (lexicon : Lexicon) (line : Line) (most : ℕ) (path : List ProgramStep) (before after : List (List ProgramStep)) (more : Bool) → path ≡ [] → before ≡ []
     → AppendsFirst (Completes lexicon line opening) most path before after more → AreFirst compare_lists (Completes lexicon line opening) after more
 first_from_appends lexicon line most path before after more p b appends =

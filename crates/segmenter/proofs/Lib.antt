@@ -1,4 +1,3 @@
-pub mod FirstOnes
 pub mod GrammarWords
 pub mod CutLetters
 pub mod Answering

@@ -9,13 +9,13 @@ use Rattle.text_definitions.specs.Slp1.{word_of_slp1, slp1_table}
 use Rattle.text_definitions.specs.Words.{compare_words}
 use Rattle.lexicon_definitions.specs.Rules.{Rule}
 use Rattle.lexicon_definitions.specs.Lexicons.{Lexicon as LexiconValue, RuleSet, Form, IsPhase, IsRuleSet, IsLexicon}
-use Rattle.segmentation_definitions.specs.WorkedLexicons.{word_asti, word_aasti, word_na, word_deva, word_datta, word_devadatta, naasti_lexicon, devadatta_lexicon}
+use Rattle.worked_cases.specs.WorkedLexicons.{word_asti, word_aasti, word_na, word_deva, word_datta, word_devadatta, naasti_lexicon, devadatta_lexicon}
 use Rattle.derivation.proofs.WorkedAnswers.{rule_is}
 use Rattle.derivation.specs.Worked.{worked_rule}
 use Rattle.segmenter.specs.declared.lexicon.Lexicon.{Lexicon}
 use Rattle.segmenter.specs.Forms.{lists_of, AreCounted, HasRisingLists, IsThin, HasForms}
 use Rattle.segmenter.specs.Worked.{thin_rules, HasParts}
-use Rattle.segmenter.proofs.FirstOnes.{sorted-map}
+use Rattle.list_laws.proofs.FirstOnes.{sorted-map}
 
 abbrev letters_of : List Form → List (List ℕ)
 letters_of forms = map (λ (form : Form). form.letters) forms

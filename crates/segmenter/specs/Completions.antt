@@ -20,30 +20,30 @@ lead_at rules place = (rule_of rules place.rule).v
 abbrev pub form_at : RuleSet → Line → Place → Step → List ℕ
 form_at rules line place step = form_with rules line.letters (lead_at rules place) step
 
--- behind the step the line ends: by a final rule, or unchanged
+-- after the step the line ends: by a final rule, or unchanged
 pub record EndsLine (rules : RuleSet) (line : Line) (step : Step) : Type 0 where
   pub all : step.at + step.taken + length (rule_of rules step.rule).w ≡ length line.letters
   pub final : IsFinal (rule_of rules step.rule)
 
--- behind the step another may follow: behind an inner rule, or unchanged before the end of the line
+-- after the step another may follow: after an inner rule, or unchanged before the end of the line
 pub record GoesOn (rules : RuleSet) (line : Line) (step : Step) : Type 0 where
   pub inner : step.rule ≢ 0 → IsInner (rule_of rules step.rule)
   pub rest : step.rule ≡ 0 → step.at + step.taken < length line.letters
 
--- no blank stands strictly inside the letters that the step takes, and behind the beginning of a last step there is none
+-- no blank stands strictly inside the letters that the step takes, and after the beginning of a last step there is none
 pub record KeepsBlanks (rules : RuleSet) (line : Line) (step : Step) : Type 0 where
   pub inside : All (λ blank. step.at < blank → blank < step.at + step.taken → ⊥) line.blanks
   pub last : EndsLine rules line step → All (λ blank. blank ≤ step.at) line.blanks
 
--- as far as can be told before its form is known, the step may stand where it does: the w of its rule stands behind it,
--- the rule may follow its phase, blanks are kept, and the line ends or goes on behind it
+-- as far as can be told before its form is known, the step may stand where it does: the w of its rule stands after it,
+-- the rule may follow its phase, blanks are kept, and the line ends or goes on after it
 pub record FitsLine (rules : RuleSet) (line : Line) (step : Step) : Type 0 where
-  pub behind : take (length (rule_of rules step.rule).w) (drop (step.at + step.taken) line.letters) ≡ (rule_of rules step.rule).w
+  pub following : take (length (rule_of rules step.rule).w) (drop (step.at + step.taken) line.letters) ≡ (rule_of rules step.rule).w
   pub follows : step.rule ≢ 0 → HasPhase (rule_of rules step.rule).before step.phase
   pub blanks : KeepsBlanks rules line step
   pub goes : EndsLine rules line step ⊎ GoesOn rules line step
 
--- the form may be entered at the place: after a letter with which its first letter is a plain pair, and behind a rule
+-- the form may be entered at the place: after a letter with which its first letter is a plain pair, and after a rule
 -- that may precede its phase
 pub record MayEnter (rules : RuleSet) (place : Place) (phase : ℕ) (form : List ℕ) : Type 0 where
   pub plain : IfSome place.last (λ last. IsPlain rules last (slice_index form 0))
@@ -69,9 +69,9 @@ abbrev pub last_of : ℕ → List ℕ → Option ℕ
 last_of zero form = Some (slice_index form (length form - 1))
 last_of (suc rule) form = None
 
--- the place behind a step
-abbrev pub place_behind : RuleSet → Line → Place → Step → Place
-place_behind rules line place step =
+-- the place after a step
+abbrev pub place_after : RuleSet → Line → Place → Step → Place
+place_after rules line place step =
     record {
       at = step.at + step.taken + length (rule_of rules step.rule).w;
       rule = step.rule;
@@ -92,7 +92,7 @@ Completes lexicon line place [] = ⊥
 Completes lexicon line place (step ∷ []) = CanFollow lexicon line place step × EndsLine lexicon.rules line step
 Completes lexicon line place (step ∷ next ∷ steps) =
     CanFollow lexicon line place step × GoesOn lexicon.rules line step
-    × Completes lexicon line (place_behind lexicon.rules line place step) (next ∷ steps)
+    × Completes lexicon line (place_after lexicon.rules line place step) (next ∷ steps)
 
 -- steps are compared by their keys
 abbrev pub compare_steps : Step → Step → Ordering

@@ -1,5 +1,4 @@
 pub mod Forms
-pub mod Firsts
 pub mod Completions
 pub mod Pages
 pub mod Worked

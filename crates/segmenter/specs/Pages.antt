@@ -5,7 +5,7 @@ use Rattle.segmentation_definitions.specs.Listings.{compare_key_lists}
 use Rattle.derivation.specs.Steps.{keys_of}
 use Rattle.derivation.specs.declared.step.Step.{Step}
 use Rattle.segmenter.specs.declared.found.Found.{Found}
-use Rattle.segmenter.specs.Firsts.{AreFirst}
+use Rattle.list_laws.specs.Firsts.{AreFirst}
 
 -- lists of steps are compared by their keys
 abbrev pub compare_lists : List Step → List Step → Ordering
@@ -20,7 +20,7 @@ pub record TakesAnswer (most : ℕ) (answer : List Step) (before after : Found) 
   pub room : length (answers_of before) < most → (answers_of after ≡ answers_of before ++ answer ∷ []) × (after.more ≡ before.more)
   pub full : most ≤ length (answers_of before) → (answers_of after ≡ answers_of before) × (after.more ≡ true)
 
--- the first of those lists that have the property are appended, each behind the path, as many as there is room for among
+-- the first of those lists that have the property are appended, each after the path, as many as there is room for among
 -- most answers; more says whether others are left
 pub record AppendsFirst (P : List Step → Type 0) (most : ℕ) (path : List Step) (before after : List (List Step)) (more : Bool) : Type 0 where
   pub rests : List (List Step)

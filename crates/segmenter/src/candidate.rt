@@ -6,11 +6,11 @@ ghost use Rattle.segmenter.specs.Completions.{EndsLine, GoesOn, KeepsBlanks, Fit
 
 use super::Lexicon;
 use super::place::Place;
-use derivation::{RuleSet, Step, form_behind};
+use derivation::{RuleSet, Step, form_after};
 use phoneme::{Line, Memory, Word};
 use std::alloc::Global;
 
-/// Behind how many letters of the line the letters end that the step takes.
+/// After how many letters of the line the letters end that the step takes.
 pub(crate) fn end_of(step: &Step) -> usize
     ensures { result ≡ step.now.at + step.now.taken }
 {
@@ -25,7 +25,7 @@ fn has_phase(phases: u16, phase: u32) -> bool
 }
 
 /// Whether the `w` of the rule stands in the line from the letter `end` on.
-fn stands_behind(rules: &RuleSet, line: &Line, end: usize, rule: u32) -> bool
+fn stands_after(rules: &RuleSet, line: &Line, end: usize, rule: u32) -> bool
     requires rule { rule ≤ length rules.now.rules }
     requires within { end ≤ length line.now.letters }
     ensures { IsTrue result ↔ (take (length (rule_of rules.now rule).w) (drop end line.now.letters) ≡ (rule_of rules.now rule).w) }
@@ -58,7 +58,7 @@ fn may_precede(rules: &RuleSet, rule: u32, phase: u32) -> bool
     }
 }
 
-/// Whether the line ends behind the step.
+/// Whether the line ends after the step.
 pub(crate) fn ends_line(rules: &RuleSet, line: &Line, step: &Step) -> bool
     requires rule { step.now.rule ≤ length rules.now.rules }
     requires within { step.now.at + step.now.taken ≤ length line.now.letters }
@@ -71,7 +71,7 @@ pub(crate) fn ends_line(rules: &RuleSet, line: &Line, step: &Step) -> bool
     }
 }
 
-/// Whether the line may go on behind the step.
+/// Whether the line may go on after the step.
 fn goes_on(rules: &RuleSet, line: &Line, step: &Step) -> bool
     requires rule { step.now.rule ≤ length rules.now.rules }
     requires within { step.now.at + step.now.taken ≤ length line.now.letters }
@@ -92,14 +92,14 @@ fn none_between(line: &Line, from: usize, to: usize) -> bool
         .all(|blank| *blank as usize <= from || to <= *blank as usize)
 }
 
-/// Whether no blank stands behind a place.
-fn none_behind(line: &Line, at: u32) -> bool
+/// Whether no blank stands after a place.
+fn none_after(line: &Line, at: u32) -> bool
     ensures { IsTrue result ↔ All (λ blank. blank ≤ at) line.now.blanks }
 {
     line.blanks.iter().all(|blank| *blank <= at)
 }
 
-/// Whether the step keeps the line's blanks: none stands strictly inside the letters that it takes, and none behind the
+/// Whether the step keeps the line's blanks: none stands strictly inside the letters that it takes, and none after the
 /// beginning of a last step.
 fn keeps_blanks(rules: &RuleSet, line: &Line, step: &Step) -> bool
     requires rule { step.now.rule ≤ length rules.now.rules }
@@ -107,7 +107,7 @@ fn keeps_blanks(rules: &RuleSet, line: &Line, step: &Step) -> bool
     ensures { IsTrue result ↔ KeepsBlanks rules.now line.now step.now }
 {
     none_between(line, step.at as usize, end_of(step))
-        && (!ends_line(rules, line, step) || none_behind(line, step.at))
+        && (!ends_line(rules, line, step) || none_after(line, step.at))
 }
 
 /// Whether the step may stand where it does, as far as can be told before its form is known.
@@ -116,14 +116,14 @@ fn fits_line(rules: &RuleSet, line: &Line, step: &Step) -> bool
     requires within { step.now.at + step.now.taken ≤ length line.now.letters }
     ensures { IsTrue result ↔ FitsLine rules.now line.now step.now }
 {
-    stands_behind(rules, line, end_of(step), step.rule)
+    stands_after(rules, line, end_of(step), step.rule)
         && may_follow(rules, step.rule, step.phase)
         && keeps_blanks(rules, line, step)
         && (ends_line(rules, line, step) || goes_on(rules, line, step))
 }
 
 /// Whether a form of the phase may be entered at the place: after a letter with which its first letter is a plain pair,
-/// and behind a rule that may precede its phase.
+/// and after a rule that may precede its phase.
 fn may_enter(rules: &RuleSet, place: &Place, phase: u32, form: &Word) -> bool
     requires rule { place.now.rule ≤ length rules.now.rules }
     requires some { 0 < length form.now }
@@ -152,6 +152,6 @@ pub(crate) fn can_follow(
     if !fits_line(&lexicon.rules, line, step) {
         return Ok(false);
     }
-    let form = form_behind(alloc, &lexicon.rules, line, place.rule, step)?;
+    let form = form_after(alloc, &lexicon.rules, line, place.rule, step)?;
     Ok(lexicon.has_form(step.phase, &form) && may_enter(&lexicon.rules, place, step.phase, &form))
 }

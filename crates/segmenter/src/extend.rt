@@ -12,7 +12,7 @@ use derivation::Step;
 use phoneme::{Line, Memory};
 use std::alloc::Global;
 
-/// Appends to the answers found the first of those that begin with the path and go on from the place behind it, as many
+/// Appends to the answers found the first of those that begin with the path and go on from the place after it, as many
 /// as there is room for among `most`, and notes whether others are left.
 pub(crate) fn extend(
     alloc: Global,
@@ -38,8 +38,8 @@ pub(crate) fn extend(
         if ends_line(&lexicon.rules, line, step) {
             found.take_answer(alloc, most, path.as_slice())?;
         } else {
-            let behind = place.behind(alloc, lexicon, line, step)?;
-            extend(alloc, lexicon, line, most, behind, path, found)?;
+            let following = place.following(alloc, lexicon, line, step)?;
+            extend(alloc, lexicon, line, most, following, path, found)?;
         }
         path.pop();
         if found.more {

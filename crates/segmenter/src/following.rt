@@ -1,5 +1,5 @@
 ghost use Rattle.std.specs.Prelude.{◌≡◌, ◌+◌, ◌<◌, ◌≤◌, length, OnOk, IfOk};
-ghost use Rattle.segmenter.specs.Firsts.{AreAll, AppendsAll};
+ghost use Rattle.list_laws.specs.Firsts.{AreAll, AppendsAll};
 ghost use Rattle.segmenter.specs.Forms.{HasRisingLists};
 ghost use Rattle.segmenter.specs.Completions.{CanFollow, compare_steps};
 

@@ -1,15 +1,15 @@
 ghost use Rattle.std.specs.Prelude.{◌≡◌, ◌<◌, ◌≤◌, length, IfOk};
 ghost use Rattle.text_definitions.specs.Lines.{IsLine};
 ghost use Rattle.segmenter.specs.Forms.{HasRisingLists};
-ghost use Rattle.segmenter.specs.Completions.{lead_at, CanFollow, place_behind, rank};
+ghost use Rattle.segmenter.specs.Completions.{lead_at, CanFollow, place_after, rank};
 
 use super::Lexicon;
 use super::candidate::end_of;
-use derivation::{RuleSet, Step, form_behind};
+use derivation::{RuleSet, Step, form_after};
 use phoneme::{Letter, Line, Memory};
 use std::alloc::Global;
 
-/// Where the next form begins: behind how many letters, behind which rule (0 for none), and after which letter, where
+/// Where the next form begins: after how many letters, after which rule (0 for none), and after which letter, where
 /// the form before is not changed.
 #[derive(Clone, Copy, Debug)]
 pub(crate) struct Place {
@@ -37,8 +37,8 @@ impl Place {
         }
     }
 
-    /// The place behind a step that may follow at this one.
-    pub fn behind(
+    /// The place after a step that may follow at this one.
+    pub fn following(
         &self,
         alloc: Global,
         lexicon: &Lexicon,
@@ -49,13 +49,13 @@ impl Place {
         requires line { IsLine line.now }
         requires rule { self.now.rule ≤ length lexicon.now.rules.rules }
         requires follows { CanFollow lexicon.now line.now self.now step.now }
-        ensures ok { IfOk result (λ behind. behind ≡ place_behind lexicon.now.rules line.now self.now step.now) }
-        ensures rises { IfOk result (λ behind. rank self.now < rank behind) }
-        ensures within { IfOk result (λ behind. behind.at ≤ length line.now.letters) }
+        ensures ok { IfOk result (λ following. following ≡ place_after lexicon.now.rules line.now self.now step.now) }
+        ensures rises { IfOk result (λ following. rank self.now < rank following) }
+        ensures within { IfOk result (λ following. following.at ≤ length line.now.letters) }
     {
         let end = end_of(step);
         if step.rule == 0 {
-            let form = form_behind(alloc, &lexicon.rules, line, self.rule, step)?;
+            let form = form_after(alloc, &lexicon.rules, line, self.rule, step)?;
             Ok(Place {
                 at: end as u32,
                 rule: 0,

@@ -75,7 +75,7 @@ sign_point n low high =
     let h = parts _ _ (passes_at 12 reads_sign signs_pass (n - 2) (omega arith)) in
     (sign_from _ _ h.0 ∙ ap (λ m. Sign m) at, h.1)
 
--- a letter that stands behind no bare consonant
+-- a letter that stands after no bare consonant
 alone : (place n : ℕ) (word : List ℕ) → IsLetter n → ((p : ℕ) (bare : Bool) → word_of_points p bare (points_of_word bare word) ≡ Ok word) → word_of_points place false (slice_index devanagari_table (n - 1) ∷ points_of_word (is_consonant n) word) ≡ Ok (n ∷ word)
 alone place n word l reads =
     let point = slice_index devanagari_table (n - 1) in
@@ -114,10 +114,10 @@ by_sign place n word false e l ls vowel reads =
     ∙ ap (λ after. with_letter n (word_of_points next false (points_of_word after word))) (no_consonant n vowel)
     ∙ ap (with_letter n) (reads next false)
 
--- a letter behind a bare consonant
-behind : (place n : ℕ) (word : List ℕ) (vowel : Bool) → is_vowel n ≡ vowel → IsLetter n → AllByRecursion IsLetter word → ((p : ℕ) (bare : Bool) → word_of_points p bare (points_of_word bare word) ≡ Ok word) → word_of_points place true (cond vowel (sign_of_vowel n) (0x094D ∷ slice_index devanagari_table (n - 1) ∷ []) ++ points_of_word (is_consonant n) word) ≡ Ok (n ∷ word)
-behind place n word true e l ls reads = by_sign place n word (eqb n 1) refl l ls (vowel_from n e) reads
-behind place n word false e l ls reads =
+-- a letter after a bare consonant
+following : (place n : ℕ) (word : List ℕ) (vowel : Bool) → is_vowel n ≡ vowel → IsLetter n → AllByRecursion IsLetter word → ((p : ℕ) (bare : Bool) → word_of_points p bare (points_of_word bare word) ≡ Ok word) → word_of_points place true (cond vowel (sign_of_vowel n) (0x094D ∷ slice_index devanagari_table (n - 1) ∷ []) ++ points_of_word (is_consonant n) word) ≡ Ok (n ∷ word)
+following place n word true e l ls reads = by_sign place n word (eqb n 1) refl l ls (vowel_from n e) reads
+following place n word false e l ls reads =
     let rest = slice_index devanagari_table (n - 1) ∷ points_of_word (is_consonant n) word in
     let next = place + length (encode_utf8 0x094D) in
     ap (λ kind. reading_at place true kind (λ after. word_of_points next after rest)) virama_kind ∙ alone next n word l reads
@@ -126,7 +126,7 @@ reads_points : (word : List ℕ) → AllByRecursion IsLetter word → (place : �
 reads_points [] ls place false = refl
 reads_points [] ls place true = ap (λ kind. reading_at place true kind (λ after. word_of_points (place + length (encode_utf8 0x094D)) after [])) virama_kind
 reads_points (n ∷ word) ls place false = alone place n word ls.0 (reads_points word ls.1)
-reads_points (n ∷ word) ls place true = behind place n word (is_vowel n) refl ls.0 ls.1 (reads_points word ls.1)
+reads_points (n ∷ word) ls place true = following place n word (is_vowel n) refl ls.0 ls.1 (reads_points word ls.1)
 
 -- what is printed are code points that have a UTF-8 form
 scalars_join : (xs ys : List ℕ) → all_scalars xs ≡ true → all_scalars ys ≡ true → all_scalars (xs ++ ys) ≡ true
@@ -137,13 +137,13 @@ scalars_of_sign : (n : ℕ) (a : Bool) → eqb n 1 ≡ a → IsLetter n → n �
 scalars_of_sign n true e l vowel = refl
 scalars_of_sign n false e l vowel = let two : 2 ≤ n = grind (arith, nat_tests) in (sign_point n two vowel).1
 
-scalars_behind : (n : ℕ) (vowel : Bool) → is_vowel n ≡ vowel → IsLetter n → all_scalars (cond vowel (sign_of_vowel n) (0x094D ∷ slice_index devanagari_table (n - 1) ∷ [])) ≡ true
-scalars_behind n true e l = scalars_of_sign n (eqb n 1) refl l (vowel_from n e)
-scalars_behind n false e l = (letter_point n l).1
+scalars_after : (n : ℕ) (vowel : Bool) → is_vowel n ≡ vowel → IsLetter n → all_scalars (cond vowel (sign_of_vowel n) (0x094D ∷ slice_index devanagari_table (n - 1) ∷ [])) ≡ true
+scalars_after n true e l = scalars_of_sign n (eqb n 1) refl l (vowel_from n e)
+scalars_after n false e l = (letter_point n l).1
 
 scalars_of_letter : (bare : Bool) (n : ℕ) → IsLetter n → all_scalars (points_of_letter bare n) ≡ true
 scalars_of_letter false n l = (letter_point n l).1
-scalars_of_letter true n l = scalars_behind n (is_vowel n) refl l
+scalars_of_letter true n l = scalars_after n (is_vowel n) refl l
 
 scalars_of_word : (bare : Bool) (word : List ℕ) → AllByRecursion IsLetter word → all_scalars (points_of_word bare word) ≡ true
 scalars_of_word false [] ls = refl

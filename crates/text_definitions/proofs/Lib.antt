@@ -6,5 +6,6 @@ pub mod Longest
 pub mod VelthuisTable
 pub mod PrintedSpellings
 pub mod DevanagariTable
-pub mod Searches
 pub mod ReadWords
+pub mod SpelledWords
+pub mod WordSearches

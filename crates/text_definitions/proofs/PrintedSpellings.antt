@@ -28,20 +28,20 @@ module _ (front : List ℕ → Option (ℕ × ℕ)) (spelling : ℕ → List ℕ
       ∙ ap (λ t. with_letter n (word_of_spellings front (place + length (spelling n)) 0 true t)) (drop-append_seam (spelling n) rest)
       ∙ ap (with_letter n) reads
 
-  -- the same behind a separator or behind none
-  behind_gap : (gap : Bool) (place n : ℕ) (word : List ℕ) → IsLetter n → AllByRecursion IsLetter word → ((p : ℕ) → word_of_spellings front p 0 true (spellings_of_word front spelling (Some n) word) ≡ Ok word) → word_of_spellings front place 0 true (cond gap [] (95 ∷ []) ++ spelling n ++ spellings_of_word front spelling (Some n) word) ≡ Ok (n ∷ word)
-  behind_gap true place n word l ls reads = first_letter place n word true l ls (reads _)
-  behind_gap false place n word l ls reads =
+  -- the same after a separator or after none
+  following_gap : (gap : Bool) (place n : ℕ) (word : List ℕ) → IsLetter n → AllByRecursion IsLetter word → ((p : ℕ) → word_of_spellings front p 0 true (spellings_of_word front spelling (Some n) word) ≡ Ok word) → word_of_spellings front place 0 true (cond gap [] (95 ∷ []) ++ spelling n ++ spellings_of_word front spelling (Some n) word) ≡ Ok (n ∷ word)
+  following_gap true place n word l ls reads = first_letter place n word true l ls (reads _)
+  following_gap false place n word l ls reads =
       let rest = spelling n ++ spellings_of_word front spelling (Some n) word in
-      let behind = λ (inside : ℕ) (after : Bool). word_of_spellings front (place + 1) inside after rest in
-      ap (λ f. word_at place f (is_some (front rest)) behind) (separates.never rest)
-      ∙ ap (λ f. word_at place None (is_some f) behind) (begins n word l ls)
+      let following = λ (inside : ℕ) (after : Bool). word_of_spellings front (place + 1) inside after rest in
+      ap (λ f. word_at place f (is_some (front rest)) following) (separates.never rest)
+      ∙ ap (λ f. word_at place None (is_some f) following) (begins n word l ls)
       ∙ first_letter (place + 1) n word false l ls (reads _)
 
   after_letter : (place previous : ℕ) (word : List ℕ) → AllByRecursion IsLetter word → word_of_spellings front place 0 true (spellings_of_word front spelling (Some previous) word) ≡ Ok word
   after_letter place previous [] ls = refl
   after_letter place previous (n ∷ word) ls =
-      behind_gap (has_length (front (spelling previous ++ spelling n)) (length (spelling previous))) place n word ls.0 ls.1 (λ p. after_letter p n word ls.1)
+      following_gap (has_length (front (spelling previous ++ spelling n)) (length (spelling previous))) place n word ls.0 ls.1 (λ p. after_letter p n word ls.1)
 
   pub printed_is_read : (word : List ℕ) → AllByRecursion IsLetter word → word_of_spellings front 0 0 false (spellings_of_word front spelling None word) ≡ Ok word
   printed_is_read [] ls = refl

@@ -56,10 +56,10 @@ front_is zero text pair h = absurd (cc)
 front_is (suc most) text pair h =
     or_shorter_is (velthuis_letter (take (suc most) text)) (length (take (suc most) text)) (front_letter velthuis_letter most text) pair h (velthuis_letter_is (take (suc most) text) pair.0) (front_is most text pair)
 
-reads_at : (place : ℕ) (found : Option (ℕ × ℕ)) (passed : Bool) (behind : ℕ → Bool → Reading) → ((pair : ℕ × ℕ) → found ≡ Some pair → IsLetter pair.0) → ((inside : ℕ) (after : Bool) → Reads (behind inside after)) → Reads (word_at place found passed behind)
-reads_at place None false behind l r = tt
-reads_at place None true behind l r = r 0 false
-reads_at place (Some pair) passed behind l r = reads_letter pair.0 (behind (pair.1 - 1) true) (l pair refl) (r (pair.1 - 1) true)
+reads_at : (place : ℕ) (found : Option (ℕ × ℕ)) (passed : Bool) (following : ℕ → Bool → Reading) → ((pair : ℕ × ℕ) → found ≡ Some pair → IsLetter pair.0) → ((inside : ℕ) (after : Bool) → Reads (following inside after)) → Reads (word_at place found passed following)
+reads_at place None false following l r = tt
+reads_at place None true following l r = r 0 false
+reads_at place (Some pair) passed following l r = reads_letter pair.0 (following (pair.1 - 1) true) (l pair refl) (r (pair.1 - 1) true)
 
 reads_spellings : (text : List ℕ) (place inside : ℕ) (spelled : Bool) → Reads (word_of_spellings velthuis_front place inside spelled text)
 unfolding velthuis_front

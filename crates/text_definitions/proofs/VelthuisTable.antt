@@ -26,7 +26,7 @@ is_short (x ∷ y ∷ []) = true
 is_short (x ∷ y ∷ z ∷ []) = true
 is_short (w ∷ x ∷ y ∷ z ∷ rest) = false
 
--- the spelling of the letter k + 1 is short, is read as this letter, and is no spelling with a separator behind it
+-- the spelling of the letter k + 1 is short, is read as this letter, and is no spelling with a separator after it
 abbrev pub stands : ℕ → Bool
 stands k =
     let spelling = spelling_of_letter velthuis_table (k + 1) in
@@ -64,23 +64,23 @@ twice (Some n) len other = refl
 not_dot : (x : ℕ) → not (eqb x 46) ≡ true → x ≢ 46
 not_dot x h = grind (arith, nat_tests)
 
--- what stands at the front of a spelling with more behind it depends on the first byte behind it
-pub front_behind : (n : ℕ) (spelling : List ℕ) (byte : ℕ) (rest : List ℕ) → is_short spelling ≡ true → velthuis_letter spelling ≡ Some n → velthuis_front (spelling ++ byte ∷ rest) ≡ or_shorter (velthuis_letter (spelling ++ byte ∷ [])) (length spelling + 1) (Some (n, length spelling))
+-- what stands at the front of a spelling with more after it depends on the first byte after it
+pub front_after : (n : ℕ) (spelling : List ℕ) (byte : ℕ) (rest : List ℕ) → is_short spelling ≡ true → velthuis_letter spelling ≡ Some n → velthuis_front (spelling ++ byte ∷ rest) ≡ or_shorter (velthuis_letter (spelling ++ byte ∷ [])) (length spelling + 1) (Some (n, length spelling))
 unfolding velthuis_front
-front_behind n [] byte rest short is = absurd (cc)
-front_behind n (x ∷ []) byte [] short is =
+front_after n [] byte rest short is = absurd (cc)
+front_after n (x ∷ []) byte [] short is =
     let longer = velthuis_letter (x ∷ byte ∷ []) in
     twice longer 2 _ ∙ ap (λ f. or_shorter longer 2 (or_shorter f 1 None)) is
-front_behind n (x ∷ []) byte (z ∷ rest) short is =
+front_after n (x ∷ []) byte (z ∷ rest) short is =
     let longer = velthuis_letter (x ∷ byte ∷ []) in
     ap (λ f. or_shorter f 3 (or_shorter longer 2 (or_shorter (velthuis_letter (x ∷ [])) 1 None))) (other_than_dot x byte z (not_dot x short))
     ∙ ap (λ f. or_shorter longer 2 (or_shorter f 1 None)) is
-front_behind n (x ∷ y ∷ []) byte rest short is =
+front_after n (x ∷ y ∷ []) byte rest short is =
     ap (λ f. or_shorter (velthuis_letter (x ∷ y ∷ byte ∷ [])) 3 (or_shorter f 2 (or_shorter (velthuis_letter (x ∷ [])) 1 None))) is
-front_behind n (x ∷ y ∷ z ∷ []) byte rest short is =
+front_after n (x ∷ y ∷ z ∷ []) byte rest short is =
     ap (λ f. or_shorter f 3 (or_shorter (velthuis_letter (x ∷ y ∷ [])) 2 (or_shorter (velthuis_letter (x ∷ [])) 1 None))) is
     ∙ ap (λ f. or_shorter f 4 (Some (n, 3))) (sym (no_longer x y z byte []))
-front_behind n (w ∷ x ∷ y ∷ z ∷ more) byte rest short is = absurd (cc)
+front_after n (w ∷ x ∷ y ∷ z ∷ more) byte rest short is = absurd (cc)
 
 -- a spelling alone is the longest at its front
 pub front_alone : (n : ℕ) (spelling : List ℕ) → is_short spelling ≡ true → velthuis_letter spelling ≡ Some n → velthuis_front spelling ≡ Some (n, length spelling)
@@ -98,7 +98,7 @@ keeps_length (Some m) n len = grind (arith, nat_tests)
 -- the longest spelling at the front has the length of the first one, exactly where the next byte makes no longer one
 pub ends_with_first : (n : ℕ) (spelling : List ℕ) (byte : ℕ) (rest : List ℕ) → Stands n spelling → has_length (velthuis_front (spelling ++ byte ∷ rest)) (length spelling) ≡ not (is_some (velthuis_letter (spelling ++ byte ∷ [])))
 ends_with_first n spelling byte rest h =
-    ap (λ f. has_length f (length spelling)) (front_behind n spelling byte rest h.short h.is_read) ∙ keeps_length _ n (length spelling)
+    ap (λ f. has_length f (length spelling)) (front_after n spelling byte rest h.short h.is_read) ∙ keeps_length _ n (length spelling)
 
 no_separator : (rest : List ℕ) → velthuis_front (95 ∷ rest) ≡ None
 unfolding velthuis_table velthuis_capital velthuis_letter velthuis_front
@@ -119,8 +119,8 @@ found_before n left (byte ∷ right) rest h some =
     by_gap (has_length (velthuis_front (left ++ byte ∷ right)) (length left)) (ends_with_first n left byte right h)
   where
     by_gap : (gap : Bool) → gap ≡ not (is_some (velthuis_letter (left ++ byte ∷ []))) → velthuis_front (left ++ (cond gap [] (95 ∷ []) ++ byte ∷ right ++ rest)) ≡ Some (n, length left)
-    by_gap true e = front_behind n left byte (right ++ rest) h.short h.is_read ∙ ap (λ f. or_shorter f (length left + 1) (Some (n, length left))) (not_some _ (sym e))
-    by_gap false e = front_behind n left 95 ((byte ∷ right) ++ rest) h.short h.is_read ∙ ap (λ f. or_shorter f (length left + 1) (Some (n, length left))) h.separated
+    by_gap true e = front_after n left byte (right ++ rest) h.short h.is_read ∙ ap (λ f. or_shorter f (length left + 1) (Some (n, length left))) (not_some _ (sym e))
+    by_gap false e = front_after n left 95 ((byte ∷ right) ++ rest) h.short h.is_read ∙ ap (λ f. or_shorter f (length left + 1) (Some (n, length left))) h.separated
 
 -- what Velthuis prints is read as the same word
 pub separates_velthuis : Separates velthuis_front (spelling_of_letter velthuis_table)

@@ -23,11 +23,11 @@ front_letter spelled zero text = None
 front_letter spelled (suc most) text =
     or_shorter (spelled (take (suc most) text)) (length (take (suc most) text)) (front_letter spelled most text)
 
--- what a place gives: the letter that begins there and the text behind its spelling; a byte that is passed over; or the fault
+-- what a place gives: the letter that begins there and the text after its spelling; a byte that is passed over; or the fault
 abbrev pub word_at : ℕ → Option (ℕ × ℕ) → Bool → (ℕ → Bool → Reading) → Reading
-word_at place None false behind = Err (NotLetter place)
-word_at place None true behind = behind 0 false
-word_at place (Some found) passed behind = with_letter found.0 (behind (found.1 - 1) true)
+word_at place None false following = Err (NotLetter place)
+word_at place None true following = following 0 false
+word_at place (Some found) passed following = with_letter found.0 (following (found.1 - 1) true)
 
 -- What the text from the place on spells. Its first `inside` bytes belong to a spelling that began before; `spelled`
 -- says that a spelling ends directly before it. A separator, `_`, that stands between two spellings is passed over.

@@ -7,7 +7,7 @@ pub(super) fn after<'a>(text: &'a [u8], front: &[u8]) -> Option<&'a [u8]>
     text.strip_prefix(front)
 }
 
-/// The parts before and behind the first of these bytes.
+/// The parts before and after the first of these bytes.
 pub(super) fn cut(text: &[u8], mark: u8) -> Option<(&[u8], &[u8])>
     ensures { MatchOption result (All (λ byte. byte ≢ mark) text.now)
         (λ parts. (text.now ≡ parts.0.now ++ mark ∷ parts.1.now) × All (λ byte. byte ≢ mark) parts.0.now) }

@@ -1,5 +1,5 @@
 ghost use Rattle.std.specs.Prelude.{◌≡◌, ◌≢◌, ℕ, ◌≤◌, List, [], ◌∷◌, ◌++◌, codes, IfOk, Err};
-ghost use Rattle.source_definitions.specs.ThinLines.{Entry as EntryValue, Tells};
+ghost use Rattle.thin_text_definitions.specs.ThinLines.{Entry as EntryValue, Tells};
 ghost use Rattle.sandhi_program.specs.ThinReader.{IsSpelling, told_of};
 
 use super::ThinError;
@@ -15,7 +15,7 @@ const PART_LETTERS: usize = 8;
 /// The most letters of a form, and of a stem.
 const FORM_LETTERS: usize = 64;
 
-/// What a line behind the first three tells.
+/// What a line after the first three tells.
 #[derive(Debug, Drop)]
 pub(super) enum Entry {
     Plain { left: Letter, right: Letter },
@@ -70,8 +70,8 @@ fn plain_of(alloc: Global, fields: &[u8]) -> Result<Entry, ThinError>
     Ok(Entry::Plain { left, right })
 }
 
-/// The phases that a form behind a rule with this `v` may have: the one phase, or none where the rule is final.
-fn phases_behind(v: &Word) -> u16
+/// The phases that a form after a rule with this `v` may have: the one phase, or none where the rule is final.
+fn phases_after(v: &Word) -> u16
     ensures inner { v.now ≢ [] → result ≡ 1 }
     ensures end { v.now ≡ [] → result ≡ 0 }
 {
@@ -92,7 +92,7 @@ fn rule_of(alloc: Global, field: &[u8]) -> Result<Entry, ThinError>
     let u = some_word_of(alloc, u, PART_LETTERS)?;
     let v = word_of(alloc, v, PART_LETTERS)?;
     let w = some_word_of(alloc, w, PART_LETTERS)?;
-    let after = phases_behind(&v);
+    let after = phases_after(&v);
     Ok(Entry::Rule(Rule {
         u,
         v,
@@ -124,7 +124,7 @@ fn form_of(alloc: Global, fields: &[u8]) -> Result<Entry, ThinError>
     Ok(Entry::Form { letters, stem })
 }
 
-/// What the line tells. `NotThin` where it is no line of a thin text behind the first three.
+/// What the line tells. `NotThin` where it is no line of a thin text after the first three.
 pub(super) fn entry_of(alloc: Global, line: &[u8]) -> Result<Entry, ThinError>
     ensures ok { IfOk result (λ entry. Tells line.now (told_of entry)) }
     ensures not_thin { result ≡ Err ThinError.NotThin → (entry : EntryValue) → Tells line.now entry → ⊥ }

@@ -16,21 +16,21 @@ chosen c = elim c.if-place-eq0.branch [
   | else-place-eq0 w ↦ w.before-is ∙ sym (rule_before-later 0 c.args.steps.now c.args.j _ (omega arith))
 ]
 
-pub form_behind-requires-clause-before : goal.form_behind-requires-clause-before
-form_behind-requires-clause-before c =
+pub form_after-requires-clause-before : goal.form_after-requires-clause-before
+form_after-requires-clause-before c =
     let bound = before_within c.args.rules.now c.args.line.now.letters c.args.steps.now c.args.j nothing 0 0 [] c.requires.stand c.requires.place (omega arith)
     in let e = chosen c in omega (arith, bound, e)
 
-pub form_behind-requires-clause-rule : goal.form_behind-requires-clause-rule
-form_behind-requires-clause-rule c =
+pub form_after-requires-clause-rule : goal.form_after-requires-clause-rule
+form_after-requires-clause-rule c =
     (within c.args.rules.now c.args.line.now.letters c.args.steps.now c.args.j _ 0 [] c.requires.stand c.requires.place).rule
 
-pub form_behind-requires-clause-within : goal.form_behind-requires-clause-within
-form_behind-requires-clause-within c =
+pub form_after-requires-clause-within : goal.form_after-requires-clause-within
+form_after-requires-clause-within c =
     (within c.args.rules.now c.args.line.now.letters c.args.steps.now c.args.j _ 0 [] c.requires.stand c.requires.place).taken
 
 pub returns : goal.returns
 returns c = record {
   ok = form_found c.args.rules.now c.args.line.now.letters c.args.steps.now c.args.j nothing _ _ c.requires.place
-      (chosen (goal.at.returns c).Joined-place-eq0) c.form_behind.ensures.ok;
+      (chosen (goal.at.returns c).Joined-place-eq0) c.form_after.ensures.ok;
 }

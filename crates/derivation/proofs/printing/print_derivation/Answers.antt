@@ -1,6 +1,6 @@
 -- Each step stands within the rule set and the line; one more step prints as the lemmas on the rest of the steps say.
 use Rattle.std.proofs.Common.{[], arith, refl}
-use Rattle.session_definitions.specs.PrintedAnswers.{printed_answer}
+use Rattle.segmentation_definitions.specs.PrintedAnswers.{printed_answer}
 use Rattle.derivation.proofs.StepLemmas.{within, printed_on, printed_out}
 use Rattle.derivation.proofs.printing.print_derivation.Goals as goal
 use Rattle.derivation.proofs.printing.print_derivation.Goals.{then-j-steps+in_ok-push_joint, else-j-steps+in_ok-push_end}

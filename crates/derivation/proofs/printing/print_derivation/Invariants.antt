@@ -1,6 +1,6 @@
--- What is printed so far, and what the rest of the steps prints behind the rule before it, are the whole line.
+-- What is printed so far, and what the rest of the steps prints after the rule before it, are the whole line.
 use Rattle.std.proofs.Common.{◌≡◌, ◌≤◌, ◌++◌, length, drop, string_bytes}
-use Rattle.session_definitions.specs.PrintedAnswers.{printed_answer, printed_steps}
+use Rattle.segmentation_definitions.specs.PrintedAnswers.{printed_answer, printed_steps}
 use Rattle.lexicon_definitions.specs.Lexicons.{rule_of}
 use Rattle.derivation.specs.Steps.{steps_of, steps_from}
 use Rattle.derivation.proofs.printing.print_derivation.Given as goal

@@ -1,4 +1,4 @@
--- A text that is UTF-8 spells what its code points do, and any other is at fault behind its longest valid front.
+-- A text that is UTF-8 spells what its code points do, and any other is at fault after its longest valid front.
 use Rattle.std.proofs.Common.{◌≡◌, false, Ok, IfOk, IfErr, ap, ◌∙◌, subst}
 use Rattle.std.specs.Str.{chars}
 use Rattle.text_definitions.specs.Devanagari.{word_of_points}

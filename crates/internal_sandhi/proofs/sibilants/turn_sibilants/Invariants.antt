@@ -1,6 +1,6 @@
 -- From the right: what the loop has not reached is the old word, and what it has passed is done.
 use Rattle.std.proofs.Common.{◌≡◌, ◌<◌, ◌≤◌, length, ℕ, slice_index}
-use Rattle.source_definitions.specs.InternalSandhi.{IsTurningSibilant, letter_z}
+use Rattle.morphology_definitions.specs.InternalSandhi.{IsTurningSibilant, letter_z}
 use Rattle.internal_sandhi.proofs.Turning.{IsDone}
 use Rattle.internal_sandhi.proofs.sibilants.turn_sibilants.Given as goal
 

@@ -2,8 +2,8 @@
 use Rattle.std.proofs.Common.{refl, ap, ◌∙◌, inl, inr, map, string_bytes}
 use Rattle.outside.specs.Told.{bytes_after}
 use Rattle.std.specs.Prelude.{codes}
-use Rattle.session_definitions.specs.Outcomes as outcomes
-use Rattle.session_definitions.specs.Outcomes.{output_line}
+use Rattle.run_definitions.specs.Outcomes as outcomes
+use Rattle.run_definitions.specs.Outcomes.{output_line}
 use Rattle.sandhi_program.proofs.Runs.{missing_ran, usage_outcome, ends_usage}
 use Rattle.sandhi_program.proofs.run.run.Goals as goal
 

@@ -1,6 +1,6 @@
 -- What is printed and what is left to print are together the answers.
 use Rattle.std.proofs.Common.{◌≡◌, ◌+◌, ◌++◌, string_bytes, map, drop}
-use Rattle.session_definitions.specs.Outcomes.{printed_answers}
+use Rattle.run_definitions.specs.Outcomes.{printed_answers}
 use Rattle.derivation.specs.Steps.{steps_of}
 use Rattle.sandhi_program.proofs.segment.push_answers.Given as goal
 

@@ -3,7 +3,7 @@ use Rattle.std.proofs.Common.{◌<◌, List, [], length, map, ap, sym, subst, �
 use Rattle.text_definitions.specs.Lines.{Line}
 use Rattle.lexicon_definitions.specs.Lexicons.{RuleSet}
 use Rattle.segmentation_definitions.specs.Listings.{BeforeFirst, IsPage}
-use Rattle.session_definitions.specs.Outcomes.{printed_page}
+use Rattle.run_definitions.specs.Outcomes.{printed_page}
 use Rattle.derivation.specs.Steps.{StandIn, steps_of}
 use Rattle.derivation.specs.declared.step.Step.{Step as ProgramStep}
 use Rattle.sandhi_program.proofs.RisingForms.{has_rising_lists, all_from_map, map_twice}

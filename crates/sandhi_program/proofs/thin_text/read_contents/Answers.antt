@@ -1,7 +1,7 @@
 -- Each line tells what may follow, and where the text is lawful it goes on so.
 use Rattle.std.proofs.Common.{Err, ap, subst}
-use Rattle.source_definitions.specs.LexiconTexts.{text_of}
-use Rattle.source_definitions.specs.ThinLines.{lexicon_of}
+use Rattle.lexicon_text_definitions.specs.LexiconTexts.{text_of}
+use Rattle.thin_text_definitions.specs.ThinLines.{lexicon_of}
 use Rattle.sandhi_program.specs.ThinReader.{told_of}
 use Rattle.sandhi_program.specs.declared.thin_text.error.ThinError.TheVariants.{NotThin}
 use Rattle.sandhi_program.proofs.ThinFields.{handed_on, empty_from_test, nonempty_from_test}
@@ -18,20 +18,20 @@ loop-line-init c =
 pub returns-in_err-entry_of-clause-not_thin : goal.returns-in_err-entry_of-clause-not_thin
 returns-in_err-entry_of-clause-not_thin c = λ was full thin told.
     let here = subst (ReadUpTo c.loop-line.contents c.args.text.now) c.in-Some.ensures.0 c.loop-line.invariant in
-    let next = next_follows full (text_of (lexicon_of full)) c.args.text.now thin told c.loop-line.contents c.in-Some.line.now c.in-Some.behind.now here c.in-Some.ensures.1 in
+    let next = next_follows full (text_of (lexicon_of full)) c.args.text.now thin told c.loop-line.contents c.in-Some.line.now c.in-Some.following.now here c.in-Some.ensures.1 in
     c.in_err-entry_of.ensures.not_thin (ap Err (handed_on c.from_residual.result c.in_err-entry_of.field-0.0 NotThin c.from_residual.ensures.1 was)) next.0 next.1
 
 pub returns-in_err-add-clause-not_thin : goal.returns-in_err-add-clause-not_thin
 returns-in_err-add-clause-not_thin c = λ was full thin told.
     let here = subst (ReadUpTo c.loop-line.contents c.args.text.now) c.in-Some.ensures.0 c.loop-line.invariant in
-    let may = told_follows full (text_of (lexicon_of full)) c.args.text.now thin told c.loop-line.contents c.in-Some.line.now c.in-Some.behind.now (told_of c.in_ok-entry_of.field-0)
+    let may = told_follows full (text_of (lexicon_of full)) c.args.text.now thin told c.loop-line.contents c.in-Some.line.now c.in-Some.following.now (told_of c.in_ok-entry_of.field-0)
     here c.in-Some.ensures.1 c.in_ok-entry_of.ensures.ok in
     c.in_err-add.ensures.not_thin (ap Err (handed_on c.from_residual-in_err-add.result c.in_err-add.field-0.0 NotThin c.from_residual-in_err-add.ensures.1 was)) may
 
 pub loop-line-preserved : goal.loop-line-preserved
 loop-line-preserved c =
     let here = subst (ReadUpTo c.loop-line.contents c.args.text.now) c.in-Some.ensures.0 c.loop-line.invariant in
-    read_line c.loop-line.contents c.add.new.self c.args.text.now c.in-Some.line.now c.in-Some.behind.now (told_of c.in_ok-entry_of.field-0) here c.in_ok-entry_of.ensures.ok
+    read_line c.loop-line.contents c.add.new.self c.args.text.now c.in-Some.line.now c.in-Some.following.now (told_of c.in_ok-entry_of.field-0) here c.in_ok-entry_of.ensures.ok
     c.in_ok-add.ensures.ok c.in_ok-add.ensures.added c.in_ok-add.ensures.lawful
 
 pub returns-then-contents-clause-ok : goal.returns-then-contents-clause-ok

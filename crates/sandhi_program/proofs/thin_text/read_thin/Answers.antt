@@ -1,7 +1,7 @@
 -- What was read is the lexicon of the text, and a thin text is read.
 use Rattle.std.proofs.Common.{◌≤◌, Err, ap, arith, length}
-use Rattle.source_definitions.specs.Limits.{file_limit}
-use Rattle.source_definitions.specs.ThinLines.{lexicon_of, text_telling, all_entries}
+use Rattle.lexicon_definitions.specs.Limits.{file_limit}
+use Rattle.thin_text_definitions.specs.ThinLines.{lexicon_of, text_telling, all_entries}
 use Rattle.sandhi_program.specs.declared.thin_text.error.ThinError.TheVariants.{NotThin}
 use Rattle.sandhi_program.proofs.ThinFields.{handed_on}
 use Rattle.sandhi_program.proofs.ThinWhole.{thin_text_is, body_is, text_from_contents, forms_from_contents}

@@ -1,6 +1,6 @@
 -- Both summaries are strictly sorted, and have the same items.
 use Rattle.segmentation_definitions.proofs.ItemOrder.{compare_items_total}
-use Rattle.segmentation_definitions.proofs.Sorted.{same_sorted}
+use Rattle.list_laws.proofs.Sorted.{same_sorted}
 use Rattle.segmentation_definitions.proofs.pages.one_summary.Goals as goal
 
 pub returns : goal.returns

@@ -1,4 +1,4 @@
--- From the last page to the first: behind each page's answers stands the listing above the last of them.
+-- From the last page to the first: after each page's answers stands the listing above the last of them.
 use Rattle.segmentation_definitions.specs.Listings.{BeforeFirst}
 use Rattle.segmentation_definitions.proofs.Listings.{listing_from_pages}
 use Rattle.segmentation_definitions.proofs.pages.pages_make_the_listing.Goals as goal

@@ -1,12 +1,12 @@
--- Each step that may follow is taken in turn: an answer where the line ends behind it, else what goes on behind it.
+-- Each step that may follow is taken in turn: an answer where the line ends after it, else what goes on after it.
 use Rattle.std.proofs.Common.{◌≡◌, ℕ, ◌+◌, [], ◌∷◌, ◌++◌, take, get_or, Contains, false, refl, sym, subst, ◌∙◌}
 use Rattle.derivation.specs.declared.step.Step.{Step}
-use Rattle.segmenter.specs.Firsts.{AreAll}
+use Rattle.list_laws.specs.Firsts.{AreAll}
 use Rattle.segmenter.specs.Completions.{CanFollow, compare_steps}
 use Rattle.segmenter.specs.Pages.{answers_of, AppendsFirst}
 use Rattle.segmenter.proofs.Extensions.{Begins, begin_none, begin_all, begin_enough, popped, here_follows, step_ends, step_goes_on}
 use Rattle.segmenter.proofs.extend.+extend.Goals as goal
-use Rattle.segmenter.proofs.extend.+extend.Goals.{then-ends_line+in_ok-take_answer, else-ends_line+in_ok-behind+in_ok-extend, After-pop}
+use Rattle.segmenter.proofs.extend.+extend.Goals.{then-ends_line+in_ok-take_answer, else-ends_line+in_ok-following+in_ok-extend, After-pop}
 
 -- what an index past the end would give
 abbrev none : Step
@@ -31,8 +31,8 @@ ends_line-requires-clause-within t c =
     (here_follows c.args.lexicon.now c.args.line.now c.args.place c.args.most c.deref-step-items.result.now c.loop-step.step-index c.args.path.now.items
     c.loop-step.path.items c.args.found.now c.loop-step.found c.loop-step.invariant none c.loop-step-test.true).stands.taken
 
-pub behind-requires-clause-follows : goal.behind-requires-clause-follows
-behind-requires-clause-follows t c =
+pub following-requires-clause-follows : goal.following-requires-clause-follows
+following-requires-clause-follows t c =
     here_follows c.args.lexicon.now c.args.line.now c.args.place c.args.most c.deref-step-items.result.now c.loop-step.step-index c.args.path.now.items
     c.loop-step.path.items c.args.found.now c.loop-step.found c.loop-step.invariant none c.loop-step-test.true
 
@@ -40,7 +40,7 @@ behind-requires-clause-follows t c =
 one_more : (t : ℕ) (c : After-pop t) → c.if-ends_line.path.items ≡ c.loop-step.path.items ++ get_or c.deref-step-items.result.now c.loop-step.step-index none ∷ []
 one_more t c = elim c.if-ends_line.branch [
   | then-ends_line+in_ok-take_answer w ↦ rw w.path-is c.in_ok-push.ensures.items
-  | else-ends_line+in_ok-behind+in_ok-extend w ↦ rw w.path-is (w.in_ok-extend.ensures.path ∙ c.in_ok-push.ensures.items)
+  | else-ends_line+in_ok-following+in_ok-extend w ↦ rw w.path-is (w.in_ok-extend.ensures.path ∙ c.in_ok-push.ensures.items)
 ]
 
 same_path : (t : ℕ) (c : After-pop t) → c.pop.new.self.items ≡ c.args.path.now.items
@@ -59,13 +59,13 @@ so_far t c = elim c.if-ends_line.branch [
       c.loop-step.path.items c.args.found.now c.loop-step.found c.loop-step.invariant none c.loop-step-test.true
       c.push.new.self.items w.take_answer.new.self (c.ends_line.ensures.0 w.if-ends_line.true) c.in_ok-push.ensures.items
       (rw w.as_slice.ensures.value at w.in_ok-take_answer.ensures.ok))
-  | else-ends_line+in_ok-behind+in_ok-extend w ↦
+  | else-ends_line+in_ok-following+in_ok-extend w ↦
       rw w.found-is
       (step_goes_on c.args.lexicon.now c.args.line.now c.args.place c.args.most c.deref-step-items.result.now c.loop-step.step-index c.args.path.now.items
       c.loop-step.path.items c.args.found.now c.loop-step.found c.loop-step.invariant none c.loop-step-test.true
-      c.push.new.self.items w.in_ok-behind.behind w.extend.new.found
+      c.push.new.self.items w.in_ok-following.following w.extend.new.found
       (λ ends. let yes = c.ends_line.ensures.1 ends in let no = w.if-ends_line.false in absurd (cc)) c.in_ok-push.ensures.items
-      w.in_ok-behind.ensures.ok w.in_ok-extend.ensures.found)
+      w.in_ok-following.ensures.ok w.in_ok-extend.ensures.found)
 ]
 
 pub returns-then-found-clause-path : goal.returns-then-found-clause-path

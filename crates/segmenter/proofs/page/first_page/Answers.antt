@@ -1,7 +1,7 @@
--- Behind nothing found and an empty path stand the first lists that complete the line, and these are the page.
+-- After nothing found and an empty path stand the first lists that complete the line, and these are the page.
 use Rattle.std.proofs.Common.{ap, map, subst}
 use Rattle.text_definitions.specs.Lines.{IsLine}
-use Rattle.segmenter.specs.Firsts.{AreFirst}
+use Rattle.list_laws.specs.Firsts.{AreFirst}
 use Rattle.segmenter.specs.Completions.{opening, Completes}
 use Rattle.segmenter.specs.Pages.{compare_lists, answers_of}
 use Rattle.segmenter.proofs.FirstPages.{page_from, stand_all, some_all, first_from_appends}

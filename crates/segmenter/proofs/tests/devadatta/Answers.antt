@@ -1,8 +1,8 @@
 -- The parts are those of the worked lexicon.
 use Rattle.std.proofs.Common.{lit<}
 use Rattle.std.proofs.lemmas.Result.{IfOk-weaker}
-use Rattle.segmentation_definitions.specs.WorkedLexicons.{devadatta_lexicon}
-use Rattle.segmentation_definitions.proofs.SmallLexicons.{devadatta_is_lexicon}
+use Rattle.worked_cases.specs.WorkedLexicons.{devadatta_lexicon}
+use Rattle.worked_cases.proofs.SmallLexicons.{devadatta_is_lexicon}
 use Rattle.segmenter.specs.Forms.{HasRisingLists}
 use Rattle.segmenter.proofs.WorkedForms.{ArePartsOf, thin_counted, parts_are_rules, parts_rise, devadatta_parts}
 use Rattle.segmenter.proofs.tests.devadatta.Goals as goal

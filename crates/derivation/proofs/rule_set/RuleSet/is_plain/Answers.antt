@@ -3,7 +3,7 @@ use Rattle.std.proofs.Common.{ℕ, ◌↔◌, IsTrue, is_ok, Contains, subst, na
 use Rattle.std.specs.Cmp.{IsTotalOrder}
 use Rattle.std.proofs.lemmas.Cmp.{nat_cmp_total, on_total, then_total}
 use Rattle.std.proofs.lemmas.Map.Lookups.{exact_pairs, exact_unsigned}
-use Rattle.text_definitions.proofs.Searches.{found}
+use Rattle.list_laws.proofs.Searches.{found}
 use Rattle.lexicon_definitions.specs.Lexicons.{RuleSet, IsPlain, compare_pairs}
 use Rattle.derivation.proofs.rule_set.RuleSet.is_plain.Goals as goal
 

@@ -4,7 +4,7 @@ use Rattle.std.proofs.lemmas.Fn.{always_returns_same}
 use Rattle.std.proofs.lemmas.List.{get_or-map, length-map}
 use Rattle.std.specs.List.Sorted.{IsStrictlySortedBy}
 use Rattle.text_definitions.specs.Words.{compare_words}
-use Rattle.text_definitions.proofs.Searches.{found_word}
+use Rattle.text_definitions.proofs.WordSearches.{found_word}
 use Rattle.segmenter.specs.Forms.{lists_of, list_of}
 use Rattle.segmenter.proofs.lexicon.Lexicon.has_form.Goals as goal
 

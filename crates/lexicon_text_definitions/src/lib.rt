@@ -1,0 +1,2 @@
+//! The text of a lexicon file, as definitions in `specs/`.
+#![tactic(auto)]

@@ -1,0 +1,4 @@
+pub mod FirstOnes
+pub mod Marks
+pub mod Searches
+pub mod Sorted

@@ -1,0 +1,3 @@
+pub mod JoinedExists
+pub mod JoinedWord
+pub mod NasalReach

@@ -1,6 +1,0 @@
--- The listing is shown beside others.
-use Rattle.segmentation_definitions.proofs.SmallListings.{listing_of_naagacchati}
-use Rattle.segmentation_definitions.proofs.worked_cases.a_segment_may_take_no_letter.Goals as goal
-
-pub returns-clause-listing : goal.returns-clause-listing
-returns-clause-listing c = listing_of_naagacchati

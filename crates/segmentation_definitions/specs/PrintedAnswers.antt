@@ -1,0 +1,38 @@
+-- The printed line of an answer: its forms with their phases, and the rules between them (own).
+use Rattle.std.specs.Prelude.{ℕ, ◌==◌, if◌then◌else◌, List, [], ◌∷◌, ◌++◌, slice_index_or, codes}
+use Rattle.std.specs.Fmt.{decimal}
+use Rattle.text_definitions.specs.Slp1.{slp1_of_word}
+use Rattle.lexicon_definitions.specs.Rules.{Rule}
+use Rattle.lexicon_definitions.specs.Lexicons.{RuleSet, rule_of}
+use Rattle.segmentation_definitions.specs.Derivations.{Step}
+
+-- the name of a phase
+abbrev pub name_of : RuleSet → ℕ → List ℕ
+name_of rules phase = slice_index_or rules.names phase []
+
+-- FORM[PHASE], the form in SLP1
+abbrev pub printed_form : RuleSet → Step → List ℕ
+printed_form rules step = slp1_of_word step.form ++ codes "[" ++ name_of rules step.phase ++ codes "]"
+
+-- a rule's notation u|v>w, in SLP1
+abbrev pub printed_rule : Rule → List ℕ
+printed_rule rule = slp1_of_word rule.u ++ codes "|" ++ slp1_of_word rule.v ++ codes ">" ++ slp1_of_word rule.w
+
+-- what stands between a form and the next, by the number of the rule between: ` + ` for no change, else ` (u|v>w) `
+abbrev pub printed_joint : RuleSet → ℕ → List ℕ
+printed_joint rules number = if number == 0 then codes " + " else codes " (" ++ printed_rule (rule_of rules number) ++ codes ") "
+
+-- what stands after the last form, by the number of its rule: nothing for no change, else ` (u|>w)`
+abbrev pub printed_end : RuleSet → ℕ → List ℕ
+printed_end rules number = if number == 0 then [] else codes " (" ++ printed_rule (rule_of rules number) ++ codes ")"
+
+-- the forms with what stands between them and after the last
+abbrev pub printed_steps : RuleSet → List Step → List ℕ
+printed_steps rules [] = []
+printed_steps rules (step ∷ []) = printed_form rules step ++ printed_end rules step.rule
+printed_steps rules (step ∷ next ∷ steps) =
+    printed_form rules step ++ printed_joint rules step.rule ++ printed_steps rules (next ∷ steps)
+
+-- the line of an answer with its number in the listing: `N: ` and its steps
+unfoldable pub printed_answer : RuleSet → ℕ → List Step → List ℕ
+printed_answer rules number steps = decimal number ++ codes ": " ++ printed_steps rules steps

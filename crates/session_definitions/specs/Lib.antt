@@ -1,2 +1,0 @@
-pub mod PrintedAnswers
-pub mod Outcomes

@@ -1,5 +1,0 @@
-use Rattle.source_definitions.proofs.JoinedExists.{IsJoined-exists}
-use Rattle.source_definitions.proofs.internal_sandhi.joined_exists.Goals as goal
-
-pub returns : goal.returns
-returns c = IsJoined-exists

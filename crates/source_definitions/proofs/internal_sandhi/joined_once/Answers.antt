@@ -1,5 +1,0 @@
-use Rattle.source_definitions.proofs.JoinedWord.{IsJoined-once}
-use Rattle.source_definitions.proofs.internal_sandhi.joined_once.Goals as goal
-
-pub returns : goal.returns
-returns c = IsJoined-once

@@ -1,0 +1,2 @@
+pub mod ThinEntries
+pub mod ThinShape

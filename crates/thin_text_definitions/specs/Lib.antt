@@ -1,0 +1,2 @@
+pub mod ThinLines
+pub mod ThinTexts

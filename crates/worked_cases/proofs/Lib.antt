@@ -1,0 +1,5 @@
+pub mod Candidates
+pub mod SmallAnswers
+pub mod SmallLexicons
+pub mod SmallListings
+pub mod WrittenLexicons
