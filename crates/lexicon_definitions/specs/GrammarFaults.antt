@@ -2,6 +2,7 @@
 use Rattle.std.specs.Prelude.{◌≡◌, ◌≢◌, ℕ, ◌+◌, ◌-◌, ◌<◌, ◌==◌, nat_le, nat_lt, ◌&&◌, ◌||◌, not, Bool, true, false, if◌then◌else◌, Option, Some, None, List, [], ◌∷◌, length, All, AllPairs}
 use Rattle.std.specs.List.{list_any}
 use Rattle.std.specs.Str.{bytes_eq}
+use Rattle.lexicon_definitions.specs.declared.limits.TheConstants.{MOST_GRAMMAR_BYTES, MOST_GRAMMAR_NAMES, MOST_GRAMMAR_STATES}
 use Rattle.lexicon_definitions.specs.Grammars.{Grammar, State, IsStateAfter, IsLiveState}
 use Rattle.lexicon_definitions.specs.GrammarTexts.{is_name_byte, is_blank, begins_with_name_byte, grammar_of}
 
@@ -115,12 +116,12 @@ first_fault_of false None None false = None
 -- the first fault but for too many states
 abbrev pub fault_before_states : List (List ℕ) → List ℕ → Option Fault
 fault_before_states names text =
-    first_fault_of (nat_lt 1024 (length text)) (syntax_fault text) (first_unknown names (names_from 0 text))
-    (nat_lt 60 (length (names_from 0 text)))
+    first_fault_of (nat_lt MOST_GRAMMAR_BYTES (length text)) (syntax_fault text) (first_unknown names (names_from 0 text))
+    (nat_lt MOST_GRAMMAR_NAMES (length (names_from 0 text)))
 
 -- the text's first fault
 abbrev pub IsFirstFault : List (List ℕ) → List ℕ → Fault → Type 0
-IsFirstFault names text States = (fault_before_states names text ≡ None) × HasMoreStates (grammar_of names text) 32
+IsFirstFault names text States = (fault_before_states names text ≡ None) × HasMoreStates (grammar_of names text) MOST_GRAMMAR_STATES
 IsFirstFault names text fault = fault_before_states names text ≡ Some fault
 
 -- the text is a grammar text within the limits over these names of phases: it has no fault of any kind; a grammar text as

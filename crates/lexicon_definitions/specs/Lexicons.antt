@@ -7,6 +7,7 @@ use Rattle.std.specs.Ordering.{nat_cmp, ordering_then, on}
 use Rattle.std.specs.List.Sorted.{IsStrictlySortedBy}
 use Rattle.text_definitions.specs.Letters.{IsLetter}
 use Rattle.text_definitions.specs.Words.{IsWord, compare_words}
+use Rattle.lexicon_definitions.specs.declared.limits.TheConstants.{MOST_NAME_BYTES}
 use Rattle.lexicon_definitions.specs.Analyses.{Analysis, compare_analyses}
 use Rattle.lexicon_definitions.specs.Rules.{Rule, IsRule, IsSameTriple, rule_at}
 use Rattle.lexicon_definitions.specs.Grammars.{Grammar, Accepts}
@@ -63,7 +64,7 @@ IsPhaseWord rules phases = Accepts (tree_of rules) phases
 abbrev pub IsPhaseName : List ℕ → Type 0
 IsPhaseName [] = ⊥
 IsPhaseName (byte ∷ bytes) =
-    (is_small_letter byte ≡ true) × (length bytes ≤ 15) × (list_all is_name_byte bytes ≡ true)
+    (is_small_letter byte ≡ true) × (length (byte ∷ bytes) ≤ MOST_NAME_BYTES) × (list_all is_name_byte bytes ≡ true)
 
 -- the text is a grammar text over these names: no byte breaks the syntax, and each name in it is one of them; there is no
 -- limit on its bytes, names and states

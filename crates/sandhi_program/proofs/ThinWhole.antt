@@ -6,7 +6,7 @@ use Rattle.std.proofs.lemmas.List.{append_cancel_left}
 use Rattle.std.proofs.lemmas.List.Elements.{All-map, All-from_recursion}
 use Rattle.lexicon_definitions.specs.Lexicons.{Form, IsRuleSet}
 use Rattle.lexicon_text_definitions.specs.LexiconTexts.{text_of}
-use Rattle.lexicon_definitions.specs.Limits.{file_limit}
+use Rattle.lexicon_text_definitions.specs.declared.limits.TheConstants.{MOST_FILE_BYTES}
 use Rattle.thin_text_definitions.specs.ThinTexts.{IsTextOf, IsThin, IsThinForm, IsThinTextOf, IsThinText}
 use Rattle.thin_text_definitions.specs.ThinLines.{Contents, form_of, rules_of, lexicon_of, all_entries, text_telling, head_text}
 use Rattle.thin_text_definitions.proofs.ThinShape.{thin_shape, text_told}
@@ -53,7 +53,7 @@ is_thin full = record {
   forms = All-from_recursion (λ forms. All IsThinForm forms) (map form_of full.forms ∷ []) (thin_forms full.forms, tt);
 }
 
-pub text_from_contents : (bytes text : List ℕ) (full : Contents) → bytes ≡ head_text ++ text → text ≡ text_telling (all_entries full) → IsThinContents full → length bytes ≤ file_limit
+pub text_from_contents : (bytes text : List ℕ) (full : Contents) → bytes ≡ head_text ++ text → text ≡ text_telling (all_entries full) → IsThinContents full → length bytes ≤ MOST_FILE_BYTES
     → IsThinTextOf (lexicon_of full) bytes
 text_from_contents bytes text full e told thin short =
     let whole : bytes ≡ text_of (lexicon_of full) = e ∙ ap (λ rest. head_text ++ rest) told ∙ sym (text_told full) in

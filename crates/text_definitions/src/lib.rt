@@ -1,8 +1,10 @@
 //! Letters, words and lines, as definitions in `specs/`, and what follows from them.
 #![tactic(auto)]
 
+mod limits;
 mod spellings;
 mod words;
 
+pub use limits::MOST_LINE_LETTERS;
 pub use spellings::{printed_words_are_read_back, read_bytes_are_printed_back, texts_spell_words};
 pub use words::words_are_ordered;

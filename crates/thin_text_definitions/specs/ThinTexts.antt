@@ -5,7 +5,8 @@ use Rattle.text_definitions.specs.Words.{IsWord}
 use Rattle.lexicon_definitions.specs.Rules.{IsUnlimited}
 use Rattle.lexicon_definitions.specs.Lexicons.{Lexicon, Form, IsLexicon}
 use Rattle.lexicon_text_definitions.specs.LexiconTexts.{text_of}
-use Rattle.lexicon_definitions.specs.Limits.{file_limit, IsWithinLimits}
+use Rattle.lexicon_definitions.specs.Limits.{IsWithinLimits}
+use Rattle.lexicon_text_definitions.specs.declared.limits.TheConstants.{MOST_FILE_BYTES}
 
 -- each stem of the form is a word that is not empty
 abbrev pub HasSpelledStems : Form → Type 0
@@ -33,7 +34,7 @@ pub record IsThin (lexicon : Lexicon) : Type 0 where
 pub record IsThinTextOf (lexicon : Lexicon) (bytes : List ℕ) : Type 0 where
   pub text : IsTextOf lexicon bytes
   pub thin : IsThin lexicon
-  pub limit : length bytes ≤ file_limit
+  pub limit : length bytes ≤ MOST_FILE_BYTES
 
 -- the bytes are a thin text
 abbrev pub IsThinText : List ℕ → Type 0

@@ -1,6 +1,6 @@
 -- What was read is the lexicon of the text, and a thin text is read.
 use Rattle.std.proofs.Common.{◌≤◌, Err, ap, arith, length}
-use Rattle.lexicon_definitions.specs.Limits.{file_limit}
+use Rattle.lexicon_text_definitions.specs.declared.limits.TheConstants.{MOST_FILE_BYTES}
 use Rattle.thin_text_definitions.specs.ThinLines.{lexicon_of, text_telling, all_entries}
 use Rattle.sandhi_program.specs.declared.thin_text.error.ThinError.TheVariants.{NotThin}
 use Rattle.sandhi_program.proofs.ThinFields.{handed_on}
@@ -20,7 +20,7 @@ returns-in_err-contents-clause-not_thin c = λ was thin.
 pub returns-clause-ok : goal.returns-clause-ok
 returns-clause-ok c =
     let read = c.in_ok-contents.ensures.ok in
-    let short : length c.args.bytes.now ≤ file_limit = omega arith in (
+    let short : length c.args.bytes.now ≤ MOST_FILE_BYTES = omega arith in (
       lexicon_of read.0,
       text_from_contents c.args.bytes.now c.in-Some.text.now read.0 c.in-Some.ensures read.2 read.1.thin short,
       forms_from_contents c.in_ok-lexicon_of.field-0 c.in_ok-contents.contents read.0 c.in_ok-lexicon_of.ensures.rules c.in_ok-lexicon_of.ensures.forms read.1,
