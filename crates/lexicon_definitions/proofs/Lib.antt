@@ -6,3 +6,4 @@ pub mod GrammarStates
 pub mod GrammarPhases
 pub mod GrammarSpelling
 pub mod SpelledTokens
+pub mod LeadLaws

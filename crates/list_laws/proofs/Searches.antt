@@ -32,7 +32,7 @@ contained_at key (y ∷ xs) x i low here =
 
 -- the list rises by an order of the elements' keys, and r is what a search for the key x answered
 module _ {X K : Type 0} {R : K → K → Ordering} (total : IsTotalOrder R) (exact : CmpEqualImpliesEq R) (key : X → K) (xs : List X) (x : K) where
-  not_falling : IsStrictlySortedBy (on key R) xs → IsNonDecreasingBy (λ y. ordering_index (R (key y) x)) xs
+  pub not_falling : IsStrictlySortedBy (on key R) xs → IsNonDecreasingBy (λ y. ordering_index (R (key y) x)) xs
   not_falling rising =
       searchable_from_sorted total key xs x
       (λ k d low high. rw (total.antisymm (key (get_or xs (k + 1) d)) (key (get_or xs k d)))
