@@ -1,10 +1,10 @@
 -- Leads: what an inner rule says of the form after it (own).
-use Rattle.std.specs.Prelude.{◌≡◌, ℕ, ◌<◌, ◌≤◌, List, [], ◌∷◌, length, Contains}
+use Rattle.std.specs.Prelude.{◌≡◌, ℕ, List, [], ◌∷◌, Contains, Option, Some, None, slice_get}
 use Rattle.std.specs.declared.cmp.Ordering.{Ordering}
 use Rattle.std.specs.Ordering.{nat_cmp, ordering_then}
 use Rattle.list_laws.specs.RisingSets.{with_element}
 use Rattle.text_definitions.specs.Words.{compare_words}
-use Rattle.lexicon_definitions.specs.Rules.{Rule, IsInner}
+use Rattle.lexicon_definitions.specs.Rules.{Rule, IsInner, IsFinal}
 
 -- the letters that begin the form after the rule, and the set of the phases that it may have
 pub record Lead : Type 0 where
@@ -32,3 +32,12 @@ leads_of rules = with_leads [] rules
 -- the lead is that of an inner rule among these
 abbrev pub IsLeadOf : List Rule → Lead → Type 0
 IsLeadOf rules lead = (rule : Rule) × Contains rules rule × IsInner rule × (rule.v ≡ lead.v) × (rule.after ≡ lead.after)
+
+-- the lead of an inner rule
+abbrev pub lead_of : Rule → Lead
+lead_of rule = record { v = rule.v; after = rule.after }
+
+-- where the rule's lead stands among the leads, counted from 0; a final rule has none
+abbrev pub IsLeadPlace : List Lead → Rule → Option ℕ → Type 0
+IsLeadPlace leads rule None = IsFinal rule
+IsLeadPlace leads rule (Some place) = IsInner rule × (slice_get leads place ≡ Some (lead_of rule))

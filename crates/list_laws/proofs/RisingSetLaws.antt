@@ -1,6 +1,6 @@
 -- What a rising list has after elements were put in, by induction on the list and by how its first element compares with
 -- the new one; and that a binary search finds the place.
-use Rattle.std.proofs.Common.{◌≡◌, ℕ, zero, suc, ◌+◌, ◌<◌, ◌≤◌, ◌⊎◌, ◌↔◌, inl, inr, List, [], ◌∷◌, ◌++◌, length, take, drop, get_or, Result, Ok, Err, refl, sym, ◌∙◌, ap, subst, arith}
+use Rattle.std.proofs.Common.{◌≡◌, ℕ, zero, suc, ◌+◌, ◌<◌, ◌≤◌, ◌⊎◌, ◌↔◌, inl, inr, List, [], ◌∷◌, ◌++◌, length, map, map-id, take, drop, get_or, Result, Ok, Err, refl, sym, ◌∙◌, ap, subst, arith}
 use Rattle.std.specs.List.{AllByRecursion, Contains, insert}
 use Rattle.std.specs.List.Sorted.{IsStrictlySortedBy, IsSearchInRange, IsBinarySearchResult, IsPartitionPoint}
 use Rattle.std.specs.Cmp.{IsTotalOrder}
@@ -11,7 +11,7 @@ use Rattle.std.proofs.lemmas.Map.Keys.{sorted_tail}
 use Rattle.std.proofs.lemmas.Map.Lookups.{CmpEqualImpliesEq}
 use Rattle.list_laws.specs.RisingSets.{put, with_element, with_elements}
 use Rattle.list_laws.proofs.Sorted.{Contains-first, Contains-later, Contains-cons_cases, not_Contains-nil, Less-from_later, same_sorted}
-use Rattle.list_laws.proofs.Searches.{not_falling, found_at}
+use Rattle.list_laws.proofs.Searches.{not_falling, absent}
 
 -- how many elements there are
 longer_by : {X : Type 0} (order : Ordering) (x first : X) (rest more : List X) → length rest ≤ length more
@@ -171,3 +171,8 @@ module _ {X : Type 0} {R : X → X → Ordering} (o : IsTotalOrder R) (exact : C
   pub with_element_found : (xs : List X) (x : X) (i : ℕ) → IsStrictlySortedBy R xs → i < length xs
       → IsBinarySearchResult (λ y. R y x) xs (Ok i) → with_element R xs x ≡ xs
   with_element_found xs x i s low found = with_element_there xs x s (i, low, exact _ _ (found x))
+
+  -- an element that is there is not missed
+  pub absent_at : (xs : List X) (x : X) (i : ℕ) → IsStrictlySortedBy R xs → IsBinarySearchResult (λ y. R y x) xs (Err i) → Contains xs x → ⊥
+  absent_at xs x i s found there =
+      absent o exact (λ (y : X). y) xs x i (found (not_falling o exact (λ (y : X). y) xs x s)) (subst (λ ys. Contains ys x) (sym (map-id xs)) there)

@@ -39,7 +39,7 @@ module _ {X K : Type 0} {R : K → K → Ordering} (total : IsTotalOrder R) (exa
       (not_less_back _ (Less-from_sorted (on key R) xs k (k + 1) d rising (omega arith) high)))
 
   -- no element has the key, where those before a place are below it and those from there on above it
-  absent : (i : ℕ) → IsPartitionPoint (λ y. R (key y) x ≡ Less) (λ y. R (key y) x ≡ Greater) xs i → Contains (map key xs) x → ⊥
+  pub absent : (i : ℕ) → IsPartitionPoint (λ y. R (key y) x ≡ Less) (λ y. R (key y) x ≡ Greater) xs i → Contains (map key xs) x → ⊥
   absent i parts found =
       let low : found.0 < length xs = simp length-map at found.1
       in has_element xs found.0 low

@@ -2,7 +2,7 @@
 use Rattle.std.specs.Prelude.{ℕ, ◌==◌, if◌then◌else◌, List, [], ◌∷◌, ◌++◌, slice_index_or, codes}
 use Rattle.std.specs.Fmt.{decimal}
 use Rattle.text_definitions.specs.Slp1.{slp1_of_word}
-use Rattle.lexicon_definitions.specs.Rules.{Rule}
+use Rattle.lexicon_definitions.specs.Rules.{printed_rule}
 use Rattle.lexicon_definitions.specs.Lexicons.{RuleSet, rule_of}
 use Rattle.segmentation_definitions.specs.Derivations.{Step}
 
@@ -13,10 +13,6 @@ name_of rules phase = slice_index_or rules.names phase []
 -- FORM[PHASE], the form in SLP1
 abbrev pub printed_form : RuleSet → Step → List ℕ
 printed_form rules step = slp1_of_word step.form ++ codes "[" ++ name_of rules step.phase ++ codes "]"
-
--- a rule's notation u|v>w, in SLP1
-abbrev pub printed_rule : Rule → List ℕ
-printed_rule rule = slp1_of_word rule.u ++ codes "|" ++ slp1_of_word rule.v ++ codes ">" ++ slp1_of_word rule.w
 
 -- what stands between a form and the next, by the number of the rule between: ` + ` for no change, else ` (u|v>w) `
 abbrev pub printed_joint : RuleSet → ℕ → List ℕ
