@@ -2,8 +2,8 @@ ghost use Rattle.std.specs.Prelude.{◌≡◌, ◌+◌, ◌<◌, ◌≤◌, ◌+
 ghost use Rattle.segmentation_definitions.specs.PrintedAnswers.{printed_answer, printed_form, printed_joint, printed_end};
 ghost use Rattle.derivation.specs.Steps.{StandIn, steps_of, step_after};
 
-use super::forms::form_after;
 use super::Step;
+use super::forms::form_after;
 use latin_schemes::print_slp1;
 use phoneme::{Line, Memory};
 use sandhi_rules::{RuleSet, print_rule};

@@ -6,7 +6,8 @@ ghost use Rattle.thin_text_definitions.specs.ThinTexts.{IsThinText};
 ghost use Rattle.sandhi_program.specs.Segments.{ArePrintable, IsSegmentOutput};
 
 use super::thin_text::{ThinError, read_thin};
-use derivation::{RuleSet, Step, print_derivation};
+use derivation::{Step, print_derivation};
+use sandhi_rules::RuleSet;
 use latin_schemes::{SpellError, read_slp1};
 use phoneme::{Line, Memory};
 use segmenter::{Found, first_page};

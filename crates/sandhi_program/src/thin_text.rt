@@ -15,7 +15,7 @@ mod tests;
 
 use contents::Contents;
 use cutting::{after, cut};
-use derivation::RuleSet;
+use sandhi_rules::RuleSet;
 use entry::entry_of;
 pub(crate) use error::ThinError;
 use phoneme::Memory;

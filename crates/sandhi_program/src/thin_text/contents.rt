@@ -9,7 +9,7 @@ ghost use Rattle.sandhi_program.specs.ThinReader.{told_of, IsLawfulSoFar, MayFol
 use super::ThinError;
 use super::entry::Entry;
 use super::leads::add_lead;
-use derivation::Rule;
+use sandhi_rules::Rule;
 use phoneme::{Letter, Word};
 use std::alloc::Global;
 

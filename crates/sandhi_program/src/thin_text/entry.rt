@@ -4,7 +4,7 @@ ghost use Rattle.sandhi_program.specs.ThinReader.{IsSpelling, told_of};
 
 use super::ThinError;
 use super::cutting::{after, cut, is_same};
-use derivation::Rule;
+use sandhi_rules::Rule;
 use latin_schemes::read_slp1;
 use phoneme::{Letter, Word};
 use std::alloc::Global;
