@@ -1,5 +1,5 @@
 pub mod GrammarLists
-pub mod GrammarPlaces
+pub mod GrammarPositions
 pub mod GrammarFollows
 pub mod GrammarSteps
 pub mod GrammarStates

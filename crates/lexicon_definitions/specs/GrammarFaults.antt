@@ -107,9 +107,9 @@ pub data Fault : Type 0 where
 
 -- the first of these: too many bytes, a byte that may not stand, an unknown name, too many names
 abbrev pub first_fault_of : Bool → Option ℕ → Option ℕ → Bool → Option Fault
-first_fault_of true syntax unknown places = Some Long
-first_fault_of false (Some at) unknown places = Some (Syntax at)
-first_fault_of false None (Some at) places = Some (UnknownPhase at)
+first_fault_of true syntax unknown many = Some Long
+first_fault_of false (Some at) unknown many = Some (Syntax at)
+first_fault_of false None (Some at) many = Some (UnknownPhase at)
 first_fault_of false None None true = Some Places
 first_fault_of false None None false = None
 

@@ -1,6 +1,6 @@
 -- An automaton as a table of states, stepped phase by phase (own, after the subset automata of regular languages).
 use Rattle.std.specs.Prelude.{◌≡◌, ℕ, ◌+◌, ◌*◌, ◌<◌, ◌≤◌, ◌↔◌, nat_lt, Bool, false, if◌then◌else◌, IsTrue, IsSome, Option, Some, None, List, ◌++◌, length, fold, slice_index_or}
-use Rattle.lexicon_definitions.specs.Grammars.{Grammar, Accepts, HaveSamePlaces}
+use Rattle.lexicon_definitions.specs.Grammars.{Grammar, Accepts, HaveSamePositions}
 
 -- a state is its number, counted from 0, and the dead state is None; the table has how many phases there are, the state
 -- after each state and phase, state by state, and which states end words
@@ -38,14 +38,14 @@ pub record IsTable (table : Table) : Type 0 where
   pub some : 0 < length table.accepting
   pub few : length table.accepting ≤ 32
   pub rows : length table.steps ≡ length table.accepting * table.phases
-  pub within : (place : ℕ) → IsStateIn table (slice_index_or table.steps place None)
+  pub within : (position : ℕ) → IsStateIn table (slice_index_or table.steps position None)
 
 -- the table's states are those of the grammar: a list leads to a state that ends words exactly where it is a word, to one
 -- that is not dead exactly where some list goes on from it to a word, and two lists lead to one state exactly where they
--- have the same places after them; each state is that after some list
+-- have the same positions after them; each state is that after some list
 pub record Recognizes (table : Table) (grammar : Grammar) : Type 0 where
   pub accepts : (phases : List ℕ) → IsTrue (is_accepting table (state_of table phases)) ↔ Accepts grammar phases
   pub live : (phases : List ℕ) → IsSome (state_of table phases) ↔ ((rest : List ℕ) × Accepts grammar (phases ++ rest))
-  pub same : (left right : List ℕ) → (state_of table left ≡ state_of table right) ↔ HaveSamePlaces grammar left right
+  pub same : (left right : List ℕ) → (state_of table left ≡ state_of table right) ↔ HaveSamePositions grammar left right
   pub within : (phases : List ℕ) → IsStateIn table (state_of table phases)
   pub reached : (number : ℕ) → number < length table.accepting → (phases : List ℕ) × (state_of table phases ≡ Some number)
