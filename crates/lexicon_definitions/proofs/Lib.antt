@@ -4,5 +4,6 @@ pub mod GrammarFollows
 pub mod GrammarSteps
 pub mod GrammarStates
 pub mod GrammarPhases
+pub mod GrammarFaultCases
 pub mod GrammarSpelling
 pub mod SpelledTokens

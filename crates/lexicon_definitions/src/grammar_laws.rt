@@ -1,5 +1,6 @@
 ghost use Rattle.std.specs.Prelude.{◌≡◌, ◌≢◌, ℕ, List, [], ◌++◌};
 ghost use Rattle.lexicon_definitions.specs.Grammars.{Grammar, Accepts, IsPositionAfter, State, IsStateAfter, HaveSamePositions};
+ghost use Rattle.lexicon_definitions.specs.GrammarFaults.{Fault, IsFirstFault, IsGrammarTextWithinLimits};
 
 /// Lists of phases with the same positions after them go on to words by the same rests.
 pub fn same_positions_same_rests()
@@ -23,4 +24,12 @@ pub fn no_position_begins_no_word()
 pub fn same_positions_same_state()
     ensures { (grammar : Grammar) (left right : List ℕ) (first second : State) → HaveSamePositions grammar left right
         → IsStateAfter grammar left first → IsStateAfter grammar right second → first ≡ second }
+{}
+
+/// A grammar text has one first fault at most, and none where it is a grammar text within the limits.
+pub fn a_grammar_text_has_one_first_fault()
+    ensures one { (names : List (List ℕ)) (text : List ℕ) (first second : Fault) → IsFirstFault names text first
+        → IsFirstFault names text second → first ≡ second }
+    ensures none { (names : List (List ℕ)) (text : List ℕ) (fault : Fault) → IsGrammarTextWithinLimits names text
+        → IsFirstFault names text fault → ⊥ }
 {}

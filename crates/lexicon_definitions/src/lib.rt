@@ -6,8 +6,8 @@ mod laws;
 mod limits;
 
 pub use grammar_laws::{
-    no_position_begins_no_word, same_positions_same_rests, same_positions_same_state,
-    same_state_same_positions,
+    a_grammar_text_has_one_first_fault, no_position_begins_no_word, same_positions_same_rests,
+    same_positions_same_state, same_state_same_positions,
 };
 pub use laws::analyses_are_ordered;
 pub use limits::{
