@@ -1,4 +1,4 @@
-pub mod PlaceSetBits
+pub mod PositionSetBits
 pub mod PhaseNumbers
 pub mod NamesForward
 pub mod Links

@@ -7,10 +7,10 @@ use Rattle.lexicon_definitions.specs.GrammarTexts.{grammar_of}
 use Rattle.lexicon_definitions.specs.GrammarFaults.{Fault, States, Long, Syntax, UnknownPhase, Places, first_fault_of, fault_before_states, syntax_fault, first_unknown, names_from, HasMoreStates, IsFirstFault, IsGrammarTextWithinLimits}
 use Rattle.lexicon_definitions.proofs.GrammarPhases.{phases_below}
 use Rattle.phase_automaton.specs.declared.fault.GrammarError.{GrammarError}
-use Rattle.phase_automaton.specs.declared.place_set.PlaceSet.{PlaceSet}
-use Rattle.phase_automaton.specs.declared.place.Place.{Place}
+use Rattle.phase_automaton.specs.declared.position_set.PositionSet.{PositionSet}
+use Rattle.phase_automaton.specs.declared.position.Position.{Position}
 use Rattle.phase_automaton.specs.Faults.{IfFault}
-use Rattle.phase_automaton.specs.Names.{place_of_name, places_of}
+use Rattle.phase_automaton.specs.Names.{position_of_name, positions_of}
 use Rattle.phase_automaton.specs.Readers.{IsNet}
 use Rattle.phase_automaton.specs.Automata.{Table, Recognizes}
 use Rattle.phase_automaton.specs.Subsets.{HasMoreSets, IsSubsetTable}
@@ -27,26 +27,26 @@ no_fault false None None true a b c d = cc
 no_fault false None None false a b c d = refl
 
 pub none_before : (names : List (List ℕ)) (text : List ℕ) → length text ≤ 1024 → syntax_fault text ≡ None
-    → first_unknown names (names_from 0 text) ≡ None → length (places_of names text) ≤ 61 → fault_before_states names text ≡ None
+    → first_unknown names (names_from 0 text) ≡ None → length (positions_of names text) ≤ 61 → fault_before_states names text ≡ None
 none_before names text short syntax known few =
     no_fault (nat_lt 1024 (length text)) (syntax_fault text) (first_unknown names (names_from 0 text)) (nat_lt 60 (length (names_from 0 text)))
     (le-ltb 1024 (length text) short) syntax known
-    (le-ltb 60 (length (names_from 0 text)) (let size = length-map (names_from 0 text) (place_of_name names) in omega (arith, few, size)))
+    (le-ltb 60 (length (names_from 0 text)) (let size = length-map (names_from 0 text) (position_of_name names) in omega (arith, few, size)))
 
 module _ (names : List (List ℕ)) (text : List ℕ) (some : 0 < length names) (none : fault_before_states names text ≡ None)
-    (places : List Place) (room : 0 < length places) (ends : PlaceSet) (net : IsNet places ends (grammar_of names text))
+    (positions : List Position) (room : 0 < length positions) (ends : PositionSet) (net : IsNet positions ends (grammar_of names text))
     (result : Result Table GrammarError)
   where
-    pub read_ok : IfOk result (λ table. IsSubsetTable places ends table) → IfOk result (λ table. table.phases ≡ length names)
+    pub read_ok : IfOk result (λ table. IsSubsetTable positions ends table) → IfOk result (λ table. table.phases ≡ length names)
         → IfOk result (λ table. Recognizes table (grammar_of names text))
     read_ok = go result
       where
-        go : (r : Result Table GrammarError) → IfOk r (λ table. IsSubsetTable places ends table) → IfOk r (λ table. table.phases ≡ length names)
+        go : (r : Result Table GrammarError) → IfOk r (λ table. IsSubsetTable positions ends table) → IfOk r (λ table. table.phases ≡ length names)
             → IfOk r (λ table. Recognizes table (grammar_of names text))
         go (Err e) h k = tt
         go (Ok table) h k =
-            recognizes places ends (grammar_of names text) table net h
-            (λ before phase place l. (let below = phases_below names text some before phase place l in omega (arith, below, k)))
+            recognizes positions ends (grammar_of names text) table net h
+            (λ before phase position l. (let below = phases_below names text some before phase position l in omega (arith, below, k)))
 
     without_faults : (fault : Fault) → IsFirstFault names text fault → (HasMoreStates (grammar_of names text) 32 → ⊥) → ⊥
     without_faults Long h few = let e = sym h ∙ none in cc
@@ -55,26 +55,26 @@ module _ (names : List (List ℕ)) (text : List ℕ) (some : 0 < length names) (
     without_faults Places h few = let e = sym h ∙ none in cc
     without_faults States h few = few h.1
 
-    pub read_text : IfOk result (λ table. IsSubsetTable places ends table) → IfOk result (λ table. table.phases ≡ length names)
+    pub read_text : IfOk result (λ table. IsSubsetTable positions ends table) → IfOk result (λ table. table.phases ≡ length names)
         → OnOk result (IsGrammarTextWithinLimits names text)
     read_text = go result
       where
-        go : (r : Result Table GrammarError) → IfOk r (λ table. IsSubsetTable places ends table) → IfOk r (λ table. table.phases ≡ length names)
+        go : (r : Result Table GrammarError) → IfOk r (λ table. IsSubsetTable positions ends table) → IfOk r (λ table. table.phases ≡ length names)
             → OnOk r (IsGrammarTextWithinLimits names text)
         go (Err e) h k = tt
         go (Ok table) h k = λ fault f.
-            let recognized = recognizes places ends (grammar_of names text) table net h
-            (λ before phase place l. (let below = phases_below names text some before phase place l in omega (arith, below, k))) in
+            let recognized = recognizes positions ends (grammar_of names text) table net h
+            (λ before phase position l. (let below = phases_below names text some before phase position l in omega (arith, below, k))) in
             let few : length table.accepting ≤ 32 = omega (arith, h.count, h.states.few) in
             without_faults fault f (no_more_states table (grammar_of names text) recognized 32 few)
 
-    pub read_fault : IfErr result (λ e. IfFault e (λ fault. (fault ≡ States) × HasMoreSets places))
+    pub read_fault : IfErr result (λ e. IfFault e (λ fault. (fault ≡ States) × HasMoreSets positions))
         → IfErr result (λ e. IfFault e (IsFirstFault names text))
     read_fault = go result
       where
-        go : (r : Result Table GrammarError) → IfErr r (λ e. IfFault e (λ fault. (fault ≡ States) × HasMoreSets places))
+        go : (r : Result Table GrammarError) → IfErr r (λ e. IfFault e (λ fault. (fault ≡ States) × HasMoreSets positions))
             → IfErr r (λ e. IfFault e (IsFirstFault names text))
         go (Ok table) h = tt
-        go (Err e) h = if_fault_weaker e (λ fault. (fault ≡ States) × HasMoreSets places) (IsFirstFault names text)
+        go (Err e) h = if_fault_weaker e (λ fault. (fault ≡ States) × HasMoreSets positions) (IsFirstFault names text)
             (λ fault k. subst (λ f. IsFirstFault names text f) (sym k.0)
-            (none, more_states places ends (grammar_of names text) net room k.1)) h
+            (none, more_states positions ends (grammar_of names text) net room k.1)) h

@@ -1,4 +1,4 @@
--- Sets of places and states are two ways to say the same: so many sets give so many states, and a table has no more states
+-- Sets of positions and states are two ways to say the same: so many sets give so many states, and a table has no more states
 -- than rows, since different states have different numbers.
 use Rattle.std.proofs.Common.{◌≡◌, ◌≢◌, ℕ, zero, suc, ◌+◌, ◌<◌, ◌≤◌, ◌↔◌, inl, inr, Bool, true, false, eqb, cond, Option, Some, None, unwrap_or, List, [], ◌∷◌, ◌++◌, length, map, reverse, get_or, refl, sym, ap, ◌∙◌, arith, subst}
 use Rattle.std.specs.Prelude.{◌||◌, IsSome, All, AllPairs}
@@ -14,18 +14,18 @@ use Rattle.std.proofs.lemmas.List.Kept.{IsStrictlyIncreasing-filter}
 use Rattle.std.proofs.lemmas.Map.Keys.{IsDistinct-cons}
 use Rattle.std.proofs.lemmas.Map.Steps.{length-le_from_distinct_below}
 use Rattle.lexicon_definitions.specs.Grammars.{Grammar, Accepts, State, Opening, After, IsStateAfter, IsLiveState}
-use Rattle.lexicon_definitions.specs.GrammarMarks.{IsPlaceIn}
+use Rattle.lexicon_definitions.specs.GrammarMarks.{IsPositionIn}
 use Rattle.lexicon_definitions.specs.GrammarFaults.{IsStateOf, HasMoreStates}
-use Rattle.lexicon_definitions.proofs.GrammarPlaces.{same_state_same_places}
-use Rattle.lexicon_definitions.proofs.GrammarSteps.{place_above, live_place, same_places}
-use Rattle.lexicon_definitions.proofs.GrammarStates.{in_cons, in_head, in_tail, in_nil, same_places_same_state}
-use Rattle.phase_automaton.specs.declared.place_set.PlaceSet.{PlaceSet}
-use Rattle.phase_automaton.specs.declared.place.Place.{Place}
-use Rattle.phase_automaton.specs.PlaceSets.{HasPlace}
+use Rattle.lexicon_definitions.proofs.GrammarPositions.{same_state_same_positions}
+use Rattle.lexicon_definitions.proofs.GrammarSteps.{position_above, live_position, same_positions}
+use Rattle.lexicon_definitions.proofs.GrammarStates.{in_cons, in_head, in_tail, in_nil, same_positions_same_state}
+use Rattle.phase_automaton.specs.declared.position_set.PositionSet.{PositionSet}
+use Rattle.phase_automaton.specs.declared.position.Position.{Position}
+use Rattle.phase_automaton.specs.PositionSets.{HasPosition}
 use Rattle.phase_automaton.specs.Readers.{IsNet}
 use Rattle.phase_automaton.specs.Automata.{Table, state_of, IsStateIn, Recognizes}
 use Rattle.phase_automaton.specs.Subsets.{IsReached, IsReachedSet, set_at, HasMoreSets}
-use Rattle.phase_automaton.proofs.Recognition.{reached_place, same_bits}
+use Rattle.phase_automaton.proofs.Recognition.{reached_position, same_bits}
 
 -- ---- the elements that a filter keeps
 kept_first : (p : ℕ → Bool) (x : ℕ) (xs : List ℕ) (z : ℕ) → (Contains (filter p xs) z ↔ (Contains xs z × (p z ≡ true)))
@@ -65,21 +65,21 @@ range_rises n k h =
     omega (arith, a, b)
 
 -- ---- the state of a set
-is_in : PlaceSet → ℕ → Bool
-is_in set place = eqb (bit_at set.bits place) 1
+is_in : PositionSet → ℕ → Bool
+is_in set position = eqb (bit_at set.bits position) 1
 
-list_of : ℕ → PlaceSet → List ℕ
+list_of : ℕ → PositionSet → List ℕ
 list_of n set = filter (is_in set) (range_with_len 0 n)
 
-state_from : ℕ → PlaceSet → State
+state_from : ℕ → PositionSet → State
 state_from n set = cond (is_in set 0) Opening (After (list_of n set))
 
-in_list : (n : ℕ) (set : PlaceSet) → ((place : ℕ) → HasPlace set place → place < n) → (place : ℕ)
-    → Contains (list_of n set) place ↔ HasPlace set place
+in_list : (n : ℕ) (set : PositionSet) → ((position : ℕ) → HasPosition set position → position < n) → (position : ℕ)
+    → Contains (list_of n set) position ↔ HasPosition set position
 unfolding list_of is_in
-in_list n set small place = (
-  (λ h. eqb-true (bit_at set.bits place) 1 ((in_filter (is_in set) (range_with_len 0 n) place).0 h).1),
-  (λ h. (in_filter (is_in set) (range_with_len 0 n) place).1 (in_range n place (small place h), eq-eqb (bit_at set.bits place) 1 h)),
+in_list n set small position = (
+  (λ h. eqb-true (bit_at set.bits position) 1 ((in_filter (is_in set) (range_with_len 0 n) position).0 h).1),
+  (λ h. (in_filter (is_in set) (range_with_len 0 n) position).1 (in_range n position (small position h), eq-eqb (bit_at set.bits position) 1 h)),
 )
 
 chosen_first : {A : Type 0} (b : Bool) (x y : A) → b ≡ true → cond b x y ≡ x
@@ -90,33 +90,33 @@ chosen_second : {A : Type 0} (b : Bool) (x y : A) → b ≡ false → cond b x y
 chosen_second true x y e = cc
 chosen_second false x y e = refl
 
-opening_state : (n : ℕ) (set : PlaceSet) → HasPlace set 0 → state_from n set ≡ Opening
+opening_state : (n : ℕ) (set : PositionSet) → HasPosition set 0 → state_from n set ≡ Opening
 unfolding state_from is_in
 opening_state n set h = chosen_first (is_in set 0) Opening (After (list_of n set)) (eq-eqb (bit_at set.bits 0) 1 h)
 
-later_state : (n : ℕ) (set : PlaceSet) → (HasPlace set 0 → ⊥) → state_from n set ≡ After (list_of n set)
+later_state : (n : ℕ) (set : PositionSet) → (HasPosition set 0 → ⊥) → state_from n set ≡ After (list_of n set)
 unfolding state_from is_in
 later_state n set h = chosen_second (is_in set 0) Opening (After (list_of n set)) (elim (eqb_tells (bit_at set.bits 0) 1) [
   | inl y ↦ absurd (h y.1)
   | inr y ↦ y.0
 ])
 
--- the set's state is that after the list whose places it has
-state_after : (g : Grammar) (n : ℕ) (set : PlaceSet) (ks : List ℕ) → ((place : ℕ) → HasPlace set place ↔ IsPlaceIn g ks place)
-    → ((place : ℕ) → HasPlace set place → place < n) → IsStateAfter g ks (state_from n set)
+-- the set's state is that after the list whose positions it has
+state_after : (g : Grammar) (n : ℕ) (set : PositionSet) (ks : List ℕ) → ((position : ℕ) → HasPosition set position ↔ IsPositionIn g ks position)
+    → ((position : ℕ) → HasPosition set position → position < n) → IsStateAfter g ks (state_from n set)
 unfolding list_of
 state_after g n set [] has small = opening_state n set ((has 0).1 refl)
 state_after g n set (k ∷ ks) has small =
     subst (λ s. IsStateAfter g (k ∷ ks) s)
-    (sym (later_state n set (λ h. (let above = place_above g (k ∷ ks) 0 ((has 0).0 h) in omega (arith, above))))) (
+    (sym (later_state n set (λ h. (let above = position_above g (k ∷ ks) 0 ((has 0).0 h) in omega (arith, above))))) (
       IsStrictlyIncreasing-filter (is_in set) (range_with_len 0 n) (range_rises n),
-      λ place. (
-        (λ h. (has place).0 ((in_list n set small place).0 h)),
-        (λ h. (in_list n set small place).1 ((has place).1 h)),
+      λ position. (
+        (λ h. (has position).0 ((in_list n set small position).0 h)),
+        (λ h. (in_list n set small position).1 ((has position).1 h)),
       ),
     )
 
-state_is_live : (n : ℕ) (set : PlaceSet) → ((place : ℕ) → HasPlace set place → place < n) → (place : ℕ) × HasPlace set place
+state_is_live : (n : ℕ) (set : PositionSet) → ((position : ℕ) → HasPosition set position → position < n) → (position : ℕ) × HasPosition set position
     → IsLiveState (state_from n set)
 state_is_live n set small some e = elim (eqb_tells (bit_at set.bits 0) 1) [
   | inl y ↦ let x = sym (opening_state n set y.1) ∙ e in cc
@@ -127,52 +127,52 @@ state_is_live n set small some e = elim (eqb_tells (bit_at set.bits 0) 1) [
 ]
 
 -- ---- many sets are many states
-module _ (places : List Place) (ends : PlaceSet) (g : Grammar) (net : IsNet places ends g) (room : 0 < length places) where
-  reached_small : (r : List ℕ) (place : ℕ) → IsReached places r place → place < length places
-  reached_small [] place h = omega (arith, h, room)
-  reached_small (k ∷ r) place h = net.within h.0 place h.2.0
+module _ (positions : List Position) (ends : PositionSet) (g : Grammar) (net : IsNet positions ends g) (room : 0 < length positions) where
+  reached_small : (r : List ℕ) (position : ℕ) → IsReached positions r position → position < length positions
+  reached_small [] position h = omega (arith, h, room)
+  reached_small (k ∷ r) position h = net.within h.0 position h.2.0
 
-  module _ (set : PlaceSet) (reached : IsReachedSet places set) where
-    set_small : (place : ℕ) → HasPlace set place → place < length places
-    set_small place h = reached_small reached.phases place ((reached.has place).0 h)
+  module _ (set : PositionSet) (reached : IsReachedSet positions set) where
+    set_small : (position : ℕ) → HasPosition set position → position < length positions
+    set_small position h = reached_small reached.phases position ((reached.has position).0 h)
 
-    set_has : (place : ℕ) → HasPlace set place ↔ IsPlaceIn g (reverse reached.phases) place
-    set_has place = (
-      (λ h. (reached_place places ends g net reached.phases place).0 ((reached.has place).0 h)),
-      (λ h. (reached.has place).1 ((reached_place places ends g net reached.phases place).1 h)),
+    set_has : (position : ℕ) → HasPosition set position ↔ IsPositionIn g (reverse reached.phases) position
+    set_has position = (
+      (λ h. (reached_position positions ends g net reached.phases position).0 ((reached.has position).0 h)),
+      (λ h. (reached.has position).1 ((reached_position positions ends g net reached.phases position).1 h)),
     )
 
-    set_state : IsStateOf g (state_from (length places) set)
+    set_state : IsStateOf g (state_from (length positions) set)
     set_state = (
       reverse reached.phases,
-      state_after g (length places) set (reverse reached.phases) set_has set_small,
-      state_is_live (length places) set set_small reached.some,
+      state_after g (length positions) set (reverse reached.phases) set_has set_small,
+      state_is_live (length positions) set set_small reached.some,
     )
 
-  sets_differ : (a b : PlaceSet) → IsReachedSet places a → IsReachedSet places b
-      → state_from (length places) a ≡ state_from (length places) b → a ≡ b
+  sets_differ : (a b : PositionSet) → IsReachedSet positions a → IsReachedSet positions b
+      → state_from (length positions) a ≡ state_from (length positions) b → a ≡ b
   unfolding set_state
   sets_differ a b x y e =
       let s = set_state a x in
       let t = set_state b y in
-      let same = same_state_same_places g s.0 t.0 (state_from (length places) b) (subst (λ u. IsStateAfter g s.0 u) e s.1) t.1 in
-      let h = (same_places g s.0 t.0).0 same in
-      same_bits a b (λ place. (
-        (λ k. (set_has b y place).1 ((h place).0 ((set_has a x place).0 k))),
-        (λ k. (set_has a x place).1 ((h place).1 ((set_has b y place).0 k))),
+      let same = same_state_same_positions g s.0 t.0 (state_from (length positions) b) (subst (λ u. IsStateAfter g s.0 u) e s.1) t.1 in
+      let h = (same_positions g s.0 t.0).0 same in
+      same_bits a b (λ position. (
+        (λ k. (set_has b y position).1 ((h position).0 ((set_has a x position).0 k))),
+        (λ k. (set_has a x position).1 ((h position).1 ((set_has b y position).0 k))),
       ))
 
-  map_at : (sets : List PlaceSet) (i : ℕ) (d : State) → i < length sets
-      → get_or (map (state_from (length places)) sets) i d ≡ state_from (length places) (set_at sets i)
+  map_at : (sets : List PositionSet) (i : ℕ) (d : State) → i < length sets
+      → get_or (map (state_from (length positions)) sets) i d ≡ state_from (length positions) (set_at sets i)
   map_at [] i d h = absurd (omega (arith, h))
   map_at (set ∷ sets) zero d h = refl
   map_at (set ∷ sets) (suc i) d h = map_at sets i d (omega (arith, h))
 
-  pub more_states : HasMoreSets places → HasMoreStates g 32
+  pub more_states : HasMoreSets positions → HasMoreStates g 32
   more_states h =
       let sets = h.0 in
-      let size = length-map sets (state_from (length places)) in (
-        map (state_from (length places)) sets,
+      let size = length-map sets (state_from (length positions)) in (
+        map (state_from (length positions)) sets,
         omega (arith, h.1, size),
         (λ i j d a b e.
             let inside : j < length h.0 = omega (arith, b, size) in
@@ -188,10 +188,10 @@ module _ (places : List Place) (ends : PlaceSet) (g : Grammar) (net : IsNet plac
 module _ (table : Table) (g : Grammar) (r : Recognizes table g) where
   -- the list that leads to a live state goes on to a word
   goes_on : (ks : List ℕ) (s : State) → IsStateAfter g ks s → IsLiveState s → (rest : List ℕ) × Accepts g (ks ++ rest)
-  goes_on [] s h live = (live_place g []).1 (0, refl)
+  goes_on [] s h live = (live_position g []).1 (0, refl)
   goes_on (k ∷ ks) Opening h live = absurd h
   goes_on (k ∷ ks) (After []) h live = absurd (live refl)
-  goes_on (k ∷ ks) (After (x ∷ places)) h live = (live_place g (k ∷ ks)).1 (x, (h.1 x).0 (in_head x places))
+  goes_on (k ∷ ks) (After (x ∷ positions)) h live = (live_position g (k ∷ ks)).1 (x, (h.1 x).0 (in_head x positions))
 
   number : (s : State) → IsStateOf g s → ℕ
   number s h = unwrap_or (state_of table h.0) 0
@@ -209,7 +209,7 @@ module _ (table : Table) (g : Grammar) (r : Recognizes table g) where
 
   same_number : (s t : State) (h : IsStateOf g s) (k : IsStateOf g t) → number s h ≡ number t k → s ≡ t
   same_number s t h k e =
-      same_places_same_state g h.0 k.0 s t ((r.same h.0 k.0).0 (has_number s h ∙ (ap Some e ∙ sym (has_number t k)))) h.1 k.1
+      same_positions_same_state g h.0 k.0 s t ((r.same h.0 k.0).0 (has_number s h ∙ (ap Some e ∙ sym (has_number t k)))) h.1 k.1
 
   numbers : (states : List State) → AllByRecursion (IsStateOf g) states → List ℕ
   numbers [] h = []

@@ -1,4 +1,4 @@
-pub mod PlaceSets
+pub mod PositionSets
 pub mod Walks
 pub mod Names
 pub mod Faults

@@ -4,7 +4,7 @@ ghost use Rattle.phase_automaton.specs.Automata.{start_state, next_state, is_acc
 use super::state::State;
 use std::marker::Model;
 
-/// The automaton of a phase grammar: a table of its states, each of which stands for the places of the grammar at which the
+/// The automaton of a phase grammar: a table of its states, each of which stands for the positions of the grammar at which the
 /// phases so far can have been read (McNaughton and Yamada 1960; Glushkov 1961).
 #[derive(Debug, Drop)]
 pub struct Automaton {

@@ -81,7 +81,7 @@ fn phases_in_their_order(rt: HostRuntime) -> Result<(), Fail> {
     for (phases, word, live) in cases {
         assert_eq!(rt; tells(&automaton, phases), Some((word, live)));
     }
-    // The opening, and the places of the five names.
+    // The opening, and the positions of the five names.
     assert_eq!(rt; automaton.states(), 6);
     Ok(())
 }
@@ -164,13 +164,13 @@ fn bytes_are_bounded(rt: HostRuntime) -> Result<(), Fail> {
 }
 
 #[test]
-fn places_are_bounded(rt: HostRuntime) -> Result<(), Fail> {
+fn names_are_bounded(rt: HostRuntime) -> Result<(), Fail> {
     let names = make_names(rt.alloc(), &["a", "b"])?;
     let mut most = Vec::new(rt.alloc());
     for _ in 0..60 {
         most.extend_from_slice(b"a ")?;
     }
-    // Sixty places one after another are sixty states and the opening.
+    // Sixty positions one after another are sixty states and the opening.
     assert_eq!(rt;
         fault_of(rt.alloc(), most.as_slice(), names.as_slice())?,
         Some(GrammarFault::States)

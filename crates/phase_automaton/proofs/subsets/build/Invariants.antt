@@ -6,9 +6,9 @@ use Rattle.phase_automaton.proofs.subsets.build.Given as goal
 
 abbrev pub invariant-rows : goal.invariant-rows
 invariant-rows l = record {
-  states : AreStates l.places l.sets.items;
+  states : AreStates l.positions l.sets.items;
   count : length l.accepting.items ≤ length l.sets.items;
-  rows : AreRows l.places l.phases l.sets.items l.steps.items (length l.accepting.items);
+  rows : AreRows l.positions l.phases l.sets.items l.steps.items (length l.accepting.items);
   ends : AreEnds l.ends l.sets.items l.accepting.items;
 }
 
