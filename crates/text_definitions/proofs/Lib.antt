@@ -9,3 +9,4 @@ pub mod DevanagariTable
 pub mod ReadWords
 pub mod SpelledWords
 pub mod WordSearches
+pub mod SpelledLines
