@@ -133,6 +133,26 @@ fn streams_that_fail_in_between(rt: HostRuntime) -> Result<(), Fail> {
     Ok(())
 }
 
+// The shelf on the disk reads and writes in pieces of 65,536 bytes. No clause can see the bytes of a real file, so this
+// shows that no piece is left out, and that a read stops at the byte that is asked for.
+#[test]
+fn a_file_of_three_pieces(rt: HostRuntime) -> Result<(), Fail> {
+    let alloc = rt.alloc();
+    let mut bytes = Vec::new(alloc);
+    for place in 0..150_000_u32 {
+        bytes.push((place % 251) as u8)?;
+    }
+    let mut shelf = DiskShelf::new(&rt);
+    assert_eq!(rt; write_of(&mut shelf, "pieces", &bytes), Ok(()));
+    for most in [65_535, 65_536, 65_537, 131_072, 150_000, 200_000] {
+        let found = read_of(&mut shelf, alloc, "pieces", most)?;
+        let wanted = &bytes[..most.min(bytes.len())];
+        assert!(rt; found.as_slice() == wanted, "{most}");
+    }
+    fs::remove_file(&rt, "pieces")?;
+    Ok(())
+}
+
 // Faults are a name that can't be opened, a folder, which opens and can't be read, and a device that is full. A test
 // has no input.
 #[test]
