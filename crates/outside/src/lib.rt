@@ -13,6 +13,7 @@ mod schedule;
 mod shelf;
 mod sink;
 mod source;
+mod steps;
 #[cfg(test)]
 mod tests;
 
@@ -26,3 +27,4 @@ pub use output_sink::OutputSink;
 pub use shelf::{Shelf, ShelfError};
 pub use sink::{Sink, WriteError, write_all};
 pub use source::{Failed, Source};
+pub use steps::Steps;

@@ -1,3 +1,5 @@
+ghost use Rattle.std.specs.Prelude.{◌≡◌, ◌+◌};
+
 mod scripted_input;
 mod scripted_printer;
 
@@ -150,6 +152,23 @@ fn a_file_of_three_pieces(rt: HostRuntime) -> Result<(), Fail> {
         assert!(rt; found.as_slice() == wanted, "{most}");
     }
     fs::remove_file(&rt, "pieces")?;
+    Ok(())
+}
+
+// A function over any ledger says how many steps it took.
+fn two_steps<L>(steps: &mut Steps<L>)
+    ensures { steps.new ≡ steps.old + 2 }
+{
+    steps.tick();
+    steps.tick();
+}
+
+#[test]
+fn steps_take_no_bytes(rt: HostRuntime) -> Result<(), Fail> {
+    struct Walk;
+    let mut steps: Steps<Walk> = Steps::new();
+    two_steps(&mut steps);
+    assert_eq!(rt; size_of::<Steps<Walk>>(), 0);
     Ok(())
 }
 
