@@ -155,6 +155,19 @@ fn a_file_of_three_pieces(rt: HostRuntime) -> Result<(), Fail> {
     Ok(())
 }
 
+// Workers pass one gate, and a count of steps may go to another thread. The bounds show it.
+fn pass_shared<G: Gate + Sync, S: Send>(gate: &G, _sent: S)
+where
+    S: Drop,
+{
+    gate.pass(0);
+}
+
+#[test]
+fn a_gate_is_shared() {
+    pass_shared(&NoGate, Steps::<NoGate>::new());
+}
+
 // A function over any ledger says how many steps it took.
 fn two_steps<L>(steps: &mut Steps<L>)
     ensures { steps.new ≡ steps.old + 2 }
