@@ -1,3 +1,5 @@
+pub mod FormsPlaced
+pub mod FormsWithEntry
 pub mod GrammarLists
 pub mod GrammarPlaces
 pub mod GrammarFollows
