@@ -1,3 +1,5 @@
+pub mod FormsPlaced
+pub mod FormsWithEntry
 pub mod GrammarLists
 pub mod GrammarPositions
 pub mod GrammarFollows
