@@ -1,11 +1,13 @@
 -- The program's schemes, faults and fronts, as the definitions of lines name them.
-use Rattle.std.specs.Prelude.{ℕ, ◌-◌, ◌≡◌, Result, Err}
+use Rattle.std.specs.Prelude.{ℕ, ◌+◌, ◌-◌, ◌^◌, ◌<◌, ◌≤◌, List, length, ◌≡◌, Result, Err}
 use Rattle.text_definitions.specs.Lines.{Line}
 use Rattle.text_definitions.specs.Schemes as schemes
 use Rattle.text_definitions.specs.LineTexts as texts
 use Rattle.latin_schemes.specs.declared.spell_error.SpellError.{SpellError}
 use Rattle.latin_schemes.specs.declared.spell_error.SpellError.TheVariants as spell_error
 use Rattle.latin_schemes.specs.Faults.{fault_of}
+use Rattle.latin_schemes.specs.declared.spell_fault.SpellFault.{SpellFault}
+use Rattle.text_definitions.proofs.FaultPlaces.{place_of}
 use Rattle.text_line.specs.declared.scheme.Scheme.{Scheme}
 use Rattle.text_line.specs.declared.scheme.Scheme.TheVariants.{Slp1, Wx, Velthuis, Devanagari}
 use Rattle.text_line.specs.declared.line_error.LineError.{LineError}
@@ -37,3 +39,13 @@ abbrev pub front_is : Front → texts.Front
 front_is (Gap length) = texts.GapMark (length - 1)
 front_is (Digit length) = texts.DigitMark (length - 1)
 front_is Other = texts.Other
+
+-- a gap mark or a digit has some bytes, all of them of the text
+abbrev pub FitsText : Front → List ℕ → Type 0
+FitsText (Gap len) text = (0 < len) × (len ≤ length text)
+FitsText (Digit len) text = (0 < len) × (len ≤ length text)
+FitsText Other text = Unit {0}
+
+-- the fault's place, counted from so many bytes before, is still a number of 32 bits
+abbrev pub FitsFrom : ℕ → SpellFault → Type 0
+FitsFrom at fault = at + place_of (fault_of fault) < 2 ^ 32

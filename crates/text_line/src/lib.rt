@@ -2,9 +2,15 @@
 #![tactic(auto)]
 
 mod front;
+mod later_letter;
 mod line_error;
+mod read;
 mod scheme;
+mod spelled;
+#[cfg(test)]
+mod tests;
 
 pub use line_error::LineError;
 pub use phoneme::Line;
+pub use read::read_line;
 pub use scheme::Scheme;
