@@ -10,3 +10,4 @@ pub mod ReadWords
 pub mod SpelledWords
 pub mod WordSearches
 pub mod SpelledLines
+pub mod FaultPlaces
