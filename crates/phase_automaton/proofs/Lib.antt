@@ -14,6 +14,7 @@ pub mod FaultCases
 pub mod MachineTables
 pub mod SetStates
 pub mod ReachedSets
+pub mod NumberedStates
 pub mod Recognition
 pub mod StateCounts
 pub mod Reading

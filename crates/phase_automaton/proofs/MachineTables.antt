@@ -37,7 +37,7 @@ pub machine_accepting : (table : Table) (number : ℕ) → number < length table
 machine_accepting table number h = ap (λ (state : NumberedState). state.accepting) (machine_at table number h)
 
 -- a number past the states leads nowhere
-past_row : (machine : StateMachine) (number phase : ℕ) → length machine.states ≤ number → next_state machine (Some number) phase ≡ None
+pub past_row : (machine : StateMachine) (number phase : ℕ) → length machine.states ≤ number → next_state machine (Some number) phase ≡ None
 past_row machine number phase h =
     ap (λ (state : NumberedState). get_or state.next phase None)
     (get_or_past machine.states number (record { accepting = false; next = [] }) h)

@@ -1,6 +1,6 @@
 -- The machine's states stand for the positions after a list, by induction on the list from its end; what a state says is what
 -- its positions say.
-use Rattle.std.proofs.Common.{◌≡◌, ℕ, ◌<◌, ◌↔◌, inl, inr, Bool, true, false, IsTrue, IsSome, fold, Option, Some, None, List, [], ◌∷◌, ◌++◌, length, map, reverse, refl, sym, ap, ◌∙◌, arith, subst}
+use Rattle.std.proofs.Common.{◌≡◌, ℕ, ◌<◌, ◌↔◌, inl, inr, Bool, true, false, IsTrue, IsSome, Option, Some, None, List, [], ◌∷◌, ◌++◌, length, map, reverse, refl, sym, ap, ◌∙◌, arith, subst}
 use Rattle.std.proofs.lemmas.Bool.{cases_lt, cases_order, false≢true}
 use Rattle.std.proofs.lemmas.List.{get_or_past, length-map, reverse-reverse}
 use Rattle.lexicon_definitions.specs.Grammars.{Grammar, Accepts, After, IsStateAfter}
@@ -13,17 +13,9 @@ use Rattle.phase_automaton.specs.Readers.{IsNet}
 use Rattle.phase_automaton.specs.Automata.{StateMachine, numbered, start_state, next_state, state_after, state_at, is_accepting, IsStateIn, Recognizes}
 use Rattle.phase_automaton.specs.Subsets.{IsReached, IsSetStep, set_at, StandsFor, IsSubsetMachine}
 use Rattle.lexicon_definitions.proofs.GrammarStates.{in_nil}
+use Rattle.phase_automaton.proofs.NumberedStates.{state_after-push}
 use Rattle.phase_automaton.proofs.SetStates.{set_state, set_state_after}
 use Rattle.phase_automaton.proofs.ReachedSets.{reverse_cons, reached_position, same_bits, set_small, map_at, sets_are_distinct, sets_are_states}
-
--- a fold over one element more
-fold_push : {A X : Type 0} (f : A → X → A) (a : A) (xs : List X) (x : X) → fold f a (xs ++ x ∷ []) ≡ f (fold f a xs) x
-fold_push f a [] x = refl
-fold_push f a (y ∷ xs) x = fold_push f (f a y) xs x
-
--- the state after one phase more is the next state
-pub state_after-push : (machine : StateMachine) (ks : List ℕ) (k : ℕ) → state_after machine (ks ++ k ∷ []) ≡ next_state machine (state_after machine ks) k
-state_after-push machine ks k = fold_push (next_state machine) start_state ks k
 
 -- a state that stands for some positions stands for the same positions, said otherwise
 stands_same : (sets : List PositionSet) (state : Option ℕ) (A B : ℕ → Type 0) → ((position : ℕ) → A position ↔ B position)
@@ -56,7 +48,7 @@ module _ (positions : List Position) (ends : PositionSet) (g : Grammar) (machine
     reached_stands [] = (subsets.states.some, subsets.states.first)
     reached_stands (k ∷ r) =
         subst (λ s. StandsFor subsets.sets s (IsReached positions (k ∷ r)))
-        (sym (ap (state_after machine) (reverse_cons k r) ∙ fold_push (next_state machine) start_state (reverse r) k))
+        (sym (ap (state_after machine) (reverse_cons k r) ∙ state_after-push machine (reverse r) k))
         (next_stands r k (state_after machine (reverse r)) (reached_stands r))
 
     pub stands : (ks : List ℕ) → StandsFor subsets.sets (state_after machine ks) (IsPositionIn g ks)

@@ -10,7 +10,7 @@ returns-in-Some c =
       (λ h.
           let below = ltb-true c.from.result c.len.result h in
           seen_number _ c.args.self.now c.self.view_is c.args.state c.in-Some.number some
-              (omega (arith, below, c.from.ensures, c.len.ensures, c.self.inside.accepting.ok.0))),
+          (omega (arith, below, c.from.ensures, c.len.ensures, c.self.inside.accepting.ok.0))),
       (λ h.
           let below = seen_below _ c.args.self.now c.self.view_is c.args.state c.in-Some.number some h in
           lt-ltb c.from.result c.len.result (omega (arith, below, c.from.ensures, c.len.ensures, c.self.inside.accepting.ok.0))),
