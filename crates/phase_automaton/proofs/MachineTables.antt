@@ -1,11 +1,10 @@
 -- A table has the states that its rows say: each row and each step is a value of a function at its number.
-use Rattle.std.proofs.Common.{◌≡◌, ℕ, ◌+◌, ◌*◌, ◌<◌, ◌≤◌, inl, inr, Bool, false, Option, Some, None, List, [], length, get_or, refl, sym, ap, ◌∙◌, arith, subst}
-use Rattle.std.specs.Prelude.{IsTrue}
+use Rattle.std.proofs.Common.{◌≡◌, ℕ, ◌+◌, ◌*◌, ◌<◌, ◌≤◌, inl, inr, false, Option, Some, None, [], length, get_or, refl, sym, ap, ◌∙◌, arith, subst}
 use Rattle.std.proofs.lemmas.Bool.{cases_lt}
 use Rattle.std.proofs.lemmas.List.{get_or_past}
 use Rattle.std.proofs.lemmas.List.FromFn.{length-map-range_with_len, get_or-map-range_with_len}
 use Rattle.phase_automaton.specs.Automata.{NumberedState, StateMachine, numbered, next_state, is_accepting, IsStateIn, IsStateMachine}
-use Rattle.phase_automaton.specs.Tables.{Table, IsBelow, IsTable, first_values, step_at, row_state, machine_of}
+use Rattle.phase_automaton.specs.Tables.{Table, IsBelow, IsTable, step_at, row_state, machine_of}
 
 pub machine_phases : (table : Table) → (machine_of table).phases ≡ table.phases
 unfolding machine_of

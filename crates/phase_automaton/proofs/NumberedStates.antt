@@ -1,6 +1,6 @@
 -- A list leads to the number of the grammar's state after it: after a list there is one state, that at the number, and numbers
 -- and states tell the same of two lists, whether the same positions are after them.
-use Rattle.std.proofs.Common.{◌≡◌, ℕ, ◌<◌, ◌≤◌, ◌↔◌, inl, inr, false, fold, IsTrue, IsSome, Option, Some, None, List, [], ◌∷◌, ◌++◌, length, get_or, refl, sym, ap, ◌∙◌, arith, subst}
+use Rattle.std.proofs.Common.{◌≡◌, ℕ, ◌<◌, ◌≤◌, ◌↔◌, inl, inr, IsTrue, IsSome, Option, Some, None, List, [], ◌∷◌, ◌++◌, length, refl, sym, ap, ◌∙◌, arith, subst}
 use Rattle.std.proofs.lemmas.Bool.{cases_lt, false≢true}
 use Rattle.std.proofs.lemmas.List.{get_or_past}
 use Rattle.lexicon_definitions.specs.Grammars.{Grammar, State, After, IsStateAfter, IsLiveState}
@@ -8,7 +8,7 @@ use Rattle.lexicon_definitions.specs.GrammarFaults.{IsStateOf}
 use Rattle.lexicon_definitions.proofs.GrammarPositions.{same_state_same_positions}
 use Rattle.lexicon_definitions.proofs.GrammarSteps.{same_positions}
 use Rattle.lexicon_definitions.proofs.GrammarStates.{same_positions_same_state}
-use Rattle.phase_automaton.specs.Automata.{NumberedState, StateMachine, numbered, start_state, next_state, state_from, state_after, state_at, is_accepting, IsStateIn, IsStateMachine, Recognizes}
+use Rattle.phase_automaton.specs.Automata.{StateMachine, numbered, start_state, next_state, state_from, state_after, state_at, is_accepting, IsStateIn, IsStateMachine, Recognizes}
 use Rattle.phase_automaton.proofs.MachineTables.{past_row}
 
 -- ---- phase by phase

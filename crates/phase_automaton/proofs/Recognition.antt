@@ -1,6 +1,6 @@
 -- The machine's states stand for the positions after a list, by induction on the list from its end; what a state says is what
 -- its positions say.
-use Rattle.std.proofs.Common.{◌≡◌, ℕ, ◌<◌, ◌↔◌, inl, inr, Bool, true, false, IsTrue, IsSome, Option, Some, None, List, [], ◌∷◌, ◌++◌, length, map, reverse, refl, sym, ap, ◌∙◌, arith, subst}
+use Rattle.std.proofs.Common.{◌≡◌, ℕ, ◌<◌, ◌↔◌, inl, inr, IsTrue, IsSome, Option, Some, None, List, [], ◌∷◌, ◌++◌, length, map, reverse, refl, sym, ap, ◌∙◌, arith, subst}
 use Rattle.std.proofs.lemmas.Bool.{cases_lt, cases_order, false≢true}
 use Rattle.std.proofs.lemmas.List.{get_or_past, length-map, reverse-reverse}
 use Rattle.lexicon_definitions.specs.Grammars.{Grammar, Accepts, After, IsStateAfter}
@@ -10,7 +10,7 @@ use Rattle.phase_automaton.specs.declared.position_set.PositionSet.{PositionSet}
 use Rattle.phase_automaton.specs.declared.position.Position.{Position}
 use Rattle.phase_automaton.specs.PositionSets.{HasPosition}
 use Rattle.phase_automaton.specs.Readers.{IsNet}
-use Rattle.phase_automaton.specs.Automata.{StateMachine, numbered, start_state, next_state, state_after, state_at, is_accepting, IsStateIn, Recognizes}
+use Rattle.phase_automaton.specs.Automata.{StateMachine, numbered, next_state, state_after, state_at, is_accepting, IsStateIn, Recognizes}
 use Rattle.phase_automaton.specs.Subsets.{IsReached, IsSetStep, set_at, StandsFor, IsSubsetMachine}
 use Rattle.lexicon_definitions.proofs.GrammarStates.{in_nil}
 use Rattle.phase_automaton.proofs.NumberedStates.{state_after-push}

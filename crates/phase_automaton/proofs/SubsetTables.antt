@@ -6,7 +6,6 @@ use Rattle.std.proofs.lemmas.List.{get_or_append_left, get_or_push, length_push,
 use Rattle.phase_automaton.specs.declared.position_set.PositionSet.{PositionSet}
 use Rattle.phase_automaton.specs.declared.position.Position.{Position}
 use Rattle.phase_automaton.specs.PositionSets.{HasPosition}
-use Rattle.phase_automaton.specs.Automata.{next_state, is_accepting}
 use Rattle.phase_automaton.specs.Tables.{Table, IsBelow, machine_of}
 use Rattle.phase_automaton.specs.Subsets.{AreStates, IsSubsetMachine, IsSetStep, set_at, StandsFor, Extends, AddsRow}
 use Rattle.phase_automaton.proofs.MachineTables.{machine_phases, machine_count, machine_row, machine_next, machine_accepting}

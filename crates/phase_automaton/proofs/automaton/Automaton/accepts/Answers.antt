@@ -1,5 +1,5 @@
 -- The row with the state's number says whether it ends words.
-use Rattle.std.proofs.Common.{◌≡◌, ℕ, ◌<◌, false, length, get_or, sym, ap, ◌∙◌, arith}
+use Rattle.std.proofs.Common.{false, get_or, sym, ap, ◌∙◌, arith}
 use Rattle.std.proofs.lemmas.List.{get_or_read}
 use Rattle.phase_automaton.proofs.MachineTables.{seen_below, seen_accepting}
 use Rattle.phase_automaton.proofs.automaton.Automaton.accepts.Goals as goal

@@ -1,5 +1,5 @@
 -- A number is a state's where it is that of a row.
-use Rattle.std.proofs.Common.{◌<◌, IsTrue, nat_lt, sym, ◌∙◌, arith}
+use Rattle.std.proofs.Common.{sym, ◌∙◌, arith}
 use Rattle.std.proofs.lemmas.Bool.{ltb-true, lt-ltb}
 use Rattle.phase_automaton.proofs.MachineTables.{seen_below, seen_number}
 use Rattle.phase_automaton.proofs.automaton.Automaton.has.Goals as goal
