@@ -11,6 +11,10 @@ pub mod Readings
 pub mod SubsetSteps
 pub mod SubsetTables
 pub mod FaultCases
+pub mod MachineTables
+pub mod SetStates
+pub mod ReachedSets
+pub mod NumberedStates
 pub mod Recognition
 pub mod StateCounts
 pub mod Reading

@@ -2,6 +2,7 @@
 use Rattle.std.proofs.Common.{◌≡◌, ℕ, ◌<◌, ◌≤◌, ◌↔◌, inl, inr, Option, Some, None, List, [], ◌∷◌, ◌++◌, length, get_or, refl, sym, ap, ◌∙◌, arith, subst}
 use Rattle.std.proofs.lemmas.Bool.{cases_lt}
 use Rattle.std.proofs.lemmas.List.{get_or_append_left, get_or_push, length_push}
+use Rattle.lexicon_definitions.specs.declared.limits.TheConstants.{MOST_GRAMMAR_STATES}
 use Rattle.phase_automaton.specs.declared.position_set.PositionSet.{PositionSet}
 use Rattle.phase_automaton.specs.declared.position.Position.{Position}
 use Rattle.phase_automaton.specs.PositionSets.{HasPosition}
@@ -78,14 +79,14 @@ finds_extends old new set (Some n) (inl h) = subst (λ s. Extends old s) (sym h.
 finds_extends old new set (Some n) (inr h) = subst (λ s. Extends old s) (sym h.0) (push_extends old set)
 
 pub finds_states : (positions : List Position) (old new : List PositionSet) (set : PositionSet) (state : Option ℕ) → FindsState old new set state
-    → AreStates positions old → length new ≤ 32 → ((position : ℕ) × HasPosition set position → IsReachedSet positions set) → AreStates positions new
+    → AreStates positions old → length new ≤ MOST_GRAMMAR_STATES → ((position : ℕ) × HasPosition set position → IsReachedSet positions set) → AreStates positions new
 finds_states positions old new set None h are few reached = subst (λ s. AreStates positions s) (sym h.0) are
 finds_states positions old new set (Some n) (inl h) are few reached = subst (λ s. AreStates positions s) (sym h.0) are
 finds_states positions old new set (Some n) (inr h) are few reached =
     subst (λ s. AreStates positions s) (sym h.0)
     (record {
       some = omega (arith, are.some, length_push old set);
-      few = subst (λ s. length s ≤ 32) h.0 few;
+      few = subst (λ s. length s ≤ MOST_GRAMMAR_STATES) h.0 few;
       first = λ position. subst (λ s. HasPosition s position ↔ (position ≡ 0)) (sym (pushed_before old set 0 are.some)) (are.first position);
       are = push_sets positions old set are.are h.2 (reached h.2.some);
     })
@@ -124,8 +125,8 @@ row_more positions old new set row state e h here phase within = elim (cases_lt 
       (subst (λ s. StandsFor new s (IsSetStep positions set (length row))) (sym (get_or_push row state None (length row) refl)) here)
 ]
 
--- the 33rd set
-pub more_sets : (positions : List Position) (sets : List PositionSet) (set : PositionSet) → AreStates positions sets → length sets ≡ 32
+-- one set more than an automaton may have
+pub more_sets : (positions : List Position) (sets : List PositionSet) (set : PositionSet) → AreStates positions sets → length sets ≡ MOST_GRAMMAR_STATES
     → IsNewSet sets set → IsReachedSet positions set → HasMoreSets positions
 more_sets positions sets set are full new reached =
     (sets ++ set ∷ [], omega (arith, full, length_push sets set), push_sets positions sets set are.are new reached)

@@ -6,20 +6,17 @@ use Rattle.std.proofs.lemmas.List.{get_or_append_left, get_or_push, length_push,
 use Rattle.phase_automaton.specs.declared.position_set.PositionSet.{PositionSet}
 use Rattle.phase_automaton.specs.declared.position.Position.{Position}
 use Rattle.phase_automaton.specs.PositionSets.{HasPosition}
-use Rattle.phase_automaton.specs.Subsets.{IsSetStep, set_at, StandsFor, Extends, AddsRow}
+use Rattle.phase_automaton.specs.Tables.{Table, IsBelow, machine_of}
+use Rattle.phase_automaton.specs.Subsets.{AreStates, IsSubsetMachine, IsSetStep, set_at, StandsFor, Extends, AddsRow}
+use Rattle.phase_automaton.proofs.MachineTables.{machine_phases, machine_count, machine_row, machine_next, machine_accepting}
 use Rattle.phase_automaton.proofs.SubsetSteps.{stands_extends}
-
--- the state is one of so many, or the dead one
-abbrev pub IsBelow : ℕ → Option ℕ → Type 0
-IsBelow count None = Unit {0}
-IsBelow count (Some number) = number < count
 
 -- the rows of the first states
 pub record AreRows (positions : List Position) (phases : ℕ) (sets : List PositionSet) (steps : List (Option ℕ)) (count : ℕ) : Type 0 where
   pub size : length steps ≡ count * phases
   pub stand : (i k : ℕ) → i < count → k < phases
       → StandsFor sets (get_or steps (i * phases + k) None) (IsSetStep positions (set_at sets i) k)
-  pub below : (position : ℕ) → IsBelow (length sets) (get_or steps position None)
+  pub below : (at : ℕ) → IsBelow (length sets) (get_or steps at None)
 
 -- which of the first sets meet the ends
 abbrev pub AreEnds : PositionSet → List PositionSet → List Bool → Type 0
@@ -95,3 +92,23 @@ ends_more ends old new accepting meets within e here h i inside = elim (cases_lt
       subst (λ b. IsTrue b ↔ ((position : ℕ) × HasPosition (set_at new i) position × HasPosition ends position)) (sym (ap (λ n. get_or (accepting ++ meets ∷ []) n false) last ∙ get_or_push accepting meets false (length accepting) refl))
       (subst (λ s. IsTrue meets ↔ ((position : ℕ) × HasPosition s position × HasPosition ends position)) (sym (ap (set_at new) last ∙ e.same (length accepting) within)) here)
 ]
+
+-- where each set has its row, the table is that of the sets
+pub all_rows : (positions : List Position) (ends : PositionSet) (sets : List PositionSet) (table : Table) → AreStates positions sets
+    → length table.accepting ≡ length sets → AreRows positions table.phases sets table.steps (length table.accepting)
+    → AreEnds ends sets table.accepting → IsSubsetMachine positions ends (machine_of table)
+all_rows positions ends sets table states count rows meets = record {
+  sets = sets;
+  states = states;
+  count = machine_count table ∙ count;
+  each_phase = λ number h. machine_row table number (omega (arith, count, h)) ∙ sym (machine_phases table);
+  steps = λ number phase h k.
+      let inside : number < length table.accepting = omega (arith, count, h) in
+      let small : phase < table.phases = omega (arith, k, machine_phases table) in
+      subst (λ s. StandsFor sets s (IsSetStep positions (set_at sets number) phase)) (sym (machine_next table number phase inside small))
+      (rows.stand number phase inside small);
+  accepting = λ number h.
+      let inside : number < length table.accepting = omega (arith, count, h) in
+      subst (λ b. IsTrue b ↔ ((position : ℕ) × HasPosition (set_at sets number) position × HasPosition ends position))
+      (sym (machine_accepting table number inside)) (meets number inside);
+}

@@ -6,4 +6,5 @@ pub mod Pieces
 pub mod Levels
 pub mod Readers
 pub mod Automata
+pub mod Tables
 pub mod Subsets

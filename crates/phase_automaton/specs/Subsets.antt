@@ -4,7 +4,8 @@ use Rattle.phase_automaton.specs.declared.position_set.PositionSet.{PositionSet}
 use Rattle.phase_automaton.specs.declared.position.Position.{Position}
 use Rattle.phase_automaton.specs.PositionSets.{HasPosition}
 use Rattle.phase_automaton.specs.Readers.{IsStep}
-use Rattle.phase_automaton.specs.Automata.{Table, next_state, is_accepting}
+use Rattle.lexicon_definitions.specs.declared.limits.TheConstants.{MOST_GRAMMAR_STATES}
+use Rattle.phase_automaton.specs.Automata.{StateMachine, numbered, next_state, is_accepting}
 
 -- the position can be reached from position 0 by these phases, of which the newest comes first
 abbrev pub IsReached : List Position → List ℕ → ℕ → Type 0
@@ -34,13 +35,13 @@ pub record AreSets (positions : List Position) (sets : List PositionSet) : Type 
 -- no more sets than an automaton may have states, of which the first is that of position 0
 pub record AreStates (positions : List Position) (sets : List PositionSet) : Type 0 where
   pub some : 0 < length sets
-  pub few : length sets ≤ 32
+  pub few : length sets ≤ MOST_GRAMMAR_STATES
   pub first : (position : ℕ) → HasPosition (set_at sets 0) position ↔ (position ≡ 0)
   pub are : AreSets positions sets
 
 -- more sets than that
 abbrev pub HasMoreSets : List Position → Type 0
-HasMoreSets positions = (sets : List PositionSet) × (32 < length sets) × AreSets positions sets
+HasMoreSets positions = (sets : List PositionSet) × (MOST_GRAMMAR_STATES < length sets) × AreSets positions sets
 
 -- the state stands for the set with these positions; the dead state stands for none
 abbrev pub StandsFor : List PositionSet → Option ℕ → (ℕ → Type 0) → Type 0
@@ -53,15 +54,17 @@ pub record Extends (old new : List PositionSet) : Type 0 where
   pub longer : length old ≤ length new
   pub same : (i : ℕ) → i < length old → set_at new i ≡ set_at old i
 
--- the table's states stand for sets, its steps for their steps, and the sets that end words meet these positions
-pub record IsSubsetTable (positions : List Position) (ends : PositionSet) (table : Table) : Type 0 where
+-- the machine's states stand for sets, its steps for their steps, and the sets that end words meet these positions
+pub record IsSubsetMachine (positions : List Position) (ends : PositionSet) (machine : StateMachine) : Type 0 where
   pub sets : List PositionSet
   pub states : AreStates positions sets
-  pub count : length table.accepting ≡ length sets
-  pub steps : (number phase : ℕ) → number < length sets → phase < table.phases
-      → StandsFor sets (next_state table (Some number) phase) (IsSetStep positions (set_at sets number) phase)
+  pub count : length machine.states ≡ length sets
+  pub each_phase : (number : ℕ) → number < length sets → length (numbered machine number).next ≡ machine.phases
+  pub steps : (number phase : ℕ) → number < length sets → phase < machine.phases
+      → StandsFor sets (next_state machine (Some number) phase) (IsSetStep positions (set_at sets number) phase)
   pub accepting : (number : ℕ) → number < length sets
-      → IsTrue (is_accepting table (Some number)) ↔ ((position : ℕ) × HasPosition (set_at sets number) position × HasPosition ends position)
+      → IsTrue (is_accepting machine (Some number))
+      ↔ ((position : ℕ) × HasPosition (set_at sets number) position × HasPosition ends position)
 
 -- the set is none of these, and not empty
 pub record IsNewSet (sets : List PositionSet) (set : PositionSet) : Type 0 where

@@ -7,6 +7,7 @@ ghost use Rattle.phase_automaton.specs.Levels.{choices_tree, IsLevel, IsPart, Ke
 
 use super::piece::Piece;
 use super::position::Position;
+use super::position_set::SET_BITS;
 
 /// A sign of repetition.
 #[derive(Clone, Copy)]
@@ -38,7 +39,7 @@ impl Level {
 
     /// This level with one item more.
     pub(crate) fn with_item(self, item: Piece, positions: &mut [Position]) -> Level
-        requires { length positions.old ≤ 64 }
+        requires { length positions.old ≤ SET_BITS }
         ensures others { KeepsOthers positions.old positions.new self }
         ensures level { (level : OpenLevel) (tree : Grammar) (from until : ℕ) → IsLevel positions.old self level from until
             → IsPiece positions.old item tree until
@@ -53,7 +54,7 @@ impl Level {
 
     /// This level after a `|`.
     pub(crate) fn with_bar(self, positions: &mut [Position]) -> Level
-        requires { length positions.old ≤ 64 }
+        requires { length positions.old ≤ SET_BITS }
         ensures others { KeepsOthers positions.old positions.new self }
         ensures level { (level : OpenLevel) (from until : ℕ) → level.items ≢ [] → IsLevel positions.old self level from until
             → IsLevel positions.new result (record { sequences = sequence_tree level.items ∷ level.sequences; items = [] })
@@ -68,7 +69,7 @@ impl Level {
 
     /// This level with its newest item repeated.
     pub(crate) fn with_repetition(self, repetition: Repetition, positions: &mut [Position]) -> Level
-        requires { length positions.old ≤ 64 }
+        requires { length positions.old ≤ SET_BITS }
         ensures others { KeepsOthers positions.old positions.new self }
         ensures level { (level : OpenLevel) (from until : ℕ) → IsLevel positions.old self level from until
             → IsLevel positions.new result (change_newest (repeated_by repetition) level) from until }
@@ -90,7 +91,7 @@ impl Level {
 
     /// All of this level as one piece, or None where nothing was read.
     pub(crate) fn finished(self, positions: &mut [Position]) -> Option<Piece>
-        requires { length positions.old ≤ 64 }
+        requires { length positions.old ≤ SET_BITS }
         ensures others { KeepsOthers positions.old positions.new self }
         ensures piece { (level : OpenLevel) (from until : ℕ) → level.items ≢ [] → IsLevel positions.old self level from until
             → IsPart positions.new result (Some (level_tree level)) from until }
@@ -102,7 +103,7 @@ impl Level {
 
 /// The one piece, and the other after it, as far as they are there.
 fn joined(sequence: Option<Piece>, item: Option<Piece>, positions: &mut [Position]) -> Option<Piece>
-    requires { length positions.old ≤ 64 }
+    requires { length positions.old ≤ SET_BITS }
     ensures { AreJoined positions.old positions.new sequence item result }
 {
     match (sequence, item) {

@@ -9,6 +9,7 @@ ghost use Rattle.phase_automaton.specs.Names.{first_name as first_name_of, posit
 use super::fault::{GrammarError, GrammarFault};
 use super::position::Position;
 use super::walk::is_name_byte;
+use lexicon_definitions::{MOST_GRAMMAR_BYTES, MOST_PHASES};
 use std::alloc::Global;
 
 /// The name that a text begins with, or nothing where it begins with none.
@@ -25,7 +26,7 @@ fn first_name(text: &[u8]) -> &[u8]
 
 /// The number of the phase with this name, counted from 0.
 fn phase_of(names: &[String], name: &[u8]) -> Option<u32>
-    requires { length names.now ≤ 16 }
+    requires { length names.now ≤ MOST_PHASES }
     ensures { result ≡ position (bytes_eq name.now) (map string_bytes names.now) }
 {
     for (phase, known) in names.iter().enumerate() {
@@ -43,8 +44,8 @@ pub(crate) fn read_positions(
     text: &[u8],
     names: &[String],
 ) -> Result<Vec<Position>, GrammarError>
-    requires text { length text.now ≤ 1024 }
-    requires names { length names.now ≤ 16 }
+    requires text { length text.now ≤ MOST_GRAMMAR_BYTES }
+    requires names { length names.now ≤ MOST_PHASES }
     ensures positions { IfOk result (λ positions. positions.items ≡ positions_of (map string_bytes names.now) text.now) }
     ensures known { OnOk result (first_unknown (map string_bytes names.now) (names_from 0 text.now) ≡ None) }
     ensures fault { IfErr result (λ e. IfFault e (λ fault.

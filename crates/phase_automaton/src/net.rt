@@ -9,7 +9,7 @@ ghost use Rattle.phase_automaton.specs.Readers.{IsNet, IsWhole};
 
 use super::piece::Piece;
 use super::position::Position;
-use super::position_set::PositionSet;
+use super::position_set::{PositionSet, SET_BITS};
 use super::reader::Reader;
 use super::walk::is_name_byte;
 use phoneme::Memory;
@@ -21,7 +21,7 @@ pub(crate) fn link_positions(
     text: &[u8],
     positions: &mut [Position],
 ) -> Result<PositionSet, Memory>
-    requires count { length positions.old ≤ 64 }
+    requires count { length positions.old ≤ SET_BITS }
     requires syntax { syntax_fault text.now ≡ None }
     requires names { (names : List (List ℕ)) × (positions.old ≡ positions_of names text.now) }
     ensures { IfOk result (λ ends. (names : List (List ℕ)) → positions.old ≡ positions_of names text.now

@@ -5,7 +5,7 @@ ghost use Rattle.phase_automaton.specs.Pieces.{position_at, IsPiece, IsLinked};
 ghost use Rattle.phase_automaton.specs.declared.position.Position.{Position};
 
 use super::position::{Position, link};
-use super::position_set::PositionSet;
+use super::position_set::{PositionSet, SET_BITS};
 
 /// A part of a grammar that was read: whether it can be empty, and the positions at which it can begin and end. What follows
 /// each position stands in the positions themselves.
@@ -19,7 +19,7 @@ pub(crate) struct Piece {
 impl Piece {
     /// The name at a position.
     pub(crate) fn name(position: usize) -> Piece
-        requires { position < 64 }
+        requires { position < SET_BITS }
         ensures { (positions : List Position) → position < length positions
             → ((other : ℕ) → HasPosition (position_at positions position).follow other → ⊥)
             → IsPiece positions result (Name (position_at positions position).phase) position }
@@ -33,7 +33,7 @@ impl Piece {
 
     /// This piece, and the next one after it.
     pub(crate) fn then(self, next: Piece, positions: &mut [Position]) -> Piece
-        requires { length positions.old ≤ 64 }
+        requires { length positions.old ≤ SET_BITS }
         ensures linked { IsLinked positions.old positions.new self.last next.first }
         ensures piece { (first second : Grammar) (from : ℕ) → IsPiece positions.old self first from
             → IsPiece positions.old next second (from + count_names first)
@@ -61,7 +61,7 @@ impl Piece {
 
     /// This piece any number of times.
     pub(crate) fn any_times(self, positions: &mut [Position]) -> Piece
-        requires { length positions.old ≤ 64 }
+        requires { length positions.old ≤ SET_BITS }
         ensures linked { IsLinked positions.old positions.new self.last self.first }
         ensures piece { (inner : Grammar) (from : ℕ) → IsPiece positions.old self inner from
             → IsPiece positions.new result (AnyTimes inner) from }
@@ -76,7 +76,7 @@ impl Piece {
 
     /// This piece at least once.
     pub(crate) fn once_or_more(self, positions: &mut [Position]) -> Piece
-        requires { length positions.old ≤ 64 }
+        requires { length positions.old ≤ SET_BITS }
         ensures linked { IsLinked positions.old positions.new self.last self.first }
         ensures piece { (inner : Grammar) (from : ℕ) → IsPiece positions.old self inner from
             → IsPiece positions.new result (OnceOrMore inner) from }

@@ -2,7 +2,7 @@ ghost use Rattle.std.specs.Prelude.{◌≡◌, ◌≤◌, length};
 ghost use Rattle.phase_automaton.specs.Names.{opening_position};
 ghost use Rattle.phase_automaton.specs.Pieces.{IsLinked};
 
-use super::position_set::PositionSet;
+use super::position_set::{PositionSet, SET_BITS};
 
 /// A position of a grammar: the phase of the name that stands there, and the positions that may come right after it. Position 0
 /// stands before all names, and its phase says nothing.
@@ -33,7 +33,7 @@ impl Position {
 
 /// Lets each position of the one set be followed by those of the other, besides what follows it already.
 pub(crate) fn link(positions: &mut [Position], from: PositionSet, to: PositionSet)
-    requires { length positions.old ≤ 64 }
+    requires { length positions.old ≤ SET_BITS }
     ensures { IsLinked positions.old positions.new from to }
 {
     for (number, position) in positions.iter_mut().enumerate() {

@@ -1,7 +1,10 @@
 ghost use Rattle.std.specs.Prelude.{◌≡◌, ℕ, ◌<◌, ◌↔◌, ◌⊎◌, IsTrue, MatchBool};
 ghost use Rattle.phase_automaton.specs.PositionSets.{HasPosition};
 
-/// A set of positions of a grammar, each below 64.
+/// A set has a bit for each position, so that positions are below this number.
+pub(crate) const SET_BITS: usize = 64;
+
+/// A set of positions of a grammar, each below the number of a set's bits.
 #[derive(Clone, Copy, Debug, PartialEq, Eq)]
 pub(crate) struct PositionSet {
     bits: u64,
@@ -17,7 +20,7 @@ impl PositionSet {
 
     /// The set of one position.
     pub(crate) fn only(position: usize) -> PositionSet
-        requires { position < 64 }
+        requires { position < SET_BITS }
         ensures { (other : ℕ) → HasPosition result other ↔ (other ≡ position) }
     {
         PositionSet {
@@ -26,7 +29,7 @@ impl PositionSet {
     }
 
     pub(crate) fn has(self, position: usize) -> bool
-        requires { position < 64 }
+        requires { position < SET_BITS }
         ensures { IsTrue result ↔ HasPosition self position }
     {
         (self.bits >> position) & 1 == 1

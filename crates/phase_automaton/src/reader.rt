@@ -8,6 +8,7 @@ ghost use Rattle.phase_automaton.specs.Readers.{IsReader, CanRead, IsWhole};
 use super::level::{Level, Repetition};
 use super::piece::Piece;
 use super::position::Position;
+use super::position_set::SET_BITS;
 use phoneme::Memory;
 use std::alloc::Global;
 
@@ -34,7 +35,7 @@ impl Reader {
 
     /// Reads the next name.
     pub(crate) fn name(&mut self, positions: &mut [Position])
-        requires count { length positions.old ≤ 64 }
+        requires count { length positions.old ≤ SET_BITS }
         requires met { self.old.met < length positions.old }
         ensures met { self.new.met ≡ self.old.met + 1 }
         ensures reader { (all : List Position) (level : OpenLevel) (levels : List OpenLevel)
@@ -60,7 +61,7 @@ impl Reader {
 
     /// Reads a closing bracket. Where none is open, nothing changes.
     fn close(&mut self, positions: &mut [Position])
-        requires { length positions.old ≤ 64 }
+        requires { length positions.old ≤ SET_BITS }
         ensures count { length positions.new ≡ length positions.old }
         ensures met { self.new.met ≡ self.old.met }
         ensures reader { (all : List Position) (level outer : OpenLevel) (levels : List OpenLevel) → level.items ≢ []
@@ -79,7 +80,7 @@ impl Reader {
 
     /// Reads a bracket, a `|` or a sign of repetition. Another byte changes nothing.
     pub(crate) fn symbol(&mut self, byte: u8, positions: &mut [Position]) -> Result<(), Memory>
-        requires { length positions.old ≤ 64 }
+        requires { length positions.old ≤ SET_BITS }
         ensures count { length positions.new ≡ length positions.old }
         ensures met { self.new.met ≡ self.old.met }
         ensures reader { OnOk result ((names : List (List ℕ)) (all : List Position) (levels : List OpenLevel)
@@ -104,7 +105,7 @@ impl Reader {
 
     /// All that was read as one piece, or None where nothing was.
     pub(crate) fn finish(self, positions: &mut [Position]) -> Option<Piece>
-        requires { length positions.old ≤ 64 }
+        requires { length positions.old ≤ SET_BITS }
         ensures { (all : List Position) (level : OpenLevel) → level.items ≢ [] → IsReader all positions.old self (level ∷ [])
             → IsWhole all positions.new result (level_tree level) }
     {

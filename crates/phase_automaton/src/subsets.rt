@@ -3,21 +3,19 @@ ghost use Rattle.lexicon_definitions.specs.GrammarFaults.{States as TooManyState
 ghost use Rattle.phase_automaton.specs.Faults.{IfFault};
 ghost use Rattle.phase_automaton.specs.PositionSets.{HasPosition};
 ghost use Rattle.phase_automaton.specs.Pieces.{position_at, Follows};
-ghost use Rattle.phase_automaton.specs.Subsets.{set_at, IsReachedSet, AreStates, HasMoreSets, Extends, FindsState, IsNewSet, AddsRow, IsSubsetTable};
+ghost use Rattle.phase_automaton.specs.Subsets.{set_at, IsReachedSet, AreStates, HasMoreSets, Extends, FindsState, IsNewSet, AddsRow, IsSubsetMachine};
 
 use super::automaton::Automaton;
 use super::fault::{GrammarError, GrammarFault};
 use super::position::Position;
-use super::position_set::PositionSet;
+use super::position_set::{PositionSet, SET_BITS};
 use super::state::State;
+use lexicon_definitions::MOST_GRAMMAR_STATES;
 use std::alloc::Global;
-
-/// The most numbered states; the dead state is not counted.
-const MOST_STATES: usize = 32;
 
 /// The positions that follow some position of the set.
 fn followers(positions: &[Position], set: PositionSet) -> PositionSet
-    requires { length positions.now ≤ 64 }
+    requires { length positions.now ≤ SET_BITS }
     ensures { (position : ℕ) → HasPosition result position
         ↔ ((earlier : ℕ) × HasPosition set earlier × Follows positions.now earlier position) }
 {
@@ -30,7 +28,7 @@ fn followers(positions: &[Position], set: PositionSet) -> PositionSet
 
 /// The positions of the set in which a phase is read.
 fn with_phase(positions: &[Position], set: PositionSet, phase: u32) -> PositionSet
-    requires { length positions.now ≤ 64 }
+    requires { length positions.now ≤ SET_BITS }
     ensures { (position : ℕ) → HasPosition result position
         ↔ (HasPosition set position × (position < length positions.now) × ((position_at positions.now position).phase ≡ phase)) }
 {
@@ -57,12 +55,12 @@ fn find_set(sets: &[PositionSet], set: PositionSet) -> Option<usize>
 }
 
 /// The state of a set: the dead one for the empty set, and otherwise its number among the sets, to which it is added where
-/// it is new. Refuses a 33rd set.
+/// it is new. Refuses one more than an automaton may have.
 fn state_for(sets: &mut Vec<PositionSet>, set: PositionSet) -> Result<State, GrammarError>
-    requires { vec_len sets.old ≤ MOST_STATES }
+    requires { vec_len sets.old ≤ MOST_GRAMMAR_STATES }
     ensures ok { IfOk result (λ state. FindsState sets.old.items sets.new.items set state) }
-    ensures few { vec_len sets.new ≤ MOST_STATES }
-    ensures fault { IfErr result (λ e. IfFault e (λ fault. (fault ≡ TooManyStates) × (vec_len sets.old ≡ MOST_STATES)
+    ensures few { vec_len sets.new ≤ MOST_GRAMMAR_STATES }
+    ensures fault { IfErr result (λ e. IfFault e (λ fault. (fault ≡ TooManyStates) × (vec_len sets.old ≡ MOST_GRAMMAR_STATES)
         × IsNewSet sets.old.items set)) }
 {
     if set.is_empty() {
@@ -72,7 +70,7 @@ fn state_for(sets: &mut Vec<PositionSet>, set: PositionSet) -> Result<State, Gra
         return Ok(State::numbered(number as u8));
     }
     let number = sets.len();
-    if number == MOST_STATES {
+    if number == MOST_GRAMMAR_STATES {
         return Err(GrammarFault::States.into());
     }
     sets.push(set)?;
@@ -87,7 +85,7 @@ fn add_row(
     sets: &mut Vec<PositionSet>,
     steps: &mut Vec<State>,
 ) -> Result<(), GrammarError>
-    requires count { length positions.now ≤ 64 }
+    requires count { length positions.now ≤ SET_BITS }
     requires closed { (before position : ℕ) → Follows positions.now before position → position < length positions.now }
     requires states { AreStates positions.now sets.old.items }
     requires set { IsReachedSet positions.now set }
@@ -105,16 +103,16 @@ fn add_row(
 }
 
 /// The automaton of positions: its states are the sets of positions that lists of phases lead to, numbered as they are met.
-/// Refuses more than 32.
+/// Refuses more than an automaton may have.
 pub(crate) fn build(
     alloc: Global,
     positions: &[Position],
     ends: PositionSet,
     phases: u32,
 ) -> Result<Automaton, GrammarError>
-    requires count { length positions.now ≤ 64 }
+    requires count { length positions.now ≤ SET_BITS }
     requires closed { (before position : ℕ) → Follows positions.now before position → position < length positions.now }
-    ensures table { IfOk result (λ automaton. IsSubsetTable positions.now ends automaton) }
+    ensures machine { IfOk result (λ automaton. IsSubsetMachine positions.now ends automaton) }
     ensures phases { IfOk result (λ automaton. automaton.phases ≡ phases) }
     ensures fault { IfErr result (λ e. IfFault e (λ fault. (fault ≡ TooManyStates) × HasMoreSets positions.now)) }
 {

@@ -4,9 +4,11 @@ use Rattle.std.proofs.lemmas.List.{length_push, get_or_read}
 use Rattle.std.proofs.lemmas.Grind.{common_steps}
 use Rattle.phase_automaton.specs.declared.position_set.PositionSet.{PositionSet}
 use Rattle.phase_automaton.specs.PositionSets.{HasPosition}
-use Rattle.phase_automaton.specs.Subsets.{set_at, AreStates, AddsRow}
+use Rattle.phase_automaton.specs.Automata.{StateMachine}
+use Rattle.phase_automaton.specs.Subsets.{set_at, AreStates, AddsRow, IsSubsetMachine}
 use Rattle.phase_automaton.proofs.SubsetSteps.{first_states}
-use Rattle.phase_automaton.proofs.SubsetTables.{AreRows, AreEnds, no_rows, rows_more, ends_more}
+use Rattle.phase_automaton.proofs.SubsetTables.{AreRows, AreEnds, no_rows, rows_more, ends_more, all_rows}
+use Rattle.phase_automaton.proofs.MachineTables.{machine_phases}
 use Rattle.phase_automaton.proofs.subsets.build.Goals as goal
 
 pub rows-init : goal.rows-init
@@ -48,3 +50,14 @@ rows-preserved c =
           (subst (λ (s : PositionSet). IsTrue c.meets.result ↔ ((position : ℕ) × HasPosition s position × HasPosition c.args.ends position)) (sym set) c.meets.ensures)
           c.rows.invariant.ends);
     }
+
+pub returns-clause-machine : goal.returns-clause-machine
+returns-clause-machine c =
+    let items = c.rows.accepting.items in
+    let count : length c.rows.accepting.items ≡ length c.rows.sets.items =
+    omega (arith, c.rows.accepting.ok.0, c.rows.sets.ok.0, c.len.ensures, c.len-in-rows.ensures, c.rows-test.false, c.rows.invariant.count) in
+    subst (λ m. IsSubsetMachine c.args.positions.now c.args.ends m) (sym c.new.ensures)
+    (all_rows c.args.positions.now c.args.ends c.rows.sets.items _ c.rows.invariant.states count c.rows.invariant.rows c.rows.invariant.ends)
+
+pub returns-clause-phases : goal.returns-clause-phases
+returns-clause-phases c = ap (λ (m : StateMachine). m.phases) c.new.ensures ∙ machine_phases _

@@ -1,5 +1,6 @@
 -- The sets so far, the steps of those whose rows were added, and which of these end words.
 use Rattle.std.proofs.Common.{◌-◌, ◌≤◌, length, vec_len}
+use Rattle.lexicon_definitions.specs.declared.limits.TheConstants.{MOST_GRAMMAR_STATES}
 use Rattle.phase_automaton.specs.Subsets.{AreStates}
 use Rattle.phase_automaton.proofs.SubsetTables.{AreRows, AreEnds}
 use Rattle.phase_automaton.proofs.subsets.build.Given as goal
@@ -13,4 +14,4 @@ invariant-rows l = record {
 }
 
 abbrev pub decreases-rows : goal.decreases-rows
-decreases-rows l = 32 - vec_len l.accepting
+decreases-rows l = MOST_GRAMMAR_STATES - vec_len l.accepting
