@@ -1,0 +1,4 @@
+//! The theory of depth-first listing.
+#![tactic(auto)]
+
+mod laws;
