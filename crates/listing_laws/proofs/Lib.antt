@@ -1,1 +1,3 @@
 pub mod Paths
+pub mod ToCome
+pub mod Standing
