@@ -1,3 +1,5 @@
 pub mod Paths
 pub mod ToCome
 pub mod Standing
+pub mod AtPositions
+pub mod Skips

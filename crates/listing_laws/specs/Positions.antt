@@ -34,8 +34,3 @@ pub record IsFirst {Configuration Choice : Type 0} (ways : Ways Configuration Ch
   pub path : IsPath ways start first
   pub wanted : IsWanted first
   pub least : (other : List Choice) → IsPath ways start other → IsWanted other → slice_cmp ways.compare first other ≢ Greater
-
--- what comes after a wanted path is wanted
-abbrev pub IsUpward : {Configuration Choice : Type 0} → Ways Configuration Choice → (List Choice → Type 0) → Type 0
-IsUpward {Choice = Choice} ways IsWanted =
-    (path other : List Choice) → IsWanted path → slice_cmp ways.compare path other ≡ Less → IsWanted other
