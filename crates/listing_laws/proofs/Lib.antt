@@ -3,3 +3,5 @@ pub mod ToCome
 pub mod Standing
 pub mod AtPositions
 pub mod Skips
+pub mod Depths
+pub mod Visits

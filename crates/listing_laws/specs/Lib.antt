@@ -1,3 +1,5 @@
 pub mod Ways
 pub mod Positions
 pub mod Stacks
+pub mod Depths
+pub mod Visits
