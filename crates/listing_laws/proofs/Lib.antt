@@ -5,3 +5,4 @@ pub mod AtPositions
 pub mod Skips
 pub mod Depths
 pub mod Visits
+pub mod Listings
