@@ -6,3 +6,4 @@ pub mod Skips
 pub mod Depths
 pub mod Visits
 pub mod Listings
+pub mod KeptWays

@@ -83,11 +83,11 @@ module _ {Configuration Choice : Type 0} {ways : Ways Configuration Choice} (ord
           ),
           λ (less, differ). elim (above_cases orderly start frames at last rest path leads choice is_path
               (subst (λ other. slice_cmp ways.compare other path ≡ Less) e less)) [
-            | inl before ↦ before
-            | inr (rest', e', above) ↦ absurd (same_first_choices start path taken last rest rest' depth (subst (IsPath ways start) e is) is_path
-                (subst (λ other. suc (length taken) ≡ min depth (length other)) e count') e' above
-                (subst (λ other. take depth path ≢ take depth other) e differ))
-          ],
+                | inl before ↦ before
+                | inr (rest', e', above) ↦ absurd (same_first_choices start path taken last rest rest' depth (subst (IsPath ways start) e is) is_path
+                    (subst (λ other. suc (length taken) ≡ min depth (length other)) e count') e' above
+                    (subst (λ other. take depth path ≢ take depth other) e differ))
+              ],
         );
       }
 

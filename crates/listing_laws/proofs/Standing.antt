@@ -115,9 +115,9 @@ module _ {Configuration Choice : Type 0} {ways : Ways Configuration Choice} (ord
               (to_come_before ways.compare taken frame.taken IsLeft path come)),
           λ wanted. elim (last_cases ways.compare taken frame.taken IsLeft path
               (subst (λ ts. IsToCome ways.compare ts IsLeft path) pushed (here.1 wanted))) [
-            | inl before ↦ before
-            | inr (choice, rest, e, left) ↦ absurd (none choice rest (onward choice rest e) left)
-          ],
+                | inl before ↦ before
+                | inr (choice, rest, e, left) ↦ absurd (none choice rest (onward choice rest e) left)
+              ],
         );
   }
 

@@ -1,8 +1,8 @@
 -- A frame has a rank of its own, so there are no more frames than ranks; and the count of visits left falls at each visit.
 use Rattle.std.proofs.Common.{◌≡◌, ◌⊎◌, ℕ, zero, suc, ◌+◌, ◌-◌, ◌*◌, ◌<◌, ◌≤◌, Bool, true, false, inl, inr, List, [], ◌∷◌, length, refl, sym, ap, subst, ◌∙◌, arith}
-use Rattle.listing_laws.specs.Ways.{Ways, AreRanked, IsPath}
+use Rattle.listing_laws.specs.Ways.{Ways, AreRanked, IsPath, HasPath}
 use Rattle.listing_laws.specs.Stacks.{Frame, LeadTo}
-use Rattle.listing_laws.specs.Visits.{HasPath, Visit, Leave, Enter, AreVisits, visits_left}
+use Rattle.listing_laws.specs.Visits.{Visit, Leave, Enter, AreVisits, visits_left}
 
 -- the frames are no more than the ranks from the start to the top
 pub frames_ranked : {Configuration Choice : Type 0} {ways : Ways Configuration Choice} {rank : Configuration → ℕ} {bound : ℕ}

@@ -1,10 +1,5 @@
 -- How many frames one move visits where every configuration that is entered has a path.
 use Rattle.std.specs.Prelude.{◌≡◌, ℕ, zero, suc, ◌+◌, ◌-◌, ◌<◌, Bool, true, false, List, [], ◌∷◌}
-use Rattle.listing_laws.specs.Ways.{Ways, IsPath}
-
--- some path begins at the configuration
-abbrev pub HasPath : {Configuration Choice : Type 0} → Ways Configuration Choice → Configuration → Type 0
-HasPath {Choice = Choice} ways at = (path : List Choice) × IsPath ways at path
 
 -- a visit of a move: the last frame is left, or a new one is entered
 pub data Visit : Type 0 where

@@ -32,6 +32,18 @@ IsPath ways at (choice ∷ []) = ways.ends at choice
 IsPath {Configuration} ways at (choice ∷ later ∷ path) =
     (next : Configuration) × ways.leads at choice next × IsPath ways next (later ∷ path)
 
+-- some path begins at the configuration
+abbrev pub HasPath : {Configuration Choice : Type 0} → Ways Configuration Choice → Configuration → Type 0
+HasPath {Choice = Choice} ways at = (path : List Choice) × IsPath ways at path
+
+-- the ways of which only these choices are kept
+abbrev pub kept : {Configuration Choice : Type 0} → Ways Configuration Choice → (Configuration → Choice → Type 0) → Ways Configuration Choice
+kept ways IsKept = record {
+  compare = ways.compare;
+  ends = λ at choice. ways.ends at choice × IsKept at choice;
+  leads = λ at choice next. ways.leads at choice next × IsKept at choice;
+}
+
 -- every choice leads to a configuration of higher rank, and no rank is above the bound
 pub record AreRanked {Configuration Choice : Type 0} (ways : Ways Configuration Choice) (rank : Configuration → ℕ) (bound : ℕ) : Type 0 where
   pub rises : (at : Configuration) (choice : Choice) (next : Configuration) → ways.leads at choice next → rank at < rank next
