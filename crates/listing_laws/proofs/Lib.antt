@@ -7,3 +7,4 @@ pub mod Depths
 pub mod Visits
 pub mod Listings
 pub mod KeptWays
+pub mod Measures

@@ -4,3 +4,4 @@ pub mod Stacks
 pub mod Listings
 pub mod Depths
 pub mod Visits
+pub mod Measures
