@@ -47,23 +47,30 @@ module _ (base : ℕ) where
   later_digits [] later are = are
   later_digits (digit ∷ front) later are = later_digits front later (All-tail IsDigit digit (front ++ later) are)
 
-  -- the measure falls where a choice is taken, and a first one comes next
+  -- the measure falls where the next choice is taken, and a first one comes next
   pub falls_at_entering : (places : ℕ) (taken : List ℕ) (next first : ℕ) → 0 < base → AreDigits base (taken ++ next ∷ []) → 0 < first
       → length taken + 1 < places
-      → far_from_end base places (taken ++ next ∷ first ∷ []) < far_from_end base places (taken ++ next ∷ [])
+      → far_from_end base places ((taken ++ next ∷ []) ++ first ∷ []) < far_from_end base places (taken ++ next ∷ [])
   falls_at_entering places taken next first some are above short =
       let below = number_below places (taken ++ next ∷ []) some are in
       let long : length (taken ++ next ∷ []) < places = omega (arith, length-append taken (next ∷ [])) in
-      let rises : number base places (taken ++ next ∷ []) < number base places (taken ++ next ∷ first ∷ []) =
-      subst (λ digits. number base places (taken ++ next ∷ []) < number base places digits) (append_assoc taken (next ∷ []) (first ∷ []))
-      (one_more_digit places (taken ++ next ∷ []) first some above long) in
+      let rises = one_more_digit places (taken ++ next ∷ []) first some above long in
       omega arith
 
-  -- and where a later one comes next, at the top or at a frame below it
-  pub falls_at_later : (places : ℕ) (taken : List ℕ) (left right : ℕ) (more : List ℕ) → 0 < base → AreDigits base (taken ++ left ∷ more)
-      → left < right → length taken < places
-      → far_from_end base places (taken ++ right ∷ []) < far_from_end base places (taken ++ left ∷ more)
-  falls_at_later places taken left right more some are less short =
-      let below = number_below places (taken ++ left ∷ more) some are in
-      let rises = greater_digit places taken left right more [] some less (All-tail IsDigit left more (later_digits taken (left ∷ more) are)) short in
+  -- where a later one comes next
+  pub falls_at_passing : (places : ℕ) (taken : List ℕ) (next later : ℕ) (more : List ℕ) → 0 < base → AreDigits base (taken ++ next ∷ more)
+      → next < later → length taken < places
+      → far_from_end base places (taken ++ later ∷ []) < far_from_end base places (taken ++ next ∷ more)
+  falls_at_passing places taken next later more some are less short =
+      let below = number_below places (taken ++ next ∷ more) some are in
+      let rises = greater_digit places taken next later more [] some less (All-tail IsDigit next more (later_digits taken (next ∷ more) are)) short in
       omega arith
+
+  -- and where the last frame is taken off, and one later than the one taken there comes next
+  pub falls_at_leaving : (places : ℕ) (taken : List ℕ) (last next later : ℕ) → 0 < base → AreDigits base ((taken ++ last ∷ []) ++ next ∷ [])
+      → last < later → length taken < places
+      → far_from_end base places (taken ++ later ∷ []) < far_from_end base places ((taken ++ last ∷ []) ++ next ∷ [])
+  falls_at_leaving places taken last next later some are less short =
+      let parted = append_assoc taken (last ∷ []) (next ∷ []) in
+      subst (λ digits. far_from_end base places (taken ++ later ∷ []) < far_from_end base places digits) (sym parted)
+      (falls_at_passing places taken last later (next ∷ []) some (subst (AreDigits base) parted are) less short)
