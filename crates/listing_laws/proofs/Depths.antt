@@ -51,3 +51,25 @@ module _ {Choice : Type 0} (compare : Choice → Choice → Ordering) where
       let here : compare x y ≡ Equal = subst (λ c. compare x c ≡ Equal) (sym same ∙ same') (tied x) in
       let rest = deeper_first tied taken IsLeft deep shallow left right (omega arith) p q in
       rw here rest
+
+  -- it is so at one depth
+  pub one_depth : ((choice : Choice) → compare choice choice ≡ Equal) → (taken : List Choice) (IsLeft : Choice → Type 0)
+      (depth other : ℕ) (path : List Choice) → IsToComeAt compare taken IsLeft depth path → IsToComeAt compare taken IsLeft other path
+      → depth ≡ other
+  one_depth tied taken IsLeft depth other [] p q = absurd (elim_nothing taken depth p)
+    where
+      elim_nothing : (taken : List Choice) (depth : ℕ) → IsToComeAt compare taken IsLeft depth [] → ⊥
+      elim_nothing [] zero none = none
+      elim_nothing [] (suc depth) none = none
+      elim_nothing (first ∷ taken) zero none = none
+      elim_nothing (first ∷ taken) (suc depth) none = none
+  one_depth tied [] IsLeft zero zero (choice ∷ path) p q = refl
+  one_depth tied [] IsLeft zero (suc other) (choice ∷ path) p q = absurd q
+  one_depth tied [] IsLeft (suc depth) other (choice ∷ path) p q = absurd p
+  one_depth tied (first ∷ taken) IsLeft zero zero (choice ∷ path) p q = refl
+  one_depth tied (first ∷ taken) IsLeft zero (suc other) (choice ∷ path) less (same, q) =
+      let equal = tied first in let less' : compare first first ≡ Less = subst (λ c. compare first c ≡ Less) (sym same) less in absurd (cc)
+  one_depth tied (first ∷ taken) IsLeft (suc depth) zero (choice ∷ path) (same, p) less =
+      let equal = tied first in let less' : compare first first ≡ Less = subst (λ c. compare first c ≡ Less) (sym same) less in absurd (cc)
+  one_depth tied (first ∷ taken) IsLeft (suc depth) (suc other) (choice ∷ path) (same, p) (same', q) =
+      ap suc (one_depth tied taken IsLeft depth other path p q)

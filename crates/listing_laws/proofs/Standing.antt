@@ -9,7 +9,7 @@ use Rattle.std.proofs.lemmas.Cmp.{lists_total, tied_itself}
 use Rattle.std.proofs.lemmas.List.{append_assoc}
 use Rattle.listing_laws.specs.Ways.{Ways, AreOrderly, IsChoice, IsPath}
 use Rattle.listing_laws.specs.Positions.{IsFirst}
-use Rattle.listing_laws.specs.Stacks.{Frame, taken_in, LeadTo, Every, From, After, Nothing, IsToCome, StandsFor}
+use Rattle.listing_laws.specs.Stacks.{Frame, taken_in, LeadTo, Every, From, After, Nothing, IsToCome, HasPathLeft, StandsFor}
 use Rattle.listing_laws.proofs.Paths.{path_from_next, path_from_end, path_from_top, frame_pushed, frame_popped, taken_pushed, first_of_path, less_then_cases}
 use Rattle.listing_laws.proofs.ToCome.{change_left, last_cases, to_come_before, to_come_onward, from_cases, above_taken}
 
@@ -32,11 +32,11 @@ extended ways next taken choice (later ∷ rest) is =
 
 -- nothing is to come at a start where no choice that is left begins a path
 none_to_come : {Configuration Choice : Type 0} (ways : Ways Configuration Choice) (start top : Configuration) (IsLeft : Choice → Type 0) (path : List Choice)
-    → start ≡ top → ((choice : Choice) (rest : List Choice) → IsPath ways top (choice ∷ rest) → IsLeft choice → ⊥)
+    → start ≡ top → (HasPathLeft ways top IsLeft → ⊥)
     → IsPath ways start path → IsToCome ways.compare [] IsLeft path → ⊥
 none_to_come ways start top IsLeft [] same none is come = come
 none_to_come ways start top IsLeft (choice ∷ rest) same none is come =
-    none choice rest (subst (λ place. IsPath ways place (choice ∷ rest)) same is) come
+    none (choice, rest, subst (λ place. IsPath ways place (choice ∷ rest)) same is, come)
 
 module _ {Configuration Choice : Type 0} {ways : Ways Configuration Choice} (orderly : AreOrderly ways) where
   -- the same stack stands for whatever is the same of paths
@@ -98,7 +98,7 @@ module _ {Configuration Choice : Type 0} {ways : Ways Configuration Choice} (ord
   -- no choice that is left begins a path: the last frame is taken off, and the choices after the one taken there are left
   pub leaves : {start : Configuration} {IsWanted : List Choice → Type 0} {frames : List (Frame Configuration Choice)} {frame : Frame Configuration Choice}
       {top : Configuration} {IsLeft : Choice → Type 0}
-      → ((choice : Choice) (rest : List Choice) → IsPath ways top (choice ∷ rest) → IsLeft choice → ⊥)
+      → (HasPathLeft ways top IsLeft → ⊥)
       → StandsFor ways start IsWanted (frames ++ frame ∷ []) top IsLeft
       → StandsFor ways start IsWanted frames frame.at (After ways.compare frame.taken)
   leaves {start = start} {frames = frames} {frame = frame} {top = top} {IsLeft = IsLeft} none stands = record {
@@ -116,14 +116,14 @@ module _ {Configuration Choice : Type 0} {ways : Ways Configuration Choice} (ord
           λ wanted. elim (last_cases ways.compare taken frame.taken IsLeft path
               (subst (λ ts. IsToCome ways.compare ts IsLeft path) pushed (here.1 wanted))) [
                 | inl before ↦ before
-                | inr (choice, rest, e, left) ↦ absurd (none choice rest (onward choice rest e) left)
+                | inr (choice, rest, e, left) ↦ absurd (none (choice, rest, onward choice rest e, left))
               ],
         );
   }
 
   -- without a frame, where no choice that is left begins a path, no path is wanted
   pub exhausted : {start : Configuration} {IsWanted : List Choice → Type 0} {top : Configuration} {IsLeft : Choice → Type 0}
-      → ((choice : Choice) (rest : List Choice) → IsPath ways top (choice ∷ rest) → IsLeft choice → ⊥)
+      → (HasPathLeft ways top IsLeft → ⊥)
       → StandsFor ways start IsWanted [] top IsLeft
       → (path : List Choice) → IsPath ways start path → IsWanted path → ⊥
   exhausted {start = start} {top = top} {IsLeft = IsLeft} none stands path is wanted =

@@ -41,6 +41,10 @@ IsToCome compare [] IsLeft (choice ∷ path) = IsLeft choice
 IsToCome compare (first ∷ taken) IsLeft (choice ∷ path) =
     (compare first choice ≡ Less) ⊎ ((first ≡ choice) × IsToCome compare taken IsLeft path)
 
+-- some choice that is left begins a path
+abbrev pub HasPathLeft : {Configuration Choice : Type 0} → Ways Configuration Choice → Configuration → (Choice → Type 0) → Type 0
+HasPathLeft {Choice = Choice} ways top IsLeft = (choice : Choice) × (rest : List Choice) × IsPath ways top (choice ∷ rest) × IsLeft choice
+
 -- a stack stands for the paths that are wanted: its choices lead to its top, and exactly they are still to come
 pub record StandsFor {Configuration Choice : Type 0} (ways : Ways Configuration Choice) (start : Configuration) (IsWanted : List Choice → Type 0)
     (frames : List (Frame Configuration Choice)) (top : Configuration) (IsLeft : Choice → Type 0) : Type 0 where

@@ -22,10 +22,12 @@ pub fn the_listing_has_every_path<S: Searched>()
         → IsPath S.ways at right → slice_cmp S.ways.compare left right ≡ Equal → left ≡ right }
 {}
 
-/// What is to come on a stack is so at some depth, and what is to come at a greater depth comes first.
+/// What is to come on a stack is so at one depth, and what is to come at a greater depth comes first.
 pub fn what_is_to_come_falls_into_depths<S: Searched>()
     ensures somewhere { (taken path : List S.Choice)
         → IsToCome S.ways.compare taken S.IsLeft path ↔ ((depth : ℕ) × IsToComeAt S.ways.compare taken S.IsLeft depth path) }
+    ensures once { AreOrderly S.ways → (taken : List S.Choice) (depth other : ℕ) (path : List S.Choice)
+        → IsToComeAt S.ways.compare taken S.IsLeft depth path → IsToComeAt S.ways.compare taken S.IsLeft other path → depth ≡ other }
     ensures deeper_first { AreOrderly S.ways → (taken : List S.Choice) (deep shallow : ℕ) (left right : List S.Choice) → shallow < deep
         → IsToComeAt S.ways.compare taken S.IsLeft deep left → IsToComeAt S.ways.compare taken S.IsLeft shallow right
         → slice_cmp S.ways.compare left right ≡ Less }

@@ -3,7 +3,7 @@ ghost use Rattle.std.specs.Cmp.Lexicographic.{slice_cmp};
 ghost use Rattle.std.specs.declared.cmp.Ordering.TheVariants.{Less};
 ghost use Rattle.listing_laws.specs.Ways.{AreOrderly, IsPath};
 ghost use Rattle.listing_laws.specs.Positions.{IsFirst};
-ghost use Rattle.listing_laws.specs.Stacks.{Frame, taken_in, Every, From, After, StandsFor};
+ghost use Rattle.listing_laws.specs.Stacks.{Frame, taken_in, Every, From, After, HasPathLeft, StandsFor};
 
 use crate::searched::Searched;
 
@@ -21,7 +21,7 @@ pub fn a_search_moves_on<S: Searched>()
         → StandsFor S.ways start S.IsWanted (frames ++ record { at = top; taken = choice } ∷ []) next Every }
     ensures leaves { AreOrderly S.ways → (start : S.Configuration) (frames : List (Frame S.Configuration S.Choice)) (last : Frame S.Configuration S.Choice)
         (top : S.Configuration)
-        → ((choice : S.Choice) (rest : List S.Choice) → IsPath S.ways top (choice ∷ rest) → S.IsLeft choice → ⊥)
+        → (HasPathLeft S.ways top S.IsLeft → ⊥)
         → StandsFor S.ways start S.IsWanted (frames ++ last ∷ []) top S.IsLeft
         → StandsFor S.ways start S.IsWanted frames last.at (After S.ways.compare last.taken) }
     ensures finds { AreOrderly S.ways → (start : S.Configuration) (frames : List (Frame S.Configuration S.Choice)) (top : S.Configuration)
@@ -32,7 +32,7 @@ pub fn a_search_moves_on<S: Searched>()
         → StandsFor S.ways start (λ path. S.IsWanted path × (slice_cmp S.ways.compare (taken_in frames ++ choice ∷ []) path ≡ Less))
         frames top (After S.ways.compare choice) }
     ensures exhausted { AreOrderly S.ways → (start top : S.Configuration)
-        → ((choice : S.Choice) (rest : List S.Choice) → IsPath S.ways top (choice ∷ rest) → S.IsLeft choice → ⊥)
+        → (HasPathLeft S.ways top S.IsLeft → ⊥)
         → StandsFor S.ways start S.IsWanted [] top S.IsLeft
         → (path : List S.Choice) → IsPath S.ways start path → S.IsWanted path → ⊥ }
 {}
