@@ -1,20 +1,17 @@
 -- A list above a path either makes a later choice than one of the choices at its front, or has that front too: by induction
 -- on the frames. Where the front is the whole path the latter is that path, and for a skip it is left out.
-use Rattle.std.proofs.Common.{◌≡◌, ◌≢◌, ◌⊎◌, ◌↔◌, ℕ, suc, ◌≤◌, ◌+◌, min, inl, inr, List, [], ◌∷◌, ◌++◌, length, take, refl, sym, ap, subst, ◌∙◌, arith}
+use Rattle.std.proofs.Common.{◌≡◌, ◌≢◌, ◌⊎◌, ◌↔◌, inl, inr, List, [], ◌∷◌, ◌++◌, refl, sym, ap, subst}
 use Rattle.std.specs.Cmp.Lexicographic.{slice_cmp}
-use Rattle.std.specs.Ordering.{ordering_then}
 use Rattle.std.specs.declared.cmp.Ordering.{Ordering}
 use Rattle.std.specs.declared.cmp.Ordering.TheVariants.{Less, Equal, Greater}
 use Rattle.std.proofs.lemmas.Cmp.{lists_total, tied_itself}
-use Rattle.std.proofs.lemmas.List.{append_assoc, length-map, length-append, take_all, take_min}
 use Rattle.list_laws.specs.Firsts.{AreAll}
 use Rattle.list_laws.proofs.FirstOnes.{none_at_all, one_in_all, all_with, all_of_both}
 use Rattle.listing_laws.specs.Ways.{Ways, AreOrderly, IsChoice, IsPath}
-use Rattle.listing_laws.specs.Positions.{Position, BeforeFirst, AtPath, PastLast, IsAbove, IsPast, IsFirst, IsListingAbove}
-use Rattle.listing_laws.specs.Stacks.{Frame, taken_in, LeadTo, Every, From, After, Nothing, IsToCome, StandsFor}
+use Rattle.listing_laws.specs.Positions.{Position, BeforeFirst, AtPath, PastLast, IsAbove, IsFirst, IsListingAbove}
+use Rattle.listing_laws.specs.Stacks.{Frame, taken_in, LeadTo, From, After, Nothing, IsToCome, StandsFor}
 use Rattle.listing_laws.proofs.Paths.{path_from_next, path_from_end, path_from_top, first_of_path, less_then_cases, same_path}
 use Rattle.listing_laws.proofs.ToCome.{above_taken}
-use Rattle.listing_laws.proofs.Standing.{stands_for_same, stands_at_start, goes_on_after, finds}
 
 -- a path that is not above another is that one or comes before it
 first_or_later : {Configuration Choice : Type 0} {ways : Ways Configuration Choice} → AreOrderly ways → (start : Configuration) (path other : List Choice)

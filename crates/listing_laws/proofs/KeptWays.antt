@@ -1,6 +1,6 @@
 -- A path of the kept choices is a path; and where each choice that begins a path is kept, a path has kept choices alone, by
 -- induction on it.
-use Rattle.std.proofs.Common.{◌≡◌, ◌↔◌, List, [], ◌∷◌}
+use Rattle.std.proofs.Common.{◌↔◌, List, [], ◌∷◌}
 use Rattle.listing_laws.specs.Ways.{Ways, AreOrderly, IsPath, HasPath, kept}
 use Rattle.listing_laws.proofs.Paths.{path_from_next}
 

@@ -1,19 +1,18 @@
 -- The paths that begin with one turn are listed by those from where it leads; turns rise, so the lists of one turn after
 -- another are together a rising list; and by induction on the depth all paths are listed.
-use Rattle.std.proofs.Common.{◌≡◌, ◌⊎◌, ◌↔◌, ℕ, zero, suc, ◌+◌, ◌<◌, ◌≤◌, false, inl, inr, List, [], ◌∷◌, ◌++◌, map, Option, Some, None, refl, sym, ap, subst, ◌∙◌, arith}
+use Rattle.std.proofs.Common.{◌≡◌, ◌⊎◌, ℕ, zero, suc, ◌+◌, ◌<◌, ◌≤◌, false, inl, inr, List, [], ◌∷◌, ◌++◌, Option, Some, None, refl, sym, ap, subst, arith}
 use Rattle.std.specs.List.{Contains, flat_map}
 use Rattle.std.specs.List.Sorted.{IsStrictlySortedBy}
 use Rattle.std.specs.Option.{MatchOption, option_map}
 use Rattle.std.specs.Ordering.{on, ordering_then}
 use Rattle.std.specs.Cmp.Lexicographic.{slice_cmp}
-use Rattle.std.specs.declared.cmp.Ordering.{Ordering}
-use Rattle.std.specs.declared.cmp.Ordering.TheVariants.{Less, Equal}
-use Rattle.std.proofs.lemmas.Cmp.{lists_total, tied_itself, on_total}
+use Rattle.std.specs.declared.cmp.Ordering.TheVariants.{Less}
+use Rattle.std.proofs.lemmas.Cmp.{tied_itself, on_total}
 use Rattle.std.proofs.lemmas.Map.Keys.{sorted_tail}
 use Rattle.list_laws.specs.Firsts.{AreAll}
 use Rattle.list_laws.proofs.Sorted.{Contains-first, Contains-later, Contains-cons_cases, not_Contains-nil, Less-from_later}
 use Rattle.list_laws.proofs.FirstOnes.{none_at_all, one_in_all, all_with, all_of_both, first_images, first_from_all, all_from_first}
-use Rattle.listing_laws.specs.Ways.{Ways, AreOrderly, AreRanked, IsChoice, IsPath}
+use Rattle.listing_laws.specs.Ways.{Ways, AreOrderly, AreRanked, IsPath}
 use Rattle.listing_laws.specs.Listings.{Turn, IsTurn, AreTurns, paths_with, listing}
 use Rattle.listing_laws.proofs.Paths.{path_from_next, path_from_end}
 

@@ -1,11 +1,10 @@
 -- Paths are taken apart at their first choice: where it leads on, what is after it is a path from there, and where it ends,
 -- nothing is after it. All else is by induction on the choices taken.
-use Rattle.std.proofs.Common.{◌≡◌, ◌⊎◌, ◌↔◌, inl, inr, List, [], ◌∷◌, ◌++◌, refl, sym, ap, subst, ◌∙◌}
+use Rattle.std.proofs.Common.{◌≡◌, ◌⊎◌, ◌↔◌, inl, inr, List, [], ◌∷◌, ◌++◌, refl, sym, subst}
 use Rattle.std.specs.Cmp.Lexicographic.{slice_cmp}
 use Rattle.std.specs.Ordering.{ordering_then}
 use Rattle.std.specs.declared.cmp.Ordering.{Ordering}
 use Rattle.std.specs.declared.cmp.Ordering.TheVariants.{Less, Equal, Greater}
-use Rattle.std.proofs.lemmas.Cmp.{lists_total, tied_itself}
 use Rattle.std.proofs.lemmas.List.{map-append}
 use Rattle.listing_laws.specs.Ways.{Ways, AreOrderly, IsChoice, IsPath}
 use Rattle.listing_laws.specs.Stacks.{Frame, taken_in, LeadTo}

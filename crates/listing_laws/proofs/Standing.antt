@@ -1,16 +1,14 @@
 -- What a stack stands for changes only by what its frames, its top and the choices left there say: each law takes apart what
 -- is to come at the last choice taken.
-use Rattle.std.proofs.Common.{◌≡◌, ◌≢◌, ◌⊎◌, ◌↔◌, inl, inr, List, [], ◌∷◌, ◌++◌, refl, sym, ap, subst, ◌∙◌}
+use Rattle.std.proofs.Common.{◌≡◌, ◌⊎◌, ◌↔◌, inl, inr, List, [], ◌∷◌, ◌++◌, refl, sym, ap, subst, ◌∙◌}
 use Rattle.std.specs.Cmp.Lexicographic.{slice_cmp}
-use Rattle.std.specs.Ordering.{ordering_then}
-use Rattle.std.specs.declared.cmp.Ordering.{Ordering}
-use Rattle.std.specs.declared.cmp.Ordering.TheVariants.{Less, Equal, Greater}
+use Rattle.std.specs.declared.cmp.Ordering.TheVariants.{Less}
 use Rattle.std.proofs.lemmas.Cmp.{lists_total, tied_itself}
 use Rattle.std.proofs.lemmas.List.{append_assoc}
-use Rattle.listing_laws.specs.Ways.{Ways, AreOrderly, IsChoice, IsPath}
+use Rattle.listing_laws.specs.Ways.{Ways, AreOrderly, IsPath}
 use Rattle.listing_laws.specs.Positions.{IsFirst}
-use Rattle.listing_laws.specs.Stacks.{Frame, taken_in, LeadTo, Every, From, After, Nothing, IsToCome, HasPathLeft, StandsFor}
-use Rattle.listing_laws.proofs.Paths.{path_from_next, path_from_end, path_from_top, frame_pushed, frame_popped, taken_pushed, first_of_path, less_then_cases}
+use Rattle.listing_laws.specs.Stacks.{Frame, taken_in, LeadTo, Every, From, After, IsToCome, HasPathLeft, StandsFor}
+use Rattle.listing_laws.proofs.Paths.{path_from_next, path_from_end, path_from_top, frame_pushed, frame_popped, taken_pushed}
 use Rattle.listing_laws.proofs.ToCome.{change_left, last_cases, to_come_before, to_come_onward, from_cases, above_taken}
 
 -- at the start every path is still to come

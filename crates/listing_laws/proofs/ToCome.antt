@@ -5,7 +5,7 @@ use Rattle.std.specs.Cmp.Lexicographic.{slice_cmp}
 use Rattle.std.specs.Ordering.{ordering_then}
 use Rattle.std.specs.declared.cmp.Ordering.{Ordering}
 use Rattle.std.specs.declared.cmp.Ordering.TheVariants.{Less, Equal}
-use Rattle.listing_laws.specs.Stacks.{Every, From, After, Nothing, IsToCome}
+use Rattle.listing_laws.specs.Stacks.{From, After, IsToCome}
 
 module _ {Choice : Type 0} (compare : Choice → Choice → Ordering) where
   -- only the choices with which a path goes on after those taken matter

@@ -1,5 +1,5 @@
 -- A frame has a rank of its own, so there are no more frames than ranks; and the count of visits left falls at each visit.
-use Rattle.std.proofs.Common.{◌≡◌, ◌⊎◌, ◌↔◌, ℕ, zero, suc, ◌+◌, ◌-◌, ◌*◌, ◌<◌, ◌≤◌, Bool, true, false, inl, inr, List, [], ◌∷◌, length, refl, sym, ap, subst, ◌∙◌, arith}
+use Rattle.std.proofs.Common.{◌⊎◌, ◌↔◌, ℕ, ◌+◌, ◌-◌, ◌*◌, ◌<◌, ◌≤◌, Bool, true, false, inl, inr, List, [], ◌∷◌, length, ap, arith}
 use Rattle.std.proofs.Math.Nat.{mul-le-mul_left}
 use Rattle.listing_laws.specs.Ways.{Ways, AreRanked, IsPath, HasPath}
 use Rattle.listing_laws.specs.Stacks.{Frame, LeadTo, Every, HasPathLeft}

@@ -1,5 +1,5 @@
 -- How many frames one move visits where every configuration that is entered has a path.
-use Rattle.std.specs.Prelude.{◌≡◌, ℕ, zero, suc, ◌+◌, ◌-◌, ◌<◌, Bool, true, false, List, [], ◌∷◌}
+use Rattle.std.specs.Prelude.{◌≡◌, ℕ, ◌+◌, ◌-◌, ◌<◌, Bool, true, false, List, [], ◌∷◌}
 
 -- a visit of a move: the last frame is left, or a new one is entered
 pub data Visit : Type 0 where
