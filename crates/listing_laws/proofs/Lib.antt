@@ -8,3 +8,4 @@ pub mod Visits
 pub mod Listings
 pub mod KeptWays
 pub mod Measures
+pub mod SmallSums

@@ -66,6 +66,39 @@ module _ {Configuration Choice : Type 0} {ways : Ways Configuration Choice} (ord
         );
   }
 
+  -- the first candidate is the least of the choices that begin a path
+  pub comes_to_first : {start : Configuration} {IsWanted : List Choice → Type 0} {frames : List (Frame Configuration Choice)} {top : Configuration}
+      (first : Choice) → ((choice : Choice) (rest : List Choice) → IsPath ways top (choice ∷ rest) → From ways.compare first choice)
+      → StandsFor ways start IsWanted frames top Every → StandsFor ways start IsWanted frames top (From ways.compare first)
+  comes_to_first first least stands = passes_over (From ways.compare first) (λ choice rest is. (λ any. least choice rest is, λ from. tt)) stands
+
+  -- a candidate that begins no path is passed over
+  pub passes_one : {start : Configuration} {IsWanted : List Choice → Type 0} {frames : List (Frame Configuration Choice)} {top : Configuration}
+      (candidate : Choice) → ((rest : List Choice) → IsPath ways top (candidate ∷ rest) → ⊥)
+      → StandsFor ways start IsWanted frames top (From ways.compare candidate)
+      → StandsFor ways start IsWanted frames top (After ways.compare candidate)
+  passes_one {top = top} candidate none stands =
+      passes_over (After ways.compare candidate)
+      (λ choice rest is. (
+        λ from. elim from [ inl same ↦ absurd (none rest (subst (λ c. IsPath ways top (c ∷ rest)) (sym same) is)) | inr less ↦ less ],
+        λ less. inr less,
+      ))
+      stands
+
+  -- the next candidate is the least of the later choices that begin a path
+  pub comes_to_next : {start : Configuration} {IsWanted : List Choice → Type 0} {frames : List (Frame Configuration Choice)} {top : Configuration}
+      (last next : Choice) → ways.compare last next ≡ Less
+      → ((choice : Choice) (rest : List Choice) → IsPath ways top (choice ∷ rest) → ways.compare last choice ≡ Less → From ways.compare next choice)
+      → StandsFor ways start IsWanted frames top (After ways.compare last)
+      → StandsFor ways start IsWanted frames top (From ways.compare next)
+  comes_to_next last next less least stands =
+      passes_over (From ways.compare next)
+      (λ choice rest is. (
+        λ later. least choice rest is later,
+        λ from. elim from [ inl same ↦ subst (λ c. ways.compare last c ≡ Less) same less | inr above ↦ orderly.total.trans last next choice less above ],
+      ))
+      stands
+
   -- the first choice left leads on: it is taken, and every choice is left where it leads
   pub enters : {start : Configuration} {IsWanted : List Choice → Type 0} {frames : List (Frame Configuration Choice)} {top : Configuration}
       (choice : Choice) (next : Configuration) → ways.leads top choice next

@@ -4,7 +4,8 @@
 -- through a call: what is above the old position, `IsAbove compare position`, or what is past its first choices, `IsPast`.
 -- Each step of the loop is one lemma of `proofs/`:
 --     `stands_at_start`, `stands_at_path`, `stands_past_last`      where a search begins (go to a path by `path_from_top`)
---     `passes_over`      a candidate that begins no path is passed over, and what is left is said in another way
+--     `comes_to_first`, `comes_to_next`, `passes_one`      candidates in order, of which one that begins no path is passed over
+--     `passes_over`      all of these: only what is left of the choices that begin a path matters
 --     `enters`           the first choice left leads on: its frame is pushed, and every choice is left where it leads
 --     `leaves`           no choice is left: the last frame is popped, and the choices after the one taken there are left
 --     `finds`, `stands_at_found`      the first choice left ends: it is the first path wanted, and the search stands at it
@@ -19,3 +20,4 @@ pub mod Listings
 pub mod Depths
 pub mod Visits
 pub mod Measures
+pub mod SmallSums

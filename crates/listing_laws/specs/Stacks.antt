@@ -20,16 +20,19 @@ LeadTo ways start [] top = start ≡ top
 LeadTo {Configuration} ways start (frame ∷ frames) top =
     (frame.at ≡ start) × (next : Configuration) × ways.leads frame.at frame.taken next × LeadTo ways next frames top
 
--- which choices are left at a configuration: every one, those from one on, those after one, or none
+-- which choices are left at a configuration: every one
 abbrev pub Every : {Choice : Type 0} → Choice → Type 0
 Every choice = Unit {0}
 
+-- those from one on
 abbrev pub From : {Choice : Type 0} → (Choice → Choice → Ordering) → Choice → Choice → Type 0
 From compare first choice = (first ≡ choice) ⊎ (compare first choice ≡ Less)
 
+-- those after one
 abbrev pub After : {Choice : Type 0} → (Choice → Choice → Ordering) → Choice → Choice → Type 0
 After compare last choice = compare last choice ≡ Less
 
+-- none
 abbrev pub Nothing : {Choice : Type 0} → Choice → Type 0
 Nothing choice = ⊥
 
