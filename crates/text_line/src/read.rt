@@ -1,7 +1,7 @@
-ghost use Rattle.std.specs.Prelude.{◌≡◌, ◌^◌, ◌<◌, [], Ok, length, IfOk, IfErr, OnOk, OnErr};
+ghost use Rattle.std.specs.Prelude.{◌≡◌, ◌^◌, ◌<◌, Ok, length, IfOk, IfErr};
 ghost use Rattle.text_definitions.specs.LineTexts.{line_of_text, parts_from};
 ghost use Rattle.text_line.specs.Values.{scheme_of, IsLineFaultOf};
-ghost use Rattle.text_line.specs.Pieces.{line_after, line_so_far};
+ghost use Rattle.text_line.specs.Pieces.{line_after, empty_line};
 
 use super::front::{Front, front_of, piece_length};
 use super::later_letter::has_letter;
@@ -30,9 +30,9 @@ pub fn read_line(alloc: Global, scheme: Scheme, text: &[u8]) -> Result<Line, Lin
 fn read_parts(alloc: Global, scheme: Scheme, text: &[u8]) -> Result<Line, LineError>
     requires { length text.now < 2 ^ 32 }
     ensures ok { IfOk result (λ line.
-        line_after (scheme_of scheme) (line_so_far [] []) (parts_from (scheme_of scheme) 0 0 text.now) ≡ Ok line) }
+        line_after (scheme_of scheme) empty_line (parts_from (scheme_of scheme) 0 0 text.now) ≡ Ok line) }
     ensures fault { IfErr result (λ error. IsLineFaultOf error
-        (line_after (scheme_of scheme) (line_so_far [] []) (parts_from (scheme_of scheme) 0 0 text.now))) }
+        (line_after (scheme_of scheme) empty_line (parts_from (scheme_of scheme) 0 0 text.now))) }
 {
     let mut spelled = Spelled::new(alloc);
     let mut after_letters = false;
