@@ -1,12 +1,12 @@
 -- One step of reading a line: by what the rest of the text begins with, and for a piece by induction over its bytes.
-use Rattle.std.proofs.Common.{◌≡◌, ℕ, zero, suc, ◌+◌, ◌-◌, ◌<◌, ◌≤◌, Bool, true, false, cond, ◌||◌, List, [], ◌∷◌, ◌++◌, length, get_or, take, drop, Ok, Err, eqb, ltb, arith, ap, ◌∙◌, sym, subst, add-zero, length-append, length-take, refl}
-use Rattle.std.proofs.lemmas.List.{take_rest, at_drop_more}
+use Rattle.std.proofs.Common.{◌≡◌, ℕ, zero, suc, ◌+◌, ◌-◌, ◌<◌, ◌≤◌, Bool, true, false, cond, ◌||◌, List, [], ◌∷◌, ◌++◌, length, get_or, take, drop, Ok, Err, eqb, ltb, arith, ap, ◌∙◌, sym, subst, add-zero, length-append, length-take, length-drop, refl}
+use Rattle.std.proofs.lemmas.List.{take_rest, at_drop_more, drop-drop}
 use Rattle.std.proofs.lemmas.Bool.Decides.{nat_tests}
 use Rattle.text_definitions.specs.declared.limits.TheConstants.{MOST_LINE_LETTERS}
 use Rattle.text_definitions.specs.Lines.{Line}
-use Rattle.text_definitions.specs.Spellings.{Reading, SpellingFault}
+use Rattle.text_definitions.specs.Spellings.{Reading, NotLetter}
 use Rattle.text_definitions.specs.Schemes.{Scheme, word_of_text}
-use Rattle.text_definitions.specs.LineTexts.{LineFault, NoLetters, TooLong, Front, GapMark, DigitMark, Other, front_of, letter_begins, has_letter, Part, Gap, Digit, Piece, digit_at, with_byte, parts_by, parts_from, with_word, piece_by, Spelled, line_of_parts, line_within_limits}
+use Rattle.text_definitions.specs.LineTexts.{LineFault, Misspelled, NoLetters, TooLong, Front, GapMark, DigitMark, Other, front_of, letter_begins, has_letter, Part, Gap, Digit, Piece, digit_at, with_byte, parts_by, parts_from, with_word, piece_by, Spelled, line_of_parts, line_within_limits}
 use Rattle.text_line.specs.Pieces.{more_length, piece_length, line_after}
 
 -- bytes before these parts
@@ -186,3 +186,60 @@ module _ (scheme : Scheme) where
   pub has_letter_here : (text : List ℕ) (place : ℕ) (begins : Bool) → place < length text → begins ≡ letter_begins scheme (take (length text - place) (drop place text)) → begins ≡ true → has_letter scheme (drop place text) ≡ true
   has_letter_here text place begins below is some =
       letter_here text place below ∙ ap (λ b. b || has_letter scheme (drop (place + 1) text)) (sym is ∙ some)
+
+  -- the rest after so many bytes, in the two ways in which it is written
+  rest_is : (text : List ℕ) (place count : ℕ) → 0 < count → parts_from scheme (place + suc (count - 1)) 0 (drop (suc (count - 1)) (drop place text)) ≡ parts_from scheme (place + count) 0 (drop (place + count) text)
+  rest_is text place count some =
+      let one : suc (count - 1) ≡ count = omega arith in
+      ap (λ n. parts_from scheme (place + n) 0 (drop n (drop place text))) one ∙ ap (parts_from scheme (place + count) 0) (drop-drop count place text)
+
+  some_left : (text : List ℕ) (place : ℕ) → place < length text → 0 < length (drop place text)
+  some_left text place below = omega (arith, length-drop place text)
+
+  begins_so : (text : List ℕ) (place : ℕ) (front : Front) → front ≡ front_of scheme (take (length text - place) (drop place text)) → front_of scheme (drop place text) ≡ front
+  begins_so text place front e = sym (e ∙ ap (front_of scheme) (take_rest text place))
+
+  -- a gap mark is passed over
+  pub past_gap : (text : List ℕ) (place count : ℕ) (line : Line) → place < length text → GapMark (count - 1) ≡ front_of scheme (take (length text - place) (drop place text)) → 0 < count → line_after scheme line (parts_from scheme (place + count) 0 (drop (place + count) text)) ≡ line_after scheme line (parts_from scheme place 0 (drop place text))
+  past_gap text place count line below e some =
+      ap (line_after scheme line) (sym (parts_of_gap scheme (drop place text) place (count - 1) (some_left text place below) (begins_so text place _ e) ∙ ap (λ ps. Gap ∷ ps) (rest_is text place count some)))
+
+  digit_parts : (text : List ℕ) (place count : ℕ) (later : Bool) → place < length text → DigitMark (count - 1) ≡ front_of scheme (take (length text - place) (drop place text)) → 0 < count → has_letter scheme (drop (place + count) text) ≡ later → parts_from scheme place 0 (drop place text) ≡ digit_at place later ∷ parts_from scheme (place + count) 0 (drop (place + count) text)
+  digit_parts text place count later below e some h =
+      let one : suc (count - 1) ≡ count = omega arith in
+      let here = ap (λ n. has_letter scheme (drop n (drop place text))) one ∙ ap (has_letter scheme) (drop-drop count place text) ∙ h in
+      parts_of_digit scheme (drop place text) place (count - 1) (some_left text place below) (begins_so text place _ e)
+      ∙ ap (λ ps. digit_at place (has_letter scheme (drop (suc (count - 1)) (drop place text))) ∷ ps) (rest_is text place count some)
+      ∙ ap (λ b. digit_at place b ∷ parts_from scheme (place + count) 0 (drop (place + count) text)) here
+
+  -- a digit after the last letter is passed over
+  pub past_digit : (text : List ℕ) (place count : ℕ) (line : Line) → place < length text → DigitMark (count - 1) ≡ front_of scheme (take (length text - place) (drop place text)) → 0 < count → has_letter scheme (drop (place + count) text) ≡ false → line_after scheme line (parts_from scheme (place + count) 0 (drop (place + count) text)) ≡ line_after scheme line (parts_from scheme place 0 (drop place text))
+  past_digit text place count line below e some h = ap (line_after scheme line) (sym (digit_parts text place count false below e some h))
+
+  -- a digit before a later letter is at fault
+  pub digit_fault : (text : List ℕ) (place count : ℕ) (line : Line) → place < length text → DigitMark (count - 1) ≡ front_of scheme (take (length text - place) (drop place text)) → 0 < count → has_letter scheme (drop (place + count) text) ≡ true → line_after scheme line (parts_from scheme place 0 (drop place text)) ≡ Err (Misspelled (NotLetter place))
+  digit_fault text place count line below e some h = ap (line_after scheme line) (digit_parts text place count true below e some h)
+
+  -- a text whose rest begins with a piece
+  pub past_piece : (text : List ℕ) (place count : ℕ) → place < length text → Other ≡ front_of scheme (take (length text - place) (drop place text)) → count ≡ piece_length scheme (take (length text - place) (drop place text)) → parts_from scheme place 0 (drop place text) ≡ Piece place (take (place + count - place) (drop place text)) ∷ parts_from scheme (place + count) 0 (drop (place + count) text)
+  past_piece text place count below e is =
+      let len = is ∙ ap (piece_length scheme) (take_rest text place) in
+      let back : count ≡ place + count - place = omega arith in
+      parts_of_piece scheme (drop place text) place (some_left text place below) (begins_so text place Other e)
+      ∙ ap (λ n. Piece place (take n (drop place text)) ∷ parts_from scheme (place + n) 0 (drop n (drop place text))) (sym len)
+      ∙ ap (λ t. Piece place (take count (drop place text)) ∷ parts_from scheme (place + count) 0 t) (drop-drop count place text)
+      ∙ ap (λ n. Piece place (take n (drop place text)) ∷ parts_from scheme (place + count) 0 (drop (place + count) text)) back
+
+  -- such a piece is not empty
+  pub some_piece : (text : List ℕ) (place count : ℕ) → place < length text → Other ≡ front_of scheme (take (length text - place) (drop place text)) → count ≡ piece_length scheme (take (length text - place) (drop place text)) → 0 < count
+  some_piece text place count below e is =
+      let len = is ∙ ap (piece_length scheme) (take_rest text place) in
+      subst (λ n. 0 < n) (sym len) (piece_some scheme (drop place text) (some_left text place below) (begins_so text place Other e))
+
+  -- whether there is a letter in the rest, as a slice has it
+  pub letter_in_rest : (text : List ℕ) (place : ℕ) (found later : Bool) → found ≡ has_letter scheme (take (length text - place) (drop place text)) → found ≡ later → has_letter scheme (drop place text) ≡ later
+  letter_in_rest text place found later is so = sym (is ∙ ap (has_letter scheme) (take_rest text place)) ∙ so
+
+  -- where there is no letter any more, there is none after so many bytes
+  pub still_none : (text : List ℕ) (place count : ℕ) → has_letter scheme (drop place text) ≡ false → has_letter scheme (drop (place + count) text) ≡ false
+  still_none text place count h = ap (has_letter scheme) (sym (drop-drop count place text)) ∙ no_letter_after scheme count (drop place text) h

@@ -1,4 +1,4 @@
-ghost use Rattle.std.specs.Prelude.{◌≡◌, ◌+◌, ℕ, List, ◌∷◌, length, drop};
+ghost use Rattle.std.specs.Prelude.{◌≡◌, ◌≤◌, ℕ, List, ◌∷◌, length};
 ghost use Rattle.text_definitions.specs.Schemes as schemes;
 ghost use Rattle.text_definitions.specs.LineTexts.{front_of};
 ghost use Rattle.text_line.specs.Values.{scheme_of, front_is, FitsText};
@@ -28,6 +28,7 @@ pub fn front_of(scheme: Scheme, text: &[u8]) -> Front
 /// The number of bytes before the first gap mark or digit of the text.
 pub fn piece_length(scheme: Scheme, text: &[u8]) -> usize
     ensures value { result ≡ piece_length (scheme_of scheme) text.now }
+    ensures length { result ≤ length text.now }
 {
     let mut length = 0;
     while length < text.len() && matches!(front_of(scheme, &text[length..]), Front::Other) {

@@ -17,13 +17,16 @@ pub fn read_line(alloc: Global, scheme: Scheme, text: &[u8]) -> Result<Line, Lin
     ensures ok { IfOk result (λ line. line_of_text (scheme_of scheme) text.now ≡ Ok line) }
     ensures fault { IfErr result (λ error. IsLineFaultOf error (line_of_text (scheme_of scheme) text.now)) }
 {
-    if matches!(scheme, Scheme::Devanagari)
-        && let Err(error) = std::str::from_utf8(text)
-    {
-        let at = error.valid_up_to() as u32;
-        return Err(LineError::Spell(SpellFault::NotUtf8 { at }));
+    match scheme {
+        Scheme::Slp1 | Scheme::Wx | Scheme::Velthuis => read_parts(alloc, scheme, text),
+        Scheme::Devanagari => match std::str::from_utf8(text) {
+            Ok(_) => read_parts(alloc, scheme, text),
+            Err(error) => {
+                let at = error.valid_up_to() as u32;
+                Err(LineError::Spell(SpellFault::NotUtf8 { at }))
+            }
+        },
     }
-    read_parts(alloc, scheme, text)
 }
 
 /// The same of a text that is UTF-8, or is not to be.

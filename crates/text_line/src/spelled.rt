@@ -1,4 +1,5 @@
 ghost use Rattle.std.specs.Prelude.{◌≡◌, ◌+◌, ◌^◌, ◌<◌, ◌≤◌, List, ◌∷◌, length, Ok, OnOk, IfOk, IfErr};
+ghost use Rattle.text_definitions.specs.Schemes as schemes;
 ghost use Rattle.text_definitions.specs.LineTexts.{Part, Piece, line_within_limits, with_word, fault_from};
 ghost use Rattle.latin_schemes.specs.Faults.{fault_of};
 ghost use Rattle.text_line.specs.Values.{scheme_of, IsLineFaultOf, FitsFrom};
@@ -50,15 +51,21 @@ impl Spelled {
             (line_after (scheme_of scheme) self.old (Piece at piece.now ∷ parts))) }
     {
         match scheme.read_word(alloc, piece) {
-            Ok(word) => {
-                if self.letters.as_slice().len() <= MOST_LINE_LETTERS {
-                    self.push_word(&word)?;
-                }
-                Ok(())
-            }
+            Ok(word) => Ok(self.add_word(&word)?),
             Err(SpellError::Fault(fault)) => Err(LineError::Spell(moved(fault, at))),
             Err(SpellError::Memory) => Err(LineError::Memory),
         }
+    }
+
+    /// Adds a word to what was read.
+    fn add_word(&mut self, word: &Word) -> Result<(), Memory>
+        ensures ok { OnOk result ((scheme : schemes.Scheme) → (parts : List Part) →
+            line_after scheme self.new parts ≡ line_after scheme (with_word self.old word.now) parts) }
+    {
+        if self.letters.as_slice().len() > MOST_LINE_LETTERS {
+            return Ok(());
+        }
+        self.push_word(word)
     }
 
     /// Appends the letters of a word, with a blank between letters and letters.
