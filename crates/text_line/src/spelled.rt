@@ -42,7 +42,13 @@ impl Spelled {
     }
 
     /// Reads a piece that begins at the byte `at`.
-    pub fn read_piece(&mut self, alloc: Global, scheme: Scheme, at: usize, piece: &[u8]) -> Result<(), LineError>
+    pub fn read_piece(
+        &mut self,
+        alloc: Global,
+        scheme: Scheme,
+        at: usize,
+        piece: &[u8],
+    ) -> Result<(), LineError>
         requires { at + length piece.now < 2 ^ 32 }
         ensures ok { OnOk result ((parts : List Part) →
             line_after (scheme_of scheme) self.new parts

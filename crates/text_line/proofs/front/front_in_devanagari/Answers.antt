@@ -9,8 +9,8 @@ pub returns-in_default-clause-value : goal.returns-in_default-clause-value
 returns-in_default-clause-value c =
     c.front_in_latin.ensures.value
     ∙ devanagari_first c.args.text.now (λ long first second.
-      elim c.in_default.branch [
-        | in_default-via-then-text-lt3 w ↦ absurd (omega (arith, eqb-false, ltb-true))
-        | in_default-via-else-text-lt3+in-224+in_default-1 w ↦ absurd (omega (arith, eqb-false, ltb-true))
-        | in_default-via-else-text-lt3+in_default-1 w ↦ absurd (omega (arith, eqb-false, ltb-true))
-      ])
+    elim c.in_default.branch [
+      | in_default-via-then-text-lt3 w ↦ absurd (omega (arith, eqb-false, ltb-true))
+      | in_default-via-else-text-lt3+in-224+in_default-1 w ↦ absurd (omega (arith, eqb-false, ltb-true))
+      | in_default-via-else-text-lt3+in_default-1 w ↦ absurd (omega (arith, eqb-false, ltb-true))
+    ])
