@@ -10,13 +10,8 @@ use Rattle.text_definitions.specs.Wx.{wx_table, word_of_wx}
 use Rattle.text_definitions.specs.Longest.{word_at, word_of_spellings}
 use Rattle.text_definitions.specs.Velthuis.{velthuis_front, word_of_velthuis}
 use Rattle.text_definitions.specs.Devanagari.{is_consonant, PointKind, Joiner, Virama, Letter, Sign, Foreign, kind_of_point, close_with_a, reading_at, word_of_points, word_of_devanagari}
+use Rattle.text_definitions.specs.LineTexts.{place_of}
 use Rattle.text_definitions.specs.Schemes.{Scheme, Slp1, Wx, Velthuis, Devanagari, word_of_text}
-
--- the place that a fault names
-abbrev pub place_of : SpellingFault → ℕ
-place_of (NotLetter at) = at
-place_of (LoneSign at) = at
-place_of (NotUtf8 at) = at
 
 -- a fault, if there is one, is at a place up to this one
 abbrev pub IsUpTo : ℕ → Reading → Type 0

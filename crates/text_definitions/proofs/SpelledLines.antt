@@ -17,7 +17,7 @@ use Rattle.text_definitions.specs.Spellings.{Reading, NotUtf8}
 use Rattle.text_definitions.specs.Slp1.{slp1_table, word_of_slp1}
 use Rattle.text_definitions.specs.Wx.{wx_table, word_of_wx}
 use Rattle.text_definitions.specs.Schemes.{Scheme, Slp1, Wx, Velthuis, Devanagari, word_of_text}
-use Rattle.text_definitions.specs.LineTexts.{LineFault, NoLetters, TooLong, Part, Gap, Digit, Piece, blank_between, with_word, Spelled, piece_by, line_of_parts, parts_from, spelled_parts, spelled_text, line_within_limits, line_of_text}
+use Rattle.text_definitions.specs.LineTexts.{IsBegun, LineFault, NoLetters, TooLong, Part, Gap, Digit, Piece, blank_between, with_word, Spelled, piece_by, line_of_parts, parts_from, spelled_parts, spelled_text, line_within_limits, line_of_text}
 use Rattle.text_definitions.proofs.PrintedBytes.{read_is_printed}
 use Rattle.text_definitions.proofs.ReadWords.{velthuis_reads_words, devanagari_reads_words}
 
@@ -35,12 +35,6 @@ reads_words Slp1 text word h = All-from_recursion IsLetter word (slp1_reads text
 reads_words Wx text word h = All-from_recursion IsLetter word (wx_reads text word h)
 reads_words Velthuis text word h = All-from_recursion IsLetter word (velthuis_reads_words text word h)
 reads_words Devanagari text word h = All-from_recursion IsLetter word (devanagari_reads_words text word h)
-
--- what each line so far is: its letters are letters, and its blanks rise and lie inside
-pub record IsBegun (letters blanks : List ℕ) : Type 0 where
-  pub word : IsWord letters
-  pub rising : IsStrictlyIncreasing blanks
-  pub inside : All (λ b. (0 < b) × (b < length letters)) blanks
 
 rising_none : IsStrictlyIncreasing []
 rising_none = λ k h. absurd (omega arith)
@@ -62,7 +56,7 @@ rising_push numbers last rises below k h =
     ]
 
 -- one more word
-begun_word : (letters blanks word : List ℕ) → IsBegun letters blanks → IsWord word → IsBegun (letters ++ word) (blanks ++ blank_between letters word)
+pub begun_word : (letters blanks word : List ℕ) → IsBegun letters blanks → IsWord word → IsBegun (letters ++ word) (blanks ++ blank_between letters word)
 begun_word [] blanks word b w = record {
   word = w;
   rising = rw append-nil b.rising;
@@ -80,6 +74,18 @@ begun_word (letter ∷ letters) blanks (next ∷ word) b w =
       rising = rising_push blanks (length (letter ∷ letters)) b.rising (All-weaker (λ n. (0 < n) × (n < length (letter ∷ letters))) (λ n. n < length (letter ∷ letters)) (λ n h. h.1) blanks b.inside);
       inside = All-push (λ n. (0 < n) × (n < length ((letter ∷ letters) ++ next ∷ word))) blanks (length (letter ∷ letters)) (All-weaker (λ n. (0 < n) × (n < length (letter ∷ letters))) (λ n. (0 < n) × (n < length ((letter ∷ letters) ++ next ∷ word))) (λ n h. (h.0, omega (arith, h.1, len))) blanks b.inside) (omega arith, omega (arith, len));
     }
+
+-- more letters, without a blank
+pub begun_letters : (letters blanks word : List ℕ) → IsBegun letters blanks → IsWord word → IsBegun (letters ++ word) blanks
+begun_letters letters blanks word b w = record {
+  word = All-append IsLetter letters word b.word w;
+  rising = b.rising;
+  inside = All-weaker (λ n. (0 < n) × (n < length letters)) (λ n. (0 < n) × (n < length (letters ++ word))) (λ n h. (h.0, omega (arith, h.1, length-append letters word))) blanks b.inside;
+}
+
+-- no letters and no blanks
+pub begun_none : IsBegun [] []
+begun_none = record { word = All-nil IsLetter; rising = rising_none; inside = All-nil (λ b. (0 < b) × (b < 0)) }
 
 -- what is spelled, where it is no fault, is such a line
 abbrev IsBegunIfOk : Spelled → Type 0
@@ -99,7 +105,7 @@ begun_parts scheme (Piece place bytes ∷ parts) line b =
 
 begun_text : (scheme : Scheme) (text : List ℕ) → IsBegunIfOk (spelled_parts scheme text)
 begun_text scheme text =
-    begun_parts scheme (parts_from scheme 0 0 text) (record { letters = []; blanks = [] }) (record { word = All-nil IsLetter; rising = rising_none; inside = All-nil (λ b. (0 < b) × (b < 0)) })
+    begun_parts scheme (parts_from scheme 0 0 text) (record { letters = []; blanks = [] }) begun_none
 
 begun_if_valid : (valid : Bool) (spelled : Spelled) (place : ℕ) → IsBegunIfOk spelled → IsBegunIfOk (cond valid spelled (Err (NotUtf8 place)))
 begun_if_valid true spelled place b = b

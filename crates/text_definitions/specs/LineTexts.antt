@@ -1,9 +1,11 @@
 -- The line of a text in one of the spelling schemes, or its first fault (own). The text is cut at its gap marks and digits, and each
 -- piece is read by its scheme.
-use Rattle.std.specs.Prelude.{ℕ, zero, suc, ◌+◌, List, [], ◌∷◌, ◌++◌, length, take, drop, codes, Bool, true, false, ◌&&◌, ◌||◌, nat_lt, Result, Ok, Err, if◌then◌else◌, ◌==◌, encode_utf8}
+use Rattle.std.specs.Prelude.{ℕ, zero, suc, ◌+◌, ◌<◌, All, List, [], ◌∷◌, ◌++◌, length, take, drop, codes, Bool, true, false, ◌&&◌, ◌||◌, nat_lt, Result, Ok, Err, if◌then◌else◌, ◌==◌, encode_utf8}
+use Rattle.std.specs.List.Sorted.{IsStrictlyIncreasing}
 use Rattle.std.specs.Str.{is_utf8}
 use Rattle.std.specs.Str.Lossy.{utf8_valid_len}
 use Rattle.text_definitions.specs.declared.limits.TheConstants.{MOST_LINE_LETTERS}
+use Rattle.text_definitions.specs.Words.{IsWord}
 use Rattle.text_definitions.specs.Lines.{Line}
 use Rattle.text_definitions.specs.Spellings.{SpellingFault, NotLetter, LoneSign, NotUtf8, Reading}
 use Rattle.text_definitions.specs.Schemes.{Scheme, Slp1, Wx, Velthuis, Devanagari, word_of_text}
@@ -103,6 +105,12 @@ parts_from scheme place (suc inside) (byte ∷ text) = parts_from scheme (place 
 parts_from scheme place zero (byte ∷ text) =
     parts_by scheme place byte text (front_of scheme (byte ∷ text)) (λ inside. parts_from scheme (place + 1) inside text)
 
+-- the place that a fault names
+abbrev pub place_of : SpellingFault → ℕ
+place_of (NotLetter at) = at
+place_of (LoneSign at) = at
+place_of (NotUtf8 at) = at
+
 -- the fault of a piece that begins at the place
 abbrev pub fault_from : ℕ → SpellingFault → SpellingFault
 fault_from place (NotLetter at) = NotLetter (place + at)
@@ -118,6 +126,12 @@ blank_between (letter ∷ letters) (next ∷ word) = length (letter ∷ letters)
 -- the line with the letters of one more word, after a blank
 abbrev pub with_word : Line → List ℕ → Line
 with_word line word = record { letters = line.letters ++ word; blanks = line.blanks ++ blank_between line.letters word }
+
+-- a line that is not yet whole: the blank places rise, and each lies between letters
+pub record IsBegun (letters blanks : List ℕ) : Type 0 where
+  pub word : IsWord letters
+  pub rising : IsStrictlyIncreasing blanks
+  pub inside : All (λ b. (0 < b) × (b < length letters)) blanks
 
 -- the letters and blanks of a text, or its first fault of spelling
 abbrev pub Spelled : Type 0

@@ -15,9 +15,9 @@ abbrev pub piece_length : Scheme → List ℕ → ℕ
 piece_length scheme [] = 0
 piece_length scheme (byte ∷ text) = more_length (front_of scheme (byte ∷ text)) (piece_length scheme text)
 
--- these letters and blanks
-abbrev pub line_so_far : List ℕ → List ℕ → Line
-line_so_far letters blanks = record { letters = letters; blanks = blanks }
+-- no letters and no blanks
+abbrev pub empty_line : Line
+empty_line = record { letters = []; blanks = [] }
 
 -- the line, or the first fault, of what was read and of the parts that are left
 abbrev pub line_after : Scheme → Line → List Part → Result Line LineFault

@@ -3,11 +3,11 @@ use Rattle.std.specs.Prelude.{ℕ, ◌+◌, ◌-◌, ◌^◌, ◌<◌, ◌≤◌
 use Rattle.text_definitions.specs.Lines.{Line}
 use Rattle.text_definitions.specs.Schemes as schemes
 use Rattle.text_definitions.specs.LineTexts as texts
+use Rattle.text_definitions.specs.LineTexts.{place_of}
 use Rattle.latin_schemes.specs.declared.spell_error.SpellError.{SpellError}
 use Rattle.latin_schemes.specs.declared.spell_error.SpellError.TheVariants as spell_error
 use Rattle.latin_schemes.specs.Faults.{fault_of}
 use Rattle.latin_schemes.specs.declared.spell_fault.SpellFault.{SpellFault}
-use Rattle.text_definitions.proofs.FaultPlaces.{place_of}
 use Rattle.text_line.specs.declared.scheme.Scheme.{Scheme}
 use Rattle.text_line.specs.declared.scheme.Scheme.TheVariants.{Slp1, Wx, Velthuis, Devanagari}
 use Rattle.text_line.specs.declared.line_error.LineError.{LineError}

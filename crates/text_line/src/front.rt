@@ -1,4 +1,4 @@
-ghost use Rattle.std.specs.Prelude.{◌≡◌, ◌+◌, ℕ, List, ◌∷◌, length, drop};
+ghost use Rattle.std.specs.Prelude.{◌≡◌, ◌≤◌, ℕ, List, ◌∷◌, length};
 ghost use Rattle.text_definitions.specs.Schemes as schemes;
 ghost use Rattle.text_definitions.specs.LineTexts.{front_of};
 ghost use Rattle.text_line.specs.Values.{scheme_of, front_is, FitsText};
@@ -14,28 +14,50 @@ pub enum Front {
     Other,
 }
 
-/// What the text begins with in the scheme. The dandas U+0964 and U+0965 and the digits U+0966 to U+096F are written
-/// `E0 A5` and one more byte.
+/// What the text begins with in the scheme.
 pub fn front_of(scheme: Scheme, text: &[u8]) -> Front
     ensures value { front_is result ≡ front_of (scheme_of scheme) text.now }
     ensures length { FitsText result text.now }
 {
-    match text {
-        [0xE0, 0xA5, third, ..] if matches!(scheme, Scheme::Devanagari) => front_in_block(*third),
-        [first, ..] => front_of_byte(*first),
-        [] => Front::Other,
+    match scheme {
+        Scheme::Slp1 | Scheme::Wx | Scheme::Velthuis => front_in_latin(text),
+        Scheme::Devanagari => front_in_devanagari(text),
     }
 }
 
 /// The number of bytes before the first gap mark or digit of the text.
 pub fn piece_length(scheme: Scheme, text: &[u8]) -> usize
     ensures value { result ≡ piece_length (scheme_of scheme) text.now }
+    ensures length { result ≤ length text.now }
 {
     let mut length = 0;
     while length < text.len() && matches!(front_of(scheme, &text[length..]), Front::Other) {
         length += 1;
     }
     length
+}
+
+/// The same in the schemes that are written in ASCII.
+fn front_in_latin(text: &[u8]) -> Front
+    ensures value { front_is result ≡ front_of schemes.Slp1 text.now }
+    ensures length { FitsText result text.now }
+{
+    match text {
+        [first, ..] => front_of_byte(*first),
+        [] => Front::Other,
+    }
+}
+
+/// The same in Devanagari. The dandas U+0964 and U+0965 and the digits U+0966 to U+096F are written `E0 A5` and one
+/// more byte.
+fn front_in_devanagari(text: &[u8]) -> Front
+    ensures value { front_is result ≡ front_of schemes.Devanagari text.now }
+    ensures length { FitsText result text.now }
+{
+    match text {
+        [0xE0, 0xA5, third, ..] => front_in_block(*third),
+        _ => front_in_latin(text),
+    }
 }
 
 /// What a byte is in every scheme.
@@ -52,7 +74,7 @@ fn front_of_byte(byte: u8) -> Front
 }
 
 /// What a code point from U+0940 to U+097F is, by its third byte.
-#[tactic(auto, unfolding(text_definitions::specs::LineTexts::front_of))]
+#[tactic(auto, using(crate::proofs::Fronts::block_gap, crate::proofs::Fronts::block_digit, crate::proofs::Fronts::block_low, crate::proofs::Fronts::block_high))]
 fn front_in_block(third: u8) -> Front
     ensures value { (text : List ℕ) →
         front_is result ≡ front_of schemes.Devanagari (0xE0 ∷ 0xA5 ∷ third ∷ text) }
