@@ -1,7 +1,7 @@
 ghost use Rattle.std.specs.Prelude.{◌≡◌, ◌≤◌, ◌↔◌, length, map, string_bytes, IsTrue, IsNone, IfSome, IfOk};
 ghost use Rattle.lexicon_definitions.specs.Leads.{leads_of, IsLeadPlace};
 ghost use Rattle.lexicon_definitions.specs.Lexicons.{IsRuleSet, IsPlain, rule_of};
-ghost use Rattle.lexicon_definitions.specs.Limits.{IsRuleSetWithinLimits};
+ghost use Rattle.lexicon_definitions.specs.Limits.{IsRuleSetWithinLimits, IsShortRule};
 ghost use Rattle.sandhi_rules.specs.LeadPlaces.{AreLeadPlaces};
 
 use super::lead::{add_lead, place_of_lead};
@@ -102,6 +102,7 @@ impl RuleSet {
         requires { number ≤ length self.now.rules }
         ensures none { IsNone result ↔ (number ≡ 0) }
         ensures some { IfSome result (λ rule. rule.now ≡ rule_of self.now number) }
+        ensures short { IfSome result (λ rule. IsShortRule rule.now) }
     {
         if number == 0 {
             None

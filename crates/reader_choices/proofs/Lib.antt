@@ -1,0 +1,2 @@
+pub mod AllowedSteps
+pub mod StandingSteps

@@ -1,0 +1,19 @@
+//! The choices of a reader (Goyal and Huet 2016): a list of items that are kept or rejected, oldest first, and the local test
+//! of one step of a derivation against all of them.
+//!
+//! Proved: `Choices::keep`, `reject`, `undo` and `list` are those of a list of at most `MOST_CHOICES` choices, and a refusal
+//! leaves it as it was; `Choices::allows` is the local test, which holds of every step exactly where the choices are kept
+//! (`allowed_steps_keep_the_choices`).
+#![tactic(auto)]
+
+mod allowing;
+mod choices;
+mod error;
+mod laws;
+#[cfg(test)]
+mod tests;
+
+pub use choices::Choices;
+pub use derivation::Choice;
+pub use error::ChoiceError;
+pub use laws::allowed_steps_keep_the_choices;
