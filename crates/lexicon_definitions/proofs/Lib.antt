@@ -1,3 +1,5 @@
+pub mod FormsPlaced
+pub mod FormsWithEntry
 pub mod GrammarLists
 pub mod GrammarPositions
 pub mod GrammarFollows
@@ -7,3 +9,4 @@ pub mod GrammarPhases
 pub mod GrammarFaultCases
 pub mod GrammarSpelling
 pub mod SpelledTokens
+pub mod LeadLaws

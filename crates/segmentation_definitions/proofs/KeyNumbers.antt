@@ -22,7 +22,7 @@ use Rattle.segmentation_definitions.specs.Listings.{Key, key_of, keys_of, compar
 use Rattle.segmentation_definitions.specs.StepBounds.{key_count, answer_bound}
 use Rattle.segmentation_definitions.proofs.Coverings.{in_place}
 use Rattle.segmentation_definitions.proofs.KeyLists.{compare_keys_exact}
-use Rattle.segmentation_definitions.proofs.RisingPlaces.{IsKeyWithin, keys_within, length_placed, steps_bounded}
+use Rattle.segmentation_definitions.proofs.RisingRanks.{IsKeyWithin, keys_within, length_placed, steps_bounded}
 use Rattle.list_laws.proofs.Sorted.{All-from_Contains}
 
 -- one comparison after another gives Less where the first does, or the second where the first is Equal

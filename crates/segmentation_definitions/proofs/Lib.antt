@@ -7,5 +7,5 @@ pub mod KeyNumbers
 pub mod Listings
 pub mod LocalBlanks
 pub mod LocalChoices
-pub mod RisingPlaces
+pub mod RisingRanks
 pub mod SameRests

@@ -4,11 +4,11 @@ use Rattle.std.proofs.Common.{◌≡◌, ℕ, zero, suc, ◌<◌, ◌≤◌, ◌
 use Rattle.std.proofs.lemmas.Bool.{cases_order, false≢true}
 use Rattle.lexicon_definitions.specs.Lexicons.{Lexicon, RuleSet, IsLexicon}
 use Rattle.segmentation_definitions.specs.Derivations.{Step, Derives}
-use Rattle.segmentation_definitions.specs.Items.{Placed, placed, Item, item_of, place_of, Choice}
+use Rattle.segmentation_definitions.specs.Items.{Placed, placed, Item, item_of, rank_of, Choice}
 use Rattle.segmentation_definitions.specs.Answers.{KeepsChoices}
-use Rattle.segmentation_definitions.specs.LocalTests.{place_at, IsLast, next_place, AllowsKept, AllowsChoice, AllAllow}
+use Rattle.segmentation_definitions.specs.LocalTests.{rank_at, IsLast, next_rank, AllowsKept, AllowsChoice, AllAllow}
 use Rattle.segmentation_definitions.proofs.Coverings.{unchanged_at_zero, Unchanged, Changed, StandsIn, StandsBefore, StandsLast, AreInPlace, LastStep, EarlierStep, in_place}
-use Rattle.segmentation_definitions.proofs.RisingPlaces.{after_lead_cases, place_rises}
+use Rattle.segmentation_definitions.proofs.RisingRanks.{after_lead_cases, rank_rises}
 
 -- ---- last steps and next places
 
@@ -32,8 +32,8 @@ is_last {rules = rules} {p = p} last = elim last.rule [
   | inr final ↦ inl (final.0, final.1)
 ]
 
-pub next_place_is : {rules : RuleSet} {p q : Placed} → StandsBefore rules p q → next_place rules p ≡ place_at q
-next_place_is {rules = rules} {p = p} {q = q} before =
+pub next_rank_is : {rules : RuleSet} {p q : Placed} → StandsBefore rules p q → next_rank rules p ≡ rank_at q
+next_rank_is {rules = rules} {p = p} {q = q} before =
     let here = after_lead_cases p.step.rule in
     let next = after_lead_cases q.lead in
     elim before.rule [
@@ -64,11 +64,11 @@ contained_item item (p ∷ ps) h = elim h [
 
 -- the place of an item of the steps is not below the first step's
 item_after : {lexicon : Lexicon} {letters : ℕ} {p : Placed} {ps : List Placed} (item : Item) → AreInPlace lexicon letters (p ∷ ps)
-    → IsItemOf item (p ∷ ps) → place_at p ≤ place_of item
-item_after item (LastStep stands last) h = elim h [ inl here ↦ omega (arith, ap place_of here) | inr later ↦ elim later [ ] ]
+    → IsItemOf item (p ∷ ps) → rank_at p ≤ rank_of item
+item_after item (LastStep stands last) h = elim h [ inl here ↦ omega (arith, ap rank_of here) | inr later ↦ elim later [ ] ]
 item_after item (EarlierStep stands before rest) h = elim h [
-  | inl here ↦ omega (arith, ap place_of here)
-  | inr later ↦ omega (arith, place_rises stands before, item_after item rest later)
+  | inl here ↦ omega (arith, ap rank_of here)
+  | inr later ↦ omega (arith, rank_rises stands before, item_after item rest later)
 ]
 
 -- ---- one kept item
@@ -81,7 +81,7 @@ AllAllowOne rules letters kept item is_first (p ∷ ps) = AllowsChoice rules let
 -- a step allows its own item
 allows_own : (rules : RuleSet) (letters : ℕ) (is_first : Bool) (p : Placed) (item : Item) → item ≡ item_of p → AllowsKept rules letters is_first p item
 allows_own rules letters is_first p item own =
-    let place : place_of item ≡ place_at p = ap place_of own in
+    let place : rank_of item ≡ rank_at p = ap rank_of own in
     record {
       here = λ same. own;
       between = λ earlier above. absurd (omega arith);
@@ -90,7 +90,7 @@ allows_own rules letters is_first p item own =
     }
 
 -- a step that is not the first allows an item before it
-allows_before : (rules : RuleSet) (letters : ℕ) (p : Placed) (item : Item) → place_of item < place_at p → AllowsKept rules letters false p item
+allows_before : (rules : RuleSet) (letters : ℕ) (p : Placed) (item : Item) → rank_of item < rank_at p → AllowsKept rules letters false p item
 allows_before rules letters p item below = record {
   here = λ same. absurd (omega arith);
   between = λ earlier above. absurd (omega arith);
@@ -100,10 +100,10 @@ allows_before rules letters p item below = record {
 
 -- a step that is not the last allows an item from the next one's place on
 allows_after : {lexicon : Lexicon} {letters : ℕ} {p q : Placed} (is_first : Bool) (item : Item) → StandsIn lexicon letters p → StandsIn lexicon letters q
-    → StandsBefore lexicon.rules p q → place_at q ≤ place_of item → AllowsKept lexicon.rules letters is_first p item
+    → StandsBefore lexicon.rules p q → rank_at q ≤ rank_of item → AllowsKept lexicon.rules letters is_first p item
 allows_after is_first item stands next before above =
-    let rises = place_rises stands before in
-    let same = next_place_is before in
+    let rises = rank_rises stands before in
+    let same = next_rank_is before in
     record {
       here = λ equal. absurd (omega arith);
       between = λ earlier following. omega arith;
@@ -112,10 +112,10 @@ allows_after is_first item stands next before above =
     }
 
 all_allow_before : {lexicon : Lexicon} {letters : ℕ} {p : Placed} {ps : List Placed} (item : Item) → AreInPlace lexicon letters (p ∷ ps)
-    → place_of item < place_at p → AllAllowOne lexicon.rules letters true item false (p ∷ ps)
+    → rank_of item < rank_at p → AllAllowOne lexicon.rules letters true item false (p ∷ ps)
 all_allow_before {lexicon = lexicon} {letters = letters} item (LastStep {p = p} stands last) below = (allows_before lexicon.rules letters p item below, tt)
 all_allow_before {lexicon = lexicon} {letters = letters} item (EarlierStep {p = p} stands before rest) below =
-    (allows_before lexicon.rules letters p item below, all_allow_before item rest (omega (arith, place_rises stands before)))
+    (allows_before lexicon.rules letters p item below, all_allow_before item rest (omega (arith, rank_rises stands before)))
 
 all_allow_item : {lexicon : Lexicon} {letters : ℕ} {ps : List Placed} (is_first : Bool) (item : Item) → AreInPlace lexicon letters ps
     → IsItemOf item ps → AllAllowOne lexicon.rules letters true item is_first ps
@@ -124,20 +124,20 @@ all_allow_item {lexicon = lexicon} {letters = letters} is_first item (LastStep {
   | inr later ↦ elim later [ ]
 ]
 all_allow_item {lexicon = lexicon} {letters = letters} is_first item (EarlierStep {p = p} stands before rest) h = elim h [
-  | inl here ↦ (allows_own lexicon.rules letters is_first p item here, all_allow_before item rest (omega (arith, place_rises stands before, ap place_of here)))
+  | inl here ↦ (allows_own lexicon.rules letters is_first p item here, all_allow_before item rest (omega (arith, rank_rises stands before, ap rank_of here)))
   | inr later ↦ (allows_after is_first item stands (stands_first rest) before (item_after item rest later), all_allow_item false item rest later)
 ]
 
 item_if_allowed : {lexicon : Lexicon} {letters : ℕ} {p : Placed} {ps : List Placed} (is_first : Bool) (item : Item) → AreInPlace lexicon letters (p ∷ ps)
-    → place_at p ≤ place_of item → AllAllowOne lexicon.rules letters true item is_first (p ∷ ps) → IsItemOf item (p ∷ ps)
-item_if_allowed is_first item (LastStep {p = p} stands last) above allow = elim (cases_order (place_of item) (place_at p)) [
+    → rank_at p ≤ rank_of item → AllAllowOne lexicon.rules letters true item is_first (p ∷ ps) → IsItemOf item (p ∷ ps)
+item_if_allowed is_first item (LastStep {p = p} stands last) above allow = elim (cases_order (rank_of item) (rank_at p)) [
   | inl same ↦ inl (allow.0.here same)
   | inr apart ↦ absurd (omega (arith, apart, allow.0.following (is_last last)))
 ]
-item_if_allowed is_first item (EarlierStep {p = p} stands before rest) above allow = elim (cases_order (place_of item) (place_at p)) [
+item_if_allowed is_first item (EarlierStep {p = p} stands before rest) above allow = elim (cases_order (rank_of item) (rank_at p)) [
   | inl same ↦ inl (allow.0.here same)
   | inr apart ↦ inr (item_if_allowed false item rest
-      (omega (arith, next_place_is before, allow.0.between (not_last (stands_first rest) before) (omega (arith, apart)))) allow.1)
+      (omega (arith, next_rank_is before, allow.0.between (not_last (stands_first rest) before) (omega (arith, apart)))) allow.1)
 ]
 
 -- ---- one rejected item

@@ -1,5 +1,5 @@
 -- Where the steps of a derivation stand in the word, and the items that a reader sees of them (segments after Goyal and
--- Huet 2016; places and exact clauses are own).
+-- Huet 2016; ranks and exact clauses are own).
 use Rattle.std.specs.Prelude.{ℕ, zero, suc, ◌+◌, ◌*◌, ◌-◌, Bool, List, [], ◌∷◌, length, map}
 use Rattle.lexicon_definitions.specs.Lexicons.{RuleSet}
 use Rattle.segmentation_definitions.specs.Derivations.{Step, rule_after}
@@ -57,13 +57,13 @@ abbrev pub after_lead : ℕ → ℕ
 after_lead zero = 1
 after_lead (suc lead) = 0
 
--- the place of an item is twice the letters before it, and one more where it has no lead
-abbrev pub place_of : Item → ℕ
-place_of item = 2 * item.at + after_lead item.lead
+-- the rank of an item is twice the letters before it, and one more where it has no lead
+abbrev pub rank_of : Item → ℕ
+rank_of item = 2 * item.at + after_lead item.lead
 
--- the places of the steps
-abbrev pub places_of : RuleSet → List Step → List ℕ
-places_of rules steps = map place_of (items_of rules steps)
+-- the ranks of the steps
+abbrev pub ranks_of : RuleSet → List Step → List ℕ
+ranks_of rules steps = map rank_of (items_of rules steps)
 
 -- a reader's choice: an item is kept, or rejected
 pub record Choice : Type 0 where

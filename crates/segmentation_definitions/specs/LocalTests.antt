@@ -4,7 +4,7 @@ use Rattle.std.specs.List.{AllByRecursion}
 use Rattle.lexicon_definitions.specs.Lexicons.{RuleSet}
 use Rattle.segmentation_definitions.specs.Derivations.{Step, rule_after, IsRuleNumber}
 use Rattle.lexicon_definitions.specs.Rules.{IsFinal}
-use Rattle.segmentation_definitions.specs.Items.{Placed, placed, item_of, place_of, after_lead, Item, Choice}
+use Rattle.segmentation_definitions.specs.Items.{Placed, placed, item_of, rank_of, after_lead, Item, Choice}
 
 -- no blank stands strictly inside the letters that the step takes
 abbrev pub HasNoBlankInside : List ℕ → Placed → Type 0
@@ -21,9 +21,9 @@ pub record KeepsBlanksLocally (rules : RuleSet) (blanks : List ℕ) (steps : Lis
   pub inside : AllByRecursion (HasNoBlankInside blanks) (placed rules steps)
   pub following : HasNoBlankAfterLast blanks (placed rules steps)
 
--- the place of a step is that of its item
-abbrev pub place_at : Placed → ℕ
-place_at p = place_of (item_of p)
+-- the rank of a step is that of its item
+abbrev pub rank_at : Placed → ℕ
+rank_at p = rank_of (item_of p)
 
 -- in a line of this length the step is last: its rule is final, or there is no change and the line ends after it
 abbrev pub IsLast : RuleSet → ℕ → Placed → Type 0
@@ -31,17 +31,17 @@ IsLast rules line_length p =
     (IsRuleNumber rules p.step.rule × IsFinal (rule_after rules p.step))
     ⊎ ((p.step.rule ≡ 0) × (p.at + p.taken ≡ line_length))
 
--- the place of whatever step follows this one; where there is no change, the next step has no lead
-abbrev pub next_place : RuleSet → Placed → ℕ
-next_place rules p = 2 * (p.at + p.taken + length (rule_after rules p.step).w) + after_lead p.step.rule
+-- the rank of whatever step follows this one; where there is no change, the next step has no lead
+abbrev pub next_rank : RuleSet → Placed → ℕ
+next_rank rules p = 2 * (p.at + p.taken + length (rule_after rules p.step).w) + after_lead p.step.rule
 
--- what the step alone tells of a kept item: at the step's place it is the step's item; between the step and the place of
--- the next, after a last step and before a first step there is none
+-- what the step alone tells of a kept item: at the step's rank it is the step's item; between this rank and that of the
+-- next step, after a last step and before a first step there is none
 pub record AllowsKept (rules : RuleSet) (line_length : ℕ) (is_first : Bool) (p : Placed) (item : Item) : Type 0 where
-  pub here : place_of item ≡ place_at p → item ≡ item_of p
-  pub between : (IsLast rules line_length p → ⊥) → place_at p < place_of item → next_place rules p ≤ place_of item
-  pub following : IsLast rules line_length p → place_of item ≤ place_at p
-  pub before : is_first ≡ true → place_at p ≤ place_of item
+  pub here : rank_of item ≡ rank_at p → item ≡ item_of p
+  pub between : (IsLast rules line_length p → ⊥) → rank_at p < rank_of item → next_rank rules p ≤ rank_of item
+  pub following : IsLast rules line_length p → rank_of item ≤ rank_at p
+  pub before : is_first ≡ true → rank_at p ≤ rank_of item
 
 -- a step allows a kept item as above, and a rejected item where it is not the step's
 abbrev pub AllowsChoice : RuleSet → ℕ → Bool → Placed → Bool → Item → Type 0

@@ -14,7 +14,7 @@ use Rattle.segmentation_definitions.specs.Derivations.{Step, rule_after, Meets, 
 use Rattle.segmentation_definitions.specs.Items.{Item, Choice, items_of}
 use Rattle.segmentation_definitions.specs.Answers.{IsAnswer}
 use Rattle.segmentation_definitions.specs.Listings.{compare_answers, IsListing, compare_items, IsSummary}
-use Rattle.segmentation_definitions.proofs.RisingPlaces.{steps_bounded}
+use Rattle.segmentation_definitions.proofs.RisingRanks.{steps_bounded}
 
 -- what is left of the second list after the first
 abbrev pub following_front : List ℕ → List ℕ → Option (List ℕ)

@@ -2,7 +2,7 @@ ghost use Rattle.std.specs.Prelude.{◌≡◌, ℕ, ◌<◌, ◌≤◌, true, fa
 ghost use Rattle.lexicon_definitions.specs.Grammars.{Opening, After};
 ghost use Rattle.lexicon_definitions.specs.Lexicons.{IsLexicon};
 ghost use Rattle.segmentation_definitions.specs.Derivations.{Derives, IsOverlap};
-ghost use Rattle.segmentation_definitions.specs.Items.{items_of, places_of};
+ghost use Rattle.segmentation_definitions.specs.Items.{items_of, ranks_of};
 ghost use Rattle.segmentation_definitions.specs.Answers.{IsAnswer};
 ghost use Rattle.segmentation_definitions.specs.Listings.{IsListing, IsSummary, IsPage, BeforeFirst, AtAnswer};
 ghost use Rattle.segmentation_definitions.specs.Configurations.{Configuration, Start, Plain, Lead, EndsAt};
@@ -46,7 +46,7 @@ pub fn a_segment_may_take_no_letter()
         ∷ record { at = 2; lead = 1; phase = 1; form = word_aa }
         ∷ record { at = 2; lead = 0; phase = 2; form = word_gacchati }
         ∷ [] }
-    ensures places { places_of preverb_lexicon.rules (step 0 word_na 1 ∷ step 1 word_aa 0 ∷ step 2 word_gacchati 0 ∷ [])
+    ensures places { ranks_of preverb_lexicon.rules (step 0 word_na 1 ∷ step 1 word_aa 0 ∷ step 2 word_gacchati 0 ∷ [])
         ≡ 1 ∷ 4 ∷ 5 ∷ [] }
 {}
 

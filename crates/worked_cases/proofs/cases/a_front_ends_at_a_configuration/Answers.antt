@@ -29,8 +29,8 @@ place_of_word place (zero, l, e) =
     ([], mark_at 1, [], ((mark_at 1 ∷ []) ∷ [], λ e. cc, refl, (refl, tt)), refl, e)
 place_of_word place (suc n, l, e) = absurd (omega arith)
 
-word_place : (place : ℕ) → IsPositionAfter word_tree (0 ∷ []) place → Contains (1 ∷ []) place
-word_place place h = let bounds = within word_tree (0 ∷ []) place h in (0, lit< tt, omega arith)
+word_rank : (place : ℕ) → IsPositionAfter word_tree (0 ∷ []) place → Contains (1 ∷ []) place
+word_rank place h = let bounds = within word_tree (0 ∷ []) place h in (0, lit< tt, omega arith)
 
 abbrev twofold_tree : Grammar
 twofold_tree = OnceOrMore (Either (Name 0) (Name 0))
@@ -63,7 +63,7 @@ unfolding grammar_of
 returns-clause-plain c = record {
   covered = refl;
   entrance = refl;
-  state = (one_rises, λ place. (place_of_word place, word_place place));
+  state = (one_rises, λ place. (place_of_word place, word_rank place));
 }
 
 pub returns-clause-lead : goal.returns-clause-lead
