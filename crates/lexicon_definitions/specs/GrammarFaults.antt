@@ -121,7 +121,8 @@ fault_before_states names text =
 
 -- the text's first fault
 abbrev pub IsFirstFault : List (List ℕ) → List ℕ → Fault → Type 0
-IsFirstFault names text States = (fault_before_states names text ≡ None) × HasMoreStates (grammar_of names text) MOST_GRAMMAR_STATES
+IsFirstFault names text States =
+    (fault_before_states names text ≡ None) × HasMoreStates (grammar_of names text) MOST_GRAMMAR_STATES
 IsFirstFault names text fault = fault_before_states names text ≡ Some fault
 
 -- the text is a grammar text within the limits over these names of phases: it has no fault of any kind; a grammar text as

@@ -62,8 +62,8 @@ Reads (AtMostOnce inner) from marks = (marks ≡ []) ⊎ Reads inner from marks
 abbrev pub phases_of : List Mark → List ℕ
 phases_of marks = map (λ mark. mark.phase) marks
 
--- positions are numbered from 1; this is a position at which the last phase of the list can be read, where the list is read as
--- a front of a word of the language
+-- positions are numbered from 1; this is a position at which the last phase of the list can be read, where the list is read
+-- as a front of a word of the language
 abbrev pub IsPositionAfter : Grammar → List ℕ → ℕ → Type 0
 IsPositionAfter grammar phases position =
     (front : List Mark) × (last : Mark) × (rest : List Mark) × Reads grammar 1 (front ++ last ∷ rest)
@@ -79,7 +79,8 @@ abbrev pub IsStateAfter : Grammar → List ℕ → State → Type 0
 IsStateAfter grammar [] state = state ≡ Opening
 IsStateAfter grammar (phase ∷ phases) Opening = ⊥
 IsStateAfter grammar (phase ∷ phases) (After positions) =
-    IsStrictlyIncreasing positions × ((position : ℕ) → Contains positions position ↔ IsPositionAfter grammar (phase ∷ phases) position)
+    IsStrictlyIncreasing positions
+    × ((position : ℕ) → Contains positions position ↔ IsPositionAfter grammar (phase ∷ phases) position)
 
 -- the states are the different sets of positions that are not empty, and that of the empty list
 abbrev pub IsLiveState : State → Type 0

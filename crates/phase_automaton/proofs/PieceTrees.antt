@@ -9,7 +9,7 @@ use Rattle.lexicon_definitions.proofs.GrammarFollows.{sequence_empty, any_times_
 use Rattle.phase_automaton.specs.declared.position.Position.{Position}
 use Rattle.phase_automaton.specs.declared.piece.Piece.{Piece}
 use Rattle.phase_automaton.specs.PositionSets.{HasPosition}
-use Rattle.phase_automaton.specs.Pieces.{position_at, Follows, HasPhases, BeginsAt, EndsAt, GoesOn, IsPiece, IsLinked}
+use Rattle.phase_automaton.specs.Pieces.{position_at, Follows, HasPhases, CanBeginAt, CanEndAt, CanGoOn, IsPiece, IsLinked}
 
 -- ---- positions within a tree
 IsIn : Grammar → ℕ → ℕ → Type 0
@@ -19,12 +19,12 @@ mark_within : (g : Grammar) (from : ℕ) (front : List Mark) (m : Mark) (rest : 
     → IsPositionOf g from m
 mark_within g from front m rest h = all_at (IsPositionOf g from) front m rest (positions_within g from (front ++ m ∷ rest) h)
 
-pub ends_within : (g : Grammar) (from position : ℕ) → EndsAt g from position → (from ≤ position) × (position < from + count_names g)
+pub ends_within : (g : Grammar) (from position : ℕ) → CanEndAt g from position → (from ≤ position) × (position < from + count_names g)
 ends_within g from position h =
     let w = mark_within g from h.1.0 h.0 [] h.1.1 in
     (omega (arith, w.0, h.2), omega (arith, w.1, h.2))
 
-goes_on_within : (g : Grammar) (from before position : ℕ) → GoesOn g from before position → (from ≤ before) × (before < from + count_names g)
+goes_on_within : (g : Grammar) (from before position : ℕ) → CanGoOn g from before position → (from ≤ before) × (before < from + count_names g)
 goes_on_within g from before position h =
     let w = mark_within g from h.2.0 h.0 (h.1 ∷ h.2.1) h.2.2 in
     (omega (arith, w.0, h.3), omega (arith, w.1, h.3))
@@ -59,7 +59,7 @@ keep_piece old new piece g from longer same h = record {
   first = h.first;
   last = h.last;
   follow = λ before position a b.
-      subst (λ (p : Position). HasPosition p.follow position ↔ GoesOn g from before position) (sym (same before a b)) (h.follow before position a b);
+      subst (λ (p : Position). HasPosition p.follow position ↔ CanGoOn g from before position) (sym (same before a b)) (h.follow before position a b);
 }
 
 -- ---- names
@@ -95,10 +95,10 @@ module _ (old new : List Position) (left right piece : Piece) (g h : Grammar) (f
     (l : IsPiece old left g from) (r : IsPiece old right h (from + count_names g)) (linked : IsLinked old new left.last right.first)
   where
     begins : (position : ℕ) → (HasPosition left.first position ⊎ (IsTrue left.optional × HasPosition right.first position))
-        ↔ BeginsAt (Sequence g h) from position
+        ↔ CanBeginAt (Sequence g h) from position
     begins position = (to, (λ x. back x.0 x.1 x.2))
       where
-        to : HasPosition left.first position ⊎ (IsTrue left.optional × HasPosition right.first position) → BeginsAt (Sequence g h) from position
+        to : HasPosition left.first position ⊎ (IsTrue left.optional × HasPosition right.first position) → CanBeginAt (Sequence g h) from position
         to (inl a) = let m = (l.first position).0 a in (m.0, (sequence_first g h from m.0).1 (inl m.1), m.2)
         to (inr b) =
             let m = (r.first position).0 b.1 in
@@ -111,10 +111,10 @@ module _ (old new : List Position) (left right piece : Piece) (g h : Grammar) (f
         ]
 
     ends : (position : ℕ) → (HasPosition right.last position ⊎ (IsTrue right.optional × HasPosition left.last position))
-        ↔ EndsAt (Sequence g h) from position
+        ↔ CanEndAt (Sequence g h) from position
     ends position = (to, (λ x. back x.0 x.1 x.2))
       where
-        to : HasPosition right.last position ⊎ (IsTrue right.optional × HasPosition left.last position) → EndsAt (Sequence g h) from position
+        to : HasPosition right.last position ⊎ (IsTrue right.optional × HasPosition left.last position) → CanEndAt (Sequence g h) from position
         to (inl a) = let m = (r.last position).0 a in (m.0, (sequence_last g h from m.0).1 (inl m.1), m.2)
         to (inr b) =
             let m = (l.last position).0 b.1 in
@@ -127,14 +127,14 @@ module _ (old new : List Position) (left right piece : Piece) (g h : Grammar) (f
         ]
 
     -- what goes on in a sequence, by positions
-    pairs : (before position : ℕ) → GoesOn (Sequence g h) from before position
-        ↔ (GoesOn g from before position ⊎ GoesOn h (from + count_names g) before position
-        ⊎ (EndsAt g from before × BeginsAt h (from + count_names g) position))
+    pairs : (before position : ℕ) → CanGoOn (Sequence g h) from before position
+        ↔ (CanGoOn g from before position ⊎ CanGoOn h (from + count_names g) before position
+        ⊎ (CanEndAt g from before × CanBeginAt h (from + count_names g) position))
     pairs before position = ((λ x. to x.0 x.1 x.2 x.3 x.4), back)
       where
         to : (a b : Mark) → IsPair (Sequence g h) from a b → a.position ≡ before → b.position ≡ position
-            → GoesOn g from before position ⊎ GoesOn h (from + count_names g) before position
-            ⊎ (EndsAt g from before × BeginsAt h (from + count_names g) position)
+            → CanGoOn g from before position ⊎ CanGoOn h (from + count_names g) before position
+            ⊎ (CanEndAt g from before × CanBeginAt h (from + count_names g) position)
         to a b x e k = elim ((sequence_pair g h from a b).0 x) [
           | inl y ↦ inl (a, b, y, e, k)
           | inr y ↦ elim y [
@@ -143,15 +143,15 @@ module _ (old new : List Position) (left right piece : Piece) (g h : Grammar) (f
           ]
         ]
 
-        back : GoesOn g from before position ⊎ GoesOn h (from + count_names g) before position
-            ⊎ (EndsAt g from before × BeginsAt h (from + count_names g) position)
-            → GoesOn (Sequence g h) from before position
+        back : CanGoOn g from before position ⊎ CanGoOn h (from + count_names g) before position
+            ⊎ (CanEndAt g from before × CanBeginAt h (from + count_names g) position)
+            → CanGoOn (Sequence g h) from before position
         back (inl x) = (x.0, x.1, (sequence_pair g h from x.0 x.1).1 (inl x.2), x.3, x.4)
         back (inr (inl x)) = (x.0, x.1, (sequence_pair g h from x.0 x.1).1 (inr (inl x.2)), x.3, x.4)
         back (inr (inr x)) = (x.0.0, x.1.0, (sequence_pair g h from x.0.0 x.1.0).1 (inr (inr (x.0.1, x.1.1))), x.0.2, x.1.2)
 
     left_follows : (before position : ℕ) → from ≤ before → before < from + count_names g
-        → Follows new before position ↔ GoesOn (Sequence g h) from before position
+        → Follows new before position ↔ CanGoOn (Sequence g h) from before position
     left_follows before position a b =
         let inside : before < length old = omega (arith, r.within) in (
           (λ x. (pairs before position).1 (to ((linked.follow before position inside).0 x))),
@@ -159,20 +159,20 @@ module _ (old new : List Position) (left right piece : Piece) (g h : Grammar) (f
         )
       where
         to : Follows old before position ⊎ (HasPosition left.last before × HasPosition right.first position)
-            → GoesOn g from before position ⊎ GoesOn h (from + count_names g) before position
-            ⊎ (EndsAt g from before × BeginsAt h (from + count_names g) position)
+            → CanGoOn g from before position ⊎ CanGoOn h (from + count_names g) before position
+            ⊎ (CanEndAt g from before × CanBeginAt h (from + count_names g) position)
         to (inl x) = inl ((l.follow before position a b).0 x)
         to (inr x) = inr (inr ((l.last before).0 x.0, (r.first position).0 x.1))
 
-        back : GoesOn g from before position ⊎ GoesOn h (from + count_names g) before position
-            ⊎ (EndsAt g from before × BeginsAt h (from + count_names g) position)
+        back : CanGoOn g from before position ⊎ CanGoOn h (from + count_names g) before position
+            ⊎ (CanEndAt g from before × CanBeginAt h (from + count_names g) position)
             → Follows old before position ⊎ (HasPosition left.last before × HasPosition right.first position)
         back (inl x) = inl ((l.follow before position a b).1 x)
         back (inr (inl x)) = absurd (let w = goes_on_within h (from + count_names g) before position x in omega (arith, w.0))
         back (inr (inr x)) = inr ((l.last before).1 x.0, (r.first position).1 x.1)
 
     right_follows : (before position : ℕ) → from + count_names g ≤ before → before < from + count_names g + count_names h
-        → Follows new before position ↔ GoesOn (Sequence g h) from before position
+        → Follows new before position ↔ CanGoOn (Sequence g h) from before position
     right_follows before position a b =
         let none : HasPosition left.last before → ⊥ = λ x. (let w = ends_within g from before ((l.last before).0 x) in omega (arith, w.1)) in
         let same = linked.others before none in (
@@ -180,9 +180,9 @@ module _ (old new : List Position) (left right piece : Piece) (g h : Grammar) (f
           (λ x. subst (λ (p : Position). HasPosition p.follow position) (sym same) ((r.follow before position a b).1 (back ((pairs before position).0 x)))),
         )
       where
-        back : GoesOn g from before position ⊎ GoesOn h (from + count_names g) before position
-            ⊎ (EndsAt g from before × BeginsAt h (from + count_names g) position)
-            → GoesOn h (from + count_names g) before position
+        back : CanGoOn g from before position ⊎ CanGoOn h (from + count_names g) before position
+            ⊎ (CanEndAt g from before × CanBeginAt h (from + count_names g) position)
+            → CanGoOn h (from + count_names g) before position
         back (inl x) = absurd (let w = goes_on_within g from before position x in omega (arith, w.1))
         back (inr (inl x)) = x
         back (inr (inr x)) = absurd (let w = ends_within g from before x.0 in omega (arith, w.1))
@@ -216,7 +216,7 @@ module _ (positions : List Position) (left right piece : Piece) (g h : Grammar) 
     (l : IsPiece positions left g from) (r : IsPiece positions right h (from + count_names g))
   where
     either_follows : (before position : ℕ) → from ≤ before → before < from + count_names g + count_names h
-        → Follows positions before position ↔ GoesOn (Either g h) from before position
+        → Follows positions before position ↔ CanGoOn (Either g h) from before position
     either_follows before position a b = elim (cases_lt before (from + count_names g)) [
       | inl below ↦ (
         (λ x. let y = (l.follow before position a below).0 x in (y.0, y.1, (either_pair g h from y.0 y.1).1 (inl y.2), y.3, y.4)),
@@ -231,14 +231,14 @@ module _ (positions : List Position) (left right piece : Piece) (g h : Grammar) 
     ]
       where
         in_left : (m n : Mark) → IsPair (Either g h) from m n → m.position ≡ before → n.position ≡ position → before < from + count_names g
-            → GoesOn g from before position
+            → CanGoOn g from before position
         in_left m n x e k below = elim ((either_pair g h from m n).0 x) [
           | inl y ↦ (m, n, y, e, k)
           | inr y ↦ absurd (let w = goes_on_within h (from + count_names g) before position (m, n, y, e, k) in omega (arith, w.0))
         ]
 
         in_right : (m n : Mark) → IsPair (Either g h) from m n → m.position ≡ before → n.position ≡ position → from + count_names g ≤ before
-            → GoesOn h (from + count_names g) before position
+            → CanGoOn h (from + count_names g) before position
         in_right m n x e k above = elim ((either_pair g h from m n).0 x) [
           | inl y ↦ absurd (let w = goes_on_within g from before position (m, n, y, e, k) in omega (arith, w.1))
           | inr y ↦ (m, n, y, e, k)
@@ -285,7 +285,7 @@ module _ (old new : List Position) (inside piece : Piece) (g : Grammar) (from : 
     (last : (position : ℕ) → HasPosition piece.last position ↔ HasPosition inside.last position)
   where
     loops : (before position : ℕ) → from ≤ before → before < from + count_names g
-        → Follows new before position ↔ (GoesOn g from before position ⊎ (EndsAt g from before × BeginsAt g from position))
+        → Follows new before position ↔ (CanGoOn g from before position ⊎ (CanEndAt g from before × CanBeginAt g from position))
     loops before position a b =
         let within : before < length old = omega (arith, i.within) in (
           (λ x. elim ((linked.follow before position within).0 x) [

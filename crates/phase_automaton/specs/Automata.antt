@@ -72,6 +72,7 @@ pub record Recognizes (machine : StateMachine) (grammar : Grammar) : Type 0 wher
   pub each_live : All IsLiveState states
   pub accepts : (phases : List ℕ) → IsTrue (is_accepting machine (state_after machine phases)) ↔ Accepts grammar phases
   pub live : (phases : List ℕ) → IsSome (state_after machine phases) ↔ ((rest : List ℕ) × Accepts grammar (phases ++ rest))
-  pub same : (left right : List ℕ) → (state_after machine left ≡ state_after machine right) ↔ HaveSamePositions grammar left right
+  pub same : (left right : List ℕ)
+      → (state_after machine left ≡ state_after machine right) ↔ HaveSamePositions grammar left right
   pub within : (phases : List ℕ) → IsStateIn machine (state_after machine phases)
   pub reached : (number : ℕ) → number < length machine.states → (phases : List ℕ) × (state_after machine phases ≡ Some number)

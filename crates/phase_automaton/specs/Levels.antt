@@ -52,7 +52,8 @@ pub record ChangesWithin (old new : List Position) (from until : ℕ) : Type 0 w
 -- no position changes but those of the level
 pub record KeepsOthers (old new : List Position) (level : Level) : Type 0 where
   pub count : length new ≡ length old
-  pub within : (open_level : OpenLevel) (from until : ℕ) → IsLevel old level open_level from until → ChangesWithin old new from until
+  pub within : (open_level : OpenLevel) (from until : ℕ) → IsLevel old level open_level from until
+      → ChangesWithin old new from until
 
 -- what two parts of a level become: the items before the newest, and the newest
 pub record AreJoined (old new : List Position) (sequence item joined : Option Piece) : Type 0 where

@@ -29,27 +29,28 @@ HasPhases positions (OnceOrMore inner) from = HasPhases positions inner from
 HasPhases positions (AtMostOnce inner) from = HasPhases positions inner from
 
 -- some reading begins at the position
-abbrev pub BeginsAt : Grammar → ℕ → ℕ → Type 0
-BeginsAt grammar from position = (mark : Mark) × IsFirst grammar from mark × (mark.position ≡ position)
+abbrev pub CanBeginAt : Grammar → ℕ → ℕ → Type 0
+CanBeginAt grammar from position = (mark : Mark) × IsFirst grammar from mark × (mark.position ≡ position)
 
 -- some reading ends at the position
-abbrev pub EndsAt : Grammar → ℕ → ℕ → Type 0
-EndsAt grammar from position = (mark : Mark) × IsLast grammar from mark × (mark.position ≡ position)
+abbrev pub CanEndAt : Grammar → ℕ → ℕ → Type 0
+CanEndAt grammar from position = (mark : Mark) × IsLast grammar from mark × (mark.position ≡ position)
 
 -- some reading goes from the one position to the other
-abbrev pub GoesOn : Grammar → ℕ → ℕ → ℕ → Type 0
-GoesOn grammar from before position =
-    (first : Mark) × (second : Mark) × IsPair grammar from first second × (first.position ≡ before) × (second.position ≡ position)
+abbrev pub CanGoOn : Grammar → ℕ → ℕ → ℕ → Type 0
+CanGoOn grammar from before position =
+    (first : Mark) × (second : Mark) × IsPair grammar from first second × (first.position ≡ before)
+    × (second.position ≡ position)
 
 -- the piece stands for the tree, whose names begin at this position
 pub record IsPiece (positions : List Position) (piece : Piece) (grammar : Grammar) (from : ℕ) : Type 0 where
   pub within : from + count_names grammar ≤ length positions
   pub phases : HasPhases positions grammar from
   pub optional : IsTrue piece.optional ↔ Reads grammar from []
-  pub first : (position : ℕ) → HasPosition piece.first position ↔ BeginsAt grammar from position
-  pub last : (position : ℕ) → HasPosition piece.last position ↔ EndsAt grammar from position
+  pub first : (position : ℕ) → HasPosition piece.first position ↔ CanBeginAt grammar from position
+  pub last : (position : ℕ) → HasPosition piece.last position ↔ CanEndAt grammar from position
   pub follow : (before position : ℕ) → from ≤ before → before < from + count_names grammar
-      → Follows positions before position ↔ GoesOn grammar from before position
+      → Follows positions before position ↔ CanGoOn grammar from before position
 
 -- each position of the one set is followed by those of the other besides, and nothing else changes
 pub record IsLinked (old new : List Position) (from to : PositionSet) : Type 0 where

@@ -37,8 +37,8 @@ fn phase_of(names: &[String], name: &[u8]) -> Option<u32>
     None
 }
 
-/// The positions of a text's names, after position 0, each with its phase and with nothing that follows yet. Refuses the first
-/// name that is that of no phase.
+/// The positions of a text's names, after position 0, each with its phase and with nothing that follows yet. Refuses the
+/// first name that is that of no phase.
 pub(crate) fn read_positions(
     alloc: Global,
     text: &[u8],

@@ -36,7 +36,8 @@ impl PositionSet {
     }
 
     pub(crate) fn is_empty(self) -> bool
-        ensures { MatchBool result ((position : ℕ) → HasPosition self position → ⊥) ((position : ℕ) × HasPosition self position) }
+        ensures { MatchBool result ((position : ℕ) → HasPosition self position → ⊥)
+            ((position : ℕ) × HasPosition self position) }
     {
         self.bits == 0
     }

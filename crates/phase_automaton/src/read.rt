@@ -17,8 +17,8 @@ use std::alloc::Global;
 /// The position of each name, and position 0 before them.
 const MOST_POSITIONS: usize = MOST_GRAMMAR_NAMES + 1;
 
-/// The automaton of a grammar's text over the names of the phases, which are numbered from 0 in this order. Refuses a text that
-/// is no grammar text within the limits on bytes, names and states, with its first fault.
+/// The automaton of a grammar's text over the names of the phases, which are numbered from 0 in this order. Refuses a text
+/// that is no grammar text within the limits on bytes, names and states, with its first fault.
 pub fn read_grammar(alloc: Global, text: &[u8], names: &[String]) -> Result<Automaton, GrammarError>
     requires some { 0 < length names.now }
     requires few { length names.now ≤ MOST_PHASES }

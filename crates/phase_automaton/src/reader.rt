@@ -12,8 +12,8 @@ use super::position_set::SET_BITS;
 use phoneme::Memory;
 use std::alloc::Global;
 
-/// How far a grammar was read: how many positions were met, position 0 among them, the levels around the innermost bracket, the
-/// outermost first, and the innermost one.
+/// How far a grammar was read: how many positions were met, position 0 among them, the levels around the innermost
+/// bracket, the outermost first, and the innermost one.
 #[derive(Drop)]
 pub(crate) struct Reader {
     met: usize,
@@ -51,8 +51,8 @@ impl Reader {
     /// Reads an opening bracket.
     fn open(&mut self) -> Result<(), Memory>
         ensures met { self.new.met ≡ self.old.met }
-        ensures reader { OnOk result ((all positions : List Position) (levels : List OpenLevel) → IsReader all positions self.old levels
-            → IsReader all positions self.new (empty_level ∷ levels)) }
+        ensures reader { OnOk result ((all positions : List Position) (levels : List OpenLevel)
+            → IsReader all positions self.old levels → IsReader all positions self.new (empty_level ∷ levels)) }
     {
         self.outer.push(self.level)?;
         self.level = Level::empty();

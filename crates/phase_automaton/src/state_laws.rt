@@ -7,7 +7,8 @@ ghost use Rattle.phase_automaton.specs.Automata.{StateMachine, next_state, state
 /// lead to one number exactly where the grammar is in one state after them, to the dead state exactly where no position is
 /// after them, and each state of the grammar stands at a number.
 pub fn numbers_stand_for_states()
-    ensures after { (machine : StateMachine) (grammar : Grammar) (recognized : Recognizes machine grammar) (phases : List ℕ) (state : State)
+    ensures after { (machine : StateMachine) (grammar : Grammar) (recognized : Recognizes machine grammar)
+        (phases : List ℕ) (state : State)
         → IsStateAfter grammar phases state ↔ (state ≡ state_at recognized.states (state_after machine phases)) }
     ensures same { (machine : StateMachine) (grammar : Grammar) (left right : List ℕ) (first second : State)
         → Recognizes machine grammar → IsStateAfter grammar left first → IsStateAfter grammar right second
@@ -38,6 +39,6 @@ pub fn numbered_states_lead_on()
 pub fn the_dead_state_stays_dead()
     ensures within { (machine : StateMachine) → IsStateIn machine None }
     ensures stays { (machine : StateMachine) (phases : List ℕ) → state_from machine None phases ≡ None }
-    ensures no_phase { (machine : StateMachine) (state : Option ℕ) (phase : ℕ) → IsStateMachine machine → machine.phases ≤ phase
-        → next_state machine state phase ≡ None }
+    ensures no_phase { (machine : StateMachine) (state : Option ℕ) (phase : ℕ) → IsStateMachine machine
+        → machine.phases ≤ phase → next_state machine state phase ≡ None }
 {}

@@ -30,7 +30,8 @@ fn followers(positions: &[Position], set: PositionSet) -> PositionSet
 fn with_phase(positions: &[Position], set: PositionSet, phase: u32) -> PositionSet
     requires { length positions.now ≤ SET_BITS }
     ensures { (position : ℕ) → HasPosition result position
-        ↔ (HasPosition set position × (position < length positions.now) × ((position_at positions.now position).phase ≡ phase)) }
+        ↔ (HasPosition set position × (position < length positions.now)
+        × ((position_at positions.now position).phase ≡ phase)) }
 {
     let mut found = PositionSet::empty();
     for (number, position) in positions.iter().enumerate() {
