@@ -5,3 +5,5 @@ pub mod AnswerPaths
 pub mod NextPaths
 pub mod LocalKeys
 pub mod GuidedFronts
+pub mod LeadingOn
+pub mod LiveStates

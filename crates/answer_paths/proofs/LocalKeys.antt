@@ -250,7 +250,7 @@ module _ (lexicon : Lexicon) (line : Line) (choices : List Choice) (front : List
       }
 
 -- the key of the step that was added
-added_key : (rules : RuleSet) (front : List Step) (key : Key) (longer : List Step) (adds : AddsStep rules front key longer)
+pub added_key : (rules : RuleSet) (front : List Step) (key : Key) (longer : List Step) (adds : AddsStep rules front key longer)
     → key_at rules (lead_after rules [] front) adds.step ≡ key
 added_key rules front key longer adds =
     let same : keys_of rules (front ++ adds.step ∷ []) ≡ keys_of rules longer = ap (keys_of rules) (sym adds.is) in

@@ -1,5 +1,5 @@
 ghost use Rattle.std.specs.Prelude.{◌≡◌, ◌↔◌, ℕ, List, [], map};
-ghost use Rattle.text_definitions.specs.Lines.{Line, IsLine};
+ghost use Rattle.text_definitions.specs.Lines.{Line};
 ghost use Rattle.lexicon_definitions.specs.Lexicons.{Lexicon, RuleSet, IsLexicon};
 ghost use Rattle.segmentation_definitions.specs.Derivations.{Step};
 ghost use Rattle.segmentation_definitions.specs.Items.{Choice};
@@ -16,14 +16,14 @@ pub fn positions_agree()
     ensures above { (rules : RuleSet) (position : Position) (steps : List Step)
         → IsAbove rules position steps ↔ IsPathAbove compare_keys (path_position rules position) (keys_of rules steps) }
     ensures next { (lexicon : Lexicon) (line : Line) (choices : List Choice) (position : Position) (path : List Key)
-        → IsLexicon lexicon → IsLine line
+        → IsLexicon lexicon
         → IsFirst (ways_of lexicon line choices) [] (IsPathAbove compare_keys (path_position lexicon.rules position)) path
         ↔ ((steps : List Step) × IsNext lexicon line choices position steps × (keys_of lexicon.rules steps ≡ path)) }
-    ensures none { (lexicon : Lexicon) (line : Line) (choices : List Choice) (position : Position) → IsLexicon lexicon → IsLine line
+    ensures none { (lexicon : Lexicon) (line : Line) (choices : List Choice) (position : Position) → IsLexicon lexicon
         → ((path : List Key) → IsPath (ways_of lexicon line choices) [] path
         → IsPathAbove compare_keys (path_position lexicon.rules position) path → ⊥)
         ↔ ((steps : List Step) → IsAnswer lexicon line choices steps → IsAbove lexicon.rules position steps → ⊥) }
-    ensures listing { (lexicon : Lexicon) (line : Line) (choices : List Choice) (position : Position) (answers : List (List Step))
-        → IsLexicon lexicon → IsLine line → IsListingAbove lexicon line choices position answers
-        → IsPathListingAbove (ways_of lexicon line choices) [] (path_position lexicon.rules position) (map (keys_of lexicon.rules) answers) }
+    ensures listing { (lexicon : Lexicon) (line : Line) (choices : List Choice) (position : Position) (paths : List (List Key)) → IsLexicon lexicon
+        → IsPathListingAbove (ways_of lexicon line choices) [] (path_position lexicon.rules position) paths
+        ↔ ((answers : List (List Step)) × IsListingAbove lexicon line choices position answers × (map (keys_of lexicon.rules) answers ≡ paths)) }
 {}
