@@ -1,18 +1,18 @@
 -- Each front of an answer that has more may go on: its laws and tests are those of the answer's first steps, and the next
 -- form, which is not empty, has letters from a rule or from the line.
-use Rattle.std.proofs.Common.{◌≡◌, ℕ, ◌+◌, ◌<◌, ◌⊎◌, true, inl, inr, List, [], ◌∷◌, ◌++◌, length, sym, ap, subst, refl, arith}
+use Rattle.std.proofs.Common.{◌≡◌, ◌⊎◌, true, inl, inr, List, [], ◌∷◌, ◌++◌, length, sym, ap, subst, refl, arith}
 use Rattle.std.specs.List.{AllByRecursion}
 use Rattle.std.proofs.lemmas.Bool.{cases_lt}
 use Rattle.std.proofs.lemmas.List.{map-append}
 use Rattle.text_definitions.specs.Lines.{Line}
 use Rattle.lexicon_definitions.specs.Lexicons.{Lexicon, RuleSet, IsLexicon, IsForm, IsPhaseWord}
 use Rattle.lexicon_definitions.proofs.GrammarLists.{all_right}
-use Rattle.segmentation_definitions.specs.Derivations.{Step, rule_after, phases_of, IsRuleNumber, AreJoined, EndsWell, Covers}
+use Rattle.segmentation_definitions.specs.Derivations.{Step, phases_of, IsRuleNumber, AreJoined, EndsWell}
 use Rattle.segmentation_definitions.specs.Items.{Choice, placed, placed_from, covered_from}
 use Rattle.segmentation_definitions.specs.Answers.{IsAnswer}
 use Rattle.segmentation_definitions.specs.LocalTests.{HasNoBlankInside, AllAllow}
 use Rattle.segmentation_definitions.specs.Configurations.{Start, entrance_after, IsFront, PassesTests}
-use Rattle.segmentation_definitions.proofs.Coverings.{form_not_empty, takes_first, RuleAfter, Unchanged, Changed, rule_after_of_number}
+use Rattle.segmentation_definitions.proofs.Coverings.{form_not_empty, takes_first, Unchanged, Changed, rule_after_of_number}
 use Rattle.segmentation_definitions.proofs.Fronts.{lead_after, covers_split, placed-append, ends_right}
 use Rattle.segmentation_definitions.proofs.LocalBlanks.{locally_from_seams}
 use Rattle.segmentation_definitions.proofs.LocalChoices.{allowed_if_kept}
@@ -64,8 +64,8 @@ module _ (lexicon : Lexicon) (line : Line) (choices : List Choice) (front : List
       let some = form_not_empty lexicon next.phase next.form is forms.0 in
       let same = ap length (supplied_after lexicon.rules front) in
       let rule = rule_after_of_number lexicon.rules next is.rules
-          (has_rule lexicon.rules next rest (joined_right lexicon.rules front (next ∷ rest) answer.derives.joined)
-          (ends_right lexicon.rules front next rest answer.derives.ends)) in
+      (has_rule lexicon.rules next rest (joined_right lexicon.rules front (next ∷ rest) answer.derives.joined)
+      (ends_right lexicon.rules front next rest answer.derives.ends)) in
       elim (cases_lt 0 (length (supplied (entrance_after lexicon.rules Start front)))) [
         | inl some_lead ↦ inl some_lead
         | inr none ↦ inr (elim rule [

@@ -1,6 +1,6 @@
 -- Answers are paths: by induction on the steps that are left, each front of an answer goes on to the next; and by induction
 -- on a path, whose last key ends at an answer.
-use Rattle.std.proofs.Common.{◌≡◌, ◌≢◌, ℕ, List, [], ◌∷◌, ◌++◌, map, refl, sym, ap, subst, ◌∙◌, append_assoc}
+use Rattle.std.proofs.Common.{◌≡◌, ◌≢◌, List, [], ◌∷◌, ◌++◌, map, refl, sym, ap, subst, ◌∙◌, append_assoc}
 use Rattle.text_definitions.specs.Lines.{Line}
 use Rattle.lexicon_definitions.specs.Lexicons.{Lexicon, RuleSet, IsLexicon}
 use Rattle.segmentation_definitions.specs.Derivations.{Step, rule_after, Covers}
@@ -40,9 +40,11 @@ path_of_rest lexicon line choices is [] front next answer = (front ++ next ∷ [
 path_of_rest lexicon line choices is (second ∷ rest) front next answer =
     let longer = front ++ next ∷ [] in
     let answer' = subst (IsAnswer lexicon line choices) (sym (append_assoc front (next ∷ []) (second ∷ rest))) answer in
-    let later = path_of_rest lexicon line choices is rest longer second answer' in
-    (longer, (adds_step lexicon.rules front next, front_of_answer lexicon line choices longer second rest is answer'),
-    subst (IsPath (ways_of lexicon line choices) longer) (keys_after_more lexicon.rules front next (second ∷ rest)) later)
+    let later = path_of_rest lexicon line choices is rest longer second answer' in (
+      longer,
+      (adds_step lexicon.rules front next, front_of_answer lexicon line choices longer second rest is answer'),
+      subst (IsPath (ways_of lexicon line choices) longer) (keys_after_more lexicon.rules front next (second ∷ rest)) later,
+    )
 
 pub path_of_answer : (lexicon : Lexicon) (line : Line) (choices : List Choice) (steps : List Step) → IsLexicon lexicon
     → IsAnswer lexicon line choices steps → IsPath (ways_of lexicon line choices) [] (keys_of lexicon.rules steps)

@@ -1,10 +1,10 @@
 -- Lists of steps that are cut in two, or have one step more: what is covered, placed, entered and tested, by recursion on
 -- the first part.
-use Rattle.std.proofs.Common.{◌≡◌, ◌≢◌, ℕ, ◌+◌, ◌≤◌, Bool, true, false, List, [], ◌∷◌, ◌++◌, length, map, drop, All, inl, inr, refl, sym, ap, subst, ◌∙◌, append_assoc, length-append, arith}
+use Rattle.std.proofs.Common.{◌≡◌, ◌≢◌, ℕ, ◌+◌, ◌≤◌, Bool, true, false, List, [], ◌∷◌, ◌++◌, length, map, drop, All, inl, inr, refl, sym, ap, ◌∙◌, length-append, arith}
 use Rattle.std.specs.List.{AllByRecursion}
 use Rattle.std.proofs.lemmas.List.{map-append, drop_at}
 use Rattle.lexicon_definitions.specs.Lexicons.{RuleSet}
-use Rattle.segmentation_definitions.specs.Derivations.{Step, rule_after, AreJoined, EndsWell, Covers}
+use Rattle.segmentation_definitions.specs.Derivations.{Step, rule_after, AreJoined, Covers}
 use Rattle.segmentation_definitions.specs.Items.{Placed, Choice, placed, placed_from, covered_from, next_at}
 use Rattle.segmentation_definitions.specs.Listings.{key_of, keys_of}
 use Rattle.segmentation_definitions.specs.LocalTests.{HasNoBlankAfterLast, AllAllow}

@@ -1,8 +1,8 @@
 -- A path from a front is what completes it, and what completes one front completes another that ends at the same
 -- configuration.
-use Rattle.std.proofs.Common.{◌≡◌, ◌≢◌, ℕ, List, [], ◌∷◌, ◌++◌, refl, inl, inr, subst, sym}
+use Rattle.std.proofs.Common.{◌≢◌, List, [], ◌∷◌, ◌++◌, refl, inl, inr, subst}
 use Rattle.text_definitions.specs.Lines.{Line, IsLine}
-use Rattle.lexicon_definitions.specs.Lexicons.{Lexicon, RuleSet, IsLexicon}
+use Rattle.lexicon_definitions.specs.Lexicons.{Lexicon, IsLexicon}
 use Rattle.segmentation_definitions.specs.Derivations.{Step}
 use Rattle.segmentation_definitions.specs.Items.{Choice}
 use Rattle.segmentation_definitions.specs.Answers.{IsAnswer}
@@ -11,7 +11,7 @@ use Rattle.segmentation_definitions.proofs.SameRests.{same_rests}
 use Rattle.listing_laws.specs.Ways.{HasPath}
 use Rattle.listing_laws.specs.Stacks.{Frame, LeadTo}
 use Rattle.segmentation_definitions.specs.Listings.{Key}
-use Rattle.answer_paths.specs.Fronts.{MayGoOn, IsLedTo, ways_of}
+use Rattle.answer_paths.specs.Fronts.{IsLedTo, ways_of}
 use Rattle.answer_paths.proofs.AnswerFronts.{front_of_answer, led_lawful}
 use Rattle.answer_paths.proofs.AnswerPaths.{keys_after, path_of_rest, answer_after}
 
@@ -52,7 +52,7 @@ pub path_if_stands : (lexicon : Lexicon) (line : Line) (choices : List Choice) (
     → StandsInAnswer lexicon line choices configuration → HasPath (ways_of lexicon line choices) front
 path_if_stands lexicon line choices front configuration is line_is led ends stands =
     let other = led_lawful lexicon line choices stands.front
-        (completed_is_led lexicon line choices stands.front stands.rest is stands.proper stands.answer) in
+    (completed_is_led lexicon line choices stands.front stands.rest is stands.proper stands.answer) in
     let here = led_lawful lexicon line choices front led in
     path_if_completed lexicon line choices front stands.rest is stands.proper
     (same_rests lexicon line choices configuration stands.front front stands.rest is line_is other.0 stands.ends other.1

@@ -1,5 +1,5 @@
 -- Where a step leads to: the letters covered, the entrance, the phases and the keys of the longer front, and its rank.
-use Rattle.std.proofs.Common.{◌≡◌, ℕ, ◌+◌, List, [], ◌∷◌, ◌++◌, length, refl, sym, ap, subst, ◌∙◌, arith}
+use Rattle.std.proofs.Common.{◌≡◌, ℕ, ◌+◌, List, [], ◌∷◌, ◌++◌, length, sym, ap, ◌∙◌, arith}
 use Rattle.std.proofs.lemmas.List.{map-append}
 use Rattle.text_definitions.specs.Lines.{Line}
 use Rattle.lexicon_definitions.specs.Lexicons.{Lexicon, RuleSet, rule_of}
@@ -7,8 +7,6 @@ use Rattle.segmentation_definitions.specs.Derivations.{Step, phases_of}
 use Rattle.segmentation_definitions.specs.Items.{Choice, covered_from}
 use Rattle.segmentation_definitions.specs.Listings.{Key, keys_of}
 use Rattle.segmentation_definitions.specs.Configurations.{Entrance, Start, entrance_after, entrance_after_step}
-use Rattle.segmentation_definitions.proofs.Fronts.{lead_after}
-use Rattle.segmentation_definitions.proofs.KeyLists.{key_at}
 use Rattle.answer_paths.specs.Fronts.{ways_of}
 use Rattle.answer_paths.specs.Following.{step_at}
 use Rattle.answer_paths.proofs.FrontParts.{covered-append, entrance-append}

@@ -7,3 +7,4 @@ pub mod LocalKeys
 pub mod GuidedFronts
 pub mod LeadingOn
 pub mod LiveStates
+pub mod NextPages

@@ -1,6 +1,6 @@
 -- A list of phases goes on to a word of the grammar exactly where the state after it is live: what is read at a position is
 -- a front of a word, and a front of a word is read at some position.
-use Rattle.std.proofs.Common.{◌≡◌, ◌≢◌, ℕ, ◌↔◌, List, [], ◌∷◌, ◌++◌, refl, sym, ap, subst, ◌∙◌, append_assoc}
+use Rattle.std.proofs.Common.{◌≡◌, ◌≢◌, ℕ, List, [], ◌∷◌, ◌++◌, refl, sym, ap, subst, ◌∙◌, append_assoc}
 use Rattle.std.proofs.lemmas.List.{map-append}
 use Rattle.std.specs.List.{Contains}
 use Rattle.lexicon_definitions.specs.Grammars.{Grammar, Accepts, Mark, State, Opening, After, IsStateAfter, IsLiveState, IsPositionAfter, phases_of}

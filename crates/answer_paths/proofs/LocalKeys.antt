@@ -1,28 +1,28 @@
 -- Which step a key adds is told by the letters that stand where the front ends; each law and each test of the longer front
 -- is that of the front and one of the last step; so what leads on or ends is told by where the front ends.
-use Rattle.std.proofs.Common.{◌≡◌, ◌≢◌, ℕ, zero, suc, ◌+◌, ◌-◌, ◌<◌, ◌≤◌, ◌⊎◌, ◌↔◌, inl, inr, true, Bool, List, [], ◌∷◌, ◌++◌, length, map, take, drop, get_or, All, slice_index, refl, sym, ap, subst, ◌∙◌, append_assoc, length-drop, arith}
+use Rattle.std.proofs.Common.{◌≡◌, ℕ, ◌+◌, ◌<◌, ◌⊎◌, ◌↔◌, inl, inr, true, List, [], ◌∷◌, ◌++◌, length, take, drop, slice_index, refl, sym, ap, subst, ◌∙◌, append_assoc, length-drop, arith}
 use Rattle.std.specs.List.{AllByRecursion}
 use Rattle.std.proofs.lemmas.Bool.{cases_lt}
 use Rattle.std.proofs.lemmas.List.{map-append, take-append-drop, drop-drop, length-take-le}
 use Rattle.std.proofs.Math.Seq.{take-append_seam, drop-append_seam}
 use Rattle.text_definitions.specs.Lines.{Line, IsLine}
-use Rattle.lexicon_definitions.specs.Rules.{HasPhase, IsInner, IsFinal}
+use Rattle.lexicon_definitions.specs.Rules.{HasPhase, IsInner}
 use Rattle.lexicon_definitions.specs.Lexicons.{Lexicon, RuleSet, rule_of, IsLexicon, IsForm, IsPlain, IsPhaseWord}
 use Rattle.lexicon_definitions.proofs.GrammarLists.{all_right, all_append}
-use Rattle.segmentation_definitions.specs.Derivations.{Step, rule_after, phases_of, IsRuleNumber, HasInnerRule, HasFinalRule, AreForms, AreJoined, EndsWell, Covers, Derives}
-use Rattle.segmentation_definitions.specs.Items.{Placed, Choice, placed, placed_from, covered_from, taken_by}
+use Rattle.segmentation_definitions.specs.Derivations.{Step, rule_after, phases_of, IsRuleNumber, AreForms, AreJoined, EndsWell, Covers, Derives}
+use Rattle.segmentation_definitions.specs.Items.{Choice, placed, covered_from, taken_by}
 use Rattle.segmentation_definitions.specs.Answers.{IsAnswer}
-use Rattle.segmentation_definitions.specs.Listings.{Key, key_of, keys_of}
+use Rattle.segmentation_definitions.specs.Listings.{Key, keys_of}
 use Rattle.segmentation_definitions.specs.LocalTests.{HasNoBlankInside, HasNoBlankAfterLast, Allows, AllAllow}
-use Rattle.segmentation_definitions.specs.Configurations.{Entrance, Start, Plain, Lead, entrance_after, GoesOn, IsFront, PassesTests}
-use Rattle.segmentation_definitions.proofs.Coverings.{form_not_empty, taken_length, covered_length, some_letters, IsUnchanged, unchanged_at_zero}
-use Rattle.segmentation_definitions.proofs.Fronts.{lead_after, covers_split, covers_join, placed-append, Enters, JoinedBoth, joined_split, joined_join, ends_right, ends_join}
+use Rattle.segmentation_definitions.specs.Configurations.{Entrance, Start, Plain, Lead, entrance_after, GoesOn, PassesTests}
+use Rattle.segmentation_definitions.proofs.Coverings.{form_not_empty, taken_length, covered_length, some_letters, unchanged_at_zero}
+use Rattle.segmentation_definitions.proofs.Fronts.{lead_after, covers_split, covers_join, placed-append, Enters, joined_split, joined_join, ends_right, ends_join}
 use Rattle.segmentation_definitions.proofs.LocalBlanks.{locally_from_seams, seams_from_locally}
 use Rattle.segmentation_definitions.proofs.LocalChoices.{allowed_if_kept, kept_if_allowed}
 use Rattle.segmentation_definitions.proofs.KeyLists.{key_at}
 use Rattle.answer_paths.specs.Fronts.{supplied, HasRoom, MayGoOn, AddsStep, IsLedTo, ways_of}
 use Rattle.answer_paths.specs.Following.{step_at, placed_at, is_start, MayEnter, MayStand, MayFollow, MayEnd}
-use Rattle.answer_paths.proofs.FrontParts.{all_left, same_last, covered-append, supplied_after, keys-append, left_after, goes_on_last, goes_on_join, first_after, allow_split, allow_join, first_by_entrance, blanks_before_last, no_blank_after_last}
+use Rattle.answer_paths.proofs.FrontParts.{same_last, covered-append, supplied_after, keys-append, left_after, goes_on_last, goes_on_join, allow_split, allow_join, first_by_entrance, blanks_before_last, no_blank_after_last}
 use Rattle.answer_paths.proofs.AnswerFronts.{led_lawful}
 use Rattle.answer_paths.proofs.OrderlyWays.{lead_of_last}
 
@@ -56,19 +56,6 @@ cut_parts letters at count taken w rest c e =
       w_is = ap (take (length w)) following ∙ take-append_seam w rest;
       rest_is = sym (drop-drop (length w) (at + count) letters) ∙ ap (drop (length w)) following ∙ drop-append_seam w rest;
     }
-
--- what is written where, where a w stands there, is no further than the end
-w_within : (letters w : List ℕ) (at : ℕ) → at ≤ length letters → take (length w) (drop at letters) ≡ w → at + length w ≤ length letters
-w_within letters w at within here =
-    let all = ap length (take-append-drop (length w) (drop at letters)) in
-    let count = ap length here in
-    let most = length-drop at letters in
-    omega (arith, count, most, length-take_most (length w) (drop at letters))
-  where
-    length-take_most : (n : ℕ) (xs : List ℕ) → length (take n xs) ≤ length xs
-    length-take_most zero xs = omega arith
-    length-take_most (suc n) [] = omega arith
-    length-take_most (suc n) (x ∷ xs) = omega (arith, length-take_most n xs)
 
 -- ---- entrances
 
@@ -115,7 +102,7 @@ module _ (rules : RuleSet) (line : Line) (front : List Step) (step : Step) where
       let count = taken_length rules lead step taken form in
       let cut = cut_parts line.letters at (taken_by rules lead step) taken w following count (sym left.is ∙ word) in
       let form_is = form ∙ ap (λ l. l ++ taken ++ u) (supplied_after rules front)
-          ∙ ap (λ t. supplied (entrance_after rules Start front) ++ t ++ u) (sym cut.taken_is) in
+      ∙ ap (λ t. supplied (entrance_after rules Start front) ++ t ++ u) (sym cut.taken_is) in
       let whole = covered_length rules 0 [] (front ++ step ∷ []) line.letters rest covers in
       let more = covered-append rules 0 [] front (step ∷ []) in
       record {
@@ -123,10 +110,6 @@ module _ (rules : RuleSet) (line : Line) (front : List Step) (step : Step) where
         within = omega (arith, whole, more);
         written = cut.w_is;
       }
-
-  pub covers_more : (key : Key) (rest : List ℕ) → key_at rules (lead_after rules [] front) step ≡ key
-      → Covers rules [] (front ++ step ∷ []) line.letters rest → CoversMore rules line front key step rest
-  covers_more key rest e covers = subst (λ key. CoversMore rules line front key step rest) e (covers_more_at rest covers)
 
   -- the front with the step, in its places
   placed_more : (key : Key) → IsNextStep rules line front key step
@@ -150,9 +133,9 @@ module _ (rules : RuleSet) (line : Line) (choices : List Choice) (front : List S
       let p = placed_at rules line (covered_from rules 0 [] front) (entrance_after rules Start front) key in
       let cut = placed_more rules line front step key next in
       let inside = all_right (HasNoBlankInside line.blanks) (placed rules front) (p ∷ [])
-          (subst (AllByRecursion (HasNoBlankInside line.blanks)) cut tests.no_blank_inside) in
+      (subst (AllByRecursion (HasNoBlankInside line.blanks)) cut tests.no_blank_inside) in
       let allowed = allow_split rules (length line.letters) choices true (placed rules front) (p ∷ [])
-          (subst (AllAllow rules (length line.letters) choices true) cut tests.choices_allowed) in
+      (subst (AllAllow rules (length line.letters) choices true) cut tests.choices_allowed) in
       (inside.0, subst (λ first. Allows rules (length line.letters) choices first p) (first_by_entrance rules front) allowed.1.0)
 
   tests_with_last : PassesTests rules line choices front
@@ -368,13 +351,15 @@ module _ (lexicon : Lexicon) (line : Line) (choices : List Choice) (front : List
       let rule : GoesOn rules (step ∷ []) = elim long.rule [
         | inl none ↦ inl none
         | inr some ↦ inr (some.0, follows.inner some.0.0, some.1)
-      ] in
-      (added step long, record {
-        lawful = record { forms = long.forms; joined = long.joined; goes_on = goes_on_join rules front step rule; rest = long.rest; covers = long.covers };
-        tests = long.tests;
-        room = room_of_step step long follows.inner (λ none. omega (arith, taken, follows.left none));
-        accepted = (follows.accepted.0, subst (IsPhaseWord rules) (sym (phases_more rules front step follows.accepted.0)) follows.accepted.1);
-      })
+      ] in (
+        added step long,
+        record {
+          lawful = record { forms = long.forms; joined = long.joined; goes_on = goes_on_join rules front step rule; rest = long.rest; covers = long.covers };
+          tests = long.tests;
+          room = room_of_step step long follows.inner (λ none. omega (arith, taken, follows.left none));
+          accepted = (follows.accepted.0, subst (IsPhaseWord rules) (sym (phases_more rules front step follows.accepted.0)) follows.accepted.1);
+        },
+      )
 
   -- a step that may end the line where the front ends makes an answer
   pub ends_if_may_end : IsLine line
@@ -400,14 +385,17 @@ module _ (lexicon : Lexicon) (line : Line) (choices : List Choice) (front : List
       } in
       let p = placed_at rules line (covered_from rules 0 [] front) (entrance_after rules Start front) key in
       let following = subst (HasNoBlankAfterLast line.blanks) (sym (placed_more rules line front step key long.next))
-          (no_blank_after_last line.blanks (placed rules front) p ends.blanks_before) in
-      (front ++ step ∷ [], added step long, record {
-        derives = derives;
-        accepted = subst (IsPhaseWord rules) (sym (map-append (λ (step : Step). step.phase) front (step ∷ []))) ends.accepted;
-        blanks_kept = seams_from_locally lexicon line (front ++ step ∷ []) is line_is derives
-            (record { inside = long.tests.no_blank_inside; following = following });
-        choices_kept = kept_if_allowed lexicon line.letters choices (front ++ step ∷ []) is derives long.tests.choices_allowed;
-      })
+      (no_blank_after_last line.blanks (placed rules front) p ends.blanks_before) in (
+        front ++ step ∷ [],
+        added step long,
+        record {
+          derives = derives;
+          accepted = subst (IsPhaseWord rules) (sym (map-append (λ (step : Step). step.phase) front (step ∷ []))) ends.accepted;
+          blanks_kept = seams_from_locally lexicon line (front ++ step ∷ []) is line_is derives
+              (record { inside = long.tests.no_blank_inside; following = following });
+          choices_kept = kept_if_allowed lexicon line.letters choices (front ++ step ∷ []) is derives long.tests.choices_allowed;
+        },
+      )
 
 -- ---- both ways, where the front ends is named
 
@@ -422,9 +410,10 @@ leads_locally lexicon line choices front next key at entrance is led at_is entra
     (sym at_is)
     (subst (λ entrance. Leads next ↔ ((next ≡ front ++ step_at lexicon.rules line (covered_from lexicon.rules 0 [] front) entrance key ∷ [])
     × MayFollow lexicon line choices (covered_from lexicon.rules 0 [] front) entrance (phases_of front) key))
-    (sym entrance_is)
-    (follows_if_leads lexicon line choices front key next,
-    λ follows. subst Leads (sym follows.0) (leads_if_follows lexicon line choices front key is led follows.1)))
+    (sym entrance_is) (
+      follows_if_leads lexicon line choices front key next,
+      λ follows. subst Leads (sym follows.0) (leads_if_follows lexicon line choices front key is led follows.1),
+    ))
 
 pub ends_locally : (lexicon : Lexicon) (line : Line) (choices : List Choice) (front : List Step) (key : Key) (at : ℕ) (entrance : Entrance)
     → IsLexicon lexicon → IsLine line → IsLedTo lexicon line choices front

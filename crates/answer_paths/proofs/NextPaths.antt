@@ -1,5 +1,5 @@
 -- Positions, the next answer and the listing agree, since answers are paths by their keys, and are compared by them.
-use Rattle.std.proofs.Common.{◌≡◌, ◌≢◌, ◌↔◌, ℕ, zero, suc, ◌<◌, List, [], ◌∷◌, ◌++◌, length, map, Contains, inl, inr, refl, sym, ap, subst, ◌∙◌, arith}
+use Rattle.std.proofs.Common.{◌≡◌, ◌≢◌, List, [], ◌∷◌, map, Contains, inl, inr, refl, sym, subst}
 use Rattle.std.specs.Cmp.Lexicographic.{slice_cmp}
 use Rattle.std.specs.List.{AllByRecursion}
 use Rattle.std.specs.List.Sorted.{IsStrictlySortedBy}
@@ -11,7 +11,7 @@ use Rattle.lexicon_definitions.specs.Lexicons.{Lexicon, RuleSet, IsLexicon}
 use Rattle.segmentation_definitions.specs.Derivations.{Step}
 use Rattle.segmentation_definitions.specs.Items.{Choice}
 use Rattle.segmentation_definitions.specs.Answers.{IsAnswer}
-use Rattle.segmentation_definitions.specs.Listings.{Key, keys_of, compare_keys, compare_answers, Position, BeforeFirst, AtAnswer, PastLast, IsAbove, IsNext, IsListingAbove}
+use Rattle.segmentation_definitions.specs.Listings.{Key, keys_of, compare_keys, Position, BeforeFirst, AtAnswer, PastLast, IsAbove, IsNext, IsListingAbove}
 use Rattle.segmentation_definitions.proofs.KeyLists.{same_steps}
 use Rattle.listing_laws.specs.Ways.{IsPath}
 use Rattle.listing_laws.specs.Positions.{IsAbove as IsPathAbove, IsFirst, IsListingAbove as IsPathListingAbove}
@@ -146,7 +146,7 @@ path_listing lexicon line choices position answers is listing = record {
       let found = answer_after lexicon line choices path [] wanted.0 in
       let keys : keys_of lexicon.rules found.rest ≡ path = found.keys in
       let above = answer_above lexicon.rules position found.rest
-          (subst (IsPathAbove compare_keys (path_position lexicon.rules position)) (sym keys) wanted.1) in
+      (subst (IsPathAbove compare_keys (path_position lexicon.rules position)) (sym keys) wanted.1) in
       subst (Contains (map (keys_of lexicon.rules) answers)) keys
       (in_map (keys_of lexicon.rules) answers found.rest (listing.complete found.rest found.answer above));
 }
@@ -197,10 +197,10 @@ listing_of_paths lexicon line choices position paths is all =
             (all.only (key_lists steps) (subst (λ paths. Contains paths (key_lists steps)) keys (in_map key_lists found.answers steps of))).1;
         complete = λ steps answer above.
             let there = all.complete (key_lists steps)
-                (path_of_answer lexicon line choices steps is answer, path_above lexicon.rules position steps above) in
+            (path_of_answer lexicon line choices steps is answer, path_above lexicon.rules position steps above) in
             let other = from_map key_lists found.answers (key_lists steps) (subst (λ paths. Contains paths (key_lists steps)) (sym keys) there) in
             let same : other.0 ≡ steps = same_steps lexicon.rules other.0 steps 0 0 [] [] line.letters line.letters [] [] refl refl
-                (found.are other.0 other.1).derives.covers answer.derives.covers other.2 in
+            (found.are other.0 other.1).derives.covers answer.derives.covers other.2 in
             subst (Contains found.answers) same other.1;
       };
       keys = keys;

@@ -1,21 +1,21 @@
 -- The ways are orderly: keys that compare as equal are the same; steps over one word with the same keys are the same; and
 -- steps after which a form has room do not cover the whole word where the last of them ends well. Ranks rise, since a form
 -- is not empty and neither is a rule's w.
-use Rattle.std.proofs.Common.{◌≡◌, ℕ, ◌+◌, ◌*◌, ◌<◌, ◌≤◌, ◌⊎◌, inl, inr, List, [], ◌∷◌, ◌++◌, length, refl, sym, ap, subst, ◌∙◌, arith}
+use Rattle.std.proofs.Common.{◌≡◌, ℕ, ◌*◌, ◌<◌, ◌≤◌, ◌⊎◌, inl, inr, List, [], ◌∷◌, ◌++◌, length, refl, sym, ap, subst, ◌∙◌, arith}
 use Rattle.text_definitions.specs.Lines.{Line}
 use Rattle.lexicon_definitions.specs.Lexicons.{Lexicon, RuleSet, IsLexicon, IsForm}
 use Rattle.lexicon_definitions.proofs.GrammarLists.{all_right}
 use Rattle.segmentation_definitions.specs.Derivations.{Step, rule_after, IsRuleNumber, EndsWell, Covers}
-use Rattle.segmentation_definitions.specs.Items.{Choice, covered_from, after_lead, taken_by}
+use Rattle.segmentation_definitions.specs.Items.{Choice}
 use Rattle.segmentation_definitions.specs.Answers.{IsAnswer}
 use Rattle.segmentation_definitions.specs.Listings.{Key}
 use Rattle.segmentation_definitions.specs.Configurations.{Start, entrance_after, GoesOn, IsFront}
-use Rattle.segmentation_definitions.proofs.Coverings.{form_not_empty, covered_length, takes_first, unchanged_at_zero, RuleAfter, Unchanged, Changed, rule_after_of_number}
+use Rattle.segmentation_definitions.proofs.Coverings.{form_not_empty, covered_length, takes_first, unchanged_at_zero, Unchanged, Changed, rule_after_of_number}
 use Rattle.segmentation_definitions.proofs.Fronts.{lead_after, covers_split, ends_right}
 use Rattle.segmentation_definitions.proofs.KeyLists.{compare_keys_total, compare_keys_exact, same_steps}
 use Rattle.segmentation_definitions.proofs.RisingPlaces.{after_lead_cases}
 use Rattle.listing_laws.specs.Ways.{AreOrderly, AreRanked}
-use Rattle.answer_paths.specs.Fronts.{supplied, HasRoom, MayGoOn, AddsStep, ways_of, rank}
+use Rattle.answer_paths.specs.Fronts.{supplied, HasRoom, AddsStep, ways_of, rank}
 use Rattle.answer_paths.proofs.FrontParts.{covered-append, lead-append, supplied_after, left_after, goes_on_last}
 
 -- where one key was added to the same front, the same steps are made

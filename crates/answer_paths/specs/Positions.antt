@@ -1,5 +1,4 @@
 -- Positions among the answers, as positions among the paths (own).
-use Rattle.std.specs.Prelude.{List, map}
 use Rattle.lexicon_definitions.specs.Lexicons.{RuleSet}
 use Rattle.segmentation_definitions.specs.Listings.{Key, keys_of, Position, BeforeFirst, AtAnswer, PastLast}
 use Rattle.listing_laws.specs.Positions.{Position as PathPosition, BeforeFirst as BeforeFirstPath, AtPath, PastLast as PastLastPath}

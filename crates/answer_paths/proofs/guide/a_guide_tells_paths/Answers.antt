@@ -1,5 +1,4 @@
 -- By what completes a front.
-use Rattle.std.proofs.Common.{refl}
 use Rattle.answer_paths.proofs.GuidedFronts.{stands_if_path, path_if_stands}
 use Rattle.answer_paths.proofs.guide.a_guide_tells_paths.Goals as goal
 
