@@ -1,18 +1,20 @@
 -- A path from a front is what completes it, and what completes one front completes another that ends at the same
 -- configuration.
-use Rattle.std.proofs.Common.{◌≢◌, List, [], ◌∷◌, ◌++◌, refl, inl, inr, subst}
+use Rattle.std.proofs.Common.{◌≡◌, ◌≢◌, List, [], ◌∷◌, ◌++◌, refl, inl, inr, subst, sym, ap, ◌∙◌}
 use Rattle.text_definitions.specs.Lines.{Line, IsLine}
-use Rattle.lexicon_definitions.specs.Lexicons.{Lexicon, IsLexicon}
-use Rattle.segmentation_definitions.specs.Derivations.{Step}
+use Rattle.lexicon_definitions.specs.Grammars.{State, Opening, After, IsStateAfter, IsLiveState}
+use Rattle.lexicon_definitions.specs.Lexicons.{Lexicon, tree_of, IsLexicon}
+use Rattle.segmentation_definitions.specs.Derivations.{Step, phases_of}
 use Rattle.segmentation_definitions.specs.Items.{Choice}
 use Rattle.segmentation_definitions.specs.Answers.{IsAnswer}
-use Rattle.segmentation_definitions.specs.Configurations.{Configuration, EndsAt, StandsInAnswer}
+use Rattle.segmentation_definitions.specs.Configurations.{Configuration, EndsAt, IsReached, StandsInAnswer}
 use Rattle.segmentation_definitions.proofs.SameRests.{same_rests}
 use Rattle.listing_laws.specs.Ways.{HasPath}
 use Rattle.listing_laws.specs.Stacks.{Frame, LeadTo}
 use Rattle.segmentation_definitions.specs.Listings.{Key}
 use Rattle.answer_paths.specs.Fronts.{IsLedTo, ways_of}
 use Rattle.answer_paths.proofs.AnswerFronts.{front_of_answer, led_lawful}
+use Rattle.answer_paths.proofs.LiveStates.{live_if_front}
 use Rattle.answer_paths.proofs.AnswerPaths.{keys_after, path_of_rest, answer_after}
 
 -- where keys lead from a front that a search comes to, it comes to the one that they lead to
@@ -57,3 +59,21 @@ path_if_stands lexicon line choices front configuration is line_is led ends stan
     path_if_completed lexicon line choices front stands.rest is stands.proper
     (same_rests lexicon line choices configuration stands.front front stands.rest is line_is other.0 stands.ends other.1
     here.0 ends here.1 stands.proper stands.answer)
+
+-- the configuration of a front that a search comes to is reached
+pub reached_if_led : (lexicon : Lexicon) (line : Line) (choices : List Choice) (front : List Step) (configuration : Configuration)
+    → IsLedTo lexicon line choices front → EndsAt lexicon.rules front configuration → IsReached lexicon line.letters configuration
+reached_if_led lexicon line choices front configuration led ends = record {
+  steps = front;
+  front = (led_lawful lexicon line choices front led).0;
+  ends = ends;
+  live = elim led [
+    | inl none ↦
+        let empty : phases_of front ≡ [] = ap phases_of none in
+        live_at_start configuration.state (subst (λ phases. IsStateAfter (tree_of lexicon.rules) phases configuration.state) empty ends.state)
+    | inr goes ↦ live_if_front (tree_of lexicon.rules) (phases_of front) goes.accepted.0 configuration.state ends.state goes.accepted.1
+  ];
+}
+  where
+    live_at_start : (state : State) → state ≡ Opening → IsLiveState state
+    live_at_start state opening e = let same : Opening ≡ After [] = sym opening ∙ e in cc

@@ -36,17 +36,22 @@ goes_on_if_live grammar phases phase state is live =
     from (first ∷ read) (After (position ∷ positions)) some is live =
         goes_on_at grammar (first ∷ read) position ((is.1 position).0 (in_head position positions))
 
+-- after a front of a word the state is live
+pub live_if_front : (grammar : Grammar) (read rest : List ℕ) (state : State) → IsStateAfter grammar read state → Accepts grammar (read ++ rest)
+    → IsLiveState state
+live_if_front grammar [] rest state is word e =
+    let opening : Opening ≡ After [] = sym is ∙ e in
+    cc
+live_if_front grammar (first ∷ read) rest Opening is word e = absurd is
+live_if_front grammar (first ∷ read) rest (After positions) is word e =
+    let some : first ∷ read ≢ [] = λ e. cc in
+    let nothing : positions ≡ [] = cc in
+    let front = front_of grammar (first ∷ read) rest some word in
+    let position = position_of grammar (first ∷ read) rest front in
+    in_nil _ (subst (λ positions. Contains positions front.last.position) nothing ((is.1 front.last.position).1 position))
+
 pub live_if_goes_on : (grammar : Grammar) (phases : List ℕ) (phase : ℕ) (state : State) → IsStateAfter grammar (phases ++ phase ∷ []) state
     → (rest : List ℕ) → Accepts grammar (phases ++ phase ∷ rest) → IsLiveState state
 live_if_goes_on grammar phases phase state is rest word =
-    from (phases ++ phase ∷ []) state (nil_not phases phase) is
+    live_if_front grammar (phases ++ phase ∷ []) rest state is
     (subst (Accepts grammar) (sym (append_assoc phases (phase ∷ []) rest)) word)
-  where
-    from : (read : List ℕ) (state : State) → read ≢ [] → IsStateAfter grammar read state → Accepts grammar (read ++ rest) → IsLiveState state
-    from [] state some is word e = absurd (some refl)
-    from (first ∷ read) Opening some is word e = absurd is
-    from (first ∷ read) (After positions) some is word e =
-        let nothing : positions ≡ [] = cc in
-        let front = front_of grammar (first ∷ read) rest some word in
-        let position = position_of grammar (first ∷ read) rest front in
-        in_nil _ (subst (λ positions. Contains positions front.last.position) nothing ((is.1 front.last.position).1 position))

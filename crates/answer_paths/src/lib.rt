@@ -4,7 +4,8 @@
 //! Proved here: `ways_are_orderly`, by which the laws of `listing_laws` hold of these ways; `answers_are_paths`;
 //! `positions_agree`, so that the next answer after a position is the first path above it; `keys_are_local`, by which a key
 //! leads on or ends after a front as tests say that look at where the front ends and no further back;
-//! `pages_are_made_of_next_answers`; and `a_guide_tells_paths`, by which a front has a path exactly where an answer stands at the configuration that it ends at.
+//! `pages_are_made_of_next_answers`; and `a_guide_tells_paths`, by which a front has a path exactly where an answer stands at
+//! the configuration that it ends at.
 #![tactic(auto)]
 
 mod following;
