@@ -1,0 +1,10 @@
+pub mod FrontParts
+pub mod AnswerFronts
+pub mod OrderlyWays
+pub mod AnswerPaths
+pub mod NextPaths
+pub mod LocalKeys
+pub mod GuidedFronts
+pub mod LeadingOn
+pub mod LiveStates
+pub mod NextPages
