@@ -13,7 +13,7 @@ use Rattle.segmentation_definitions.specs.Configurations.{Start, entrance_after,
 use Rattle.segmentation_definitions.proofs.Coverings.{form_not_empty, covered_length, takes_first, unchanged_at_zero, Unchanged, Changed, rule_after_of_number}
 use Rattle.segmentation_definitions.proofs.Fronts.{lead_after, covers_split, ends_right}
 use Rattle.segmentation_definitions.proofs.KeyLists.{compare_keys_total, compare_keys_exact, same_steps}
-use Rattle.segmentation_definitions.proofs.RisingPlaces.{after_lead_cases}
+use Rattle.segmentation_definitions.proofs.RisingRanks.{after_lead_cases}
 use Rattle.listing_laws.specs.Ways.{AreOrderly, AreRanked}
 use Rattle.answer_paths.specs.Fronts.{supplied, HasRoom, AddsStep, ways_of, rank}
 use Rattle.answer_paths.proofs.FrontParts.{covered-append, lead-append, supplied_after, left_after, goes_on_last}
