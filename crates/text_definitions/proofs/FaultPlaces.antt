@@ -1,10 +1,9 @@
 -- The place of a fault lies in the text or at its end: by induction on the text, with a bound that the whole text keeps to.
-use Rattle.std.proofs.Common.{◌≡◌, ℕ, zero, suc, ◌+◌, ◌-◌, ◌<◌, ◌≤◌, Bool, true, false, cond, ◌&&◌, List, [], ◌∷◌, length, Option, Some, None, Ok, Err, is_some, eqb, encode_utf8, encode_utf8_all, inl, inr, arith, ap, ◌∙◌, sym, subst, length-append, refl}
+use Rattle.std.proofs.Common.{◌≡◌, ℕ, zero, suc, ◌+◌, ◌-◌, ◌≤◌, Bool, true, false, cond, ◌&&◌, List, [], ◌∷◌, length, Option, Some, None, Ok, Err, is_some, eqb, encode_utf8, encode_utf8_all, arith, ap, length-append, refl}
 use Rattle.std.specs.Str.{is_utf8, chars}
 use Rattle.std.specs.Str.Lossy.{utf8_valid_len}
-use Rattle.std.proofs.lemmas.Bool.{cases_Bool}
 use Rattle.std.proofs.lemmas.Str.{encodes-chars, IsUtf8-from_is_utf8, utf8_valid_len_le}
-use Rattle.text_definitions.specs.Spellings.{SpellingFault, NotLetter, LoneSign, NotUtf8, Reading, with_letter, letter_at, letter_of_byte, word_of_bytes}
+use Rattle.text_definitions.specs.Spellings.{NotUtf8, Reading, with_letter, letter_at, letter_of_byte, word_of_bytes}
 use Rattle.text_definitions.specs.Slp1.{slp1_table, word_of_slp1}
 use Rattle.text_definitions.specs.Wx.{wx_table, word_of_wx}
 use Rattle.text_definitions.specs.Longest.{word_at, word_of_spellings}

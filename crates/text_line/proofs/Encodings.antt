@@ -1,5 +1,5 @@
 -- What is not UTF-8 is at fault in Devanagari before all else; any other text gives what its parts give.
-use Rattle.std.proofs.Common.{◌≡◌, ℕ, Bool, true, cond, List, Err, inl, inr, ap, ◌∙◌, sym, subst, ◌⊎◌, refl}
+use Rattle.std.proofs.Common.{◌≡◌, ℕ, true, cond, List, Err, inl, inr, ap, ◌∙◌, sym, subst, ◌⊎◌, refl}
 use Rattle.std.specs.Str.{IsUtf8, is_utf8}
 use Rattle.std.specs.Str.Lossy.{utf8_valid_len}
 use Rattle.std.proofs.lemmas.Str.{is_utf8-from_IsUtf8, IsUtf8-from_is_utf8}

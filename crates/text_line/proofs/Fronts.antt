@@ -1,5 +1,5 @@
 -- What a text begins with: by a test of each third byte that the prover computes, and by the first byte elsewhere.
-use Rattle.std.proofs.Common.{◌≡◌, ℕ, ◌+◌, ◌<◌, ◌≤◌, Bool, true, false, cond, ◌&&◌, List, [], ◌∷◌, ◌++◌, length, get_or, encode_utf8, eqb, ltb, arith, ap, ◌∙◌, sym, subst, ◌⊎◌, inl, inr, refl}
+use Rattle.std.proofs.Common.{◌≡◌, ℕ, ◌<◌, ◌≤◌, Bool, true, false, cond, ◌&&◌, List, [], ◌∷◌, ◌++◌, length, get_or, encode_utf8, eqb, ltb, arith, ap, ◌∙◌, sym, subst, ◌⊎◌, inl, inr, refl}
 use Rattle.std.proofs.lemmas.Bool.{eqb-true}
 use Rattle.std.proofs.lemmas.Bool.Decides.{nat_tests}
 use Rattle.text_definitions.specs.Schemes.{Scheme, Slp1, Wx, Velthuis, Devanagari}
@@ -7,7 +7,7 @@ use Rattle.text_line.specs.declared.scheme.Scheme as names
 use Rattle.text_line.specs.declared.scheme.Scheme.TheVariants as variants
 use Rattle.text_line.specs.Values.{scheme_of}
 use Rattle.text_definitions.specs.LineTexts.{Front, GapMark, DigitMark, Other, front_by, begins_with, front_length, gap_marks, digits, front_of}
-use Rattle.text_definitions.proofs.Tables.{passes_below, passes_at}
+use Rattle.text_definitions.proofs.Tables.{passes_at}
 
 -- the lengths of the gap mark and of the digit that the bytes E0 A5 begin, by ranges of the third byte
 abbrev gap_by_range : ℕ → ℕ

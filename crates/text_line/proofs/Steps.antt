@@ -1,12 +1,12 @@
 -- One step of reading a line: by what the rest of the text begins with, and for a piece by induction over its bytes.
-use Rattle.std.proofs.Common.{◌≡◌, ℕ, zero, suc, ◌+◌, ◌-◌, ◌<◌, ◌≤◌, Bool, true, false, cond, ◌||◌, List, [], ◌∷◌, ◌++◌, length, get_or, take, drop, Ok, Err, eqb, ltb, arith, ap, ◌∙◌, sym, subst, add-zero, length-append, length-take, length-drop, refl}
+use Rattle.std.proofs.Common.{◌≡◌, ℕ, zero, suc, ◌+◌, ◌-◌, ◌<◌, ◌≤◌, Bool, true, false, cond, ◌||◌, List, [], ◌∷◌, length, get_or, take, drop, Ok, Err, eqb, ltb, arith, ap, ◌∙◌, sym, subst, add-zero, length-append, length-take, length-drop, refl}
 use Rattle.std.proofs.lemmas.List.{take_rest, at_drop_more, drop-drop}
 use Rattle.std.proofs.lemmas.Bool.Decides.{nat_tests}
 use Rattle.text_definitions.specs.declared.limits.TheConstants.{MOST_LINE_LETTERS}
 use Rattle.text_definitions.specs.Lines.{Line}
 use Rattle.text_definitions.specs.Spellings.{Reading, NotLetter}
 use Rattle.text_definitions.specs.Schemes.{Scheme, word_of_text}
-use Rattle.text_definitions.specs.LineTexts.{LineFault, Misspelled, NoLetters, TooLong, Front, GapMark, DigitMark, Other, front_of, letter_begins, has_letter, Part, Gap, Digit, Piece, digit_at, with_byte, parts_by, parts_from, with_word, piece_by, Spelled, line_of_parts, line_within_limits}
+use Rattle.text_definitions.specs.LineTexts.{Misspelled, NoLetters, TooLong, Front, GapMark, DigitMark, Other, front_of, letter_begins, has_letter, Part, Gap, Digit, Piece, digit_at, with_byte, parts_by, parts_from, with_word, piece_by, Spelled, line_of_parts, line_within_limits}
 use Rattle.text_line.specs.Pieces.{more_length, piece_length, line_after}
 
 -- bytes before these parts

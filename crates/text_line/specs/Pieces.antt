@@ -1,5 +1,5 @@
 -- What reading goes by: the length of the piece at the front of a text, and the line of what was read and what is left.
-use Rattle.std.specs.Prelude.{ℕ, zero, suc, List, [], ◌∷◌, Result}
+use Rattle.std.specs.Prelude.{ℕ, suc, List, [], ◌∷◌, Result}
 use Rattle.text_definitions.specs.Lines.{Line}
 use Rattle.text_definitions.specs.Schemes.{Scheme}
 use Rattle.text_definitions.specs.LineTexts.{Front, GapMark, DigitMark, Other, front_of, Part, LineFault, line_of_parts, line_within_limits}

@@ -1,4 +1,9 @@
-//! Lines of text in the spelling schemes, read whole: letters, blanks, dandas and verse numbers.
+//! A line of text in one of four spelling schemes, read whole: its letters and blanks, with the dandas and verse
+//! numbers that a reader pastes along.
+//!
+//! Proved (`read_line`): `ok`, what is answered is the line of the text, as `LineTexts` of `text_definitions` says it;
+//! `fault`, a refusal is the text's first fault, with its place in the whole text, or want of memory. That a line is
+//! read where memory suffices is shown by tests.
 #![tactic(auto)]
 
 mod front;

@@ -11,7 +11,10 @@ use latin_schemes::SpellFault;
 use phoneme::Line;
 use std::alloc::Global;
 
-/// The line that a text spells in the scheme.
+/// The line that a text spells in the scheme (own). Tabs, line ends, blanks, `|` and in Devanagari the dandas are gap
+/// marks: a run of them between letters is one blank. Digits may stand after the last letter alone. Refused at the
+/// first fault of spelling, whose place is counted in bytes from 0, else where there is no letter, or more than
+/// `MOST_LINE_LETTERS`.
 pub fn read_line(alloc: Global, scheme: Scheme, text: &[u8]) -> Result<Line, LineError>
     requires { length text.now < 2 ^ 32 }
     ensures ok { IfOk result (λ line. line_of_text (scheme_of scheme) text.now ≡ Ok line) }
@@ -29,7 +32,7 @@ pub fn read_line(alloc: Global, scheme: Scheme, text: &[u8]) -> Result<Line, Lin
     }
 }
 
-/// The same of a text that is UTF-8, or is not to be.
+/// The same of a text that is UTF-8 where it has to be.
 fn read_parts(alloc: Global, scheme: Scheme, text: &[u8]) -> Result<Line, LineError>
     requires { length text.now < 2 ^ 32 }
     ensures ok { IfOk result (λ line.

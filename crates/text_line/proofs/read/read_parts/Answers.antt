@@ -1,5 +1,5 @@
 -- Each turn takes one part of the rest: a gap mark, a digit or a piece.
-use Rattle.std.proofs.Common.{◌≡◌, ◌+◌, ◌-◌, false, length, take, drop, length-take, length-drop, ap, sym, subst, ◌∙◌, refl, arith}
+use Rattle.std.proofs.Common.{◌≡◌, ◌+◌, ◌-◌, false, length, drop, length-take, length-drop, ap, sym, subst, ◌∙◌, arith}
 use Rattle.std.proofs.lemmas.Result.{err_from_is_err_and}
 use Rattle.text_definitions.specs.LineTexts.{has_letter, parts_from}
 use Rattle.text_line.specs.Values.{scheme_of, IsLineFaultOf}

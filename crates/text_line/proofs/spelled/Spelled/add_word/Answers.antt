@@ -1,5 +1,5 @@
 -- After too many letters it does not matter which they are.
-use Rattle.std.proofs.Common.{◌<◌, ◌++◌, length, length-append, ap, arith}
+use Rattle.std.proofs.Common.{◌<◌, length, length-append, ap, arith}
 use Rattle.text_definitions.specs.declared.limits.TheConstants.{MOST_LINE_LETTERS}
 use Rattle.text_definitions.specs.Lines.{Line}
 use Rattle.text_definitions.specs.LineTexts.{with_word}

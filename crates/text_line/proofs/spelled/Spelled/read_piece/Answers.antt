@@ -1,10 +1,8 @@
 -- A piece is read by its scheme, and a fault's place lies in it.
-use Rattle.std.proofs.Common.{◌≡◌, ℕ, ◌+◌, ◌<◌, ◌≤◌, List, length, Err, sym, ap, subst, ◌∙◌, arith}
-use Rattle.text_definitions.specs.Spellings.{Reading}
-use Rattle.text_definitions.specs.Schemes.{Scheme, word_of_text}
-use Rattle.text_definitions.specs.LineTexts.{place_of}
+use Rattle.std.proofs.Common.{length, subst, arith}
+use Rattle.text_definitions.specs.Schemes.{word_of_text}
 use Rattle.text_definitions.proofs.FaultPlaces.{IsUpTo, fault_in_text}
-use Rattle.latin_schemes.specs.Faults.{fault_of, IsFaultOf}
+use Rattle.latin_schemes.specs.Faults.{IsFaultOf}
 use Rattle.text_line.specs.Values.{scheme_of}
 use Rattle.text_line.proofs.spelled.Spelled.read_piece.Goals as goal
 
