@@ -1,5 +1,5 @@
 -- What the lines of a lexicon file tell (own).
-use Rattle.std.specs.Prelude.{ℕ, zero, suc, ◌==◌, ◌++◌, ◌&&◌, ◌||◌, nat_le, Bool, true, false, if◌then◌else◌, List, [], ◌∷◌, length, replicate}
+use Rattle.std.specs.Prelude.{ℕ, zero, suc, ◌+◌, ◌==◌, ◌++◌, ◌&&◌, ◌||◌, nat_le, Bool, true, false, if◌then◌else◌, List, [], ◌∷◌, length, replicate, map}
 use Rattle.std.specs.List.{list_any, list_all, slice_split}
 use Rattle.std.specs.Str.{bytes_eq}
 use Rattle.std.specs.declared.cmp.Ordering.{Ordering}
@@ -131,6 +131,20 @@ with_form (forms ∷ phases) (suc phase) letters analysis = forms ∷ with_form 
 abbrev pub with_lines : List (List Form) → List FormLine → List (List Form)
 with_lines phases [] = phases
 with_lines phases (line ∷ lines) = with_lines (with_form phases line.phase line.letters line.analysis) lines
+
+-- the line of a form of a phase with this analysis
+abbrev pub form_line_with : ℕ → List ℕ → Analysis → FormLine
+form_line_with phase letters analysis = record { phase = phase; letters = letters; analysis = analysis }
+
+-- the lines of the forms of the phase with this number, one for each analysis
+abbrev pub phase_lines : ℕ → List Form → List FormLine
+phase_lines phase [] = []
+phase_lines phase (form ∷ forms) = map (form_line_with phase form.letters) form.analyses ++ phase_lines phase forms
+
+-- the lines of the forms of phases, the first of which has this number
+abbrev pub lines_from : ℕ → List (List Form) → List FormLine
+lines_from phase [] = []
+lines_from phase (forms ∷ phases) = phase_lines phase forms ++ lines_from (phase + 1) phases
 
 -- the rule set and the lexicon that the lines told
 abbrev pub rules_told : Told → RuleSet
