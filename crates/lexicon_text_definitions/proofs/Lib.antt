@@ -5,3 +5,6 @@ pub mod RisingLines
 pub mod FileLeads
 pub mod FormLines
 pub mod FormPhases
+pub mod LineSteps
+pub mod CleanBytes
+pub mod TakenLines
