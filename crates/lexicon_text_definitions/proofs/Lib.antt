@@ -8,3 +8,5 @@ pub mod FormPhases
 pub mod LineSteps
 pub mod CleanBytes
 pub mod TakenLines
+pub mod ToldLines
+pub mod WholeTexts
