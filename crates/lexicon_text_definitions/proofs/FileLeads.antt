@@ -182,12 +182,12 @@ from_has leads (first ∷ rules) rule inside n =
       | inr later ↦ from_has (with_lead leads first.v) rules rule later n
     ]
 
-
 -- ---- the leads of unlimited rules
 
 module _ (count : ℕ) where
   abbrev pub lead_of : List ℕ → Lead
   lead_of v = record { v = v; after = all_phases count }
+
   mapped_below : (v : List ℕ) (words : List (List ℕ)) → AllByRecursion (λ word. compare_words v word ≡ Less) words → AllByRecursion (λ lead. compare_leads (lead_of v) lead ≡ Less) (map lead_of words)
   mapped_below v [] h = tt
   mapped_below v (word ∷ words) h = (ap (λ order. ordering_then order (nat_cmp (all_phases count) (all_phases count))) h.0, mapped_below v words h.1)

@@ -215,14 +215,18 @@ lawful_with : (start : ℕ) (phases : List (List Form)) (place : ℕ) (letters :
 lawful_with start [] place letters analysis p n a below = tt
 lawful_with start (forms ∷ phases) zero letters analysis p n a below =
     let at : start + 0 ≡ start = omega arith in
-    let here = subst (λ phase. AreBelow phase (lines_from start (forms ∷ phases)) letters analysis) at below in
-    (lawful_phase_with start forms letters analysis p.0 n a
-    (all_left (λ line. compare_lines line (form_line_with start letters analysis) ≡ Less) (phase_lines start forms) (lines_from (start + 1) phases) here), p.1)
+    let here = subst (λ phase. AreBelow phase (lines_from start (forms ∷ phases)) letters analysis) at below in (
+      lawful_phase_with start forms letters analysis p.0 n a
+          (all_left (λ line. compare_lines line (form_line_with start letters analysis) ≡ Less) (phase_lines start forms) (lines_from (start + 1) phases) here),
+      p.1,
+    )
 lawful_with start (forms ∷ phases) (suc place) letters analysis p n a below =
     let at : start + suc place ≡ start + 1 + place = omega arith in
-    let there = subst (λ phase. AreBelow phase (lines_from start (forms ∷ phases)) letters analysis) at below in
-    (p.0, lawful_with (start + 1) phases place letters analysis p.1 n a
-    (all_right (λ line. compare_lines line (form_line_with (start + 1 + place) letters analysis) ≡ Less) (phase_lines start forms) (lines_from (start + 1) phases) there))
+    let there = subst (λ phase. AreBelow phase (lines_from start (forms ∷ phases)) letters analysis) at below in (
+      p.0,
+      lawful_with (start + 1) phases place letters analysis p.1 n a
+          (all_right (λ line. compare_lines line (form_line_with (start + 1 + place) letters analysis) ≡ Less) (phase_lines start forms) (lines_from (start + 1) phases) there),
+    )
 
 line_itself : (line : FormLine) → form_line_with (0 + line.phase) line.letters line.analysis ≡ line
 line_itself line = let same : 0 + line.phase ≡ line.phase = omega arith in ap (λ phase. form_line_with phase line.letters line.analysis) same

@@ -10,3 +10,5 @@ pub mod CleanBytes
 pub mod TakenLines
 pub mod ToldLines
 pub mod WholeTexts
+pub mod WrittenTexts
+pub mod OneReading

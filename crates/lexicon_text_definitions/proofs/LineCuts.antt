@@ -133,7 +133,6 @@ text_from_lines bytes h = sym (lines_joined bytes) ∙ ended_text (lines_of_byte
 
 -- ---- the kind of a line
 
-
 -- the name of a kind, where it has one
 abbrev pub kind_name : Kind → List ℕ
 kind_name Phase = codes "phase"

@@ -13,3 +13,8 @@ pub fn a_text_is_read_as_its_lexicon()
 pub fn what_is_read_is_a_text()
     ensures { (bytes : List ℕ) (lexicon : Lexicon) → IsReadAs bytes (Ok lexicon) → IsTextOf lexicon bytes }
 {}
+
+/// Bytes are read in one way at most: as one lexicon, or with one first fault.
+pub fn a_file_is_read_in_one_way()
+    ensures { (bytes : List ℕ) (left right : FileResult) → IsReadAs bytes left → IsReadAs bytes right → left ≡ right }
+{}
