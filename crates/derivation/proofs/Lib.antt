@@ -1,3 +1,2 @@
 pub mod StepLemmas
 pub mod PlacedSteps
-pub mod WorkedAnswers

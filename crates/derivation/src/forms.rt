@@ -2,8 +2,9 @@ ghost use Rattle.std.specs.Prelude.{◌≡◌, ◌+◌, ◌<◌, ◌≤◌, leng
 ghost use Rattle.lexicon_definitions.specs.Lexicons.{rule_of};
 ghost use Rattle.derivation.specs.Steps.{StandIn, steps_of, form_with};
 
-use super::{RuleSet, Step};
+use super::Step;
 use phoneme::{Line, Memory, Word};
+use sandhi_rules::RuleSet;
 use std::alloc::Global;
 
 /// The form of a step after the rule with the number `before`, 0 for none: the letters that this rule supplies (its

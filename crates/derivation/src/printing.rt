@@ -1,24 +1,13 @@
 ghost use Rattle.std.specs.Prelude.{◌≡◌, ◌+◌, ◌<◌, ◌≤◌, ◌++◌, length, IfOk, OnOk, string_bytes};
-ghost use Rattle.segmentation_definitions.specs.PrintedAnswers.{printed_answer, printed_rule, printed_form, printed_joint, printed_end};
+ghost use Rattle.segmentation_definitions.specs.PrintedAnswers.{printed_answer, printed_form, printed_joint, printed_end};
 ghost use Rattle.derivation.specs.Steps.{StandIn, steps_of, step_after};
 
+use super::Step;
 use super::forms::form_after;
-use super::{Rule, RuleSet, Step};
 use latin_schemes::print_slp1;
 use phoneme::{Line, Memory};
+use sandhi_rules::{RuleSet, print_rule};
 use std::alloc::Global;
-
-/// A rule's notation `u|v>w`, in SLP1.
-fn push_rule(alloc: Global, text: &mut String, rule: &Rule) -> Result<(), Memory>
-    ensures ok { OnOk result (string_bytes text.new ≡ string_bytes text.old ++ printed_rule rule.now) }
-{
-    text.push_str(print_slp1(alloc, &rule.u)?.as_str())?;
-    text.push_str("|")?;
-    text.push_str(print_slp1(alloc, &rule.v)?.as_str())?;
-    text.push_str(">")?;
-    text.push_str(print_slp1(alloc, &rule.w)?.as_str())?;
-    Ok(())
-}
 
 /// `FORM[PHASE]`, for a step after the rule with the number `before`.
 fn push_form(
@@ -52,7 +41,7 @@ fn push_joint(alloc: Global, text: &mut String, rules: &RuleSet, number: u32) ->
         None => text.push_str(" + ")?,
         Some(rule) => {
             text.push_str(" (")?;
-            push_rule(alloc, text, rule)?;
+            text.push_str(print_rule(alloc, rule)?.as_str())?;
             text.push_str(") ")?;
         }
     }
@@ -66,7 +55,7 @@ fn push_end(alloc: Global, text: &mut String, rules: &RuleSet, number: u32) -> R
 {
     if let Some(rule) = rules.rule(number) {
         text.push_str(" (")?;
-        push_rule(alloc, text, rule)?;
+        text.push_str(print_rule(alloc, rule)?.as_str())?;
         text.push_str(")")?;
     }
     Ok(())

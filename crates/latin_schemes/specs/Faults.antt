@@ -1,5 +1,5 @@
 -- The program's faults, as the definitions of the spelling schemes name them.
-use Rattle.std.specs.Prelude.{◌≡◌, Err}
+use Rattle.std.specs.Prelude.{◌≡◌, ℕ, Err}
 use Rattle.text_definitions.specs.Spellings as spellings
 use Rattle.text_definitions.specs.Spellings.{SpellingFault, Reading}
 use Rattle.latin_schemes.specs.declared.spell_fault.SpellFault.{SpellFault}
@@ -12,6 +12,12 @@ abbrev pub fault_of : SpellFault → SpellingFault
 fault_of (NotLetter at) = spellings.NotLetter at
 fault_of (LoneSign at) = spellings.LoneSign at
 fault_of (NotUtf8 at) = spellings.NotUtf8 at
+
+-- the place of a fault in bytes, from 0; where a text is not UTF-8, the length of its longest valid front
+abbrev pub place_of : SpellFault → ℕ
+place_of (NotLetter at) = at
+place_of (LoneSign at) = at
+place_of (NotUtf8 at) = at
 
 -- the error is the first fault of the text, or memory ran out
 abbrev pub IsFaultOf : SpellError → Reading → Type 0

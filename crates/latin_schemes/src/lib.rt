@@ -1,4 +1,9 @@
 //! The spelling schemes that are written in ASCII, SLP1, WX and Velthuis, read and printed.
+//!
+//! Proved of `read_slp1`, `read_wx` and `read_velthuis`: the word that the text spells (`ok`), or the text's first fault
+//! with its place (`fault`), by the definitions of `text_definitions`; nothing else but want of memory refuses a text. Of
+//! `print_slp1`, `print_wx` and `print_velthuis`: the spelling of the word (`ok`), which spells this word again by a law of
+//! `text_definitions`. `SpellFault::place` is the place that the fault names.
 #![tactic(auto)]
 
 mod byte_scheme;

@@ -1,3 +1,5 @@
+ghost use Rattle.std.specs.Prelude.{◌≡◌};
+
 use thiserror::Error;
 
 /// Why a text spells no word, with the place of the byte at fault, counted from 0. `LoneSign` and `NotUtf8` come in
@@ -10,4 +12,19 @@ pub enum SpellFault {
     LoneSign { at: u32 },
     #[error("not UTF-8 from byte {at} on")]
     NotUtf8 { at: u32 },
+}
+
+impl SpellFault {
+    ghost use Rattle.latin_schemes.specs.Faults.{place_of};
+
+    /// The place of the fault in bytes, counted from 0; for `NotUtf8` the length of the longest valid front.
+    pub fn place(&self) -> u32
+        ensures { result ≡ place_of self.now }
+    {
+        match self {
+            SpellFault::NotLetter { at }
+            | SpellFault::LoneSign { at }
+            | SpellFault::NotUtf8 { at } => *at,
+        }
+    }
 }

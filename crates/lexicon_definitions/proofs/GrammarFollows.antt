@@ -14,7 +14,7 @@ append_is_nil (x ∷ xs) ys e = cc
 
 -- each tree has a reading
 pub some_reading : (g : Grammar) (from : ℕ) → (marks : List Mark) × Reads g from marks
-some_reading (Name phase) from = (record { place = from; phase = phase } ∷ [], refl)
+some_reading (Name phase) from = (record { position = from; phase = phase } ∷ [], refl)
 some_reading (Sequence first second) from =
     let left = some_reading first from in
     let right = some_reading second (from + count_names first) in
@@ -54,7 +54,7 @@ pub at_most_once_empty : (inner : Grammar) (from : ℕ) → Reads (AtMostOnce in
 at_most_once_empty inner from = inl refl
 
 -- ---- the first mark
-pub name_first : (phase from : ℕ) (m : Mark) → IsFirst (Name phase) from m ↔ (m ≡ record { place = from; phase = phase })
+pub name_first : (phase from : ℕ) (m : Mark) → IsFirst (Name phase) from m ↔ (m ≡ record { position = from; phase = phase })
 name_first phase from m = ((λ h. let e = h.1 in cc), (λ e. ([], ap (λ x. x ∷ []) e)))
 
 pub sequence_first : (first second : Grammar) (from : ℕ) (m : Mark)
@@ -118,10 +118,10 @@ at_most_once_first inner from m = ((λ h. to h.0 h.1), (λ h. (h.0, inr h.1)))
     to r (inr a) = (r, a)
 
 -- ---- the last mark
-pub name_last : (phase from : ℕ) (m : Mark) → IsLast (Name phase) from m ↔ (m ≡ record { place = from; phase = phase })
+pub name_last : (phase from : ℕ) (m : Mark) → IsLast (Name phase) from m ↔ (m ≡ record { position = from; phase = phase })
 name_last phase from m = ((λ h. to h.0 h.1), (λ e. ([], ap (λ x. x ∷ []) e)))
   where
-    to : (front : List Mark) → front ++ m ∷ [] ≡ record { place = from; phase = phase } ∷ [] → m ≡ record { place = from; phase = phase }
+    to : (front : List Mark) → front ++ m ∷ [] ≡ record { position = from; phase = phase } ∷ [] → m ≡ record { position = from; phase = phase }
     to [] e = cc
     to (x ∷ front) e = absurd (nil_is_no_cut front m [] (cc))
 
@@ -193,7 +193,7 @@ at_most_once_last inner from m = ((λ h. to h.0 h.1), (λ h. (h.0, inr h.1)))
 pub name_pair : (phase from : ℕ) (x y : Mark) → IsPair (Name phase) from x y → ⊥
 name_pair phase from x y h = go h.0 h.2
   where
-    go : (front : List Mark) → front ++ x ∷ y ∷ h.1 ≡ record { place = from; phase = phase } ∷ [] → ⊥
+    go : (front : List Mark) → front ++ x ∷ y ∷ h.1 ≡ record { position = from; phase = phase } ∷ [] → ⊥
     go [] e = cc
     go (z ∷ front) e = nil_is_no_cut front x (y ∷ h.1) (cc)
 

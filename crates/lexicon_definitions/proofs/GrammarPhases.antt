@@ -8,7 +8,7 @@ use Rattle.lexicon_definitions.specs.Grammars.{Grammar, Name, Sequence, Either, 
 use Rattle.lexicon_definitions.specs.GrammarMarks.{IsLink}
 use Rattle.lexicon_definitions.specs.GrammarTexts.{Token, Word, Open, Close, Bar, Star, Plus, Question, Other, tokens_of, phase_named, Level, empty_level, sequence_tree, expression_tree, level_tree, with_newest, after_token, after_tokens, outermost_tree, grammar_of}
 use Rattle.lexicon_definitions.proofs.GrammarLists.{all_append, all_at}
-use Rattle.lexicon_definitions.proofs.GrammarPlaces.{all_of_joined}
+use Rattle.lexicon_definitions.proofs.GrammarPositions.{all_of_joined}
 
 module _ (P : ℕ → Type 0) where
   -- each name's phase has the property
@@ -41,9 +41,9 @@ module _ (P : ℕ → Type 0) where
     | inr k ↦ reads_all inner from marks p k
   ]
 
-  pub link_phase : (g : Grammar) (before phase place : ℕ) → AllNames g → IsLink g before phase place → P phase
-  link_phase g zero phase place p h = subst P h.2 (all_at (λ (mark : Mark). P mark.phase) [] h.0 h.1.0 (reads_all g 1 (h.0 ∷ h.1.0) p h.1.1))
-  link_phase g (suc before) phase place p h =
+  pub link_phase : (g : Grammar) (before phase position : ℕ) → AllNames g → IsLink g before phase position → P phase
+  link_phase g zero phase position p h = subst P h.2 (all_at (λ (mark : Mark). P mark.phase) [] h.0 h.1.0 (reads_all g 1 (h.0 ∷ h.1.0) p h.1.1))
+  link_phase g (suc before) phase position p h =
       subst P h.4 (second (all_from h.2.0 (reads_all g 1 (h.2.0 ++ h.0 ∷ h.1 ∷ h.2.1) p h.2.2)))
     where
       all_from : (front : List Mark) → AllByRecursion (λ (mark : Mark). P mark.phase) (front ++ h.0 ∷ h.1 ∷ h.2.1)
@@ -117,7 +117,7 @@ phase_below names name some =
     small (nat_lt at (length names)) at (length names) (λ e. ltb-true at (length names) e) some
 
 pub phases_below : (names : List (List ℕ)) (text : List ℕ) → 0 < length names
-    → (before phase place : ℕ) → IsLink (grammar_of names text) before phase place → phase < length names
-phases_below names text some before phase place h =
-    link_phase (λ k. k < length names) (grammar_of names text) before phase place
+    → (before phase position : ℕ) → IsLink (grammar_of names text) before phase position → phase < length names
+phases_below names text some before phase position h =
+    link_phase (λ k. k < length names) (grammar_of names text) before phase position
     (text_all (λ k. k < length names) names text some (λ name. phase_below names name some)) h

@@ -1,11 +1,11 @@
--- Rising lists with the same elements are equal, by recursion on both; so lists of phases with the same places after them
+-- Rising lists with the same elements are equal, by recursion on both; so lists of phases with the same positions after them
 -- have the same state.
 use Rattle.std.proofs.Common.{◌≡◌, ◌⊎◌, inl, inr, ℕ, zero, suc, ◌<◌, ◌↔◌, List, [], ◌∷◌, length, get_or, refl, sym, ap, ◌∙◌, arith}
 use Rattle.std.specs.List.{Contains}
 use Rattle.std.specs.Ordering.{nat_cmp}
 use Rattle.std.specs.List.Sorted.{IsStrictlyIncreasing, IsStrictlySortedBy}
 use Rattle.std.proofs.lemmas.Map.Keys.{sorted_from_strictly_increasing, sorted_tail, below_from_sorted}
-use Rattle.lexicon_definitions.specs.Grammars.{Grammar, State, Opening, After, IsStateAfter, HaveSamePlaces}
+use Rattle.lexicon_definitions.specs.Grammars.{Grammar, State, Opening, After, IsStateAfter, HaveSamePositions}
 
 pub in_cons : (x : ℕ) (xs : List ℕ) (y : ℕ) → Contains (x ∷ xs) y → (x ≡ y) ⊎ Contains xs y
 in_cons x xs y h = go h.0 h.1 h.2
@@ -62,19 +62,19 @@ pub increasing_same : (xs ys : List ℕ) → IsStrictlyIncreasing xs → IsStric
 increasing_same xs ys s t h =
     sorted_same xs ys (sorted_from_strictly_increasing xs s) (sorted_from_strictly_increasing ys t) h
 
--- lists with the same places after them have the same state
-pub same_places_same_state : (g : Grammar) (p q : List ℕ) (s t : State) → HaveSamePlaces g p q → IsStateAfter g p s
+-- lists with the same positions after them have the same state
+pub same_positions_same_state : (g : Grammar) (p q : List ℕ) (s t : State) → HaveSamePositions g p q → IsStateAfter g p s
     → IsStateAfter g q t → s ≡ t
-same_places_same_state g [] [] s t same h k = h ∙ sym k
-same_places_same_state g [] (j ∷ q) s t (inl both) h k = let e = both.1 in cc
-same_places_same_state g [] (j ∷ q) s t (inr same) h k = absurd (same.0 refl)
-same_places_same_state g (i ∷ p) [] s t (inl both) h k = let e = both.0 in cc
-same_places_same_state g (i ∷ p) [] s t (inr same) h k = absurd (same.1 refl)
-same_places_same_state g (i ∷ p) (j ∷ q) Opening t same h k = absurd h
-same_places_same_state g (i ∷ p) (j ∷ q) (After places) Opening same h k = absurd k
-same_places_same_state g (i ∷ p) (j ∷ q) (After places) (After others) (inl both) h k = let e = both.0 in cc
-same_places_same_state g (i ∷ p) (j ∷ q) (After places) (After others) (inr same) h k =
-    ap After (increasing_same places others h.0 k.0 (λ z. (
+same_positions_same_state g [] [] s t same h k = h ∙ sym k
+same_positions_same_state g [] (j ∷ q) s t (inl both) h k = let e = both.1 in cc
+same_positions_same_state g [] (j ∷ q) s t (inr same) h k = absurd (same.0 refl)
+same_positions_same_state g (i ∷ p) [] s t (inl both) h k = let e = both.0 in cc
+same_positions_same_state g (i ∷ p) [] s t (inr same) h k = absurd (same.1 refl)
+same_positions_same_state g (i ∷ p) (j ∷ q) Opening t same h k = absurd h
+same_positions_same_state g (i ∷ p) (j ∷ q) (After positions) Opening same h k = absurd k
+same_positions_same_state g (i ∷ p) (j ∷ q) (After positions) (After others) (inl both) h k = let e = both.0 in cc
+same_positions_same_state g (i ∷ p) (j ∷ q) (After positions) (After others) (inr same) h k =
+    ap After (increasing_same positions others h.0 k.0 (λ z. (
       (λ x. (k.1 z).1 ((same.2 z).0 ((h.1 z).0 x))),
       (λ x. (h.1 z).1 ((same.2 z).1 ((k.1 z).0 x))),
     )))

@@ -1,8 +1,12 @@
+pub mod FormsPlaced
+pub mod FormsWithEntry
 pub mod GrammarLists
-pub mod GrammarPlaces
+pub mod GrammarPositions
 pub mod GrammarFollows
 pub mod GrammarSteps
 pub mod GrammarStates
 pub mod GrammarPhases
+pub mod GrammarFaultCases
 pub mod GrammarSpelling
 pub mod SpelledTokens
+pub mod LeadLaws

@@ -2,7 +2,7 @@
 use Rattle.std.specs.Prelude.{◌≡◌, ◌≢◌, ℕ, ◌+◌, ◌-◌, ◌<◌, ◌==◌, nat_le, nat_lt, ◌&&◌, ◌||◌, not, Bool, true, false, if◌then◌else◌, Option, Some, None, List, [], ◌∷◌, length, All, AllPairs}
 use Rattle.std.specs.List.{list_any}
 use Rattle.std.specs.Str.{bytes_eq}
-use Rattle.lexicon_definitions.specs.declared.limits.TheConstants.{MOST_GRAMMAR_BYTES, MOST_GRAMMAR_NAMES, MOST_GRAMMAR_STATES}
+use Rattle.lexicon_definitions.specs.declared.limits.TheConstants.{MOST_GRAMMAR_BYTES, MOST_GRAMMAR_NAMES, MOST_GRAMMAR_STATES, MOST_NAME_BYTES}
 use Rattle.lexicon_definitions.specs.Grammars.{Grammar, State, IsStateAfter, IsLiveState}
 use Rattle.lexicon_definitions.specs.GrammarTexts.{is_name_byte, is_blank, begins_with_name_byte, grammar_of}
 
@@ -27,11 +27,11 @@ may_follow_item walk byte =
     not walk.needs_item
     && (byte == 124 || byte == 42 || byte == 43 || byte == 63 || (byte == 41 && nat_lt 0 walk.open_brackets))
 
--- the byte may stand here: a byte of a name goes on with a name of fewer than 16 bytes, where there is one; else a small
--- letter begins a name; a blank and `(` may always stand
+-- the byte may stand here: a byte of a name goes on with a name that is not as long as a name may be, where there is one;
+-- else a small letter begins a name; a blank and `(` may always stand
 abbrev pub may_stand : Walk → ℕ → Bool
 may_stand walk byte =
-    if is_name_byte byte && nat_lt 0 walk.name_length then nat_lt walk.name_length 16
+    if is_name_byte byte && nat_lt 0 walk.name_length then nat_lt walk.name_length MOST_NAME_BYTES
     else is_small_letter byte || is_blank byte || byte == 40 || may_follow_item walk byte
 
 -- after a bracket, `|` or a sign of repetition
@@ -107,9 +107,9 @@ pub data Fault : Type 0 where
 
 -- the first of these: too many bytes, a byte that may not stand, an unknown name, too many names
 abbrev pub first_fault_of : Bool → Option ℕ → Option ℕ → Bool → Option Fault
-first_fault_of true syntax unknown places = Some Long
-first_fault_of false (Some at) unknown places = Some (Syntax at)
-first_fault_of false None (Some at) places = Some (UnknownPhase at)
+first_fault_of true syntax unknown many = Some Long
+first_fault_of false (Some at) unknown many = Some (Syntax at)
+first_fault_of false None (Some at) many = Some (UnknownPhase at)
 first_fault_of false None None true = Some Places
 first_fault_of false None None false = None
 

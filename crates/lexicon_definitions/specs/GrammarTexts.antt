@@ -52,7 +52,7 @@ tokens_of (byte ∷ text) =
     else if is_name_byte byte then with_name_byte byte (begins_with_name_byte text) (tokens_of text)
     else symbol_of byte ∷ tokens_of text
 
--- the phase of a name is its place among the phases' names
+-- the phase of a name is its number among the names of the phases, counted from 0
 abbrev pub phase_named : List (List ℕ) → List ℕ → ℕ
 phase_named names name = unwrap_or (position (bytes_eq name) names) 0
 

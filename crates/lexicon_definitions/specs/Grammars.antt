@@ -1,4 +1,4 @@
--- The language of a phase grammar, a regular expression over phases, and the places after a front of a word (own, after
+-- The language of a phase grammar, a regular expression over phases, and the positions after a front of a word (own, after
 -- the position automata of regular languages).
 use Rattle.std.specs.Prelude.{◌≡◌, ◌≢◌, ℕ, ◌+◌, ◌↔◌, ◌⊎◌, List, [], ◌∷◌, ◌++◌, map, Contains}
 use Rattle.std.specs.List.{AllByRecursion, flat_map}
@@ -30,9 +30,9 @@ Accepts (OnceOrMore inner) word =
     (parts : List (List ℕ)) × (parts ≢ []) × (word ≡ joined parts) × AllByRecursion (Accepts inner) parts
 Accepts (AtMostOnce inner) word = (word ≡ []) ⊎ Accepts inner word
 
--- a name of the grammar that is read: its place, and its phase
+-- a name of the grammar that is read: its position, and its phase
 pub record Mark : Type 0 where
-  pub place : ℕ
+  pub position : ℕ
   pub phase : ℕ
 
 -- how many names the grammar has
@@ -45,9 +45,9 @@ count_names (OnceOrMore inner) = count_names inner
 count_names (AtMostOnce inner) = count_names inner
 
 -- the marks are a word of the grammar in which each phase is read at a name; the names are numbered from left to right,
--- and these numbers, the first of which is from, are their places
+-- and these numbers, the first of which is from, are their positions
 abbrev pub Reads : Grammar → ℕ → List Mark → Type 0
-Reads (Name phase) from marks = marks ≡ record { place = from; phase = phase } ∷ []
+Reads (Name phase) from marks = marks ≡ record { position = from; phase = phase } ∷ []
 Reads (Sequence first second) from marks =
     (front : List Mark) × (rest : List Mark) × (marks ≡ front ++ rest) × Reads first from front
     × Reads second (from + count_names first) rest
@@ -62,32 +62,32 @@ Reads (AtMostOnce inner) from marks = (marks ≡ []) ⊎ Reads inner from marks
 abbrev pub phases_of : List Mark → List ℕ
 phases_of marks = map (λ mark. mark.phase) marks
 
--- places are numbered from 1; this is a place at which the last phase of the list can be read, where the list is read as
+-- positions are numbered from 1; this is a position at which the last phase of the list can be read, where the list is read as
 -- a front of a word of the language
-abbrev pub IsPlaceAfter : Grammar → List ℕ → ℕ → Type 0
-IsPlaceAfter grammar phases place =
+abbrev pub IsPositionAfter : Grammar → List ℕ → ℕ → Type 0
+IsPositionAfter grammar phases position =
     (front : List Mark) × (last : Mark) × (rest : List Mark) × Reads grammar 1 (front ++ last ∷ rest)
-    × (phases ≡ phases_of (front ++ last ∷ [])) × (last.place ≡ place)
+    × (phases ≡ phases_of (front ++ last ∷ [])) × (last.position ≡ position)
 
--- a state is the set of the places after a list of phases, rising; the empty list has a state of its own
+-- a state is the set of the positions after a list of phases, rising; the empty list has a state of its own
 pub data State : Type 0 where
   Opening : State
-  After : (places : List ℕ) → State
+  After : (positions : List ℕ) → State
 
 -- the state after a list of phases
 abbrev pub IsStateAfter : Grammar → List ℕ → State → Type 0
 IsStateAfter grammar [] state = state ≡ Opening
 IsStateAfter grammar (phase ∷ phases) Opening = ⊥
-IsStateAfter grammar (phase ∷ phases) (After places) =
-    IsStrictlyIncreasing places × ((place : ℕ) → Contains places place ↔ IsPlaceAfter grammar (phase ∷ phases) place)
+IsStateAfter grammar (phase ∷ phases) (After positions) =
+    IsStrictlyIncreasing positions × ((position : ℕ) → Contains positions position ↔ IsPositionAfter grammar (phase ∷ phases) position)
 
--- the states are the different sets of places that are not empty, and that of the empty list
+-- the states are the different sets of positions that are not empty, and that of the empty list
 abbrev pub IsLiveState : State → Type 0
 IsLiveState state = state ≢ After []
 
--- two lists of phases, both empty, or neither empty and with the same places after them
-abbrev pub HaveSamePlaces : Grammar → List ℕ → List ℕ → Type 0
-HaveSamePlaces grammar left right =
+-- two lists of phases, both empty, or neither empty and with the same positions after them
+abbrev pub HaveSamePositions : Grammar → List ℕ → List ℕ → Type 0
+HaveSamePositions grammar left right =
     ((left ≡ []) × (right ≡ []))
     ⊎ ((left ≢ []) × (right ≢ [])
-    × ((place : ℕ) → IsPlaceAfter grammar left place ↔ IsPlaceAfter grammar right place))
+    × ((position : ℕ) → IsPositionAfter grammar left position ↔ IsPositionAfter grammar right position))

@@ -4,7 +4,7 @@ use Rattle.lexicon_definitions.specs.declared.limits.TheConstants.{MOST_PHASES, 
 use Rattle.lexicon_definitions.specs.Rules.{Rule}
 use Rattle.lexicon_definitions.specs.GrammarFaults.{IsGrammarTextWithinLimits}
 use Rattle.lexicon_definitions.specs.Lexicons.{Lexicon, RuleSet, Form}
-use Rattle.lexicon_definitions.specs.Leads.{Lead, AreLeads}
+use Rattle.lexicon_definitions.specs.Leads.{leads_of}
 
 -- no part of a rule is too long
 pub record IsShortRule (rule : Rule) : Type 0 where
@@ -28,7 +28,7 @@ pub record IsRuleSetWithinLimits (set : RuleSet) : Type 0 where
   pub grammar : IsGrammarTextWithinLimits set.names set.grammar
   pub rules : length set.rules ≤ MOST_RULES
   pub short_rules : All IsShortRule set.rules
-  pub leads : (leads : List Lead) → AreLeads set leads → length leads ≤ MOST_LEADS
+  pub leads : length (leads_of set.rules) ≤ MOST_LEADS
 
 -- a rule set within the limits, and not too many lines of short forms
 pub record IsWithinLimits (lexicon : Lexicon) : Type 0 where

@@ -1,7 +1,8 @@
 -- Rules of external sandhi (Huet 2005), each with sets of phases before and after it (own).
-use Rattle.std.specs.Prelude.{◌≡◌, ◌≢◌, ℕ, zero, suc, ◌<◌, ◌^◌, ◌-◌, ◌↔◌, List, [], slice_index_or}
+use Rattle.std.specs.Prelude.{◌≡◌, ◌≢◌, ℕ, zero, suc, ◌<◌, ◌^◌, ◌-◌, ◌↔◌, List, [], ◌++◌, codes, slice_index_or}
 use Rattle.std.specs.Int.{IsBitSet}
 use Rattle.text_definitions.specs.Words.{IsWord}
+use Rattle.text_definitions.specs.Slp1.{slp1_of_word}
 
 -- a form that ends in u, of a phase in before, followed by a form that begins with v, of a phase in after, is written w
 -- at the seam; bit k of a set of phases stands for phase k
@@ -60,3 +61,7 @@ no_change = record { u = []; v = []; w = []; before = 0; after = 0 }
 abbrev pub rule_at : List Rule → ℕ → Rule
 rule_at rules zero = no_change
 rule_at rules (suc n) = slice_index_or rules n no_change
+
+-- a rule's notation u|v>w, in SLP1
+abbrev pub printed_rule : Rule → List ℕ
+printed_rule rule = slp1_of_word rule.u ++ codes "|" ++ slp1_of_word rule.v ++ codes ">" ++ slp1_of_word rule.w

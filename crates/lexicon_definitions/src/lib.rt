@@ -6,10 +6,11 @@ mod laws;
 mod limits;
 
 pub use grammar_laws::{
-    no_place_begins_no_word, same_places_same_rests, same_places_same_state, same_state_same_places,
+    a_grammar_text_has_one_first_fault, no_position_begins_no_word, same_positions_same_rests,
+    same_positions_same_state, same_state_same_positions,
 };
-pub use laws::analyses_are_ordered;
+pub use laws::{analyses_are_ordered, leads_are_those_of_the_inner_rules};
 pub use limits::{
     MOST_FORM_LETTERS, MOST_FORM_LINES, MOST_GRAMMAR_BYTES, MOST_GRAMMAR_NAMES,
-    MOST_GRAMMAR_STATES, MOST_LEADS, MOST_NAME_BYTES, MOST_PHASES, MOST_RULES, MOST_RULE_LETTERS,
+    MOST_GRAMMAR_STATES, MOST_LEADS, MOST_NAME_BYTES, MOST_PHASES, MOST_RULE_LETTERS, MOST_RULES,
 };

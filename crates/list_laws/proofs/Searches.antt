@@ -32,14 +32,14 @@ contained_at key (y ∷ xs) x i low here =
 
 -- the list rises by an order of the elements' keys, and r is what a search for the key x answered
 module _ {X K : Type 0} {R : K → K → Ordering} (total : IsTotalOrder R) (exact : CmpEqualImpliesEq R) (key : X → K) (xs : List X) (x : K) where
-  not_falling : IsStrictlySortedBy (on key R) xs → IsNonDecreasingBy (λ y. ordering_index (R (key y) x)) xs
+  pub not_falling : IsStrictlySortedBy (on key R) xs → IsNonDecreasingBy (λ y. ordering_index (R (key y) x)) xs
   not_falling rising =
       searchable_from_sorted total key xs x
       (λ k d low high. rw (total.antisymm (key (get_or xs (k + 1) d)) (key (get_or xs k d)))
       (not_less_back _ (Less-from_sorted (on key R) xs k (k + 1) d rising (omega arith) high)))
 
   -- no element has the key, where those before a place are below it and those from there on above it
-  absent : (i : ℕ) → IsPartitionPoint (λ y. R (key y) x ≡ Less) (λ y. R (key y) x ≡ Greater) xs i → Contains (map key xs) x → ⊥
+  pub absent : (i : ℕ) → IsPartitionPoint (λ y. R (key y) x ≡ Less) (λ y. R (key y) x ≡ Greater) xs i → Contains (map key xs) x → ⊥
   absent i parts found =
       let low : found.0 < length xs = simp length-map at found.1
       in has_element xs found.0 low

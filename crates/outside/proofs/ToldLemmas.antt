@@ -32,7 +32,7 @@ GrowsByPrefix-after old middle new first next before grows = record {
       ∙ ap (λ all. bytes_after old all) (sym (take-append-add first next grows.count));
 }
 
--- a prefix of the first bytes is a prefix of them with more behind
+-- a prefix of the first bytes is a prefix of them with more after them
 pub GrowsByPrefix-more : (old new : Option (List ℕ)) (first next : List ℕ) → GrowsByPrefix old new first → GrowsByPrefix old new (first ++ next)
 GrowsByPrefix-more old new first next grows =
     let part = take grows.count first in

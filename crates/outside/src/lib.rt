@@ -1,5 +1,22 @@
-//! The outside as the program sees it: files, input and output as traits with counts of faults; the gate before a
-//! piece of work, of which nothing is claimed; devices in memory; and the adapters over real files and streams.
+//! The outside as the program sees it: files (`Shelf`), input (`Source`) and output (`Sink`) as traits with counts of
+//! faults, each as a device in memory and as an adapter over the machine; the gate before a piece of work, of which
+//! nothing is claimed; and the count of steps by which costs are bounded.
+//!
+//! What is proved, by the names of the contracts, of every device:
+//!
+//! - `Shelf::read`: the first bytes under the name (`value`, `most`), or `missing`. `Shelf::write`: the new files (`ok`);
+//!   after an error the others stay (`others`).
+//! - `Source::read`: the next bytes (`ok`, `bound`, `end`) at the front of the buffer, and nothing else changes in it
+//!   (`rest`, `buffer`); an error takes nothing (`unchanged`).
+//! - `Sink::write`: the first bytes, one at least (`ok`, `some`, `bound`); an error takes nothing (`unchanged`).
+//!   `write_all`: all of them (`ok`), or a prefix (`prefix`).
+//! - All of them fail only where their count rose (`fault`), and a count neither falls (`never_falls`) nor rises
+//!   elsewhere (`faults`, `reads`, `writes`).
+//! - The devices in memory fail exactly at the calls that they are given (`failing`), and say all that a call leaves.
+//! - `Steps::new` and `Steps::tick` give 0 and one more.
+//!
+//! The adapters tell no bytes, so no public clause shows what they do with those of a real file or stream. Their private
+//! functions are proved over any reader and any writer, and tests show the rest.
 #![tactic(auto)]
 
 mod disk_shelf;
@@ -13,6 +30,7 @@ mod schedule;
 mod shelf;
 mod sink;
 mod source;
+mod steps;
 #[cfg(test)]
 mod tests;
 
@@ -26,3 +44,4 @@ pub use output_sink::OutputSink;
 pub use shelf::{Shelf, ShelfError};
 pub use sink::{Sink, WriteError, write_all};
 pub use source::{Failed, Source};
+pub use steps::Steps;

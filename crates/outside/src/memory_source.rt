@@ -69,6 +69,8 @@ impl Source for MemorySource {
         ensures bytes { IfOk result (λ n. take n buf.new ≡ take n self.old.left) }
 
         // What the call leaves.
+        ensures rest { IfOk result (λ n. drop n buf.new ≡ drop n buf.old) }
+        ensures buffer { OnErr result (buf.new ≡ buf.old) }
         ensures ok { IfOk result (λ n. self.new ≡ record self.old {
           left = drop n self.old.left;
           calls = one_more self.old.calls;

@@ -56,7 +56,7 @@ pub trait Shelf {
 
     /// The first `most` bytes of the file, all of them where they are fewer. `Missing` only where the shelf tells
     /// its files and has none of this name, `Failed` only where the count of failed reads rose, `Memory` for want
-    /// of it. The files stay.
+    /// of memory. The files stay.
     fn read(&mut self, alloc: Global, name: &str, most: usize) -> Result<Vec<u8>, ShelfError>
         ensures value { IfOk result (λ bytes. AreFirstBytes (files self.old) name.now most bytes.items) }
         ensures most { IfOk result (λ bytes. vec_len bytes ≤ most) }

@@ -1,4 +1,4 @@
-ghost use Rattle.std.specs.Prelude.{◌≡◌, ℕ, ◌-◌, ◌^◌, ◌<◌, ◌≤◌, List, length, take, Option, OnOk, OnErr, IfOk};
+ghost use Rattle.std.specs.Prelude.{◌≡◌, ℕ, ◌-◌, ◌^◌, ◌<◌, ◌≤◌, List, length, take, drop, Option, OnOk, OnErr, IfOk};
 ghost use Rattle.outside.specs.Counts.{Rose};
 ghost use Rattle.outside.specs.Told.{bytes_before, IsAtEnd};
 
@@ -27,7 +27,8 @@ pub trait Source {
     ghost faults: { Self → ℕ };
 
     /// Puts the next bytes at the front of `buf`, which has room for one at least, and answers how many; 0 is the
-    /// end of input. `Failed` only where the count of faults rose, and takes nothing.
+    /// end of input. `Failed` only where the count of faults rose, and takes nothing. All of `buf` after the bytes
+    /// given stays, and after an error the whole of it.
     fn read(&mut self, buf: &mut [u8]) -> Result<usize, Failed>
         requires { 0 < length buf.old }
         ensures bound { IfOk result (λ n. n ≤ length buf.new) }
@@ -36,7 +37,9 @@ pub trait Source {
         ensures fault { OnErr result (Rose (faults self.old) (faults self.new)) }
 
         // What stays.
+        ensures rest { IfOk result (λ n. drop n buf.new ≡ drop n buf.old) }
         ensures unchanged { OnErr result (left self.new ≡ left self.old) }
+        ensures buffer { OnErr result (buf.new ≡ buf.old) }
         ensures faults { OnOk result (faults self.new ≡ faults self.old) }
         ensures never_falls { faults self.old ≤ faults self.new }
         ensures limit { faults self.new ≤ 2 ^ 64 - 1 };

@@ -1,3 +1,5 @@
+ghost use Rattle.std.specs.Prelude.{◌≡◌, ◌+◌};
+
 mod scripted_input;
 mod scripted_printer;
 
@@ -130,6 +132,56 @@ fn streams_that_fail_in_between(rt: HostRuntime) -> Result<(), Fail> {
         assert_eq!(rt; write_all(&mut out, bytes), wanted);
     }
     assert_eq!(rt; printer.into_taken().as_slice(), b"devadatta".as_slice());
+    Ok(())
+}
+
+// The shelf on the disk reads and writes in pieces of 65,536 bytes. No clause can see the bytes of a real file, so this
+// shows that no piece is left out, and that a read stops at the byte that is asked for.
+#[test]
+fn a_file_of_three_pieces(rt: HostRuntime) -> Result<(), Fail> {
+    let alloc = rt.alloc();
+    let mut bytes = Vec::new(alloc);
+    for place in 0..150_000_u32 {
+        bytes.push((place % 251) as u8)?;
+    }
+    let mut shelf = DiskShelf::new(&rt);
+    assert_eq!(rt; write_of(&mut shelf, "pieces", &bytes), Ok(()));
+    for most in [65_535, 65_536, 65_537, 131_072, 150_000, 200_000] {
+        let found = read_of(&mut shelf, alloc, "pieces", most)?;
+        let wanted = &bytes[..most.min(bytes.len())];
+        assert!(rt; found.as_slice() == wanted, "{most}");
+    }
+    fs::remove_file(&rt, "pieces")?;
+    Ok(())
+}
+
+// Workers pass one gate, and a count of steps may go to another thread. The bounds show it.
+fn pass_shared<G: Gate + Sync, S: Send>(gate: &G, _sent: S)
+where
+    S: Drop,
+{
+    gate.pass(0);
+}
+
+#[test]
+fn a_gate_is_shared() {
+    pass_shared(&NoGate, Steps::<NoGate>::new());
+}
+
+// A function over any ledger says how many steps it took.
+fn two_steps<L>(steps: &mut Steps<L>)
+    ensures { steps.new ≡ steps.old + 2 }
+{
+    steps.tick();
+    steps.tick();
+}
+
+#[test]
+fn steps_take_no_bytes(rt: HostRuntime) -> Result<(), Fail> {
+    struct Walk;
+    let mut steps: Steps<Walk> = Steps::new();
+    two_steps(&mut steps);
+    assert_eq!(rt; size_of::<Steps<Walk>>(), 0);
     Ok(())
 }
 

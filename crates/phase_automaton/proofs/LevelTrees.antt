@@ -1,16 +1,16 @@
--- A level one step on: what does not change keeps its pieces, since each part has places of its own.
+-- A level one step on: what does not change keeps its pieces, since each part has positions of its own.
 use Rattle.std.proofs.Common.{◌≡◌, ◌≢◌, ℕ, ◌+◌, ◌≤◌, Option, Some, None, List, [], ◌∷◌, length, refl, sym, ap, ◌∙◌, arith, subst}
 use Rattle.lexicon_definitions.specs.Grammars.{Grammar, Sequence, Either, count_names}
 use Rattle.lexicon_definitions.specs.GrammarTexts.{Level as OpenLevel, empty_level, sequence_tree, expression_tree, with_item, with_newest, change_newest, level_tree}
-use Rattle.phase_automaton.specs.declared.place_set.PlaceSet.{PlaceSet}
-use Rattle.phase_automaton.specs.declared.place.Place.{Place}
+use Rattle.phase_automaton.specs.declared.position_set.PositionSet.{PositionSet}
+use Rattle.phase_automaton.specs.declared.position.Position.{Position}
 use Rattle.phase_automaton.specs.declared.piece.Piece.{Piece}
 use Rattle.phase_automaton.specs.declared.level.Level.{Level}
 use Rattle.phase_automaton.specs.Pieces.{IsPiece, IsLinked}
 use Rattle.phase_automaton.specs.Levels.{choices_tree, items_tree, front_tree, newest_tree, IsPart, IsLevel, ChangesWithin, KeepsOthers, AreJoined}
 use Rattle.phase_automaton.proofs.PieceTrees.{AgreeOn, keep_piece, ends_within}
 
-pub keep_part : (old new : List Place) (piece : Option Piece) (tree : Option Grammar) (from until : ℕ) → length old ≤ length new
+pub keep_part : (old new : List Position) (piece : Option Piece) (tree : Option Grammar) (from until : ℕ) → length old ≤ length new
     → AgreeOn old new from until → IsPart old piece tree from until → IsPart new piece tree from until
 keep_part old new None None from until longer same h = h
 keep_part old new (Some piece) (Some tree) from until longer same h =
@@ -18,30 +18,30 @@ keep_part old new (Some piece) (Some tree) from until longer same h =
 keep_part old new (Some piece) None from until longer same h = h
 keep_part old new None (Some tree) from until longer same h = h
 
--- a part's places rise
-pub part_rises : (places : List Place) (piece : Option Piece) (tree : Option Grammar) (from until : ℕ)
-    → IsPart places piece tree from until → from ≤ until
-part_rises places None None from until h = omega (arith, h)
-part_rises places (Some piece) (Some tree) from until h = omega (arith, h.0)
-part_rises places (Some piece) None from until h = absurd h
-part_rises places None (Some tree) from until h = absurd h
+-- a part's positions rise
+pub part_rises : (positions : List Position) (piece : Option Piece) (tree : Option Grammar) (from until : ℕ)
+    → IsPart positions piece tree from until → from ≤ until
+part_rises positions None None from until h = omega (arith, h)
+part_rises positions (Some piece) (Some tree) from until h = omega (arith, h.0)
+part_rises positions (Some piece) None from until h = absurd h
+part_rises positions None (Some tree) from until h = absurd h
 
--- a link from the ends of a piece changes its own places alone
-pub link_within : (old new : List Place) (piece : Piece) (tree : Grammar) (from : ℕ) (to : PlaceSet) → IsPiece old piece tree from
+-- a link from the ends of a piece changes its own positions alone
+pub link_within : (old new : List Position) (piece : Piece) (tree : Grammar) (from : ℕ) (to : PositionSet) → IsPiece old piece tree from
     → IsLinked old new piece.last to → ChangesWithin old new from (from + count_names tree)
 link_within old new piece tree from to h linked = record {
   before = λ k below. linked.others k (λ x. let w = ends_within tree from k ((h.last k).0 x) in omega (arith, w.0));
   following = λ k above. linked.others k (λ x. let w = ends_within tree from k ((h.last k).0 x) in omega (arith, w.1));
 }
 
-pub no_change : (places : List Place) (from until : ℕ) → ChangesWithin places places from until
-no_change places from until = record { before = λ k h. refl; following = λ k h. refl }
+pub no_change : (positions : List Position) (from until : ℕ) → ChangesWithin positions positions from until
+no_change positions from until = record { before = λ k h. refl; following = λ k h. refl }
 
-wider : (old new : List Place) (a b c d : ℕ) → a ≤ b → c ≤ d → ChangesWithin old new b c → ChangesWithin old new a d
+wider : (old new : List Position) (a b c d : ℕ) → a ≤ b → c ≤ d → ChangesWithin old new b c → ChangesWithin old new a d
 wider old new a b c d h k w = record { before = λ i l. w.before i (omega arith); following = λ i l. w.following i (omega arith) }
 
 -- ---- two parts that are joined
-pub joined_both : (old new : List Place) (sequence item result : Piece) → IsLinked old new sequence.last item.first
+pub joined_both : (old new : List Position) (sequence item result : Piece) → IsLinked old new sequence.last item.first
     → ((first second : Grammar) (from : ℕ) → IsPiece old sequence first from → IsPiece old item second (from + count_names first)
     → IsPiece new result (Sequence first second) from)
     → AreJoined old new (Some sequence) (Some item) (Some result)
@@ -68,57 +68,57 @@ joined_both old new sequence item result linked piece = record {
       piece (sequence_tree (y ∷ items)) x from s.1 (subst (λ n. IsPiece old item x n) (sym s.0) i.1),
     )
 
-pub joined_item : (places : List Place) (item : Option Piece) → AreJoined places places None item item
-joined_item places item = record {
+pub joined_item : (positions : List Position) (item : Option Piece) → AreJoined positions positions None item item
+joined_item positions item = record {
   count = refl;
-  within = λ items from newest until s i. no_change places from until;
+  within = λ items from newest until s i. no_change positions from until;
   piece = parts;
 }
   where
-    parts : (items : List Grammar) (from newest until : ℕ) → IsPart places None (front_tree items) from newest
-        → IsPart places item (newest_tree items) newest until → IsPart places item (items_tree items) from until
-    parts [] from newest until s i = subst (λ n. IsPart places item None n until) (sym s) i
-    parts (x ∷ []) from newest until s i = subst (λ n. IsPart places item (Some x) n until) (sym s) i
+    parts : (items : List Grammar) (from newest until : ℕ) → IsPart positions None (front_tree items) from newest
+        → IsPart positions item (newest_tree items) newest until → IsPart positions item (items_tree items) from until
+    parts [] from newest until s i = subst (λ n. IsPart positions item None n until) (sym s) i
+    parts (x ∷ []) from newest until s i = subst (λ n. IsPart positions item (Some x) n until) (sym s) i
     parts (x ∷ y ∷ items) from newest until s i = absurd s
 
-pub joined_sequence : (places : List Place) (sequence : Piece) → AreJoined places places (Some sequence) None (Some sequence)
-joined_sequence places sequence = record {
+pub joined_sequence : (positions : List Position) (sequence : Piece) → AreJoined positions positions (Some sequence) None (Some sequence)
+joined_sequence positions sequence = record {
   count = refl;
-  within = λ items from newest until s i. no_change places from until;
+  within = λ items from newest until s i. no_change positions from until;
   piece = parts;
 }
   where
-    parts : (items : List Grammar) (from newest until : ℕ) → IsPart places (Some sequence) (front_tree items) from newest
-        → IsPart places None (newest_tree items) newest until → IsPart places (Some sequence) (items_tree items) from until
+    parts : (items : List Grammar) (from newest until : ℕ) → IsPart positions (Some sequence) (front_tree items) from newest
+        → IsPart positions None (newest_tree items) newest until → IsPart positions (Some sequence) (items_tree items) from until
     parts [] from newest until s i = absurd s
     parts (x ∷ items) from newest until s i = absurd i
 
 -- ---- either of two
-pub chosen_both : (places : List Place) (choices sequence result : Piece)
-    → ((left right : Grammar) (from : ℕ) → IsPiece places choices left from → IsPiece places sequence right (from + count_names left)
-    → IsPiece places result (Either left right) from)
+pub chosen_both : (positions : List Position) (choices sequence result : Piece)
+    → ((left right : Grammar) (from : ℕ) → IsPiece positions choices left from → IsPiece positions sequence right (from + count_names left)
+    → IsPiece positions result (Either left right) from)
     → (sequences : List Grammar) (tree : Grammar) (from middle until : ℕ)
-    → IsPart places (Some choices) (choices_tree sequences) from middle → IsPart places (Some sequence) (Some tree) middle until
-    → IsPart places (Some result) (Some (expression_tree (tree ∷ sequences))) from until
-chosen_both places choices sequence result piece [] tree from middle until c s = absurd c
-chosen_both places choices sequence result piece (x ∷ xs) tree from middle until c s = (
+    → IsPart positions (Some choices) (choices_tree sequences) from middle → IsPart positions (Some sequence) (Some tree) middle until
+    → IsPart positions (Some result) (Some (expression_tree (tree ∷ sequences))) from until
+chosen_both positions choices sequence result piece [] tree from middle until c s = absurd c
+chosen_both positions choices sequence result piece (x ∷ xs) tree from middle until c s = (
   omega (arith, c.0, s.0),
-  piece (expression_tree (x ∷ xs)) tree from c.1 (subst (λ n. IsPiece places sequence tree n) (sym c.0) s.1),
+  piece (expression_tree (x ∷ xs)) tree from c.1 (subst (λ n. IsPiece positions sequence tree n) (sym c.0) s.1),
 )
 
-pub chosen_sequence : (places : List Place) (sequence : Option Piece) (sequences : List Grammar) (tree : Grammar) (from middle until : ℕ)
-    → IsPart places None (choices_tree sequences) from middle → IsPart places sequence (Some tree) middle until
-    → IsPart places sequence (Some (expression_tree (tree ∷ sequences))) from until
-chosen_sequence places sequence [] tree from middle until c s = subst (λ n. IsPart places sequence (Some tree) n until) (sym c) s
-chosen_sequence places sequence (x ∷ xs) tree from middle until c s = absurd c
+pub chosen_sequence : (positions : List Position) (sequence : Option Piece) (sequences : List Grammar) (tree : Grammar) (from middle until : ℕ)
+    → IsPart positions None (choices_tree sequences) from middle → IsPart positions sequence (Some tree) middle until
+    → IsPart positions sequence (Some (expression_tree (tree ∷ sequences))) from until
+chosen_sequence positions sequence [] tree from middle until c s = subst (λ n. IsPart positions sequence (Some tree) n until) (sym c) s
+chosen_sequence positions sequence (x ∷ xs) tree from middle until c s = absurd c
 
 -- ---- levels
-pub empty_is_level : (places : List Place) (from : ℕ)
-    → IsLevel places (record { choices = None; sequence = None; item = None }) empty_level from from
-empty_is_level places from = record { middle = from; newest = from; choices = refl; sequence = refl; item = refl }
+pub empty_is_level : (positions : List Position) (from : ℕ)
+    → IsLevel positions (record { choices = None; sequence = None; item = None }) empty_level from from
+empty_is_level positions from = record { middle = from; newest = from; choices = refl; sequence = refl; item = refl }
 
--- a level stays one where its places stay the same
-pub keep_level : (old new : List Place) (level : Level) (open_level : OpenLevel) (from until : ℕ) → length old ≤ length new
+-- a level stays one where its positions stay the same
+pub keep_level : (old new : List Position) (level : Level) (open_level : OpenLevel) (from until : ℕ) → length old ≤ length new
     → AgreeOn old new from until → IsLevel old level open_level from until → IsLevel new level open_level from until
 keep_level old new level open_level from until longer same h =
     let a = part_rises old level.choices (choices_tree open_level.sequences) from h.middle h.choices in
@@ -132,7 +132,7 @@ keep_level old new level open_level from until longer same h =
       item = keep_part old new level.item (newest_tree open_level.items) h.newest until longer (λ k x y. same k (omega arith) y) h.item;
     }
 
-module _ (old new : List Place) (level : Level) (joined : Option Piece) (j : AreJoined old new level.sequence level.item joined) where
+module _ (old new : List Position) (level : Level) (joined : Option Piece) (j : AreJoined old new level.sequence level.item joined) where
   pub join_keeps : KeepsOthers old new level
   join_keeps = record {
     count = j.count;
@@ -164,9 +164,9 @@ module _ (old new : List Place) (level : Level) (joined : Option Piece) (j : Are
   }
 
   pub finished_part : (result : Option Piece)
-      → ((places : List Place) (sequences : List Grammar) (tree : Grammar) (from middle until : ℕ)
-      → IsPart places level.choices (choices_tree sequences) from middle → IsPart places joined (Some tree) middle until
-      → IsPart places result (Some (expression_tree (tree ∷ sequences))) from until)
+      → ((positions : List Position) (sequences : List Grammar) (tree : Grammar) (from middle until : ℕ)
+      → IsPart positions level.choices (choices_tree sequences) from middle → IsPart positions joined (Some tree) middle until
+      → IsPart positions result (Some (expression_tree (tree ∷ sequences))) from until)
       → (open_level : OpenLevel) (from until : ℕ) → open_level.items ≢ [] → IsLevel old level open_level from until
       → IsPart new result (Some (level_tree open_level)) from until
   finished_part result chosen open_level from until some h =
@@ -178,36 +178,36 @@ module _ (old new : List Place) (level : Level) (joined : Option Piece) (j : Are
       go [] some p = absurd (some refl)
       go (x ∷ items) some p = p
 
-pub bar_level : (places : List Place) (result : Option Piece) (open_level : OpenLevel) (from until : ℕ)
-    → IsPart places result (Some (level_tree open_level)) from until
-    → IsLevel places (record { choices = result; sequence = None; item = None })
+pub bar_level : (positions : List Position) (result : Option Piece) (open_level : OpenLevel) (from until : ℕ)
+    → IsPart positions result (Some (level_tree open_level)) from until
+    → IsLevel positions (record { choices = result; sequence = None; item = None })
     (record { sequences = sequence_tree open_level.items ∷ open_level.sequences; items = [] }) from until
-bar_level places result open_level from until p =
+bar_level positions result open_level from until p =
     record { middle = until; newest = until; choices = p; sequence = refl; item = refl }
 
 -- ---- repetition
-pub repeat_none : (places : List Place) (level : Level) (change : Grammar → Grammar) (open_level : OpenLevel) (from until : ℕ)
-    → level.item ≡ None → IsLevel places level open_level from until → IsLevel places level (change_newest change open_level) from until
-repeat_none places level change open_level from until none h = record {
+pub repeat_none : (positions : List Position) (level : Level) (change : Grammar → Grammar) (open_level : OpenLevel) (from until : ℕ)
+    → level.item ≡ None → IsLevel positions level open_level from until → IsLevel positions level (change_newest change open_level) from until
+repeat_none positions level change open_level from until none h = record {
   middle = h.middle;
   newest = h.newest;
   choices = h.choices;
-  sequence = subst (λ (tree : Option Grammar). IsPart places level.sequence tree h.middle h.newest) (front open_level.items) h.sequence;
-  item = go open_level.items (subst (λ (piece : Option Piece). IsPart places piece (newest_tree open_level.items) h.newest until) none h.item)
-      (subst (λ (tree : Option Grammar). IsPart places level.item tree h.newest until) refl h.item);
+  sequence = subst (λ (tree : Option Grammar). IsPart positions level.sequence tree h.middle h.newest) (front open_level.items) h.sequence;
+  item = go open_level.items (subst (λ (piece : Option Piece). IsPart positions piece (newest_tree open_level.items) h.newest until) none h.item)
+      (subst (λ (tree : Option Grammar). IsPart positions level.item tree h.newest until) refl h.item);
 }
   where
     front : (items : List Grammar) → front_tree items ≡ front_tree (with_newest change items)
     front [] = refl
     front (x ∷ items) = refl
 
-    go : (items : List Grammar) → IsPart places None (newest_tree items) h.newest until
-        → IsPart places level.item (newest_tree items) h.newest until
-        → IsPart places level.item (newest_tree (with_newest change items)) h.newest until
+    go : (items : List Grammar) → IsPart positions None (newest_tree items) h.newest until
+        → IsPart positions level.item (newest_tree items) h.newest until
+        → IsPart positions level.item (newest_tree (with_newest change items)) h.newest until
     go [] p q = q
     go (x ∷ items) p q = absurd p
 
-pub repeat_item : (old new : List Place) (level : Level) (item result : Piece) (change : Grammar → Grammar)
+pub repeat_item : (old new : List Position) (level : Level) (item result : Piece) (change : Grammar → Grammar)
     → ((tree : Grammar) → count_names (change tree) ≡ count_names tree) → level.item ≡ Some item
     → length new ≡ length old
     → ((tree : Grammar) (from : ℕ) → IsPiece old item tree from → ChangesWithin old new from (from + count_names tree))
@@ -233,7 +233,7 @@ repeat_item old new level item result change counts is count within piece open_l
         }
 
 -- what a repetition changes
-pub repeat_keeps : (old new : List Place) (level : Level) (item : Piece) → level.item ≡ Some item → length new ≡ length old
+pub repeat_keeps : (old new : List Position) (level : Level) (item : Piece) → level.item ≡ Some item → length new ≡ length old
     → ((tree : Grammar) (from : ℕ) → IsPiece old item tree from → ChangesWithin old new from (from + count_names tree))
     → KeepsOthers old new level
 repeat_keeps old new level item is count within = record { count = count; within = keeps }
@@ -250,5 +250,5 @@ repeat_keeps old new level item is count within = record { count = count; within
             let b = part_rises old level.sequence (items_tree items) h.middle h.newest s in
             wider old new from h.newest (h.newest + count_names x) until (omega arith) (omega (arith, i.0)) (within x h.newest i.1)
 
-pub keeps_all : (places : List Place) (level : Level) → KeepsOthers places places level
-keeps_all places level = record { count = refl; within = λ open_level from until h. no_change places from until }
+pub keeps_all : (positions : List Position) (level : Level) → KeepsOthers positions positions level
+keeps_all positions level = record { count = refl; within = λ open_level from until h. no_change positions from until }

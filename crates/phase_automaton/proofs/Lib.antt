@@ -1,4 +1,4 @@
-pub mod PlaceSetBits
+pub mod PositionSetBits
 pub mod PhaseNumbers
 pub mod NamesForward
 pub mod Links
@@ -11,6 +11,10 @@ pub mod Readings
 pub mod SubsetSteps
 pub mod SubsetTables
 pub mod FaultCases
+pub mod MachineTables
+pub mod SetStates
+pub mod ReachedSets
+pub mod NumberedStates
 pub mod Recognition
 pub mod StateCounts
 pub mod Reading

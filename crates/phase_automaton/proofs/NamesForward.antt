@@ -4,8 +4,8 @@ use Rattle.std.specs.List.{list_any}
 use Rattle.std.specs.Str.{bytes_eq}
 use Rattle.lexicon_definitions.specs.GrammarTexts.{is_name_byte, begins_with_name_byte}
 use Rattle.lexicon_definitions.specs.GrammarFaults.{PlacedName, names_from, with_first_byte, first_unknown}
-use Rattle.phase_automaton.specs.declared.place.Place.{Place}
-use Rattle.phase_automaton.specs.Names.{first_name, place_of_name}
+use Rattle.phase_automaton.specs.declared.position.Position.{Position}
+use Rattle.phase_automaton.specs.Names.{first_name, position_of_name}
 use Rattle.phase_automaton.proofs.PhaseNumbers.{any_from_position, none_from_position}
 
 -- the names that begin in the rest of a text, at this place, where a name ends in front of it or none does
@@ -92,18 +92,18 @@ names_end at byte text true e = cond_false (is_name_byte byte) (names_after true
 names_end at byte text false e =
     cond_false (is_name_byte byte) (record { at = at; bytes = byte ∷ first_name text } ∷ names_after true (at + 1) text) (names_after false (at + 1) text) e
 
--- ---- the loop that reads the places
+-- ---- the loop that reads the positions
 -- a name of a phase begins here
-pub places_begin : (names : List (List ℕ)) (items all : List Place) (at byte phase : ℕ) (rest text : List ℕ)
+pub positions_begin : (names : List (List ℕ)) (items all : List Position) (at byte phase : ℕ) (rest text : List ℕ)
     → rest ≡ byte ∷ text → is_name_byte byte ≡ true → Some phase ≡ position (bytes_eq (first_name rest)) names
-    → items ++ map (place_of_name names) (names_after false at rest) ≡ all
-    → (items ++ record { phase = phase; follow = record { bits = 0 } } ∷ []) ++ map (place_of_name names) (names_after true (at + 1) text) ≡ all
-places_begin names items all at byte phase rest text is e found h =
-    append_assoc items (record { phase = phase; follow = record { bits = 0 } } ∷ []) (map (place_of_name names) (names_after true (at + 1) text))
-    ∙ (ap (λ n. items ++ record { phase = n; follow = record { bits = 0 } } ∷ map (place_of_name names) (names_after true (at + 1) text)) (ap (λ o. unwrap_or o 0) found)
-    ∙ (ap (λ bytes. items ++ place_of_name names (record { at = at; bytes = bytes }) ∷ map (place_of_name names) (names_after true (at + 1) text)) (ap first_name is)
-    ∙ (ap (λ ns. items ++ map (place_of_name names) ns) (sym (names_begin at byte text e))
-    ∙ (ap (λ r. items ++ map (place_of_name names) (names_after false at r)) (sym is) ∙ h))))
+    → items ++ map (position_of_name names) (names_after false at rest) ≡ all
+    → (items ++ record { phase = phase; follow = record { bits = 0 } } ∷ []) ++ map (position_of_name names) (names_after true (at + 1) text) ≡ all
+positions_begin names items all at byte phase rest text is e found h =
+    append_assoc items (record { phase = phase; follow = record { bits = 0 } } ∷ []) (map (position_of_name names) (names_after true (at + 1) text))
+    ∙ (ap (λ n. items ++ record { phase = n; follow = record { bits = 0 } } ∷ map (position_of_name names) (names_after true (at + 1) text)) (ap (λ o. unwrap_or o 0) found)
+    ∙ (ap (λ bytes. items ++ position_of_name names (record { at = at; bytes = bytes }) ∷ map (position_of_name names) (names_after true (at + 1) text)) (ap first_name is)
+    ∙ (ap (λ ns. items ++ map (position_of_name names) ns) (sym (names_begin at byte text e))
+    ∙ (ap (λ r. items ++ map (position_of_name names) (names_after false at r)) (sym is) ∙ h))))
 
 pub known_begin : (names : List (List ℕ)) (unknown : Option ℕ) (at byte phase : ℕ) (rest text : List ℕ)
     → rest ≡ byte ∷ text → is_name_byte byte ≡ true → Some phase ≡ position (bytes_eq (first_name rest)) names

@@ -1,4 +1,4 @@
--- The first place that passes a test, from what is known of the places before it.
+-- The first element of a list that passes a test, from what is known of the elements before it.
 use Rattle.std.proofs.Common.{◌≡◌, ℕ, zero, suc, ◌<◌, ◌≤◌, Bool, true, false, cond, nat_lt, Some, None, List, [], ◌∷◌, map, length, get_or, refl, sym, ap, arith, position}
 use Rattle.std.specs.Prelude.{◌||◌}
 use Rattle.std.specs.List.{position_or_len, list_any}

@@ -5,12 +5,12 @@ use Rattle.std.proofs.lemmas.Bool.{false≢true, eqb-true, ltb-false, ltb-true, 
 use Rattle.lexicon_definitions.specs.Grammars.{Grammar, Name, AnyTimes, OnceOrMore, AtMostOnce}
 use Rattle.lexicon_definitions.specs.GrammarTexts.{Level as OpenLevel, Word, is_name_byte, is_blank, symbol_of, tokens_of, empty_level, with_item, with_newest, after_token, after_tokens}
 use Rattle.lexicon_definitions.specs.GrammarFaults.{Walk, walk_start, is_small_letter, may_follow_item, may_stand, after_symbol, after_byte, fault_from, syntax_fault, PlacedName, names_from}
-use Rattle.phase_automaton.specs.declared.place.Place.{Place}
+use Rattle.phase_automaton.specs.declared.position.Position.{Position}
 use Rattle.phase_automaton.specs.declared.reader.Reader.{Reader}
-use Rattle.phase_automaton.specs.Names.{first_name, opening_place, place_of_name, places_of}
+use Rattle.phase_automaton.specs.Names.{first_name, opening_position, position_of_name, positions_of}
 use Rattle.std.proofs.lemmas.Nat.Bits.{bit_at-zero}
-use Rattle.phase_automaton.specs.PlaceSets.{HasPlace}
-use Rattle.phase_automaton.specs.Pieces.{place_at, Follows}
+use Rattle.phase_automaton.specs.PositionSets.{HasPosition}
+use Rattle.phase_automaton.specs.Pieces.{position_at, Follows}
 use Rattle.phase_automaton.specs.Readers.{IsReader, CanRead}
 use Rattle.phase_automaton.proofs.NamesForward.{cond_true, cond_false, bool_cases, names_after, names_are, names_begin, names_go_on, names_end}
 use Rattle.phase_automaton.proofs.TokensForward.{with_other_byte, tokens_after, tokens_are, tokens_begin, tokens_go_on, tokens_end}
@@ -21,19 +21,19 @@ HasItem [] = ⊥
 HasItem (level ∷ levels) = level.items ≢ []
 
 -- the reader stands in a text before this rest, and reads the levels that come at the end
-pub record IsReading (names : List (List ℕ)) (all places : List Place) (reader : Reader) (in_name : Bool) (rest : List ℕ)
+pub record IsReading (names : List (List ℕ)) (all positions : List Position) (reader : Reader) (in_name : Bool) (rest : List ℕ)
     (end : List OpenLevel) : Type 0 where
   pub levels : List OpenLevel
   pub walk : Walk
   pub at : ℕ
-  pub reads : IsReader all places reader levels
+  pub reads : IsReader all positions reader levels
   pub goes_on : after_tokens names (tokens_after in_name rest) levels ≡ end
   pub no_fault : fault_from walk at rest ≡ None
   pub item : walk.needs_item ≡ false → HasItem levels
   pub depth : length levels ≡ walk.open_brackets + 1
   pub named : nat_lt 0 walk.name_length ≡ in_name
   pub name_is_item : in_name ≡ true → walk.needs_item ≡ false
-  pub left : drop reader.met all ≡ map (place_of_name names) (names_after in_name at rest)
+  pub left : drop reader.met all ≡ map (position_of_name names) (names_after in_name at rest)
 
 -- ---- what a byte may be
 pub no_fault_step : (walk : Walk) (at byte : ℕ) (text : List ℕ) → fault_from walk at (byte ∷ text) ≡ None
@@ -165,7 +165,7 @@ step_of names question [] walk text item depth m = no_levels walk.open_brackets 
 step_of names question (level ∷ levels) walk text item depth m =
     record { can = tt; item = λ e. kept_item AtMostOnce level.items (item (needed_none walk m)); depth = depth; named = refl; tokens = refl }
 
-pub symbol_reading : (names : List (List ℕ)) (all old new : List Place) (before after : Reader) (in_name now : Bool) (byte : ℕ)
+pub symbol_reading : (names : List (List ℕ)) (all old new : List Position) (before after : Reader) (in_name now : Bool) (byte : ℕ)
     (text : List ℕ) (end : List OpenLevel) → now ≡ false → is_name_byte byte ≡ false → after.met ≡ before.met
     → ((levels : List OpenLevel) → CanRead (symbol_of byte) levels → IsReader all old before levels
     → IsReader all new after (after_token names (symbol_of byte) levels))
@@ -185,7 +185,7 @@ symbol_reading names all old new before after in_name now byte text end now_is n
       depth = s.depth;
       named = s.named;
       name_is_item = λ e. cc;
-      left = ap (λ k. drop k all) met ∙ (r.left ∙ ap (map (place_of_name names)) (names_end r.at byte text in_name n));
+      left = ap (λ k. drop k all) met ∙ (r.left ∙ ap (map (position_of_name names)) (names_end r.at byte text in_name n));
     })
 
 -- ---- one byte of a name more
@@ -198,12 +198,12 @@ name_walk walk byte e =
 pub longer : (n : ℕ) → nat_lt 0 (n + 1) ≡ true
 longer n = lt-ltb 0 (n + 1) (omega arith)
 
-pub within_reading : (names : List (List ℕ)) (all places : List Place) (reader : Reader) (now : Bool) (byte : ℕ)
+pub within_reading : (names : List (List ℕ)) (all positions : List Position) (reader : Reader) (now : Bool) (byte : ℕ)
     (text : List ℕ) (end : List OpenLevel) → now ≡ true → is_name_byte byte ≡ true
-    → IsReading names all places reader true (byte ∷ text) end → IsReading names all places reader now text end
-within_reading names all places reader now byte text end now_is n r =
+    → IsReading names all positions reader true (byte ∷ text) end → IsReading names all positions reader now text end
+within_reading names all positions reader now byte text end now_is n r =
     let f = no_fault_step r.walk r.at byte text r.no_fault in
-    subst (λ b. IsReading names all places reader b text end) (sym now_is)
+    subst (λ b. IsReading names all positions reader b text end) (sym now_is)
     (record {
       levels = r.levels;
       walk = record { open_brackets = r.walk.open_brackets; needs_item = false; name_length = r.walk.name_length + 1 };
@@ -215,11 +215,11 @@ within_reading names all places reader now byte text end now_is n r =
       depth = r.depth;
       named = longer r.walk.name_length;
       name_is_item = λ e. refl;
-      left = r.left ∙ ap (map (place_of_name names)) (names_go_on r.at byte text n);
+      left = r.left ∙ ap (map (position_of_name names)) (names_go_on r.at byte text n);
     })
 
 -- ---- a name begins
--- the next place is that of the name
+-- the next position is that of the name
 head_of_drop : {A : Type 0} (xs : List A) (n : ℕ) (y : A) (ys : List A) (d : A) → drop n xs ≡ y ∷ ys
     → (n < length xs) × (get_or xs n d ≡ y) × (drop (n + 1) xs ≡ ys)
 head_of_drop [] zero y ys d e = cc
@@ -230,26 +230,26 @@ head_of_drop (x ∷ xs) (suc n) y ys d e =
     let k : suc n + 1 ≡ suc (n + 1) = omega arith in
     (omega (arith, h.0), h.1, ap (λ m. drop m (x ∷ xs)) k ∙ h.2)
 
-next_name : (names : List (List ℕ)) (all places : List Place) (reader : Reader) (byte : ℕ) (text : List ℕ) (end : List OpenLevel)
-    → is_name_byte byte ≡ true → (r : IsReading names all places reader false (byte ∷ text) end)
+next_name : (names : List (List ℕ)) (all positions : List Position) (reader : Reader) (byte : ℕ) (text : List ℕ) (end : List OpenLevel)
+    → is_name_byte byte ≡ true → (r : IsReading names all positions reader false (byte ∷ text) end)
     → (reader.met < length all)
-    × (place_at all reader.met ≡ place_of_name names (record { at = r.at; bytes = first_name (byte ∷ text) }))
-    × (drop (reader.met + 1) all ≡ map (place_of_name names) (names_after true (r.at + 1) text))
-next_name names all places reader byte text end n r =
-    head_of_drop all reader.met _ _ _ (r.left ∙ ap (map (place_of_name names)) (names_begin r.at byte text n))
+    × (position_at all reader.met ≡ position_of_name names (record { at = r.at; bytes = first_name (byte ∷ text) }))
+    × (drop (reader.met + 1) all ≡ map (position_of_name names) (names_after true (r.at + 1) text))
+next_name names all positions reader byte text end n r =
+    head_of_drop all reader.met _ _ _ (r.left ∙ ap (map (position_of_name names)) (names_begin r.at byte text n))
 
-pub name_within : (names : List (List ℕ)) (all places : List Place) (reader : Reader) (byte : ℕ) (text : List ℕ) (end : List OpenLevel)
-    → is_name_byte byte ≡ true → IsReading names all places reader false (byte ∷ text) end → reader.met < length places
-name_within names all places reader byte text end n r =
-    let h = next_name names all places reader byte text end n r in
+pub name_within : (names : List (List ℕ)) (all positions : List Position) (reader : Reader) (byte : ℕ) (text : List ℕ) (end : List OpenLevel)
+    → is_name_byte byte ≡ true → IsReading names all positions reader false (byte ∷ text) end → reader.met < length positions
+name_within names all positions reader byte text end n r =
+    let h = next_name names all positions reader byte text end n r in
     omega (arith, h.0, r.reads.count)
 
-pub name_reading : (names : List (List ℕ)) (all old new : List Place) (before after : Reader) (now : Bool) (byte : ℕ)
+pub name_reading : (names : List (List ℕ)) (all old new : List Position) (before after : Reader) (now : Bool) (byte : ℕ)
     (text : List ℕ) (end : List OpenLevel) → now ≡ true → is_name_byte byte ≡ true → after.met ≡ before.met + 1
-    → ((place : ℕ) → Follows all before.met place → ⊥)
-    → ((level : OpenLevel) (levels : List OpenLevel) → ((place : ℕ) → Follows all before.met place → ⊥)
+    → ((position : ℕ) → Follows all before.met position → ⊥)
+    → ((level : OpenLevel) (levels : List OpenLevel) → ((position : ℕ) → Follows all before.met position → ⊥)
     → IsReader all old before (level ∷ levels)
-    → IsReader all new after (with_item (Name (place_at all before.met).phase) level ∷ levels))
+    → IsReader all new after (with_item (Name (position_at all before.met).phase) level ∷ levels))
     → IsReading names all old before false (byte ∷ text) end → IsReading names all new after now text end
 name_reading names all old new before after now byte text end now_is n met none step r =
     let f = no_fault_step r.walk r.at byte text r.no_fault in
@@ -258,19 +258,19 @@ name_reading names all old new before after now byte text end now_is n met none 
   where
     go : (levels : List OpenLevel) → IsReader all old before levels → length levels ≡ r.walk.open_brackets + 1
         → after_tokens names (Word (first_name (byte ∷ text)) ∷ tokens_after true text) levels ≡ end
-        → place_at all before.met ≡ place_of_name names (record { at = r.at; bytes = first_name (byte ∷ text) })
+        → position_at all before.met ≡ position_of_name names (record { at = r.at; bytes = first_name (byte ∷ text) })
         → IsReading names all new after now text end
-    go [] reads depth goes_on place = no_levels r.walk.open_brackets depth
-    go (level ∷ levels) reads depth goes_on place =
+    go [] reads depth goes_on position = no_levels r.walk.open_brackets depth
+    go (level ∷ levels) reads depth goes_on position =
         let f = no_fault_step r.walk r.at byte text r.no_fault in
         let next = next_name names all old before byte text end n r in
         subst (λ b. IsReading names all new after b text end) (sym now_is)
         (record {
-          levels = with_item (Name (place_at all before.met).phase) level ∷ levels;
+          levels = with_item (Name (position_at all before.met).phase) level ∷ levels;
           walk = record { open_brackets = r.walk.open_brackets; needs_item = false; name_length = r.walk.name_length + 1 };
           at = r.at + 1;
           reads = step level levels none reads;
-          goes_on = ap (λ (p : Place). after_tokens names (tokens_after true text) (with_item (Name p.phase) level ∷ levels)) place ∙ goes_on;
+          goes_on = ap (λ (p : Position). after_tokens names (tokens_after true text) (with_item (Name p.phase) level ∷ levels)) position ∙ goes_on;
           no_fault = ap (λ w. fault_from w (r.at + 1) text) (sym (name_walk r.walk byte n)) ∙ f.1;
           item = λ e k. cc;
           depth = depth;
@@ -281,8 +281,8 @@ name_reading names all old new before after now byte text end now_is n met none 
 
 -- ---- the beginning and the end
 pub start_reading : (names : List (List ℕ)) (text : List ℕ) (reader : Reader) → reader.met ≡ 1 → syntax_fault text ≡ None
-    → IsReader (places_of names text) (places_of names text) reader (empty_level ∷ [])
-    → IsReading names (places_of names text) (places_of names text) reader false text (after_tokens names (tokens_of text) (empty_level ∷ []))
+    → IsReader (positions_of names text) (positions_of names text) reader (empty_level ∷ [])
+    → IsReading names (positions_of names text) (positions_of names text) reader false text (after_tokens names (tokens_of text) (empty_level ∷ []))
 start_reading names text reader met fault reads = record {
   levels = empty_level ∷ [];
   walk = walk_start;
@@ -294,19 +294,19 @@ start_reading names text reader met fault reads = record {
   depth = refl;
   named = refl;
   name_is_item = λ e. cc;
-  left = ap (λ k. drop k (places_of names text)) met ∙ ap (map (place_of_name names)) (sym (names_are text 0));
+  left = ap (λ k. drop k (positions_of names text)) met ∙ ap (map (position_of_name names)) (sym (names_are text 0));
 }
 
 -- at the end one level stands open, and it has an item
-pub record Ended (all places : List Place) (reader : Reader) (end : List OpenLevel) : Type 0 where
+pub record Ended (all positions : List Position) (reader : Reader) (end : List OpenLevel) : Type 0 where
   pub level : OpenLevel
   pub item : level.items ≢ []
-  pub reads : IsReader all places reader (level ∷ [])
+  pub reads : IsReader all positions reader (level ∷ [])
   pub end_is : end ≡ level ∷ []
 
-pub end_reading : (names : List (List ℕ)) (all places : List Place) (reader : Reader) (in_name : Bool) (end : List OpenLevel)
-    → IsReading names all places reader in_name [] end → Ended all places reader end
-end_reading names all places reader in_name end r =
+pub end_reading : (names : List (List ℕ)) (all positions : List Position) (reader : Reader) (in_name : Bool) (end : List OpenLevel)
+    → IsReading names all positions reader in_name [] end → Ended all positions reader end
+end_reading names all positions reader in_name end r =
     let none = ended (r.walk.needs_item || nat_lt 0 r.walk.open_brackets) r.at r.no_fault in
     let both = or_is_false r.walk.needs_item (nat_lt 0 r.walk.open_brackets) none in
     go r.levels r.reads (r.item both.0) (omega (arith, r.depth, ltb-false 0 r.walk.open_brackets both.1)) (levels_end in_name r.levels r.goes_on)
@@ -318,19 +318,19 @@ end_reading names all places reader in_name end r =
     levels_end : (in_name : Bool) (levels : List OpenLevel) → after_tokens names (tokens_after in_name []) levels ≡ end → end ≡ levels
     levels_end in_name levels e = sym e
 
-    go : (levels : List OpenLevel) → IsReader all places reader levels → HasItem levels → length levels ≡ 1 → end ≡ levels
-        → Ended all places reader end
+    go : (levels : List OpenLevel) → IsReader all positions reader levels → HasItem levels → length levels ≡ 1 → end ≡ levels
+        → Ended all positions reader end
     go [] reads item one is = absurd item
     go (level ∷ []) reads item one is = record { level = level; item = item; reads = reads; end_is = is }
     go (level ∷ outer ∷ levels) reads item one is = absurd (omega (arith, one))
 
--- nothing follows a place whose names were only read
-mapped_follows : (names : List (List ℕ)) (found : List PlacedName) (k place : ℕ)
-    → HasPlace (get_or (map (place_of_name names) found) k opening_place).follow place → ⊥
-mapped_follows names [] k place h = let z = bit_at-zero place in omega (arith, h, z)
-mapped_follows names (name ∷ found) zero place h = let z = bit_at-zero place in omega (arith, h, z)
-mapped_follows names (name ∷ found) (suc k) place h = mapped_follows names found k place h
+-- nothing follows a position whose names were only read
+mapped_follows : (names : List (List ℕ)) (found : List PlacedName) (k position : ℕ)
+    → HasPosition (get_or (map (position_of_name names) found) k opening_position).follow position → ⊥
+mapped_follows names [] k position h = let z = bit_at-zero position in omega (arith, h, z)
+mapped_follows names (name ∷ found) zero position h = let z = bit_at-zero position in omega (arith, h, z)
+mapped_follows names (name ∷ found) (suc k) position h = mapped_follows names found k position h
 
-pub none_follows : (names : List (List ℕ)) (text : List ℕ) (before place : ℕ) → Follows (places_of names text) before place → ⊥
-none_follows names text zero place h = let z = bit_at-zero place in omega (arith, h, z)
-none_follows names text (suc before) place h = mapped_follows names (names_from 0 text) before place h
+pub none_follows : (names : List (List ℕ)) (text : List ℕ) (before position : ℕ) → Follows (positions_of names text) before position → ⊥
+none_follows names text zero position h = let z = bit_at-zero position in omega (arith, h, z)
+none_follows names text (suc before) position h = mapped_follows names (names_from 0 text) before position h

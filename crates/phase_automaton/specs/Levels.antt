@@ -2,12 +2,12 @@
 use Rattle.std.specs.Prelude.{◌≡◌, ℕ, ◌+◌, ◌<◌, ◌≤◌, Option, Some, None, List, [], ◌∷◌, length}
 use Rattle.lexicon_definitions.specs.Grammars.{Grammar, AnyTimes, OnceOrMore, AtMostOnce, count_names}
 use Rattle.lexicon_definitions.specs.GrammarTexts.{Level as OpenLevel, sequence_tree, expression_tree}
-use Rattle.phase_automaton.specs.declared.place.Place.{Place}
+use Rattle.phase_automaton.specs.declared.position.Position.{Position}
 use Rattle.phase_automaton.specs.declared.piece.Piece.{Piece}
 use Rattle.phase_automaton.specs.declared.level.Level.{Level}
 use Rattle.phase_automaton.specs.declared.level.Repetition.{Repetition}
 use Rattle.phase_automaton.specs.declared.level.Repetition.TheVariants.{AnyTimes as Star, OnceOrMore as Plus, AtMostOnce as Question}
-use Rattle.phase_automaton.specs.Pieces.{place_at, IsPiece}
+use Rattle.phase_automaton.specs.Pieces.{position_at, IsPiece}
 
 -- these sequences as one tree, where there are any
 abbrev pub choices_tree : List Grammar → Option Grammar
@@ -29,33 +29,33 @@ abbrev pub newest_tree : List Grammar → Option Grammar
 newest_tree [] = None
 newest_tree (item ∷ items) = Some item
 
--- the piece stands for the tree whose names have the places from the one to before the other; nothing stands for nothing
-abbrev pub IsPart : List Place → Option Piece → Option Grammar → ℕ → ℕ → Type 0
-IsPart places None None from until = from ≡ until
-IsPart places (Some piece) (Some tree) from until = (from + count_names tree ≡ until) × IsPiece places piece tree from
-IsPart places (Some piece) None from until = ⊥
-IsPart places None (Some tree) from until = ⊥
+-- the piece stands for the tree whose names have the positions from the one to before the other; nothing stands for nothing
+abbrev pub IsPart : List Position → Option Piece → Option Grammar → ℕ → ℕ → Type 0
+IsPart positions None None from until = from ≡ until
+IsPart positions (Some piece) (Some tree) from until = (from + count_names tree ≡ until) × IsPiece positions piece tree from
+IsPart positions (Some piece) None from until = ⊥
+IsPart positions None (Some tree) from until = ⊥
 
--- the program's level stands for this one, whose names have the places from the one to before the other
-pub record IsLevel (places : List Place) (level : Level) (open_level : OpenLevel) (from until : ℕ) : Type 0 where
+-- the program's level stands for this one, whose names have the positions from the one to before the other
+pub record IsLevel (positions : List Position) (level : Level) (open_level : OpenLevel) (from until : ℕ) : Type 0 where
   pub middle : ℕ
   pub newest : ℕ
-  pub choices : IsPart places level.choices (choices_tree open_level.sequences) from middle
-  pub sequence : IsPart places level.sequence (front_tree open_level.items) middle newest
-  pub item : IsPart places level.item (newest_tree open_level.items) newest until
+  pub choices : IsPart positions level.choices (choices_tree open_level.sequences) from middle
+  pub sequence : IsPart positions level.sequence (front_tree open_level.items) middle newest
+  pub item : IsPart positions level.item (newest_tree open_level.items) newest until
 
--- the places outside of these are the same
-pub record ChangesWithin (old new : List Place) (from until : ℕ) : Type 0 where
-  pub before : (k : ℕ) → k < from → place_at new k ≡ place_at old k
-  pub following : (k : ℕ) → until ≤ k → place_at new k ≡ place_at old k
+-- the positions outside of these are the same
+pub record ChangesWithin (old new : List Position) (from until : ℕ) : Type 0 where
+  pub before : (k : ℕ) → k < from → position_at new k ≡ position_at old k
+  pub following : (k : ℕ) → until ≤ k → position_at new k ≡ position_at old k
 
--- no place changes but those of the level
-pub record KeepsOthers (old new : List Place) (level : Level) : Type 0 where
+-- no position changes but those of the level
+pub record KeepsOthers (old new : List Position) (level : Level) : Type 0 where
   pub count : length new ≡ length old
   pub within : (open_level : OpenLevel) (from until : ℕ) → IsLevel old level open_level from until → ChangesWithin old new from until
 
 -- what two parts of a level become: the items before the newest, and the newest
-pub record AreJoined (old new : List Place) (sequence item joined : Option Piece) : Type 0 where
+pub record AreJoined (old new : List Position) (sequence item joined : Option Piece) : Type 0 where
   pub count : length new ≡ length old
   pub within : (items : List Grammar) (from newest until : ℕ) → IsPart old sequence (front_tree items) from newest
       → IsPart old item (newest_tree items) newest until → ChangesWithin old new from until

@@ -1,4 +1,4 @@
-pub mod PlaceSets
+pub mod PositionSets
 pub mod Walks
 pub mod Names
 pub mod Faults
@@ -6,4 +6,5 @@ pub mod Pieces
 pub mod Levels
 pub mod Readers
 pub mod Automata
+pub mod Tables
 pub mod Subsets

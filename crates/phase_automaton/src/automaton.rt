@@ -1,11 +1,13 @@
-ghost use Rattle.std.specs.Prelude.{◌≡◌, ◌<◌, IsTrue, ◌↔◌, is_some, length};
-ghost use Rattle.phase_automaton.specs.Automata.{start_state, next_state, is_accepting, IsStateIn, IsTable};
+ghost use Rattle.std.specs.Prelude.{◌≡◌, ◌<◌, IsTrue, ◌↔◌, Some, is_some, length};
+ghost use Rattle.phase_automaton.specs.Automata.{start_state, next_state, is_accepting, IsStateIn, IsStateMachine};
+ghost use Rattle.phase_automaton.specs.Tables.{machine_of, IsTable};
 
 use super::state::State;
 use std::marker::Model;
 
-/// The automaton of a phase grammar: a table of its states, each of which stands for the places of the grammar at which the
-/// phases so far can have been read (McNaughton and Yamada 1960; Glushkov 1961).
+/// The automaton of a phase grammar: its states are the sets of positions of the grammar at which the last of the phases so
+/// far can have been read (McNaughton and Yamada 1960; Glushkov 1961), numbered from 0, and the dead state, from which no
+/// phases lead to a word.
 #[derive(Debug, Drop)]
 pub struct Automaton {
     phases: u32,
@@ -14,11 +16,12 @@ pub struct Automaton {
 }
 
 impl Model for Automaton {
-    ghost use Rattle.phase_automaton.specs.Automata.{Table, IsTable};
+    ghost use Rattle.phase_automaton.specs.Automata.{StateMachine};
+    ghost use Rattle.phase_automaton.specs.Tables.{machine_of, IsTable};
 
-    ghost Value = { Table };
+    ghost Value = { StateMachine };
 
-    ghost view = { λ a. record { phases = a.phases; steps = a.steps.items; accepting = a.accepting.items } };
+    ghost view = { λ a. machine_of (record { phases = a.phases; steps = a.steps.items; accepting = a.accepting.items }) };
 
     ghost invariant = { λ a. IsTable (record { phases = a.phases; steps = a.steps.items; accepting = a.accepting.items }) };
 }
@@ -26,7 +29,7 @@ impl Model for Automaton {
 impl Automaton {
     pub(crate) fn new(phases: u32, steps: Vec<State>, accepting: Vec<bool>) -> Automaton
         requires { IsTable (record { phases = phases; steps = steps.items; accepting = accepting.items }) }
-        ensures { result ≡ record { phases = phases; steps = steps.items; accepting = accepting.items } }
+        ensures { result ≡ machine_of (record { phases = phases; steps = steps.items; accepting = accepting.items }) }
     {
         Automaton {
             phases,
@@ -42,12 +45,22 @@ impl Automaton {
         self.phases
     }
 
-    /// How many states there are besides the dead one, 1 to 32.
+    /// How many numbered states there are: at least one, and at most `MOST_GRAMMAR_STATES`. The dead state is not
+    /// counted.
     pub fn states(&self) -> usize
-        ensures count { result ≡ length self.now.accepting }
-        ensures table { IsTable self.now }
+        ensures count { result ≡ length self.now.states }
+        ensures machine { IsStateMachine self.now }
     {
         self.accepting.len()
+    }
+
+    /// The state with this number, counted from 0.
+    pub fn state(&self, number: u8) -> State
+        requires { number < length self.now.states }
+        ensures state { result ≡ Some number }
+        ensures within { IsStateIn self.now result }
+    {
+        State::numbered(number)
     }
 
     /// The state before all phases.

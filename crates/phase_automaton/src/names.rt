@@ -4,11 +4,12 @@ ghost use Rattle.std.specs.Str.{bytes_eq};
 ghost use Rattle.std.specs.String.{string_bytes};
 ghost use Rattle.lexicon_definitions.specs.GrammarFaults.{names_from, first_unknown, UnknownPhase as UnknownName};
 ghost use Rattle.phase_automaton.specs.Faults.{IfFault};
-ghost use Rattle.phase_automaton.specs.Names.{first_name as first_name_of, places_of};
+ghost use Rattle.phase_automaton.specs.Names.{first_name as first_name_of, positions_of};
 
 use super::fault::{GrammarError, GrammarFault};
-use super::place::Place;
+use super::position::Position;
 use super::walk::is_name_byte;
+use lexicon_definitions::{MOST_GRAMMAR_BYTES, MOST_PHASES};
 use std::alloc::Global;
 
 /// The name that a text begins with, or nothing where it begins with none.
@@ -25,7 +26,7 @@ fn first_name(text: &[u8]) -> &[u8]
 
 /// The number of the phase with this name, counted from 0.
 fn phase_of(names: &[String], name: &[u8]) -> Option<u32>
-    requires { length names.now ≤ 16 }
+    requires { length names.now ≤ MOST_PHASES }
     ensures { result ≡ position (bytes_eq name.now) (map string_bytes names.now) }
 {
     for (phase, known) in names.iter().enumerate() {
@@ -36,22 +37,22 @@ fn phase_of(names: &[String], name: &[u8]) -> Option<u32>
     None
 }
 
-/// The places of a text's names, after place 0, each with its phase and with nothing that follows yet. Refuses the first
+/// The positions of a text's names, after position 0, each with its phase and with nothing that follows yet. Refuses the first
 /// name that is that of no phase.
-pub(crate) fn read_places(
+pub(crate) fn read_positions(
     alloc: Global,
     text: &[u8],
     names: &[String],
-) -> Result<Vec<Place>, GrammarError>
-    requires text { length text.now ≤ 1024 }
-    requires names { length names.now ≤ 16 }
-    ensures places { IfOk result (λ places. places.items ≡ places_of (map string_bytes names.now) text.now) }
+) -> Result<Vec<Position>, GrammarError>
+    requires text { length text.now ≤ MOST_GRAMMAR_BYTES }
+    requires names { length names.now ≤ MOST_PHASES }
+    ensures positions { IfOk result (λ positions. positions.items ≡ positions_of (map string_bytes names.now) text.now) }
     ensures known { OnOk result (first_unknown (map string_bytes names.now) (names_from 0 text.now) ≡ None) }
     ensures fault { IfErr result (λ e. IfFault e (λ fault.
         option_map UnknownName (first_unknown (map string_bytes names.now) (names_from 0 text.now)) ≡ Some fault)) }
 {
-    let mut places = Vec::new(alloc);
-    places.push(Place::opening())?;
+    let mut positions = Vec::new(alloc);
+    positions.push(Position::opening())?;
     let mut in_name = false;
     for (at, byte) in text.iter().enumerate() {
         let goes_on = in_name;
@@ -60,8 +61,8 @@ pub(crate) fn read_places(
             let Some(phase) = phase_of(names, first_name(&text[at..])) else {
                 return Err(GrammarFault::UnknownPhase { at: at as u32 }.into());
             };
-            places.push(Place::of_phase(phase))?;
+            positions.push(Position::of_phase(phase))?;
         }
     }
-    Ok(places)
+    Ok(positions)
 }

@@ -7,40 +7,37 @@ ghost use Rattle.phase_automaton.specs.Automata.{Recognizes};
 
 use super::automaton::Automaton;
 use super::fault::{GrammarError, GrammarFault};
-use super::names::read_places;
-use super::net::link_places;
+use super::names::read_positions;
+use super::net::link_positions;
 use super::subsets::build;
 use super::walk::syntax_fault;
+use lexicon_definitions::{MOST_GRAMMAR_BYTES, MOST_GRAMMAR_NAMES, MOST_PHASES};
 use std::alloc::Global;
 
-/// The most bytes of a grammar's text.
-const MOST_BYTES: usize = 1024;
+/// The position of each name, and position 0 before them.
+const MOST_POSITIONS: usize = MOST_GRAMMAR_NAMES + 1;
 
-/// Sixty names, and place 0 before them.
-const MOST_PLACES: usize = 61;
-
-/// The automaton of a grammar's text over the names of the phases, of which there are 1 to 16; a phase's number is its
-/// name's place among these, counted from 0. Refuses a text that is no grammar text within the limits, 1,024 bytes, 60
-/// names and 32 states, with its first fault.
+/// The automaton of a grammar's text over the names of the phases, which are numbered from 0 in this order. Refuses a text that
+/// is no grammar text within the limits on bytes, names and states, with its first fault.
 pub fn read_grammar(alloc: Global, text: &[u8], names: &[String]) -> Result<Automaton, GrammarError>
     requires some { 0 < length names.now }
-    requires few { length names.now ≤ 16 }
+    requires few { length names.now ≤ MOST_PHASES }
     ensures text { OnOk result (IsGrammarTextWithinLimits (map string_bytes names.now) text.now) }
     ensures grammar { IfOk result (λ automaton.
         Recognizes automaton (grammar_of (map string_bytes names.now) text.now)) }
     ensures phases { IfOk result (λ automaton. automaton.phases ≡ length names.now) }
     ensures fault { IfErr result (λ e. IfFault e (IsFirstFault (map string_bytes names.now) text.now)) }
 {
-    if text.len() > MOST_BYTES {
+    if text.len() > MOST_GRAMMAR_BYTES {
         return Err(GrammarFault::Long.into());
     }
     if let Some(at) = syntax_fault(text) {
         return Err(GrammarFault::Syntax { at }.into());
     }
-    let mut places = read_places(alloc, text, names)?;
-    if places.len() > MOST_PLACES {
+    let mut positions = read_positions(alloc, text, names)?;
+    if positions.len() > MOST_POSITIONS {
         return Err(GrammarFault::Places.into());
     }
-    let ends = link_places(alloc, text, places.as_mut_slice())?;
-    build(alloc, places.as_slice(), ends, names.len() as u32)
+    let ends = link_positions(alloc, text, positions.as_mut_slice())?;
+    build(alloc, positions.as_slice(), ends, names.len() as u32)
 }

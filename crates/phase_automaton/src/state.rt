@@ -2,7 +2,8 @@ ghost use Rattle.std.specs.Prelude.{◌≡◌};
 
 use std::marker::Model;
 
-/// A state of an automaton: one of its numbered states, counted from 0, or the dead state, which is apart from these.
+/// A state of an automaton: one of its numbered states, counted from 0, or the dead state, which is apart from these and the
+/// same in every automaton.
 #[derive(Clone, Copy, Debug, PartialEq, Eq)]
 pub struct State {
     number: Option<u8>,
@@ -27,7 +28,8 @@ impl State {
         }
     }
 
-    pub(crate) const fn dead() -> State
+    /// The state from which no phases lead to a word of the grammar. It is a state of every automaton.
+    pub const fn dead() -> State
         ensures { result ≡ None }
     {
         State { number: None }

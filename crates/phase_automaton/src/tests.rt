@@ -1,8 +1,11 @@
 ghost use Rattle.std.specs.Prelude.{◌≡◌, ◌<◌, ◌≤◌, length, vec_len, IfOk};
+ghost use Rattle.phase_automaton.specs.Automata.{IsStateIn};
 
 use super::{Automaton, GrammarError, GrammarFault, State, read_grammar};
+use lexicon_definitions::MOST_PHASES;
 use std::alloc::Global;
 use std::test::Fail;
+use std::thread;
 
 fn make_names(alloc: Global, names: &[&str]) -> Result<Vec<String>, Fail>
     ensures { IfOk result (λ made. vec_len made ≡ length names.now) }
@@ -37,7 +40,7 @@ fn tells(automaton: &Automaton, phases: &[u32]) -> Option<(bool, bool)> {
 
 fn fault_of(alloc: Global, text: &[u8], names: &[String]) -> Result<Option<GrammarFault>, Fail>
     requires some { 0 < length names.now }
-    requires few { length names.now ≤ 16 }
+    requires few { length names.now ≤ MOST_PHASES }
 {
     match read_grammar(alloc, text, names) {
         Ok(_) => Ok(None),
@@ -81,7 +84,7 @@ fn phases_in_their_order(rt: HostRuntime) -> Result<(), Fail> {
     for (phases, word, live) in cases {
         assert_eq!(rt; tells(&automaton, phases), Some((word, live)));
     }
-    // The opening, and the places of the five names.
+    // The opening, and the positions of the five names.
     assert_eq!(rt; automaton.states(), 6);
     Ok(())
 }
@@ -119,12 +122,8 @@ fn signs_of_repetition(rt: HostRuntime) -> Result<(), Fail> {
 #[test]
 fn the_first_fault(rt: HostRuntime) -> Result<(), Fail> {
     let names = make_names(rt.alloc(), &["ind", "a1_b", "abcdefghijklmnop"])?;
-    let cases: [(&[u8], Option<GrammarFault>); 20] = [
-        (b"ind )", Some(GrammarFault::Syntax { at: 4 })),
-        (b"ind | foo", Some(GrammarFault::UnknownPhase { at: 6 })),
-        (b"", Some(GrammarFault::Syntax { at: 0 })),
+    let cases: [(&[u8], Option<GrammarFault>); 16] = [
         (b"  ", Some(GrammarFault::Syntax { at: 2 })),
-        (b"(ind | ind)+", None),
         (b"a1_b*ind", None),
         (b"ind1", Some(GrammarFault::UnknownPhase { at: 0 })),
         (b"1ind", Some(GrammarFault::Syntax { at: 0 })),
@@ -147,30 +146,68 @@ fn the_first_fault(rt: HostRuntime) -> Result<(), Fail> {
     Ok(())
 }
 
+/// A text of so many copies of a part, and then another part so many times.
+fn repeated(
+    alloc: Global,
+    part: &[u8],
+    count: usize,
+    last: &[u8],
+    last_count: usize,
+) -> Result<Vec<u8>, Fail> {
+    let mut text = Vec::new(alloc);
+    for _ in 0..count {
+        text.extend_from_slice(part)?;
+    }
+    for _ in 0..last_count {
+        text.extend_from_slice(last)?;
+    }
+    Ok(text)
+}
+
 #[test]
-fn bytes_are_bounded(rt: HostRuntime) -> Result<(), Fail> {
-    let names = make_names(rt.alloc(), &["a", "b"])?;
-    let brackets = vec![in rt.alloc(); b'('; 1024]?;
+fn one_name(rt: HostRuntime) -> Result<(), Fail> {
+    let names = make_names(rt.alloc(), &["ind"])?;
+    let cases: [(&[u8], usize, &[u8], usize, Option<GrammarFault>); 9] = [
+        (b"ind )", 1, b"", 0, Some(GrammarFault::Syntax { at: 4 })),
+        (
+            b"ind | foo",
+            1,
+            b"",
+            0,
+            Some(GrammarFault::UnknownPhase { at: 6 }),
+        ),
+        (b"", 0, b"", 0, Some(GrammarFault::Syntax { at: 0 })),
+        (b"(ind | ind)+", 1, b"", 0, None),
+        (b"ind ", 61, b"", 0, Some(GrammarFault::Places)),
+        (b"(", 1024, b"", 0, Some(GrammarFault::Syntax { at: 1024 })),
+        (b"(", 1025, b"", 0, Some(GrammarFault::Long)),
+        (b"(", 512, b")", 512, Some(GrammarFault::Syntax { at: 512 })),
+        (b"(", 1023, b"ind", 1, Some(GrammarFault::Long)),
+    ];
+    for (part, count, last, last_count, fault) in cases {
+        let text = repeated(rt.alloc(), part, count, last, last_count)?;
+        assert_eq!(rt;
+            fault_of(rt.alloc(), text.as_slice(), names.as_slice())?,
+            fault
+        );
+    }
+    let mut deep = repeated(rt.alloc(), b"(", 510, b"ind", 1)?;
+    deep.extend_from_slice(repeated(rt.alloc(), b")", 510, b"*", 1)?.as_slice())?;
     assert_eq!(rt;
-        fault_of(rt.alloc(), brackets.as_slice(), names.as_slice())?,
-        Some(GrammarFault::Syntax { at: 1024 })
-    );
-    let too_long = vec![in rt.alloc(); b'('; 1025]?;
-    assert_eq!(rt;
-        fault_of(rt.alloc(), too_long.as_slice(), names.as_slice())?,
-        Some(GrammarFault::Long)
+        fault_of(rt.alloc(), deep.as_slice(), names.as_slice())?,
+        None
     );
     Ok(())
 }
 
 #[test]
-fn places_are_bounded(rt: HostRuntime) -> Result<(), Fail> {
+fn names_are_bounded(rt: HostRuntime) -> Result<(), Fail> {
     let names = make_names(rt.alloc(), &["a", "b"])?;
     let mut most = Vec::new(rt.alloc());
     for _ in 0..60 {
         most.extend_from_slice(b"a ")?;
     }
-    // Sixty places one after another are sixty states and the opening.
+    // Sixty positions one after another are sixty states and the opening.
     assert_eq!(rt;
         fault_of(rt.alloc(), most.as_slice(), names.as_slice())?,
         Some(GrammarFault::States)
@@ -213,5 +250,48 @@ fn states_are_bounded(rt: HostRuntime) -> Result<(), Fail> {
         fault_of(rt.alloc(), sets, names.as_slice())?,
         Some(GrammarFault::States)
     );
+    Ok(())
+}
+
+/// The states that end words, each as the bit of its number.
+fn accepting_states(automaton: &Automaton) -> u32 {
+    let mut found = 0;
+    for number in 0..automaton.states() {
+        let state = automaton.state(number as u8);
+        if automaton.accepts(state) {
+            found |= 1 << number;
+        }
+    }
+    found
+}
+
+#[test]
+fn states_are_numbered(rt: HostRuntime) -> Result<(), Fail> {
+    let names = make_names(rt.alloc(), &["a", "b"])?;
+    let automaton = read_grammar(rt.alloc(), b"a b | b", names.as_slice()).map_err(|_| Fail::from(
+        "not read",
+    ))?;
+    // The opening, the first a, the b alone, and the b after a.
+    assert_eq!(rt; automaton.states(), 4);
+    assert_eq!(rt; accepting_states(&automaton).count_ones(), 2);
+    assert_eq!(rt;
+        state_after(&automaton, &[0, 1]) == state_after(&automaton, &[1]),
+        false
+    );
+    assert_eq!(rt; state_after(&automaton, &[0, 0]), Some(State::dead()));
+    assert_eq!(rt; state_after(&automaton, &[1, 1, 0]), Some(State::dead()));
+    Ok(())
+}
+
+#[test]
+fn threads_share_an_automaton(rt: HostRuntime) -> Result<(), Fail> {
+    let names = make_names(rt.alloc(), &["a"])?;
+    let automaton = read_grammar(rt.alloc(), b"a*", names.as_slice()).map_err(|_| Fail::from(
+        "not read",
+    ))?;
+    let shared = &automaton;
+    let state = automaton.start();
+    let (live, count) = thread::join(&rt, || shared.live(state), || shared.states());
+    assert_eq!(rt; (live, count), (true, 2));
     Ok(())
 }

@@ -3,6 +3,8 @@ ghost use Rattle.lexicon_definitions.specs.GrammarTexts.{is_name_byte as is_name
 ghost use Rattle.lexicon_definitions.specs.GrammarFaults.{may_follow_item as follows_item, may_stand as stands, after_symbol as following_symbol, after_byte as following_byte, syntax_fault as syntax_fault_of};
 ghost use Rattle.phase_automaton.specs.Walks.{walk_of};
 
+use lexicon_definitions::{MOST_GRAMMAR_BYTES, MOST_NAME_BYTES};
+
 /// Whether a byte can stand in a name: a small letter, a digit or `_`.
 pub(crate) fn is_name_byte(byte: u8) -> bool
     ensures { result ≡ is_name_byte_of byte }
@@ -35,7 +37,7 @@ impl Walk {
         ensures { result ≡ stands (walk_of self) byte }
     {
         if is_name_byte(byte) && self.name_length > 0 {
-            self.name_length < 16
+            (self.name_length as usize) < MOST_NAME_BYTES
         } else {
             matches!(byte, b'a'..=b'z' | b' ' | b'(') || self.may_follow_item(byte)
         }
@@ -82,7 +84,7 @@ impl Walk {
 /// The place of the first byte that may not stand, or the text's end where something is missing there. Places are counted
 /// in bytes from 0.
 pub(crate) fn syntax_fault(text: &[u8]) -> Option<u32>
-    requires { length text.now ≤ 1024 }
+    requires { length text.now ≤ MOST_GRAMMAR_BYTES }
     ensures { result ≡ syntax_fault_of text.now }
 {
     let mut walk = Walk {

@@ -1,9 +1,15 @@
-ghost use Rattle.std.specs.Prelude.{◌≡◌, [], ◌∷◌, ◌++◌, OnOk, OnErr, IfOk};
+ghost use Rattle.std.specs.Prelude.{◌≡◌, ◌↔◌, [], ◌∷◌, ◌++◌, length, nat_eq, Some, IsTrue, OnOk, OnErr, IfOk, refl};
+ghost use Rattle.std.specs.Cmp.{partial_equiv_from_equiv};
+ghost use Rattle.std.specs.Cmp.Lexicographic.{pointwise, nat_list_eq_equiv, nat_list_cmp_total, texts_po, texts_ties};
+ghost use Rattle.std.specs.Cmp.Rules.{hashing};
+ghost use Rattle.std.specs.Hash as fed;
+ghost use Rattle.std.proofs.Common.{rules};
 ghost use Rattle.text_definitions.specs.Words.{IsWord, compare_words};
 
 use super::{Letter, Memory};
 use std::alloc::Global;
 use std::cmp::Ordering;
+use std::hash::{Hash, Hasher};
 use std::marker::Model;
 
 /// A word: letters in the order in which they are spoken (after Huet 2005).
@@ -75,6 +81,21 @@ impl Word {
         self.letters.as_slice()
     }
 
+    /// The number of letters.
+    pub fn len(&self) -> usize
+        ensures value { result ≡ length self.now }
+        ensures word { IsWord self.now }
+    {
+        self.letters.len()
+    }
+
+    /// Whether the word has no letter.
+    pub fn is_empty(&self) -> bool
+        ensures { IsTrue result ↔ self.now ≡ [] }
+    {
+        self.letters.is_empty()
+    }
+
     /// The same word, in memory of its own.
     pub fn copy(&self, alloc: Global) -> Result<Word, Memory>
         ensures { IfOk result (λ word. word ≡ self.now) }
@@ -88,6 +109,61 @@ impl Word {
     pub fn compare(&self, other: &Word) -> Ordering
         ensures { result ≡ compare_words self.now other.now }
     {
-        self.letters.cmp(&other.letters)
+        compare_letters(self.as_slice(), other.as_slice())
+    }
+}
+
+/// The order of words, for letters that stand in a list: letter by letter by code, a proper prefix being smaller.
+pub fn compare_letters(left: &[Letter], right: &[Letter]) -> Ordering
+    ensures { result ≡ compare_words left.now right.now }
+{
+    left.cmp(&right)
+}
+
+impl PartialEq for Word {
+    ghost eq = { pointwise nat_eq };
+
+    ghost laws = { partial_equiv_from_equiv nat_list_eq_equiv };
+
+    fn eq(&self, other: &Word) -> bool {
+        self.as_slice() == other.as_slice()
+    }
+}
+
+impl Eq for Word {
+    ghost laws = { nat_list_eq_equiv };
+}
+
+impl PartialOrd for Word {
+    ghost partial_cmp = { λ left right. Some (compare_words left right) };
+
+    ghost laws = { texts_po };
+
+    fn partial_cmp(&self, other: &Word) -> Option<Ordering> {
+        Some(self.cmp(other))
+    }
+}
+
+impl Ord for Word {
+    ghost cmp = { compare_words };
+
+    ghost total = { nat_list_cmp_total };
+
+    ghost matches_partial_cmp = { λ left right. refl };
+
+    ghost matches_eq = { texts_ties };
+
+    fn cmp(&self, other: &Word) -> Ordering {
+        self.compare(other)
+    }
+}
+
+impl Hash for Word {
+    ghost hash_input = { fed.slice fed.u8 };
+
+    ghost respects_eq = { Prim.search (hashing, rules) };
+
+    fn hash<H: Hasher>(&self, state: &mut H) {
+        self.as_slice().hash(state);
     }
 }

@@ -1,1 +1,4 @@
+pub mod Commands
+pub mod Ends
+pub mod SegmentOutcomes
 pub mod Outcomes

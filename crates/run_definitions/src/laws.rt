@@ -1,9 +1,23 @@
-ghost use Rattle.std.specs.Prelude.{◌≡◌, ℕ, List};
+ghost use Rattle.std.specs.Prelude.{◌≡◌, ℕ, List, Option};
 ghost use Rattle.outside.specs.Files.{Files};
+ghost use Rattle.run_definitions.specs.Commands.{Command, AreWordsOf};
 ghost use Rattle.run_definitions.specs.Outcomes.{Outcome, IsOutcome};
+ghost use Rattle.run_definitions.specs.SegmentOutcomes.{IsSegmentOutcome};
 
-/// A run has one outcome at most: these words over these files write one output, leave one set of files, and end in one way.
+/// Words are those of one command at most.
+pub fn words_are_of_one_command()
+    ensures { (words : List (List ℕ)) (left right : Command) → AreWordsOf left words → AreWordsOf right words → left ≡ right }
+{}
+
+/// With one file and one text, `segment` has one outcome at most over the same files.
+pub fn segment_has_one_outcome()
+    ensures { (lex text : List ℕ) (files : Files) (left right : Outcome)
+        → IsSegmentOutcome lex text files left → IsSegmentOutcome lex text files right → left ≡ right }
+{}
+
+/// A run has one outcome at most: these words over these files and this input write one output, leave one set of files,
+/// and end in one way.
 pub fn a_run_has_one_outcome()
-    ensures { (words : List (List ℕ)) (files : Files) (left right : Outcome)
-        → IsOutcome words files left → IsOutcome words files right → left ≡ right }
+    ensures { (words : List (List ℕ)) (files : Files) (input : Option (List ℕ)) (left right : Outcome)
+        → IsOutcome words files input left → IsOutcome words files input right → left ≡ right }
 {}

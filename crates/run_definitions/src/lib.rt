@@ -1,7 +1,12 @@
-//! Outcomes of runs of the program, as definitions in `specs/`, and what follows from them: these words over these files
-//! have one outcome at most (`a_run_has_one_outcome`).
+//! The words of a run, the commands that they are, and the outcome of a run: its output, the files after it, and how it
+//! ends. Each command adds its case.
+//!
+//! Proved: words are those of one command at most (`words_are_of_one_command`); what `segment` does with a file and a text
+//! has one outcome at most (`segment_has_one_outcome`), and so has a run of any words (`a_run_has_one_outcome`).
 #![tactic(auto)]
 
 mod laws;
+mod limits;
 
-pub use laws::a_run_has_one_outcome;
+pub use laws::{a_run_has_one_outcome, segment_has_one_outcome, words_are_of_one_command};
+pub use limits::{MOST_WORD_BYTES, SEGMENT_PAGE};

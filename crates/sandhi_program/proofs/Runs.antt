@@ -1,16 +1,20 @@
 -- What a run of `segment` writes is the output of an outcome: the file as read is the whole file, where it is within the
 -- limit.
-use Rattle.std.proofs.Common.{◌≡◌, ℕ, ◌≤◌, List, [], ◌++◌, length, take, min, Option, Some, None, refl, sym, ap, subst, ◌∙◌, inl, inr, arith, append-nil, length-take, codes}
+use Rattle.std.proofs.Common.{◌≡◌, ℕ, ◌+◌, ◌≤◌, List, [], ◌++◌, length, take, min, Option, Some, None, refl, sym, ap, subst, ◌∙◌, inl, inr, arith, append-nil, length-take}
 use Rattle.std.specs.Option.{option_map}
 use Rattle.std.proofs.lemmas.List.{take_all}
 use Rattle.outside.specs.Files.{Files, contents_of, first_bytes}
 use Rattle.outside.specs.Told.{bytes_after, GrowsByPrefix}
 use Rattle.thin_text_definitions.specs.ThinTexts.{IsThinTextOf}
-use Rattle.run_definitions.specs.Outcomes as outcomes
-use Rattle.run_definitions.specs.Outcomes.{End, Outcome, IsOutcome, IsSegment, IsPlainText, IsCommand, IsUsage, IsMissing, IsNotBuilt, IsSegmented, Refused, Lacking, Unbuilt, Segmented, output_line}
+use Rattle.run_definitions.specs.Commands.{Command, Segment, AreWordsOf, AreOfNoCommand}
+use Rattle.run_definitions.specs.Ends as ends
+use Rattle.run_definitions.specs.Ends.{Outcome, outcome_over}
+use Rattle.run_definitions.specs.SegmentOutcomes.{IsSegmentOutcome, Missing, Unbuilt, OfPage}
+use Rattle.run_definitions.specs.Outcomes.{IsOutcome, OfNoCommand, OfCommand, usage_outcome}
+use Rattle.lexicon_text_definitions.specs.declared.limits.TheConstants.{MOST_FILE_BYTES}
 use Rattle.sandhi_program.specs.declared.status.Status.{Status}
 use Rattle.sandhi_program.specs.declared.status.Status.TheVariants.{Done, Memory, Usage, ReadFault, WriteFault, NotBuilt}
-use Rattle.sandhi_program.specs.Ends.{Tells, Ran, WritesPrefix, IsOwn, EndsUsage, Finishes}
+use Rattle.sandhi_program.specs.Ends.{Tells, WroteAll, WrotePrefix, IsNoFault, MayEndNoCommand, Finishes}
 use Rattle.sandhi_program.specs.Segments.{IsSegmentOutput, IsUnbuilt, Writes, WroteSegment, Nothing, Something}
 use Rattle.sandhi_program.specs.Segments as segments
 
@@ -25,28 +29,24 @@ first_content files lex most bytes e = go (contents_of files lex) refl e
     go (Some content) p q = (content, p, cc (q))
 
 -- a file within the limit is read whole
-pub whole : (content bytes : List ℕ) → take 33554433 content ≡ bytes → length content ≤ 33554432 → content ≡ bytes
+pub whole : (content bytes : List ℕ) → take (MOST_FILE_BYTES + 1) content ≡ bytes → length content ≤ MOST_FILE_BYTES → content ≡ bytes
 whole content bytes e low =
-    let fits : length content ≤ 33554433 = omega arith in sym (take_all 33554433 content fits) ∙ e
+    let fits : length content ≤ MOST_FILE_BYTES + 1 = omega arith in sym (take_all (MOST_FILE_BYTES + 1) content fits) ∙ e
 
 -- what is read of a longer file is longer than the limit
-pub within : (content bytes : List ℕ) → take 33554433 content ≡ bytes → length bytes ≤ 33554432 → length content ≤ 33554432
+pub within : (content bytes : List ℕ) → take (MOST_FILE_BYTES + 1) content ≡ bytes → length bytes ≤ MOST_FILE_BYTES → length content ≤ MOST_FILE_BYTES
 within content bytes e low =
-    let len : min 33554433 (length content) ≡ length bytes = sym (length-take 33554433 content) ∙ ap length e in omega arith
+    let len : min (MOST_FILE_BYTES + 1) (length content) ≡ length bytes = sym (length-take (MOST_FILE_BYTES + 1) content) ∙ ap length e in omega arith
 
 -- the outcome whose output `segment` writes
-pub outcome_of : (words : List (List ℕ)) (lex text : List ℕ) (files : Files) (content bytes : List ℕ) (status : Status) (output : List ℕ)
-    → IsSegment words lex text → contents_of files lex ≡ Some content → take 33554433 content ≡ bytes → Writes bytes text status output
-    → (outcome : Outcome) × IsOutcome words files outcome × (outcome.output ≡ output) × (outcome.files ≡ files) × Tells status outcome.end
-outcome_of words lex text files content bytes status output s there e (segments.Page st p) =
+pub outcome_of : (lex text : List ℕ) (files : Files) (content bytes : List ℕ) (status : Status) (output : List ℕ)
+    → contents_of files lex ≡ Some content → take (MOST_FILE_BYTES + 1) content ≡ bytes → Writes bytes text status output
+    → (outcome : Outcome) × IsSegmentOutcome lex text files outcome × (outcome.output ≡ output) × (outcome.files ≡ files) × Tells status outcome.end
+outcome_of lex text files content bytes status output there e (segments.Page st p) =
     let low = within content bytes e p.thin.limit in
-    let same = whole content bytes e low in
-    let outcome : Outcome = record { output = output; files = files; end = outcomes.Done } in (
-      outcome,
-      Segmented (record {
-        lex = lex;
-        text = text;
-        words_are = s;
+    let same = whole content bytes e low in (
+      outcome_over files output ends.Done,
+      OfPage (record {
         bytes = content;
         there = there;
         lexicon = p.lexicon;
@@ -56,95 +56,110 @@ outcome_of words lex text files content bytes status output s there e (segments.
         answers = p.answers;
         more = p.more;
         page = p.page;
-        output = p.printed;
-        files_stay = refl;
-        ends = refl;
+        is = ap (λ out. outcome_over files out ends.Done) p.printed;
       }),
       refl,
       refl,
-      subst (λ (x : Status). Tells x outcomes.Done) (sym st) refl,
+      subst (λ (x : Status). Tells x ends.Done) (sym st) refl,
     )
-outcome_of words lex text files content bytes status output s there e (segments.Unbuilt st u o) =
-    let outcome : Outcome = record { output = output; files = files; end = outcomes.NotBuilt } in (
-      outcome,
-      Unbuilt (record {
-        lex = lex;
-        text = text;
-        words_are = s;
-        bytes = content;
-        there = there;
-        not_thin = elim u [
-          | inl n ↦ inl (λ (lexicon, thin). n (lexicon, subst (IsThinTextOf lexicon) (whole content bytes e thin.limit) thin))
-          | inr n ↦ inr n
-        ];
-        output = o;
-        files_stay = refl;
-        ends = refl;
-      }),
-      refl,
-      refl,
-      subst (λ (x : Status). Tells x outcomes.NotBuilt) (sym st) refl,
-    )
+outcome_of lex text files content bytes status output there e (segments.Unbuilt st u o) = (
+  outcome_over files output ends.NotBuilt,
+  Unbuilt (record {
+    bytes = content;
+    there = there;
+    why = elim u [
+      | inl n ↦ inl (λ (lexicon, thin). n (lexicon, subst (IsThinTextOf lexicon) (whole content bytes e thin.limit) thin))
+      | inr n ↦ inr n
+    ];
+    is = ap (λ out. outcome_over files out ends.NotBuilt) o;
+  }),
+  refl,
+  refl,
+  subst (λ (x : Status). Tells x ends.NotBuilt) (sym st) refl,
+)
 
--- want of memory is no end of its own
-own_is_not_memory : (status : Status) → IsOwn status → status ≡ Memory → ⊥
-own_is_not_memory status own e = subst IsOwn e own
+-- a status that tells no fault is not one of these
+no_fault_is_not_memory : (status : Status) → IsNoFault status → status ≡ Memory → ⊥
+no_fault_is_not_memory status own e = subst IsNoFault e own
 
-pub own_is_not_write_fault : (status : Status) → IsOwn status → status ≡ WriteFault → ⊥
-own_is_not_write_fault status own e = subst IsOwn e own
+pub no_fault_is_not_write_fault : (status : Status) → IsNoFault status → status ≡ WriteFault → ⊥
+no_fault_is_not_write_fault status own e = subst IsNoFault e own
 
-pub own_is_not_read_fault : (status : Status) → IsOwn status → status ≡ ReadFault → ⊥
-own_is_not_read_fault status own e = subst IsOwn e own
+pub no_fault_is_not_read_fault : (status : Status) → IsNoFault status → status ≡ ReadFault → ⊥
+no_fault_is_not_read_fault status own e = subst IsNoFault e own
 
--- a run that ended by itself wrote all the output
-pub ran_of : (words : List (List ℕ)) (lex text : List ℕ) (files : Files) (content bytes : List ℕ) (result : Status)
+-- where no device failed and memory was found, all the output was written
+pub wrote_all : (lex text : List ℕ) (files : Files) (content bytes : List ℕ) (result : Status)
     (old new : Option (List ℕ)) (faults now : ℕ) (told : List ℕ)
-    → IsSegment words lex text → contents_of files lex ≡ Some content → take 33554433 content ≡ bytes
-    → WroteSegment bytes text result old new faults now → old ≡ Some told → IsOwn result → Ran words files files told new result
-ran_of words lex text files content bytes result old new faults now told s there e (Nothing m same) o own = absurd (own_is_not_memory result own m)
-ran_of words lex text files content bytes result old new faults now told s there e (Something status output w f) o own =
-    let (outcome, is, out, stay, tells) = outcome_of words lex text files content bytes status output s there e w in
+    → contents_of files lex ≡ Some content → take (MOST_FILE_BYTES + 1) content ≡ bytes
+    → WroteSegment bytes text result old new faults now → old ≡ Some told → IsNoFault result
+    → WroteAll (IsSegmentOutcome lex text files) files told new result
+wrote_all lex text files content bytes result old new faults now told there e (Nothing m same) o own = absurd (no_fault_is_not_memory result own m)
+wrote_all lex text files content bytes result old new faults now told there e (Something status output w f) o own =
+    let (outcome, is, out, stay, tells) = outcome_of lex text files content bytes status output there e w in
     let (same, all) = f.all own in record {
       outcome = outcome;
-      is_outcome = is;
+      is_it = is;
       output = all ∙ ap (λ x. bytes_after x output) o ∙ ap (λ x. Some (told ++ x)) (sym out);
       files = sym stay;
       told = subst (λ (x : Status). Tells x outcome.end) (sym same) tells;
     }
 
--- whatever the run wrote is a prefix of the output of an outcome
-pub prefix_of : (words : List (List ℕ)) (lex text : List ℕ) (files : Files) (content bytes : List ℕ) (result : Status)
+-- whatever was written is a prefix of the output
+pub wrote_prefix : (lex text : List ℕ) (files : Files) (content bytes : List ℕ) (result : Status)
     (old new : Option (List ℕ)) (faults now : ℕ)
-    → IsSegment words lex text → contents_of files lex ≡ Some content → take 33554433 content ≡ bytes
-    → WroteSegment bytes text result old new faults now → WritesPrefix words files old new
-prefix_of words lex text files content bytes result old new faults now s there e (Nothing m same) = inl same
-prefix_of words lex text files content bytes result old new faults now s there e (Something status output w f) =
-    let (outcome, is, out, stay, tells) = outcome_of words lex text files content bytes status output s there e w in
+    → contents_of files lex ≡ Some content → take (MOST_FILE_BYTES + 1) content ≡ bytes
+    → WroteSegment bytes text result old new faults now → WrotePrefix (IsSegmentOutcome lex text files) old new
+wrote_prefix lex text files content bytes result old new faults now there e (Nothing m same) = inl same
+wrote_prefix lex text files content bytes result old new faults now there e (Something status output w f) =
+    let (outcome, is, out, stay, tells) = outcome_of lex text files content bytes status output there e w in
     inr (outcome, is, subst (GrowsByPrefix old new) (sym out) f.prefix)
 
--- words of no command are refused, where their refusal is written
-pub ends_usage : (result : Status) (old new : Option (List ℕ)) (faults now : ℕ) (output : List ℕ)
-    → Finishes Usage result old new faults now output → EndsUsage result
-ends_usage Done old new faults now output f = absurd (cc ((f.all tt).0))
-ends_usage NotBuilt old new faults now output f = absurd (cc ((f.all tt).0))
-ends_usage ReadFault old new faults now output f = absurd (f.read_fault refl)
-ends_usage Usage old new faults now output f = tt
-ends_usage WriteFault old new faults now output f = tt
-ends_usage Memory old new faults now output f = tt
-
 -- a missing file has its outcome
-pub missing_ran : (words : List (List ℕ)) (lex text : List ℕ) (files : Files) (told : List ℕ) (old new : Option (List ℕ))
-    → IsSegment words lex text → contents_of files lex ≡ None → old ≡ Some told → new ≡ old → Ran words files files told new ReadFault
-missing_ran words lex text files told old new s missing o same =
-    let outcome : Outcome = record { output = []; files = files; end = outcomes.ReadFault } in record {
-      outcome = outcome;
-      is_outcome = Lacking (record { lex = lex; text = text; words_are = s; missing = missing; output = refl; files_stay = refl; ends = refl });
-      output = same ∙ o ∙ ap Some (sym (append-nil told));
-      files = refl;
-      told = refl;
-    }
+pub missing_wrote : (lex text : List ℕ) (files : Files) (told : List ℕ) (old new : Option (List ℕ))
+    → contents_of files lex ≡ None → old ≡ Some told → new ≡ old → WroteAll (IsSegmentOutcome lex text files) files told new ReadFault
+missing_wrote lex text files told old new missing o same = record {
+  outcome = outcome_over files [] ends.ReadFault;
+  is_it = Missing (record { missing = missing; is = refl });
+  output = same ∙ o ∙ ap Some (sym (append-nil told));
+  files = refl;
+  told = refl;
+}
+
+-- ---- the command's outcome is that of the run
+
+module _ (words : List (List ℕ)) (lex text : List ℕ) (are : AreWordsOf (Segment lex text) words) (files : Files) (input : Option (List ℕ)) where
+  of_segment : (outcome : Outcome) → IsSegmentOutcome lex text files outcome → IsOutcome words files input outcome
+  of_segment outcome is = OfCommand (Segment lex text) are is
+
+  pub run_wrote_all : (after : Files) (old : List ℕ) (written : Option (List ℕ)) (status : Status)
+      → WroteAll (IsSegmentOutcome lex text files) after old written status → WroteAll (IsOutcome words files input) after old written status
+  run_wrote_all after old written status w = record {
+    outcome = w.outcome;
+    is_it = of_segment w.outcome w.is_it;
+    output = w.output;
+    files = w.files;
+    told = w.told;
+  }
+
+  pub run_wrote_prefix : (old new : Option (List ℕ)) → WrotePrefix (IsSegmentOutcome lex text files) old new
+      → WrotePrefix (IsOutcome words files input) old new
+  run_wrote_prefix old new w = elim w [
+    | inl same ↦ inl same
+    | inr (outcome, is, grown) ↦ inr (outcome, of_segment outcome is, grown)
+  ]
+
+-- words of no command are refused, where their refusal is written
+pub may_end : (result : Status) (old new : Option (List ℕ)) (faults now : ℕ) (output : List ℕ)
+    → Finishes Usage result old new faults now output → MayEndNoCommand result
+may_end Done old new faults now output f = absurd (cc ((f.all tt).0))
+may_end NotBuilt old new faults now output f = absurd (cc ((f.all tt).0))
+may_end ReadFault old new faults now output f = absurd (f.read_fault refl)
+may_end Usage old new faults now output f = tt
+may_end WriteFault old new faults now output f = tt
+may_end Memory old new faults now output f = tt
 
 -- words of no command have their outcome
-pub usage_outcome : (words : List (List ℕ)) (files : Files) → (IsCommand words → ⊥)
-    → IsOutcome words files (record { output = output_line (codes "usage"); files = files; end = outcomes.Usage })
-usage_outcome words files none = Refused (record { words_are = none; output = refl; files_stay = refl; ends = refl })
+pub no_command : (words : List (List ℕ)) (files : Files) (input : Option (List ℕ)) → AreOfNoCommand words
+    → IsOutcome words files input (usage_outcome files)
+no_command words files input none = OfNoCommand none refl

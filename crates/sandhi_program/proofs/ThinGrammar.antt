@@ -3,19 +3,19 @@
 use Rattle.std.proofs.Common.{◌≡◌, ◌≢◌, ℕ, ◌⊎◌, inl, inr, List, [], ◌∷◌, ◌++◌, get_or, codes, refl, sym, ap, subst, ◌∙◌, arith}
 use Rattle.std.specs.List.{Contains}
 use Rattle.std.specs.List.Sorted.{IsStrictlyIncreasing}
-use Rattle.lexicon_definitions.specs.Grammars.{Grammar, Name, OnceOrMore, State, Opening, After, IsPlaceAfter}
+use Rattle.lexicon_definitions.specs.Grammars.{Grammar, Name, OnceOrMore, State, Opening, After, IsPositionAfter}
 use Rattle.lexicon_definitions.specs.GrammarFaults.{Long, Syntax, UnknownPhase, Places, States, IsGrammarTextWithinLimits, HasMoreStates, IsStateOf}
 use Rattle.lexicon_definitions.specs.GrammarTexts.{grammar_of}
-use Rattle.lexicon_definitions.proofs.GrammarPlaces.{places_within}
+use Rattle.lexicon_definitions.proofs.GrammarPositions.{positions_within}
 use Rattle.lexicon_definitions.proofs.GrammarLists.{all_at}
 
 abbrev one_name : Grammar
 one_name = OnceOrMore (Name 0)
 
 -- the one place
-place_is : (phases : List ℕ) (place : ℕ) → IsPlaceAfter one_name phases place → place ≡ 1
+place_is : (phases : List ℕ) (place : ℕ) → IsPositionAfter one_name phases place → place ≡ 1
 place_is phases place (front, last, rest, reads, _, is) =
-    let (low, high) = all_at _ front last rest (places_within one_name 1 (front ++ last ∷ rest) reads) in
+    let (low, high) = all_at _ front last rest (positions_within one_name 1 (front ++ last ∷ rest) reads) in
     omega (arith, low, high, is)
 
 -- rising places that are all 1 are none or one

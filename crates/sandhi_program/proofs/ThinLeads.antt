@@ -13,8 +13,10 @@ use Rattle.std.proofs.lemmas.Cmp.{nat_cmp_total, then_total, on_total}
 use Rattle.std.proofs.lemmas.List.{get_or_default}
 use Rattle.std.proofs.lemmas.Map.Keys.{sorted_tail}
 use Rattle.lexicon_definitions.specs.Rules.{Rule, IsInner, no_change}
-use Rattle.lexicon_definitions.specs.Leads.{Lead, compare_leads, IsLeadOf, AreLeads}
-use Rattle.thin_text_definitions.specs.ThinLines.{Contents, rules_of, IsThinRule}
+use Rattle.lexicon_definitions.specs.declared.limits.TheConstants.{MOST_LEADS}
+use Rattle.lexicon_definitions.specs.Leads.{Lead, compare_leads, IsLeadOf, leads_of as all_leads}
+use Rattle.lexicon_definitions.proofs.LeadLaws.{leads_rise as all_leads_rise, Contains-leads_of}
+use Rattle.thin_text_definitions.specs.ThinLines.{Contents, IsThinRule}
 use Rattle.list_laws.proofs.Sorted.{Contains-first, Contains-later, Contains-cons_cases, not_Contains-nil, Less-from_later, same_sorted}
 use Rattle.sandhi_program.proofs.ThinOrders.{words_total, sorted_nil, sorted_one, same_word}
 use Rattle.sandhi_program.specs.ThinReader.{put, with_word, with_lead, leads_from, leads_of}
@@ -257,53 +259,47 @@ lead_from_word (word ∷ words) v inside =
     ]
 
 module _ (contents : Contents) (lawful : All IsThinRule contents.rules) where
-  -- a word of the list is the v of a rule with a number
-  lead_from_rule : (lead : Lead) → IsLeadWord contents.rules lead.v → lead.after ≡ 1 → IsLeadOf (rules_of contents) lead
-  lead_from_rule lead (rule, (k, below, is), same, some) one =
+  -- an inner rule of a lexicon of one phase has this phase after it
+  after_of : (rule : Rule) → Contains contents.rules rule → IsInner rule → rule.after ≡ 1
+  after_of rule (k, below, is) inner =
       let at : get_or contents.rules k no_change ≡ rule = get_or_default contents.rules k no_change rule below ∙ is in
-      let v : (get_or contents.rules k no_change).v ≡ lead.v = ap (λ (r : Rule). r.v) at ∙ same in
-      let inner : IsInner (get_or contents.rules k no_change) = λ none. some (sym v ∙ none) in
-      let after = (lawful k no_change below).unlimited.1 inner in
-      (suc k, omega arith, below, inner, v, after ∙ sym one)
+      subst (λ (r : Rule). IsInner r → r.after ≡ 1) at (lawful k no_change below).unlimited.1 inner
 
-  rule_from_lead : (lead : Lead) → IsLeadOf (rules_of contents) lead → IsLeadWord contents.rules lead.v × (lead.after ≡ 1)
-  rule_from_lead lead (zero, some, within, inner, v, after) = absurd (omega arith)
-  rule_from_lead lead (suc k, some, within, inner, v, after) =
-      let below : k < length contents.rules = omega arith in
-      let unlimited = (lawful k no_change below).unlimited.1 inner in (
-        (get_or contents.rules k no_change, (k, below, get_or_default contents.rules k (get_or contents.rules k no_change) no_change below), v, λ none. inner (v ∙ none)),
-        sym after ∙ unlimited,
-      )
+  lead_from_rule : (lead : Lead) → IsLeadWord contents.rules lead.v → lead.after ≡ 1 → IsLeadOf contents.rules lead
+  lead_from_rule lead (rule, there, same, some) one =
+      let inner : IsInner rule = λ none. some (sym same ∙ none) in (rule, there, inner, same, after_of rule there inner ∙ sym one)
 
-  leads_are : AreLeads (rules_of contents) (map lead_of (leads_of contents.rules))
-  leads_are = record {
-    rising = leads_rise (leads_of contents.rules) (from_sorted [] contents.rules (sorted_nil compare_words));
-    members = λ lead. (
-      λ inside.
-          let found = lead_mapped (leads_of contents.rules) lead inside in
-          elim (from_members [] contents.rules lead.v found.0) [
-            | inl none ↦ absurd (not_Contains-nil lead.v none)
-            | inr word ↦ lead_from_rule lead word found.1
-          ],
-      λ is.
-          let (word, one) = rule_from_lead lead is in
-          let has = from_has [] contents.rules word.0 word.1 (λ none. word.3 (sym word.2 ∙ none)) in
-          let there = lead_from_word (leads_of contents.rules) lead.v (subst (λ v. Contains (leads_of contents.rules) v) word.2 has) in
-          subst (λ (l : Lead). Contains (map lead_of (leads_of contents.rules)) l) (λ i. record { v = lead.v; after = sym one i }) there,
-    );
-  }
+  rule_from_lead : (lead : Lead) → IsLeadOf contents.rules lead → IsLeadWord contents.rules lead.v × (lead.after ≡ 1)
+  rule_from_lead lead (rule, there, inner, v, after) =
+      ((rule, there, v, λ none. inner (v ∙ none)), sym after ∙ after_of rule there inner)
 
-  -- where there are at most 256, so there are of any list of the leads, and the other way round
-  pub most_leads : length (leads_of contents.rules) ≤ 256 → (leads : List Lead) → AreLeads (rules_of contents) leads → length leads ≤ 256
-  most_leads within leads are =
-      let same : map lead_of (leads_of contents.rules) ≡ leads = same_sorted leads_total (map lead_of (leads_of contents.rules)) leads leads_are.rising are.rising
-      (λ lead inside. (are.members lead).1 ((leads_are.members lead).0 inside)) (λ lead inside. (leads_are.members lead).1 ((are.members lead).0 inside)) in
-      let count = ap length same in
-      let long = length-map (leads_of contents.rules) lead_of in
-      omega arith
+  is_lead : (lead : Lead) → Contains (map lead_of (leads_of contents.rules)) lead → IsLeadOf contents.rules lead
+  is_lead lead inside =
+      let found = lead_mapped (leads_of contents.rules) lead inside in
+      elim (from_members [] contents.rules lead.v found.0) [
+        | inl none ↦ absurd (not_Contains-nil lead.v none)
+        | inr word ↦ lead_from_rule lead word found.1
+      ]
 
-  pub fewest_leads : ((leads : List Lead) → AreLeads (rules_of contents) leads → length leads ≤ 256) → length (leads_of contents.rules) ≤ 256
-  fewest_leads h =
-      let count = h (map lead_of (leads_of contents.rules)) leads_are in
-      let long = length-map (leads_of contents.rules) lead_of in
-      omega arith
+  has_lead : (lead : Lead) → IsLeadOf contents.rules lead → Contains (map lead_of (leads_of contents.rules)) lead
+  has_lead lead is =
+      let (word, one) = rule_from_lead lead is in
+      let has = from_has [] contents.rules word.0 word.1 (λ none. word.3 (sym word.2 ∙ none)) in
+      let there = lead_from_word (leads_of contents.rules) lead.v (subst (λ v. Contains (leads_of contents.rules) v) word.2 has) in
+      subst (λ (l : Lead). Contains (map lead_of (leads_of contents.rules)) l) (λ i. record { v = lead.v; after = sym one i }) there
+
+  -- there are as many leads as words
+  same_count : length (leads_of contents.rules) ≡ length (all_leads contents.rules)
+  same_count =
+      let same : map lead_of (leads_of contents.rules) ≡ all_leads contents.rules =
+      same_sorted leads_total (map lead_of (leads_of contents.rules)) (all_leads contents.rules)
+      (leads_rise (leads_of contents.rules) (from_sorted [] contents.rules (sorted_nil compare_words))) (all_leads_rise contents.rules)
+      (λ lead inside. (Contains-leads_of contents.rules lead).1 (is_lead lead inside))
+      (λ lead inside. has_lead lead ((Contains-leads_of contents.rules lead).0 inside)) in
+      sym (length-map (leads_of contents.rules) lead_of) ∙ ap length same
+
+  pub most_leads : length (leads_of contents.rules) ≤ MOST_LEADS → length (all_leads contents.rules) ≤ MOST_LEADS
+  most_leads within = let same = same_count in omega arith
+
+  pub fewest_leads : length (all_leads contents.rules) ≤ MOST_LEADS → length (leads_of contents.rules) ≤ MOST_LEADS
+  fewest_leads within = let same = same_count in omega arith

@@ -4,7 +4,7 @@ use Rattle.std.specs.String.{string_bytes}
 use Rattle.std.specs.declared.string.String.{String}
 use Rattle.std.proofs.lemmas.List.{append_cancel_left}
 use Rattle.std.proofs.lemmas.List.Elements.{All-map, All-from_recursion}
-use Rattle.lexicon_definitions.specs.Lexicons.{Form, IsRuleSet}
+use Rattle.lexicon_definitions.specs.Lexicons.{Form, RuleSet}
 use Rattle.lexicon_text_definitions.specs.LexiconTexts.{text_of}
 use Rattle.lexicon_text_definitions.specs.declared.limits.TheConstants.{MOST_FILE_BYTES}
 use Rattle.thin_text_definitions.specs.ThinTexts.{IsTextOf, IsThin, IsThinForm, IsThinTextOf, IsThinText}
@@ -22,12 +22,14 @@ pub one_name_is : {A : Type 0} (names before : List (String A)) (name : String A
 one_name_is names before name e none is =
     ap (map string_bytes) (e ∙ ap (λ xs. xs ++ name ∷ []) none) ∙ ap (λ bytes. bytes ∷ []) is
 
-pub rule_set_from : (contents : ReadContents) → IsRuleSet (rules_read contents) → (names : List (List ℕ)) (grammar : List ℕ) → names ≡ codes "word" ∷ [] → grammar ≡ codes "word+"
-    → IsRuleSet (record { names = names; grammar = grammar; plain = contents.plain.items; rules = contents.rules.items })
-rule_set_from contents h names grammar n g =
+-- what holds of the rule set that was read holds of its parts
+pub of_parts : (P : RuleSet → Type 0) (contents : ReadContents) → P (rules_read contents) → (names : List (List ℕ)) (grammar : List ℕ)
+    → names ≡ codes "word" ∷ [] → grammar ≡ codes "word+"
+    → P (record { names = names; grammar = grammar; plain = contents.plain.items; rules = contents.rules.items })
+of_parts P contents h names grammar n g =
     let whole : rules_read contents ≡ record { names = names; grammar = grammar; plain = contents.plain.items; rules = contents.rules.items } =
     λ i. record { names = sym n i; grammar = sym g i; plain = contents.plain.items; rules = contents.rules.items } in
-    subst IsRuleSet whole h
+    subst P whole h
 
 -- ---- a thin text
 
@@ -70,3 +72,11 @@ forms_from_contents built contents full r l is =
       rules = sym (r ∙ rules);
       forms = ap (λ words. words ∷ []) (letters_of full.forms ∙ sym is.forms) ∙ sym l;
     }
+
+-- the rules that were read are those of the contents
+pub rules_as_read : (P : RuleSet → Type 0) (contents : ReadContents) (full : Contents) → IsReadAs contents full → P (rules_of full)
+    → P (rules_read contents)
+rules_as_read P contents full same_parts h =
+    let same : rules_of full ≡ rules_read contents =
+    λ i. record { names = codes "word" ∷ []; grammar = codes "word+"; plain = sym same_parts.plain i; rules = sym same_parts.rules i } in
+    subst P same h

@@ -6,7 +6,9 @@ use Rattle.derivation.specs.declared.step.Step.{Step as ProgramStep}
 use Rattle.thin_text_definitions.specs.ThinTexts.{IsThinText, IsThinTextOf}
 use Rattle.segmentation_definitions.specs.Derivations.{Step}
 use Rattle.segmentation_definitions.specs.Listings.{BeforeFirst, IsPage}
-use Rattle.run_definitions.specs.Outcomes.{IsPlainText, line_of, output_line, printed_page}
+use Rattle.segmentation_definitions.specs.PrintedAnswers.{output_line, printed_page}
+use Rattle.run_definitions.specs.declared.limits.TheConstants.{SEGMENT_PAGE}
+use Rattle.run_definitions.specs.SegmentOutcomes.{IsUnbrokenText, unbroken_line}
 use Rattle.sandhi_program.specs.declared.status.Status.{Status}
 use Rattle.sandhi_program.specs.declared.status.Status.TheVariants.{Done, Memory, NotBuilt}
 use Rattle.sandhi_program.specs.Ends.{Finishes}
@@ -21,15 +23,15 @@ pub record IsSegmentOutput (bytes text output : List ℕ) : Type 0 where
   pub lexicon : Lexicon
   pub thin : IsThinTextOf lexicon bytes
   pub word : List ℕ
-  pub spelled : IsPlainText text word
+  pub spelled : IsUnbrokenText text word
   pub answers : List (List Step)
   pub more : Bool
-  pub page : IsPage lexicon (line_of word) [] BeforeFirst 10000 answers more
+  pub page : IsPage lexicon (unbroken_line word) [] BeforeFirst SEGMENT_PAGE answers more
   pub printed : output ≡ printed_page lexicon.rules 1 answers more
 
--- the bytes are no thin text, or the text is not 1 to 1,000 letters in SLP1
+-- the bytes are no thin text, or the text is not letters in SLP1 within the limit
 abbrev pub IsUnbuilt : List ℕ → List ℕ → Type 0
-IsUnbuilt bytes text = (IsThinText bytes → ⊥) ⊎ ((word : List ℕ) → IsPlainText text word → ⊥)
+IsUnbuilt bytes text = (IsThinText bytes → ⊥) ⊎ ((word : List ℕ) → IsUnbrokenText text word → ⊥)
 
 -- what `segment` writes is its page, or `not built`
 pub data Writes (bytes text : List ℕ) (status : Status) (output : List ℕ) : Type 0 where

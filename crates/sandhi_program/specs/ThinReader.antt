@@ -5,6 +5,7 @@ use Rattle.std.specs.declared.cmp.Ordering.TheVariants.{Less, Equal, Greater}
 use Rattle.std.specs.List.Sorted.{IsStrictlySortedBy}
 use Rattle.text_definitions.specs.Words.{IsWord, compare_words}
 use Rattle.text_definitions.specs.Slp1.{slp1_of_word}
+use Rattle.lexicon_definitions.specs.declared.limits.TheConstants.{MOST_RULES, MOST_LEADS, MOST_FORM_LINES}
 use Rattle.lexicon_definitions.specs.Rules.{Rule, IsSameTriple}
 use Rattle.lexicon_definitions.specs.Lexicons.{RuleSet, compare_pairs}
 use Rattle.lexicon_text_definitions.specs.LexiconTexts.{text_of}
@@ -58,11 +59,11 @@ AreDistinct rules = AllPairs (λ left right. IsSameTriple left right → ⊥) ru
 pub record IsLawfulSoFar (contents : Contents) : Type 0 where
   pub rising : IsStrictlySortedBy compare_pairs contents.plain.items
   pub distinct : AreDistinct contents.rules.items
-  pub rules : length contents.rules.items ≤ 4000
+  pub rules : length contents.rules.items ≤ MOST_RULES
   pub leads_are : contents.leads.items ≡ leads_of contents.rules.items
-  pub leads : length contents.leads.items ≤ 256
+  pub leads : length contents.leads.items ≤ MOST_LEADS
   pub rising_forms : IsStrictlySortedBy compare_words contents.forms.items
-  pub forms : length contents.forms.items ≤ 600000
+  pub forms : length contents.forms.items ≤ MOST_FORM_LINES
 
 -- a plain pair may follow: it is above those before, and neither a rule nor a form was read
 pub record MayFollowPlain (contents : Contents) (pair : ℕ × ℕ) : Type 0 where
@@ -76,14 +77,14 @@ pub record MayFollowRule (contents : Contents) (rule : Rule) : Type 0 where
   pub goes_on : contents.ended ≡ false
   pub no_form : contents.forms.items ≡ []
   pub distinct : AreDistinct (contents.rules.items ++ rule ∷ [])
-  pub rules : length (contents.rules.items ++ rule ∷ []) ≤ 4000
-  pub leads : length (leads_of (contents.rules.items ++ rule ∷ [])) ≤ 256
+  pub rules : length (contents.rules.items ++ rule ∷ []) ≤ MOST_RULES
+  pub leads : length (leads_of (contents.rules.items ++ rule ∷ [])) ≤ MOST_LEADS
 
 -- a form may follow: it is above those before, and they do not become too many
 pub record MayFollowForm (contents : Contents) (letters : List ℕ) : Type 0 where
   pub goes_on : contents.ended ≡ false
   pub rising : IsStrictlySortedBy compare_words (contents.forms.items ++ letters ∷ [])
-  pub forms : length (contents.forms.items ++ letters ∷ []) ≤ 600000
+  pub forms : length (contents.forms.items ++ letters ∷ []) ≤ MOST_FORM_LINES
 
 -- a line that tells this may follow
 abbrev pub MayFollow : Contents → lines.Entry → Type 0

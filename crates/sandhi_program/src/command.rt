@@ -1,8 +1,7 @@
 ghost use Rattle.std.specs.Prelude.{◌≡◌, ◌↔◌, map, string_bytes, IsTrue, IfSome, IfNone};
-ghost use Rattle.run_definitions.specs.Outcomes.{IsArgument, IsSegment, IsCommand};
+ghost use Rattle.run_definitions.specs.Commands.{Segment as SegmentWords, IsArgument, AreWordsOf, AreOfNoCommand};
 
-/// The greatest length of a word, in bytes.
-const WORD_LIMIT: usize = 65536;
+use run_definitions::MOST_WORD_BYTES;
 
 /// The words of `segment LEX TEXT`.
 #[derive(Clone, Copy, Debug)]
@@ -15,7 +14,7 @@ pub(crate) struct Segment<'a> {
 fn is_argument(word: &str) -> bool
     ensures { IsTrue result ↔ IsArgument word.now }
 {
-    word.len() <= WORD_LIMIT && (word.len() <= 1 || word.as_bytes()[0] != b'-')
+    word.len() <= MOST_WORD_BYTES && (word.len() <= 1 || word.as_bytes()[0] != b'-')
 }
 
 /// Whether the word is this name.
@@ -27,8 +26,8 @@ fn is_named(word: &str, name: &str) -> bool
 
 /// The command that the words are, if they are one.
 pub(crate) fn command_of(words: &[String]) -> Option<Segment<'_>>
-    ensures some { IfSome result (λ segment. IsSegment (map string_bytes words.now) segment.lex.now segment.text.now) }
-    ensures none { IfNone result (IsCommand (map string_bytes words.now) → ⊥) }
+    ensures some { IfSome result (λ segment. AreWordsOf (SegmentWords segment.lex.now segment.text.now) (map string_bytes words.now)) }
+    ensures none { IfNone result (AreOfNoCommand (map string_bytes words.now)) }
 {
     let [command, lex, text] = words else {
         return None;

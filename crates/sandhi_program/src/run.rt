@@ -1,21 +1,23 @@
 ghost use Rattle.std.specs.Prelude.{◌≡◌, ◌^◌, ◌<◌, ◌⊎◌, ℕ, List, length, map, string_bytes, Some};
 ghost use Rattle.outside.specs.Counts.{Rose};
 ghost use Rattle.outside.specs.Files.{Files, Lacks};
-ghost use Rattle.run_definitions.specs.Outcomes.{IsCommand, IsSegment};
-ghost use Rattle.sandhi_program.specs.Ends.{Ran, WritesPrefix, IsOwn, EndsUsage, Finishes};
+ghost use Rattle.run_definitions.specs.Commands.{Segment as SegmentWords, AreWordsOf, AreOfNoCommand};
+ghost use Rattle.run_definitions.specs.SegmentOutcomes.{IsSegmentOutcome};
+ghost use Rattle.run_definitions.specs.Outcomes.{IsOutcome};
+ghost use Rattle.sandhi_program.specs.Ends.{WroteAll, WrotePrefix, IsNoFault, MayEndNoCommand, Finishes};
 ghost use Rattle.sandhi_program.specs.Segments.{WroteSegment};
 
 use super::command::{Segment, command_of};
 use super::segment::{SegmentError, segment};
 use super::status::Status;
-use super::thin_text::FILE_LIMIT;
+use lexicon_text_definitions::MOST_FILE_BYTES;
 use outside::{Gate, Shelf, ShelfError, Sink, Source, WriteError, write_all};
 use std::alloc::Global;
 use std::thread::Threads;
 
 /// Writes the output, and then ends with the status.
 fn finish<O: Sink>(out: &mut O, output: &str, status: Status) -> Status
-    requires { IsOwn status }
+    requires { IsNoFault status }
     ensures { Finishes status result (O.written out.old) (O.written out.new) (O.faults out.old) (O.faults out.new) output.now }
 {
     match write_all(out, output.as_bytes()) {
@@ -47,18 +49,18 @@ fn run_segment<H: Shelf, O: Sink>(
     out: &mut O,
 ) -> Status
     requires { length text.now < 2 ^ 32 }
-    ensures outcome { IsOwn result → (all : List (List ℕ)) (files : Files) (old : List ℕ) → IsSegment all lex.now text.now
-        → H.files shelf.old ≡ Some files → O.written out.old ≡ Some old → Ran all files files old (O.written out.new) result }
+    ensures outcome { IsNoFault result → (files : Files) (old : List ℕ) → H.files shelf.old ≡ Some files → O.written out.old ≡ Some old
+        → WroteAll (IsSegmentOutcome lex.now text.now files) files old (O.written out.new) result }
     ensures missing { result ≡ Status.ReadFault → Rose (H.failed_reads shelf.old) (H.failed_reads shelf.new) ⊎ Lacks (H.files shelf.old) lex.now }
     ensures nothing { result ≡ Status.ReadFault → O.written out.new ≡ O.written out.old }
-    ensures prefix { (all : List (List ℕ)) (files : Files) → IsSegment all lex.now text.now → H.files shelf.old ≡ Some files
-        → WritesPrefix all files (O.written out.old) (O.written out.new) }
+    ensures prefix { (files : Files) → H.files shelf.old ≡ Some files
+        → WrotePrefix (IsSegmentOutcome lex.now text.now files) (O.written out.old) (O.written out.new) }
     ensures write_fault { result ≡ Status.WriteFault → Rose (O.faults out.old) (O.faults out.new) }
     ensures usage { result ≡ Status.Usage → ⊥ }
     ensures files { H.files shelf.new ≡ H.files shelf.old }
     ensures failed_writes { H.failed_writes shelf.new ≡ H.failed_writes shelf.old }
 {
-    match shelf.read(alloc, lex, FILE_LIMIT + 1) {
+    match shelf.read(alloc, lex, MOST_FILE_BYTES + 1) {
         Ok(bytes) => write_segment(alloc, bytes.as_slice(), text, out),
         Err(ShelfError::Missing | ShelfError::Failed) => Status::ReadFault,
         Err(ShelfError::Memory) => Status::Memory,
@@ -79,26 +81,27 @@ pub fn run<R: Threads + Sync, H: Shelf, I: Source, O: Sink, G: Gate + Sync>(
 ) -> Status
     // The headline: over devices that tell their content, the run wrote all the output of the outcome, unless memory
     // ran out or a device failed.
-    ensures outcome { IsOwn result → (files : Files) (old : List ℕ) → H.files shelf.old ≡ Some files → O.written out.old ≡ Some old
-        → Ran (map string_bytes words.now.items) files files old (O.written out.new) result }
+    ensures outcome { IsNoFault result → (files : Files) (old : List ℕ) → H.files shelf.old ≡ Some files → O.written out.old ≡ Some old
+        → WroteAll (IsOutcome (map string_bytes words.now.items) files (I.left _input.old)) files old (O.written out.new) result }
     ensures missing { result ≡ Status.ReadFault → (files : Files) (old : List ℕ) → H.files shelf.old ≡ Some files → O.written out.old ≡ Some old
-        → Rose (H.failed_reads shelf.old) (H.failed_reads shelf.new) ⊎ Ran (map string_bytes words.now.items) files files old (O.written out.new) result }
+        → Rose (H.failed_reads shelf.old) (H.failed_reads shelf.new)
+        ⊎ WroteAll (IsOutcome (map string_bytes words.now.items) files (I.left _input.old)) files old (O.written out.new) result }
 
     // After a fault or want of memory, a prefix of that output.
     ensures prefix { (files : Files) → H.files shelf.old ≡ Some files
-        → WritesPrefix (map string_bytes words.now.items) files (O.written out.old) (O.written out.new) }
+        → WrotePrefix (IsOutcome (map string_bytes words.now.items) files (I.left _input.old)) (O.written out.old) (O.written out.new) }
 
     // When each refusal comes.
-    ensures usage { result ≡ Status.Usage → IsCommand (map string_bytes words.now.items) → ⊥ }
-    ensures no_command { (IsCommand (map string_bytes words.now.items) → ⊥) → EndsUsage result }
+    ensures usage { result ≡ Status.Usage → AreOfNoCommand (map string_bytes words.now.items) }
+    ensures no_command { AreOfNoCommand (map string_bytes words.now.items) → MayEndNoCommand result }
     ensures read_fault { result ≡ Status.ReadFault → Rose (H.failed_reads shelf.old) (H.failed_reads shelf.new)
-        ⊎ ((lex text : List ℕ) × IsSegment (map string_bytes words.now.items) lex text × Lacks (H.files shelf.old) lex) }
+        ⊎ ((lex text : List ℕ) × AreWordsOf (SegmentWords lex text) (map string_bytes words.now.items) × Lacks (H.files shelf.old) lex) }
     ensures write_fault { result ≡ Status.WriteFault → Rose (O.faults out.old) (O.faults out.new) }
 
     // What stays: the files, and whatever the words do not use.
     ensures files { H.files shelf.new ≡ H.files shelf.old }
     ensures failed_writes { H.failed_writes shelf.new ≡ H.failed_writes shelf.old }
-    ensures unused_shelf { (IsCommand (map string_bytes words.now.items) → ⊥) → shelf.new ≡ shelf.old }
+    ensures unused_shelf { AreOfNoCommand (map string_bytes words.now.items) → shelf.new ≡ shelf.old }
     ensures input { _input.new ≡ _input.old }
 {
     match command_of(words.as_slice()) {

@@ -1,22 +1,19 @@
 ghost use Rattle.std.specs.Prelude.{◌≡◌, ◌<◌, ◌≤◌, ◌^◌, ◌⊎◌, ◌++◌, ℕ, List, length, map, All, IfOk, OnOk, string_bytes, Err};
 ghost use Rattle.derivation.specs.Steps.{StandIn, steps_of};
-ghost use Rattle.segmentation_definitions.specs.PrintedAnswers.{printed_answer};
-ghost use Rattle.run_definitions.specs.Outcomes.{IsPlainText, line_of as plain_line, output_line, printed_answers, printed_rest, printed_page};
+ghost use Rattle.segmentation_definitions.specs.PrintedAnswers.{printed_answer, output_line, printed_answers, printed_rest, printed_page};
+ghost use Rattle.run_definitions.specs.SegmentOutcomes.{IsUnbrokenText, unbroken_line};
 ghost use Rattle.thin_text_definitions.specs.ThinTexts.{IsThinText};
 ghost use Rattle.sandhi_program.specs.Segments.{ArePrintable, IsSegmentOutput};
 
 use super::thin_text::{ThinError, read_thin};
-use derivation::{RuleSet, Step, print_derivation};
+use derivation::{Step, print_derivation};
 use latin_schemes::{SpellError, read_slp1};
 use phoneme::{Line, Memory};
+use run_definitions::SEGMENT_PAGE;
+use sandhi_rules::RuleSet;
+use segmentation_definitions::LAST_ANSWER_NUMBER;
 use segmenter::{Found, first_page};
 use std::alloc::Global;
-
-/// The most answers of the page that `segment` prints.
-const PAGE_ANSWERS: u32 = 10_000;
-
-/// The most letters of a line.
-const LINE_LETTERS: usize = 1000;
 
 /// Why there is no page.
 #[derive(Clone, Copy, Debug, PartialEq, Eq)]
@@ -61,21 +58,17 @@ impl From<ThinError> for SegmentError {
     }
 }
 
-/// The line of a text, without blanks: 1 to 1,000 letters in SLP1.
+/// The line of a text, without blanks: letters in SLP1, within the limit.
 fn line_of(alloc: Global, text: &str) -> Result<Line, SegmentError>
     requires { length text.now < 2 ^ 32 }
-    ensures ok { IfOk result (λ line. IsPlainText text.now line.letters × (line ≡ plain_line line.letters)) }
-    ensures not_built { result ≡ Err SegmentError.NotBuilt → (word : List ℕ) → IsPlainText text.now word → ⊥ }
+    ensures ok { IfOk result (λ line. IsUnbrokenText text.now line.letters × (line ≡ unbroken_line line.letters)) }
+    ensures not_built { result ≡ Err SegmentError.NotBuilt → (word : List ℕ) → IsUnbrokenText text.now word → ⊥ }
 {
     let letters = read_slp1(alloc, text.as_bytes())?;
-    let count = letters.as_slice().len();
-    if count == 0 || count > LINE_LETTERS {
-        return Err(SegmentError::NotBuilt);
+    match Line::new(letters, Vec::new(alloc)) {
+        Some(line) => Ok(line),
+        None => Err(SegmentError::NotBuilt),
     }
-    Ok(Line {
-        letters,
-        blanks: Vec::new(alloc),
-    })
 }
 
 /// Appends the line of an answer.
@@ -106,15 +99,14 @@ fn push_answers(
     line: &Line,
     answers: &[Vec<Step>],
 ) -> Result<(), Memory>
-    requires stand { All (λ steps. ArePrintable rules.now line.now.letters steps.items) answers.now }
-    requires limit { length answers.now ≤ 10000 }
+    requires { All (λ steps. ArePrintable rules.now line.now.letters steps.items) answers.now }
     ensures ok { OnOk result (string_bytes output.new ≡ string_bytes output.old
         ++ printed_answers rules.now 1 (map (λ steps. steps_of rules.now line.now.letters steps.items) answers.now)) }
 {
     let mut number = 1u64;
     for steps in answers {
         push_answer(alloc, output, rules, line, steps.as_slice(), number)?;
-        number += 1;
+        number = LAST_ANSWER_NUMBER.min(number + 1);
     }
     Ok(())
 }
@@ -128,8 +120,7 @@ fn rest_line(more: bool) -> &'static str
 
 /// The lines of the page: an answer a line, then `more` or `end`.
 fn print_page(alloc: Global, rules: &RuleSet, line: &Line, found: &Found) -> Result<String, Memory>
-    requires stand { All (λ steps. ArePrintable rules.now line.now.letters steps.items) found.now.answers.items }
-    requires limit { length found.now.answers.items ≤ 10000 }
+    requires { All (λ steps. ArePrintable rules.now line.now.letters steps.items) found.now.answers.items }
     ensures ok { IfOk result (λ output. string_bytes output ≡ printed_page rules.now 1
         (map (λ steps. steps_of rules.now line.now.letters steps.items) found.now.answers.items) found.now.more) }
 {
@@ -144,10 +135,10 @@ pub(crate) fn segment(alloc: Global, bytes: &[u8], text: &str) -> Result<String,
     requires { length text.now < 2 ^ 32 }
     ensures ok { IfOk result (λ output. IsSegmentOutput bytes.now text.now (string_bytes output)) }
     ensures not_built { result ≡ Err SegmentError.NotBuilt
-        → (IsThinText bytes.now → ⊥) ⊎ ((word : List ℕ) → IsPlainText text.now word → ⊥) }
+        → (IsThinText bytes.now → ⊥) ⊎ ((word : List ℕ) → IsUnbrokenText text.now word → ⊥) }
 {
     let lexicon = read_thin(alloc, bytes)?;
     let line = line_of(alloc, text)?;
-    let found = first_page(alloc, &lexicon, &line, PAGE_ANSWERS)?;
+    let found = first_page(alloc, &lexicon, &line, SEGMENT_PAGE)?;
     Ok(print_page(alloc, &lexicon.rules, &line, &found)?)
 }

@@ -15,7 +15,7 @@ pub enum Status {
     ReadFault,
     /// The output could not be written.
     WriteFault,
-    /// The lexicon is no thin text, or the text is not 1 to 1,000 letters in SLP1.
+    /// The lexicon is no thin text, or the text is not letters in SLP1 within the limit.
     NotBuilt,
 }
 

@@ -1,5 +1,6 @@
 ghost use Rattle.std.specs.Prelude.{◌≡◌, ◌≢◌, ℕ, List, [], ◌∷◌, ◌++◌, IfOk, MatchOption, Err};
 ghost use Rattle.lexicon_definitions.specs.Lexicons.{Lexicon as LexiconValue, IsRuleSet};
+ghost use Rattle.lexicon_definitions.specs.Limits.{IsRuleSetWithinLimits};
 ghost use Rattle.thin_text_definitions.specs.ThinTexts.{IsThinText, IsThinTextOf};
 ghost use Rattle.thin_text_definitions.specs.ThinLines.{Contents as ContentsValue, head_text, text_telling, all_entries};
 ghost use Rattle.segmenter.specs.Forms.{HasForms, lists_of};
@@ -15,15 +16,13 @@ mod tests;
 
 use contents::Contents;
 use cutting::{after, cut};
-use derivation::RuleSet;
 use entry::entry_of;
 pub(crate) use error::ThinError;
+use lexicon_text_definitions::MOST_FILE_BYTES;
 use phoneme::Memory;
+use sandhi_rules::RuleSet;
 use segmenter::Lexicon;
 use std::alloc::Global;
-
-/// The greatest length of a file, in bytes.
-pub(crate) const FILE_LIMIT: usize = 33_554_432;
 
 /// What follows the three first lines, which are the same in each thin text.
 fn after_head(text: &[u8]) -> Option<&[u8]>
@@ -52,7 +51,8 @@ fn read_contents(alloc: Global, text: &[u8]) -> Result<Contents, ThinError>
 
 /// The lexicon with these contents, of the one phase `word`.
 fn lexicon_of(alloc: Global, contents: Contents) -> Result<Lexicon, Memory>
-    requires { IsRuleSet (rules_read contents) }
+    requires set { IsRuleSet (rules_read contents) }
+    requires limits { IsRuleSetWithinLimits (rules_read contents) }
     ensures rules { IfOk result (λ lexicon. lexicon.rules ≡ rules_read contents) }
     ensures forms { IfOk result (λ lexicon. lists_of lexicon ≡ contents.forms.items ∷ []) }
 {
@@ -77,7 +77,7 @@ pub(crate) fn read_thin(alloc: Global, bytes: &[u8]) -> Result<Lexicon, ThinErro
     ensures ok { IfOk result (λ lexicon. (full : LexiconValue) × IsThinTextOf full bytes.now × HasForms lexicon full) }
     ensures not_thin { result ≡ Err ThinError.NotThin → IsThinText bytes.now → ⊥ }
 {
-    if bytes.len() > FILE_LIMIT {
+    if bytes.len() > MOST_FILE_BYTES {
         return Err(ThinError::NotThin);
     }
     let Some(text) = after_head(bytes) else {

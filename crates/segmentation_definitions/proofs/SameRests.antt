@@ -4,10 +4,10 @@ use Rattle.std.proofs.Common.{◌≡◌, ◌≢◌, ℕ, Bool, true, false, List
 use Rattle.std.specs.List.{AllByRecursion}
 use Rattle.std.proofs.lemmas.List.{map-append}
 use Rattle.text_definitions.specs.Lines.{Line, IsLine}
-use Rattle.lexicon_definitions.specs.Grammars.{Accepts, HaveSamePlaces}
+use Rattle.lexicon_definitions.specs.Grammars.{Accepts, HaveSamePositions}
 use Rattle.lexicon_definitions.specs.Lexicons.{Lexicon, RuleSet, tree_of, IsLexicon, IsForm, IsPhaseWord}
 use Rattle.lexicon_definitions.proofs.GrammarLists.{all_append, all_right}
-use Rattle.lexicon_definitions.proofs.GrammarPlaces.{same_places_go_on, same_state_same_places}
+use Rattle.lexicon_definitions.proofs.GrammarPositions.{same_positions_go_on, same_state_same_positions}
 use Rattle.segmentation_definitions.specs.Derivations.{Step, phases_of, Covers, Derives}
 use Rattle.segmentation_definitions.specs.Items.{Placed, Choice, placed, placed_from, covered_from}
 use Rattle.segmentation_definitions.specs.Answers.{IsAnswer}
@@ -47,7 +47,7 @@ module _ (rules : RuleSet) (line_length : ℕ) (choices : List Choice) where
 pub record SameEnds (lexicon : Lexicon) (line : Line) (choices : List Choice) (left right : List Step) : Type 0 where
   pub covered : covered_from lexicon.rules 0 [] left ≡ covered_from lexicon.rules 0 [] right
   pub entrance : entrance_after lexicon.rules Start left ≡ entrance_after lexicon.rules Start right
-  pub places : HaveSamePlaces (tree_of lexicon.rules) (phases_of left) (phases_of right)
+  pub places : HaveSamePositions (tree_of lexicon.rules) (phases_of left) (phases_of right)
   pub front : IsFront lexicon right line.letters
   pub tests : PassesTests lexicon.rules line choices right
 
@@ -109,7 +109,7 @@ module _ (lexicon : Lexicon) (line : Line) (choices : List Choice) (left right :
       let phase : Step → ℕ = λ step. step.phase in
       let cut = subst (Accepts (tree_of lexicon.rules)) (map-append phase left (next ∷ steps)) h in
       subst (Accepts (tree_of lexicon.rules)) (sym (map-append phase right (next ∷ steps)))
-      (same_places_go_on (tree_of lexicon.rules) (phases_of left) (phases_of right) (phases_of (next ∷ steps)) ends.places cut)
+      (same_positions_go_on (tree_of lexicon.rules) (phases_of left) (phases_of right) (phases_of (next ∷ steps)) ends.places cut)
 
   blanks_right : KeepsBlanksLocally lexicon.rules line.blanks (left ++ next ∷ steps)
       → KeepsBlanksLocally lexicon.rules line.blanks (right ++ next ∷ steps)
@@ -157,7 +157,7 @@ same_rests lexicon line choices configuration left right (next ∷ steps) is lin
     let ends : SameEnds lexicon line choices left right = record {
       covered = sym end.covered ∙ other_end.covered;
       entrance = sym end.entrance ∙ other_end.entrance;
-      places = same_state_same_places (tree_of lexicon.rules) (phases_of left) (phases_of right) configuration.state end.state other_end.state;
+      places = same_state_same_positions (tree_of lexicon.rules) (phases_of left) (phases_of right) configuration.state end.state other_end.state;
       front = other;
       tests = other_tests;
     } in

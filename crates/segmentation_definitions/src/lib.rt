@@ -4,6 +4,7 @@
 mod configurations;
 mod finite;
 mod keys;
+mod limits;
 mod local_tests;
 mod orders;
 mod pages;
@@ -12,6 +13,7 @@ mod places;
 pub use configurations::same_configuration_same_rests;
 pub use finite::answers_are_finitely_many;
 pub use keys::{answers_are_ordered, keys_determine_answers};
+pub use limits::LAST_ANSWER_NUMBER;
 pub use local_tests::{blanks_are_local, choices_are_local};
 pub use orders::items_are_ordered;
 pub use pages::{

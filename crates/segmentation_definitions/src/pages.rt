@@ -4,7 +4,7 @@ ghost use Rattle.text_definitions.specs.Lines.{Line};
 ghost use Rattle.lexicon_definitions.specs.Lexicons.{Lexicon};
 ghost use Rattle.segmentation_definitions.specs.Derivations.{Step};
 ghost use Rattle.segmentation_definitions.specs.Items.{Item, Choice};
-ghost use Rattle.segmentation_definitions.specs.Listings.{Position, BeforeFirst, IsListing, IsListingAbove, IsPage, Page, ArePages, IsSummary};
+ghost use Rattle.segmentation_definitions.specs.Listings.{Position, IsListingAbove, IsPage, Page, ArePages, IsSummary};
 
 /// A line with choices has one listing at most, above each position.
 pub fn one_listing()
@@ -36,10 +36,10 @@ pub fn one_summary()
         → IsSummary lexicon line choices left → IsSummary lexicon line choices right → left ≡ right }
 {}
 
-/// Pages that follow one another from before the first answer, up to one after which none is left, are together the
-/// listing, whatever their sizes are.
+/// Pages that follow one another from a position, up to one after which none is left, are together the listing above that
+/// position, whatever their sizes are; from before the first answer they are the whole listing.
 pub fn pages_make_the_listing()
-    ensures { (lexicon : Lexicon) (line : Line) (choices : List Choice) (pages : List Page) (last : Page)
-        → ArePages lexicon line choices BeforeFirst (pages ++ last ∷ []) → last.more ≡ false
-        → IsListing lexicon line choices (flat_map (λ page. page.answers) (pages ++ last ∷ [])) }
+    ensures { (lexicon : Lexicon) (line : Line) (choices : List Choice) (position : Position) (pages : List Page) (last : Page)
+        → ArePages lexicon line choices position (pages ++ last ∷ []) → last.more ≡ false
+        → IsListingAbove lexicon line choices position (flat_map (λ page. page.answers) (pages ++ last ∷ [])) }
 {}

@@ -6,4 +6,3 @@ pub mod FirstPages
 pub mod LineTests
 pub mod Candidates
 pub mod Extensions
-pub mod WorkedForms

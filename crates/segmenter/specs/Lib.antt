@@ -1,4 +1,3 @@
 pub mod Forms
 pub mod Completions
 pub mod Pages
-pub mod Worked

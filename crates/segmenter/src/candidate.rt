@@ -6,8 +6,9 @@ ghost use Rattle.segmenter.specs.Completions.{EndsLine, GoesOn, KeepsBlanks, Fit
 
 use super::Lexicon;
 use super::place::Place;
-use derivation::{RuleSet, Step, form_after};
+use derivation::{Step, form_after};
 use phoneme::{Line, Memory, Word};
+use sandhi_rules::RuleSet;
 use std::alloc::Global;
 
 /// After how many letters of the line the letters end that the step takes.
@@ -15,13 +16,6 @@ pub(crate) fn end_of(step: &Step) -> usize
     ensures { result ≡ step.now.at + step.now.taken }
 {
     step.at as usize + step.taken as usize
-}
-
-/// Whether the phase is in the set of phases.
-fn has_phase(phases: u16, phase: u32) -> bool
-    ensures { IsTrue result ↔ HasPhase phases phase }
-{
-    phase < 16 && (phases >> phase) & 1 == 1
 }
 
 /// Whether the `w` of the rule stands in the line from the letter `end` on.
@@ -43,7 +37,7 @@ fn may_follow(rules: &RuleSet, rule: u32, phase: u32) -> bool
 {
     match rules.rule(rule) {
         None => true,
-        Some(rule) => has_phase(rule.before, phase),
+        Some(rule) => rule.may_follow(phase),
     }
 }
 
@@ -54,7 +48,7 @@ fn may_precede(rules: &RuleSet, rule: u32, phase: u32) -> bool
 {
     match rules.rule(rule) {
         None => true,
-        Some(rule) => has_phase(rule.after, phase),
+        Some(rule) => rule.may_precede(phase),
     }
 }
 

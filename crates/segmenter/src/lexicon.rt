@@ -1,8 +1,8 @@
 ghost use Rattle.std.specs.Prelude.{◌<◌, ◌↔◌, length, IsTrue, Contains};
 ghost use Rattle.segmenter.specs.Forms.{HasRisingLists, list_of};
 
-use derivation::RuleSet;
 use phoneme::Word;
+use sandhi_rules::RuleSet;
 
 /// A rule set, and for each of its phases the forms, rising and none empty (Huet 2005).
 #[derive(Debug, Drop)]

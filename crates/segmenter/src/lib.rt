@@ -8,8 +8,6 @@ mod found;
 mod lexicon;
 mod page;
 mod place;
-#[cfg(test)]
-mod tests;
 
 pub use found::Found;
 pub use lexicon::Lexicon;

@@ -18,7 +18,6 @@ pub fn first_page(alloc: Global, lexicon: &Lexicon, line: &Line, most: u32) -> R
     requires lists { HasRisingLists lexicon.now }
     requires thin { IsThin lexicon.now }
     requires some { 1 ≤ most }
-    requires limit { most ≤ 10000 }
     ensures page { IfOk result (λ found. (lexical : LexiconValue) → IsLexicon lexical → HasForms lexicon.now lexical
         → IsPage lexical line.now [] BeforeFirst most (map (steps_of lexicon.now.rules line.now.letters) (answers_of found)) found.more) }
     ensures stand { IfOk result (λ found. All (StandIn lexicon.now.rules line.now.letters) (answers_of found)) }

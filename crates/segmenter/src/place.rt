@@ -5,8 +5,9 @@ ghost use Rattle.segmenter.specs.Completions.{lead_at, CanFollow, place_after, r
 
 use super::Lexicon;
 use super::candidate::end_of;
-use derivation::{RuleSet, Step, form_after};
+use derivation::{Step, form_after};
 use phoneme::{Letter, Line, Memory};
+use sandhi_rules::RuleSet;
 use std::alloc::Global;
 
 /// Where the next form begins: after how many letters, after which rule (0 for none), and after which letter, where

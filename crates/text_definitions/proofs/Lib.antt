@@ -9,3 +9,5 @@ pub mod DevanagariTable
 pub mod ReadWords
 pub mod SpelledWords
 pub mod WordSearches
+pub mod SpelledLines
+pub mod FaultPlaces

@@ -7,3 +7,5 @@ pub mod Wx
 pub mod Longest
 pub mod Velthuis
 pub mod Devanagari
+pub mod Schemes
+pub mod LineTexts

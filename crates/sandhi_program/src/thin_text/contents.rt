@@ -9,15 +9,10 @@ ghost use Rattle.sandhi_program.specs.ThinReader.{told_of, IsLawfulSoFar, MayFol
 use super::ThinError;
 use super::entry::Entry;
 use super::leads::add_lead;
-use derivation::Rule;
+use lexicon_definitions::{MOST_FORM_LINES, MOST_RULES};
 use phoneme::{Letter, Word};
+use sandhi_rules::Rule;
 use std::alloc::Global;
-
-/// The most rules.
-const RULE_COUNT: usize = 4000;
-
-/// The most forms.
-const FORM_COUNT: usize = 600_000;
 
 /// What the lines so far told: the plain pairs, the rules with the different `v` of the inner ones, rising, the forms,
 /// and whether the last line was among them.
@@ -128,7 +123,7 @@ impl Contents {
         ensures lawful { OnOk result (IsLawfulSoFar self.new) }
         ensures not_thin { result ≡ Err ThinError.NotThin → MayFollowRule self.old rule → ⊥ }
     {
-        if self.ended || !self.forms.is_empty() || self.rules.len() >= RULE_COUNT {
+        if self.ended || !self.forms.is_empty() || self.rules.len() >= MOST_RULES {
             return Err(ThinError::NotThin);
         }
         if has_triple(self.rules.as_slice(), &rule) {
@@ -146,7 +141,7 @@ impl Contents {
         ensures lawful { OnOk result (IsLawfulSoFar self.new) }
         ensures not_thin { result ≡ Err ThinError.NotThin → MayFollowForm self.old letters → ⊥ }
     {
-        if self.ended || self.forms.len() >= FORM_COUNT {
+        if self.ended || self.forms.len() >= MOST_FORM_LINES {
             return Err(ThinError::NotThin);
         }
         if !may_end_words(self.forms.as_slice(), &letters) {

@@ -4,16 +4,11 @@ ghost use Rattle.sandhi_program.specs.ThinReader.{IsSpelling, told_of};
 
 use super::ThinError;
 use super::cutting::{after, cut, is_same};
-use derivation::Rule;
 use latin_schemes::read_slp1;
+use lexicon_definitions::{MOST_FORM_LETTERS, MOST_RULE_LETTERS};
 use phoneme::{Letter, Word};
+use sandhi_rules::Rule;
 use std::alloc::Global;
-
-/// The most letters of a part of a rule.
-const PART_LETTERS: usize = 8;
-
-/// The most letters of a form, and of a stem.
-const FORM_LETTERS: usize = 64;
 
 /// What a line after the first three tells.
 #[derive(Debug, Drop)]
@@ -26,7 +21,7 @@ pub(super) enum Entry {
 
 /// The word of at most this many letters that the bytes spell in SLP1.
 fn word_of(alloc: Global, text: &[u8], most: usize) -> Result<Word, ThinError>
-    requires { most ≤ 64 }
+    requires { most ≤ MOST_FORM_LETTERS }
     ensures ok { IfOk result (λ word. IsSpelling most text.now word) }
     ensures not_thin { result ≡ Err ThinError.NotThin → (word : List ℕ) → IsSpelling most text.now word → ⊥ }
 {
@@ -38,7 +33,7 @@ fn word_of(alloc: Global, text: &[u8], most: usize) -> Result<Word, ThinError>
 
 /// The word of 1 to this many letters that the bytes spell in SLP1.
 fn some_word_of(alloc: Global, text: &[u8], most: usize) -> Result<Word, ThinError>
-    requires { most ≤ 64 }
+    requires { most ≤ MOST_FORM_LETTERS }
     ensures ok { IfOk result (λ word. IsSpelling most text.now word × (word ≢ [])) }
     ensures not_thin { result ≡ Err ThinError.NotThin → (word : List ℕ) → IsSpelling most text.now word → word ≢ [] → ⊥ }
 {
@@ -89,9 +84,9 @@ fn rule_of(alloc: Global, field: &[u8]) -> Result<Entry, ThinError>
     let Some((v, w)) = cut(rest, b'>') else {
         return Err(ThinError::NotThin);
     };
-    let u = some_word_of(alloc, u, PART_LETTERS)?;
-    let v = word_of(alloc, v, PART_LETTERS)?;
-    let w = some_word_of(alloc, w, PART_LETTERS)?;
+    let u = some_word_of(alloc, u, MOST_RULE_LETTERS)?;
+    let v = word_of(alloc, v, MOST_RULE_LETTERS)?;
+    let w = some_word_of(alloc, w, MOST_RULE_LETTERS)?;
     let after = phases_after(&v);
     Ok(Entry::Rule(Rule {
         u,
@@ -119,8 +114,8 @@ fn form_of(alloc: Global, fields: &[u8]) -> Result<Entry, ThinError>
     if !is_same(tag, b"ind") {
         return Err(ThinError::NotThin);
     }
-    let letters = some_word_of(alloc, form, FORM_LETTERS)?;
-    let stem = some_word_of(alloc, stem, FORM_LETTERS)?;
+    let letters = some_word_of(alloc, form, MOST_FORM_LETTERS)?;
+    let stem = some_word_of(alloc, stem, MOST_FORM_LETTERS)?;
     Ok(Entry::Form { letters, stem })
 }
 

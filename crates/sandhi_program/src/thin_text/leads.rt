@@ -2,12 +2,10 @@ ghost use Rattle.std.specs.Prelude.{◌≡◌, ◌≤◌, ◌∷◌, ◌++◌, l
 ghost use Rattle.sandhi_program.specs.ThinReader.{with_word, with_lead};
 
 use super::ThinError;
+use lexicon_definitions::MOST_LEADS;
 use phoneme::Word;
 use std::alloc::Global;
 use std::cmp::Ordering;
-
-/// The most different leads.
-const LEAD_COUNT: usize = 256;
 
 /// The place at which the word is to be inserted, so that the words rise. `None` where it is one of them.
 fn place_of(words: &[Word], word: &Word) -> Option<usize>
@@ -25,12 +23,12 @@ fn place_of(words: &[Word], word: &Word) -> Option<usize>
 }
 
 /// Adds the `v` of a rule to the different ones before it, which rise, where it is none of them and not empty. `NotThin`
-/// where they would be more than 256.
+/// where they would be too many.
 pub(super) fn add_lead(alloc: Global, leads: &mut Vec<Word>, v: &Word) -> Result<(), ThinError>
-    requires { length leads.old.items ≤ 256 }
+    requires { length leads.old.items ≤ MOST_LEADS }
     ensures ok { OnOk result (leads.new.items ≡ with_lead leads.old.items v.now) }
-    ensures limit { OnOk result (length leads.new.items ≤ 256) }
-    ensures not_thin { result ≡ Err ThinError.NotThin → length (with_lead leads.old.items v.now) ≤ 256 → ⊥ }
+    ensures limit { OnOk result (length leads.new.items ≤ MOST_LEADS) }
+    ensures not_thin { result ≡ Err ThinError.NotThin → length (with_lead leads.old.items v.now) ≤ MOST_LEADS → ⊥ }
 {
     if v.as_slice().is_empty() {
         return Ok(());
@@ -38,7 +36,7 @@ pub(super) fn add_lead(alloc: Global, leads: &mut Vec<Word>, v: &Word) -> Result
     let Some(at) = place_of(leads.as_slice(), v) else {
         return Ok(());
     };
-    if leads.len() >= LEAD_COUNT {
+    if leads.len() >= MOST_LEADS {
         return Err(ThinError::NotThin);
     }
     leads.insert(at, v.copy(alloc)?)?;

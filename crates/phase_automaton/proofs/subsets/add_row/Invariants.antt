@@ -4,7 +4,7 @@ use Rattle.phase_automaton.proofs.subsets.add_row.Given as goal
 
 abbrev pub invariant-loop-phase : goal.invariant-loop-phase
 invariant-loop-phase l = record {
-  states : AreStates l.places l.sets.items;
+  states : AreStates l.positions l.sets.items;
   extends : Extends l.initial.sets.items l.sets.items;
-  row : AddsRow l.places l.sets.items l.fn.set l.initial.steps.items l.steps.items l.phase;
+  row : AddsRow l.positions l.sets.items l.fn.set l.initial.steps.items l.steps.items l.phase;
 }

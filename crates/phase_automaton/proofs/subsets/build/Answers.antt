@@ -2,11 +2,13 @@
 use Rattle.std.proofs.Common.{◌≡◌, ℕ, ◌+◌, ◌<◌, ◌↔◌, ◌∷◌, [], IsTrue, length, get_or, sym, ap, ◌∙◌, arith, subst}
 use Rattle.std.proofs.lemmas.List.{length_push, get_or_read}
 use Rattle.std.proofs.lemmas.Grind.{common_steps}
-use Rattle.phase_automaton.specs.declared.place_set.PlaceSet.{PlaceSet}
-use Rattle.phase_automaton.specs.PlaceSets.{HasPlace}
-use Rattle.phase_automaton.specs.Subsets.{set_at, AreStates, AddsRow}
+use Rattle.phase_automaton.specs.declared.position_set.PositionSet.{PositionSet}
+use Rattle.phase_automaton.specs.PositionSets.{HasPosition}
+use Rattle.phase_automaton.specs.Automata.{StateMachine}
+use Rattle.phase_automaton.specs.Subsets.{set_at, AreStates, AddsRow, IsSubsetMachine}
 use Rattle.phase_automaton.proofs.SubsetSteps.{first_states}
-use Rattle.phase_automaton.proofs.SubsetTables.{AreRows, AreEnds, no_rows, rows_more, ends_more}
+use Rattle.phase_automaton.proofs.SubsetTables.{AreRows, AreEnds, no_rows, rows_more, ends_more, all_rows}
+use Rattle.phase_automaton.proofs.MachineTables.{machine_phases}
 use Rattle.phase_automaton.proofs.subsets.build.Goals as goal
 
 pub rows-init : goal.rows-init
@@ -14,10 +16,10 @@ rows-init c =
     let one : c.push.new.self.items ≡ c.only.result ∷ [] = grind (arith, common_steps) in
     let none : length c.new-accepting.result.items ≡ 0 = ap length c.new-accepting.ensures.items in
     record {
-      states = subst (λ s. AreStates c.args.places.now s) (sym one) (first_states c.args.places.now c.only.result c.only.ensures);
+      states = subst (λ s. AreStates c.args.positions.now s) (sym one) (first_states c.args.positions.now c.only.result c.only.ensures);
       count = omega (arith, none);
-      rows = subst (λ n. AreRows c.args.places.now c.args.phases c.push.new.self.items c.new-steps.result.items n) (sym none)
-          (no_rows c.args.places.now c.args.phases c.push.new.self.items c.new-steps.result.items c.new-steps.ensures.items);
+      rows = subst (λ n. AreRows c.args.positions.now c.args.phases c.push.new.self.items c.new-steps.result.items n) (sym none)
+          (no_rows c.args.positions.now c.args.phases c.push.new.self.items c.new-steps.result.items c.new-steps.ensures.items);
       ends = λ i h. absurd (omega (arith, none, h));
     }
 
@@ -38,13 +40,24 @@ rows-preserved c =
     record {
       states = c.in_ok-add_row.ensures.states;
       count = omega (arith, count, within, extends.longer);
-      rows = subst (λ n. AreRows c.args.places.now c.args.phases c.add_row.new.sets.items c.add_row.new.steps.items n) (sym count)
-          (rows_more c.args.places.now c.args.phases c.rows.sets.items c.add_row.new.sets.items c.rows.steps.items c.add_row.new.steps.items (length c.rows.accepting.items)
+      rows = subst (λ n. AreRows c.args.positions.now c.args.phases c.add_row.new.sets.items c.add_row.new.steps.items n) (sym count)
+          (rows_more c.args.positions.now c.args.phases c.rows.sets.items c.add_row.new.sets.items c.rows.steps.items c.add_row.new.steps.items (length c.rows.accepting.items)
           within extends
-          (subst (λ (s : PlaceSet). AddsRow c.args.places.now c.add_row.new.sets.items s c.rows.steps.items c.add_row.new.steps.items c.args.phases) (sym set) c.in_ok-add_row.ensures.row)
+          (subst (λ (s : PositionSet). AddsRow c.args.positions.now c.add_row.new.sets.items s c.rows.steps.items c.add_row.new.steps.items c.args.phases) (sym set) c.in_ok-add_row.ensures.row)
           c.rows.invariant.rows);
       ends = subst (λ items. AreEnds c.args.ends c.add_row.new.sets.items items) (sym pushed)
           (ends_more c.args.ends c.rows.sets.items c.add_row.new.sets.items c.rows.accepting.items c.meets.result within extends
-          (subst (λ (s : PlaceSet). IsTrue c.meets.result ↔ ((place : ℕ) × HasPlace s place × HasPlace c.args.ends place)) (sym set) c.meets.ensures)
+          (subst (λ (s : PositionSet). IsTrue c.meets.result ↔ ((position : ℕ) × HasPosition s position × HasPosition c.args.ends position)) (sym set) c.meets.ensures)
           c.rows.invariant.ends);
     }
+
+pub returns-clause-machine : goal.returns-clause-machine
+returns-clause-machine c =
+    let items = c.rows.accepting.items in
+    let count : length c.rows.accepting.items ≡ length c.rows.sets.items =
+    omega (arith, c.rows.accepting.ok.0, c.rows.sets.ok.0, c.len.ensures, c.len-in-rows.ensures, c.rows-test.false, c.rows.invariant.count) in
+    subst (λ m. IsSubsetMachine c.args.positions.now c.args.ends m) (sym c.new.ensures)
+    (all_rows c.args.positions.now c.args.ends c.rows.sets.items _ c.rows.invariant.states count c.rows.invariant.rows c.rows.invariant.ends)
+
+pub returns-clause-phases : goal.returns-clause-phases
+returns-clause-phases c = ap (λ (m : StateMachine). m.phases) c.new.ensures ∙ machine_phases _

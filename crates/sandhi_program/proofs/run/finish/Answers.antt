@@ -1,7 +1,7 @@
 -- All bytes are written, or a prefix of them.
 use Rattle.std.proofs.Common.{refl}
 use Rattle.outside.proofs.ToldLemmas.{GrowsByPrefix-all}
-use Rattle.sandhi_program.proofs.Runs.{own_is_not_write_fault, own_is_not_read_fault}
+use Rattle.sandhi_program.proofs.Runs.{no_fault_is_not_write_fault, no_fault_is_not_read_fault}
 use Rattle.sandhi_program.proofs.run.finish.Goals as goal
 
 pub returns-in-Ok : goal.returns-in-Ok
@@ -9,6 +9,6 @@ returns-in-Ok g c =
     let ok = rw c.as_bytes.ensures.value at c.in-Ok.ensures.ok in record {
       all = λ own. (refl, ok);
       prefix = GrowsByPrefix-all _ _ _ ok;
-      write_fault = λ e. absurd (own_is_not_write_fault c.args.status c.requires e);
-      read_fault = λ e. absurd (own_is_not_read_fault c.args.status c.requires e);
+      write_fault = λ e. absurd (no_fault_is_not_write_fault c.args.status c.requires e);
+      read_fault = λ e. absurd (no_fault_is_not_read_fault c.args.status c.requires e);
     }

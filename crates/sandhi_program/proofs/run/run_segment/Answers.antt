@@ -1,15 +1,17 @@
 -- The bytes that were read are the first of the told file.
-use Rattle.sandhi_program.proofs.Runs.{first_content, ran_of, prefix_of}
+use Rattle.std.proofs.Common.{◌+◌}
+use Rattle.lexicon_text_definitions.specs.declared.limits.TheConstants.{MOST_FILE_BYTES}
+use Rattle.sandhi_program.proofs.Runs.{first_content, wrote_all, wrote_prefix}
 use Rattle.sandhi_program.proofs.run.run_segment.Goals as goal
 
 pub returns-in-Ok-clause-outcome : goal.returns-in-Ok-clause-outcome
-returns-in-Ok-clause-outcome g c own all files old s told written =
+returns-in-Ok-clause-outcome g c own files old told written =
     let first = rw told at c.in-Ok.ensures.value in
-    let (content, there, e) = first_content files _ 33554433 _ first in
-    ran_of all c.args.lex.now c.args.text.now files content _ _ _ _ _ _ old s there e (rw c.as_slice.ensures.value at c.write_segment.ensures) written own
+    let (content, there, e) = first_content files _ (MOST_FILE_BYTES + 1) _ first in
+    wrote_all c.args.lex.now c.args.text.now files content _ _ _ _ _ _ old there e (rw c.as_slice.ensures.value at c.write_segment.ensures) written own
 
 pub returns-in-Ok-clause-prefix : goal.returns-in-Ok-clause-prefix
-returns-in-Ok-clause-prefix g c all files s told =
+returns-in-Ok-clause-prefix g c files told =
     let first = rw told at c.in-Ok.ensures.value in
-    let (content, there, e) = first_content files _ 33554433 _ first in
-    prefix_of all c.args.lex.now c.args.text.now files content _ _ _ _ _ _ s there e (rw c.as_slice.ensures.value at c.write_segment.ensures)
+    let (content, there, e) = first_content files _ (MOST_FILE_BYTES + 1) _ first in
+    wrote_prefix c.args.lex.now c.args.text.now files content _ _ _ _ _ _ there e (rw c.as_slice.ensures.value at c.write_segment.ensures)

@@ -5,5 +5,5 @@ use Rattle.phase_automaton.proofs.piece.Piece.any_times.Goals as goal
 
 pub returns-clause-piece : goal.returns-clause-piece
 returns-clause-piece c inner from h =
-    any_times_piece c.args.places.now c.link.new.places c.args.self (record { optional = true; first = c.args.self.first; last = c.args.self.last }) inner from h
-    c.link.ensures (λ place. ((λ x. x), (λ x. x))) (λ place. ((λ x. x), (λ x. x))) refl
+    any_times_piece c.args.positions.now c.link.new.positions c.args.self (record { optional = true; first = c.args.self.first; last = c.args.self.last }) inner from h
+    c.link.ensures (λ position. ((λ x. x), (λ x. x))) (λ position. ((λ x. x), (λ x. x))) refl

@@ -4,5 +4,5 @@ use Rattle.phase_automaton.proofs.piece.Piece.once_or_more.Goals as goal
 
 pub returns-clause-piece : goal.returns-clause-piece
 returns-clause-piece c inner from h =
-    once_or_more_piece c.args.places.now c.link.new.places c.args.self c.args.self inner from h
-    c.link.ensures (λ place. ((λ x. x), (λ x. x))) (λ place. ((λ x. x), (λ x. x))) ((λ x. x), (λ x. x))
+    once_or_more_piece c.args.positions.now c.link.new.positions c.args.self c.args.self inner from h
+    c.link.ensures (λ position. ((λ x. x), (λ x. x))) (λ position. ((λ x. x), (λ x. x))) ((λ x. x), (λ x. x))

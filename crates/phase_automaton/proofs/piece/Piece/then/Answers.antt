@@ -15,5 +15,5 @@ returns-clause-piece c first second from l r =
         (λ x. absurd (false≢true (sym w.if-self.false ∙ x.0))),
       )
     ] in
-    then_piece c.args.places.now c.link.new.places c.args.self c.args.next (record { optional = c.if-self.result; first = c.union_if.result; last = c.union_if-2.result }) first second from l r
+    then_piece c.args.positions.now c.link.new.positions c.args.self c.args.next (record { optional = c.if-self.result; first = c.union_if.result; last = c.union_if-2.result }) first second from l r
     c.link.ensures optional c.union_if.ensures c.union_if-2.ensures

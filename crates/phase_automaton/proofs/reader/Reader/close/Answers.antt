@@ -11,15 +11,15 @@ returns-in_default-finished-clause-reader c all level outer levels some h =
     let from = h.stack.0 in
     let until = c.args.self.now.met in
     let part = c.finished.ensures.piece level from until some h.stack.1 in
-    absurd (subst (λ (p : Option Piece). IsPart c.finished.new.places p (Some (level_tree level)) from until) c.in_default-finished.is part)
+    absurd (subst (λ (p : Option Piece). IsPart c.finished.new.positions p (Some (level_tree level)) from until) c.in_default-finished.is part)
 
 pub returns-clause-reader : goal.returns-clause-reader
 returns-clause-reader c all level outer levels some h =
     let x = c.in-Some.ensures.items in
-    close_step all c.args.places.now c.finished.new.places c.with_item-self.new.places c.args.self.now
+    close_step all c.args.positions.now c.finished.new.positions c.with_item-self.new.positions c.args.self.now
     (record { met = c.args.self.now.met; outer = c.pop.new.self; level = c.with_item-self.result })
     c.in-Some.outer c.in-Some-finished.item level outer levels x refl
     c.finished.ensures.others c.with_item-self.ensures.others
-    (λ from until l. subst (λ (p : Option Piece). IsPart c.finished.new.places p (Some (level_tree level)) from until) c.in-Some-finished.is
+    (λ from until l. subst (λ (p : Option Piece). IsPart c.finished.new.positions p (Some (level_tree level)) from until) c.in-Some-finished.is
     (c.finished.ensures.piece level from until some l))
     c.with_item-self.ensures.level h

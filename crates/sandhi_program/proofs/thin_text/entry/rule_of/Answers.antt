@@ -30,4 +30,4 @@ pub returns-clause-ok : goal.returns-clause-ok
 returns-clause-ok c =
     rule_tells c.args.field.now c.in-Some.u.now c.in-Some-cut.v.now c.in-Some-cut.w.now c.in-Some.rest.now _ c.in-Some.ensures.0 c.in-Some-cut.ensures.0
     c.in_ok-u.ensures.ok.0 c.in_ok-u.ensures.ok.1 c.in_ok-v.ensures.ok c.in_ok-w.ensures.ok.0 c.in_ok-w.ensures.ok.1 refl
-    (record { final = c.phases_after-append.ensures.end; inner = c.phases_after-append.ensures.inner })
+    (record { final = c.phases_after-after.ensures.end; inner = c.phases_after-after.ensures.inner })

@@ -1,0 +1,30 @@
+-- A text's first fault is told by its size and by the first fault of its bytes and names; only where it has none of these can
+-- it have too many states. By cases on both faults.
+use Rattle.std.proofs.Common.{◌≡◌, ℕ, Some, None, List, refl, sym, ap, ◌∙◌}
+use Rattle.lexicon_definitions.specs.GrammarFaults.{Fault, Long, Syntax, UnknownPhase, Places, States, fault_before_states, IsFirstFault, IsGrammarTextWithinLimits}
+
+-- a first fault but for too many states is the one before the states
+earlier_fault : (names : List (List ℕ)) (text : List ℕ) (first second : Fault) → fault_before_states names text ≡ Some first
+    → IsFirstFault names text second → first ≡ second
+earlier_fault names text first Long h k = let e = sym h ∙ k in cc
+earlier_fault names text first (Syntax at) h k = let e = sym h ∙ k in cc
+earlier_fault names text first (UnknownPhase at) h k = let e = sym h ∙ k in cc
+earlier_fault names text first Places h k = let e = sym h ∙ k in cc
+earlier_fault names text first States h k = let e = sym h ∙ k.0 in cc
+
+-- too many states come with no fault before them
+states_last : (names : List (List ℕ)) (text : List ℕ) (second : Fault) → fault_before_states names text ≡ None
+    → IsFirstFault names text second → States ≡ second
+states_last names text Long h k = let e = sym h ∙ k in cc
+states_last names text (Syntax at) h k = let e = sym h ∙ k in cc
+states_last names text (UnknownPhase at) h k = let e = sym h ∙ k in cc
+states_last names text Places h k = let e = sym h ∙ k in cc
+states_last names text States h k = refl
+
+pub one_first_fault : (names : List (List ℕ)) (text : List ℕ) (first second : Fault) → IsFirstFault names text first
+    → IsFirstFault names text second → first ≡ second
+one_first_fault names text Long second h k = earlier_fault names text Long second h k
+one_first_fault names text (Syntax at) second h k = earlier_fault names text (Syntax at) second h k
+one_first_fault names text (UnknownPhase at) second h k = earlier_fault names text (UnknownPhase at) second h k
+one_first_fault names text Places second h k = earlier_fault names text Places second h k
+one_first_fault names text States second h k = states_last names text second h.0 k

@@ -1,6 +1,0 @@
--- Rising lists with the same elements are equal.
-use Rattle.lexicon_definitions.proofs.GrammarStates.{same_places_same_state}
-use Rattle.lexicon_definitions.proofs.grammar_laws.same_places_same_state.Goals as goal
-
-pub returns : goal.returns
-returns c = same_places_same_state

@@ -1,7 +1,0 @@
--- A number that is not 0 has a bit.
-use Rattle.std.proofs.Common.{nat_eq, arith, refl}
-use Rattle.phase_automaton.proofs.PlaceSetBits.{empty_cases}
-use Rattle.phase_automaton.proofs.place_set.PlaceSet.is_empty.Goals as goal
-
-pub returns : goal.returns
-returns c = empty_cases c.args.self.bits (omega arith) (nat_eq c.args.self.bits 0) refl

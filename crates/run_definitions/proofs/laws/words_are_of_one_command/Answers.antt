@@ -1,0 +1,6 @@
+-- The words tell the command's name and arguments.
+use Rattle.run_definitions.proofs.OneOutcome.{one_command}
+use Rattle.run_definitions.proofs.laws.words_are_of_one_command.Goals as goal
+
+pub returns : goal.returns
+returns c = one_command

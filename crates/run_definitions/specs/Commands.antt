@@ -1,0 +1,30 @@
+-- The words of a run, and the commands that they are (own).
+use Rattle.std.specs.Prelude.{◌≡◌, ℕ, ◌<◌, ◌≤◌, List, [], ◌∷◌, length, slice_index, codes, All}
+use Rattle.run_definitions.specs.declared.limits.TheConstants.{MOST_WORD_BYTES}
+
+-- a command with its arguments
+pub data Command : Type 0 where
+  Segment : (lex : List ℕ) → (text : List ℕ) → Command
+
+-- the word is an option: it begins with `-`, and that is not all of it
+pub record IsOption (word : List ℕ) : Type 0 where
+  pub longer : 1 < length word
+  pub dash : slice_index word 0 ≡ 45
+
+-- the word may be an argument: it is not too long, and no option
+pub record IsArgument (word : List ℕ) : Type 0 where
+  pub within_limit : length word ≤ MOST_WORD_BYTES
+  pub no_option : IsOption word → ⊥
+
+-- the words are the name of a command and these arguments
+pub record AreNameAndArguments (words : List (List ℕ)) (name : List ℕ) (arguments : List (List ℕ)) : Type 0 where
+  pub are : words ≡ name ∷ arguments
+  pub may_be : All IsArgument arguments
+
+-- the words are those of the command
+abbrev pub AreWordsOf : Command → List (List ℕ) → Type 0
+AreWordsOf (Segment lex text) words = AreNameAndArguments words (codes "segment") (lex ∷ text ∷ [])
+
+-- the words are those of no command
+abbrev pub AreOfNoCommand : List (List ℕ) → Type 0
+AreOfNoCommand words = (command : Command) → AreWordsOf command words → ⊥

@@ -1,0 +1,5 @@
+/// A word of the command line has at most this many bytes.
+pub const MOST_WORD_BYTES: usize = 65_536;
+
+/// The page that `segment` prints has at most this many answers.
+pub const SEGMENT_PAGE: u32 = 10_000;

@@ -1,0 +1,2 @@
+pub mod LeadSearches
+pub mod PhaseBits

@@ -1,0 +1,19 @@
+//! The rules of external sandhi (Huet 2005): a rule, and the set of the rules of a lexicon with the names of its phases,
+//! its grammar text and its plain pairs.
+//!
+//! Proved: a `RuleSet` holds what it was given (`RuleSet::new`, `phases`, `grammar`, `plain`, `rules`, `rule`), always within
+//! the limits and with different rules, which is the type's invariant; `is_plain` is membership in the plain pairs;
+//! `leads` are the different pairs of `v` and `after` of the inner rules, rising, and `lead_of` is a rule's place there;
+//! `Rule::is_strict`, `is_inner`, `is_final`, `may_follow` and `may_precede` are their definitions, and `print_rule` is the
+//! rule's notation.
+#![tactic(auto)]
+
+mod lead;
+mod printing;
+mod rule;
+mod rule_set;
+
+pub use lead::Lead;
+pub use printing::print_rule;
+pub use rule::Rule;
+pub use rule_set::RuleSet;

@@ -1,0 +1,39 @@
+ghost use Rattle.std.specs.Prelude.{◌≡◌};
+ghost use Rattle.text_line.specs.declared.line_error.LineError.TheVariants.{Spell as ErrorSpell, Memory as ErrorMemory};
+ghost use Rattle.text_line.specs.Values.{line_error_of};
+
+use latin_schemes::{SpellError, SpellFault};
+use phoneme::Memory;
+use thiserror::Error;
+
+/// Why a text is no line: its first fault of spelling, or else that it has no letter or too many, or want of memory.
+#[derive(Clone, Copy, Debug, PartialEq, Eq, Error)]
+pub enum LineError {
+    #[error("{0}")]
+    Spell(SpellFault),
+    #[error("no letters")]
+    NoLetters,
+    #[error("too long")]
+    TooLong,
+    #[error("out of memory")]
+    Memory,
+}
+
+impl From<Memory> for LineError {
+    ghost from_gives = { λ _ e. e ≡ ErrorMemory };
+
+    fn from(_refused: Memory) -> LineError {
+        LineError::Memory
+    }
+}
+
+impl From<SpellError> for LineError {
+    ghost from_gives = { λ error e. e ≡ line_error_of error };
+
+    fn from(error: SpellError) -> LineError {
+        match error {
+            SpellError::Fault(fault) => LineError::Spell(fault),
+            SpellError::Memory => LineError::Memory,
+        }
+    }
+}
