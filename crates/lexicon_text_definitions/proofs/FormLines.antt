@@ -17,7 +17,7 @@ use Rattle.lexicon_definitions.specs.Lexicons.{Form, IsFormEntry, IsAnalysis, Is
 use Rattle.lexicon_text_definitions.specs.FileContents.{FormLine, compare_lines, compare_last, new_form, after_form, with_analysis, with_form, with_lines, form_line_with, phase_lines, lines_from}
 use Rattle.lexicon_text_definitions.proofs.LineTests.{bytes_same, bytes_itself, bytes_apart}
 use Rattle.lexicon_text_definitions.proofs.RisingLines.{words_total, analyses_total, lines_total, sorted_nil, sorted_one, sorted_cons, sorted_with_last, last_by}
-use Rattle.lexicon_text_definitions.proofs.FileLeads.{same_word}
+use Rattle.std.proofs.lemmas.Map.Lookups.{exact_bytes}
 
 -- ---- one line more at the end of a phase
 

@@ -22,7 +22,7 @@ use Rattle.lexicon_text_definitions.specs.TextsOf.{HasSpelledStems}
 use Rattle.lexicon_text_definitions.specs.FileContents.{FormLine, compare_lines, compare_last, new_form, after_form, with_analysis, with_form, with_lines, form_line_with, phase_lines, lines_from}
 use Rattle.lexicon_text_definitions.proofs.LineTests.{bytes_same, bytes_itself, bytes_apart}
 use Rattle.lexicon_text_definitions.proofs.RisingLines.{words_total, analyses_total, lines_total, sorted_nil, sorted_one, sorted_cons, sorted_with_last, last_by}
-use Rattle.lexicon_text_definitions.proofs.FileLeads.{same_word}
+use Rattle.std.proofs.lemmas.Map.Lookups.{exact_bytes}
 use Rattle.lexicon_text_definitions.proofs.FormLines.{EmptyAfter, empty_later, empty_kept, length-with, AreWithin, rest_within, lines_with, at_zero, no_lines_at_first}
 
 -- ---- a line that is lawful by itself
@@ -56,7 +56,7 @@ same_phase phase order = let tie = tied_itself nat_cmp_total phase in ap (λ fir
 less_by : (left right : List ℕ) (order rest : Ordering) → compare_words left right ≡ order → ordering_then order rest ≡ Less
     → (compare_words left right ≡ Less) ⊎ ((left ≡ right) × (rest ≡ Less))
 less_by left right Less rest e h = inl e
-less_by left right Equal rest e h = inr (same_word left right e, h)
+less_by left right Equal rest e h = inr (exact_bytes left right e, h)
 less_by left right Greater rest e h = absurd (cc)
 
 -- a line is below another of its phase by its letters, or has the same and is below it by its analysis

@@ -22,7 +22,7 @@ use Rattle.lexicon_text_definitions.specs.FileReadings.{Reading, asking, read_on
 use Rattle.lexicon_text_definitions.specs.TextsOf.{HasSpelledStems, HasText, IsTextOf}
 use Rattle.lexicon_text_definitions.proofs.LineCuts.{text_from_lines}
 use Rattle.lexicon_text_definitions.proofs.RisingLines.{sorted_nil}
-use Rattle.lexicon_text_definitions.proofs.FileLeads.{leads_within}
+use Rattle.lexicon_text_definitions.proofs.FileLeads.{leads_counted}
 use Rattle.lexicon_text_definitions.proofs.FormLines.{AreEmpty, EmptyAfter, AreWithin, none_at_first, no_lines_at_first, lines_of_built}
 use Rattle.lexicon_text_definitions.proofs.FormPhases.{IsFormLine, IsLawfulForm, IsLawfulPhase, AreLawful, lawful_built, length-built}
 use Rattle.lexicon_text_definitions.proofs.TakenLines.{Took, took_line}
@@ -258,7 +258,7 @@ module _ (told : Told) (h : IsLawful told) (some : 0 < length told.names) (gramm
       grammar = grammar;
       rules = h.few_rules;
       short_rules = All-weaker (IsTextRule (length told.names)) IsShortRule (λ rule r. r.short) told.rules h.rules;
-      leads = leads_within (length told.names) MOST_LEADS (rules_told told) (All-weaker (IsTextRule (length told.names)) (IsUnlimited (length told.names)) (λ rule r. r.unlimited) told.rules h.rules) h.leads;
+      leads = let same = leads_counted (length told.names) told.rules (All-weaker (IsTextRule (length told.names)) (IsUnlimited (length told.names)) (λ rule r. r.unlimited) told.rules h.rules) in let few = h.leads in omega arith;
     };
     short_forms = All-from_recursion (λ forms. All IsShortForm forms) phases (each_short phases lawful);
     lines = let same = counted 0 phases ∙ ap length built in let few = h.few_lines in omega arith;

@@ -26,7 +26,7 @@ use Rattle.list_laws.proofs.Marks.{is_free}
 use Rattle.lexicon_text_definitions.proofs.LineTests.{IsOther, pairs_before}
 use Rattle.lexicon_text_definitions.proofs.LineCuts.{ended_line, lines_back}
 use Rattle.lexicon_text_definitions.proofs.RisingLines.{pairs_total, lines_total, last_below}
-use Rattle.lexicon_text_definitions.proofs.FileLeads.{leads_with, leads_front, within_leads}
+use Rattle.lexicon_text_definitions.proofs.FileLeads.{leads_with, leads_front, leads_counted}
 use Rattle.lexicon_text_definitions.proofs.FormPhases.{IsFormLine, IsLawfulForm, IsLawfulPhase, AreLawful, all_right, all_both, lines_rise, lines_lawful, phases_built}
 use Rattle.lexicon_text_definitions.proofs.CleanBytes.{IsClean, clean_append, clean_utf8, clean_free, clean_name, clean_word, clean_tag, clean_grammar}
 use Rattle.lexicon_text_definitions.proofs.LineSteps.{MayName, MayPair, MayRule, MayLine, place_of_name}
@@ -306,7 +306,7 @@ module _ (lexicon : Lexicon) (t : HasText lexicon) where
     each = recursion_from_All (IsTextRule (length names)) lexicon.rules.rules text_rules;
     others = t.lexicon_itself.rules.distinct;
     few = t.limits.rule_set.rules;
-    leads = within_leads (length names) MOST_LEADS lexicon.rules t.unlimited t.limits.rule_set.leads;
+    leads = let same = leads_counted (length names) lexicon.rules.rules t.unlimited in let few = t.limits.rule_set.leads in omega arith;
   }
 
   lawful : AreLawful lexicon.phases
