@@ -21,7 +21,8 @@ use Rattle.lexicon_definitions.specs.Rules.{Rule as RuleValue}
 use Rattle.lexicon_definitions.specs.Lexicons.{IsPhaseName, compare_pairs}
 use Rattle.lexicon_text_definitions.specs.FileFaults.{Why, Field, Spelling, Strict, Limit, Twice}
 use Rattle.lexicon_text_definitions.specs.FileLines.{Phase, Grammar, Plain, Rule, Form, End, has_mark, Shape, shape_of}
-use Rattle.lexicon_text_definitions.specs.FileContents.{FormLine, compare_lines, Told, is_empty, is_phase_name, is_tag_text, compare_last, rule_between, has_triple, with_lead, leads_of}
+use Rattle.lexicon_text_definitions.specs.FileContents.{compare_entries, Told, is_empty, is_phase_name, is_tag_text, compare_last, rule_between, has_triple, with_lead, leads_of}
+use Rattle.lexicon_definitions.specs.FormEntries.{Entry}
 use Rattle.lexicon_text_definitions.specs.FileSteps.{Taken, if_rising, take_name, take_phase, take_grammar, one_letter, take_letters, take_plain, passes_rule_limits, take_triple, take_words, take_shape, take_rule, some_word, passes_form_limits, take_form_line, take_analysis, take_entry, take_form, take_end}
 use Rattle.lexicon_text_definitions.proofs.LineTests.{if_passed, if_refused, when_true, when_false, bytes_same, bytes_itself, bytes_apart, none_same, any_false, name_from_test, test_from_name, IsOther, others_from_test, test_from_others}
 use Rattle.lexicon_text_definitions.proofs.LineCuts.{field_with, field_from_shape, shape_of_field, unmarked}
@@ -41,7 +42,7 @@ with_pair told pair = record told { last = Plain; plain = told.plain ++ pair ∷
 abbrev pub with_rule : Told → RuleValue → Told
 with_rule told rule = record told { last = Rule; rules = told.rules ++ rule ∷ [] }
 
-abbrev pub with_line : Told → FormLine → Told
+abbrev pub with_line : Told → Entry → Told
 with_line told line = record told { last = Form; forms = told.forms ++ line ∷ [] }
 
 abbrev pub with_end : Told → Told
@@ -245,11 +246,11 @@ takes_rule told u v w m =
 
 -- ---- a form
 
-pub record MayLine (told : Told) (name : List ℕ) (line : FormLine) : Type 0 where
+pub record MayLine (told : Told) (name : List ℕ) (line : Entry) : Type 0 where
   pub at : position (bytes_eq name) told.names ≡ Some line.phase
   pub line_itself : IsFormLine (length told.names) line
   pub few : length told.forms < MOST_FORM_LINES
-  pub above : compare_last compare_lines told.forms line ≡ Less
+  pub above : compare_last compare_entries told.forms line ≡ Less
 
 -- a name's place
 pub name_at : (names : List (List ℕ)) (name : List ℕ) (phase : ℕ) → position (bytes_eq name) names ≡ Some phase → (phase < length names) × (name ≡ get_or names phase [])
@@ -275,14 +276,14 @@ word_by (Ok []) word h = absurd (cc)
 word_by (Ok (letter ∷ letters)) word h = let same : letter ∷ letters ≡ word = cc in (cc, λ none. cc (same, none))
 word_by (Err fault) word h = absurd (cc)
 
-line_taken : (told after : Told) (line : FormLine) → take_form_line told line ≡ Ok after
+line_taken : (told after : Told) (line : Entry) → take_form_line told line ≡ Ok after
     → (length told.forms < MOST_FORM_LINES) × (length line.letters ≤ MOST_FORM_LETTERS) × (length line.analysis.stem ≤ MOST_FORM_LETTERS)
-    × (compare_last compare_lines told.forms line ≡ Less) × (with_line told line ≡ after)
+    × (compare_last compare_entries told.forms line ≡ Less) × (with_line told line ≡ after)
 line_taken told after line h =
     let limits = if_refused (passes_form_limits told line) _ Limit after h in
     let stem = or_parts _ _ limits.0 in
     let counts = or_parts _ _ stem.0 in
-    let up = rises (compare_last compare_lines told.forms line) (with_line told line) after limits.1 in (
+    let up = rises (compare_last compare_entries told.forms line) (with_line told line) after limits.1 in (
       leb-false MOST_FORM_LINES (length told.forms) counts.0,
       ltb-false MOST_FORM_LETTERS (length line.letters) counts.1,
       ltb-false MOST_FORM_LETTERS (length line.analysis.stem) stem.1,
@@ -306,7 +307,7 @@ analysis_taken told after phase tag (Some letters) (Some stem) h = record { form
 
 -- a line of a form that is taken
 pub record FormTaken (told after : Told) (name letters stem tag : List ℕ) : Type 0 where
-  pub line : FormLine
+  pub line : Entry
   pub may : MayLine told name line
   pub is_letters : letters ≡ slp1_of_word line.letters
   pub is_stem : stem ≡ slp1_of_word line.analysis.stem
@@ -321,7 +322,7 @@ entry_taken told after name (Some phase) letters stem tag e h =
     let words = analysis_taken told after phase tag (some_word (word_of_slp1 letters)) (some_word (word_of_slp1 stem)) tagged.1 in
     let form = word_by (word_of_slp1 letters) words.form words.is_form in
     let root = word_by (word_of_slp1 stem) words.form_stem words.is_stem in
-    let line : FormLine = record { phase = phase; letters = words.form; analysis = record { stem = words.form_stem; tag = tag } } in
+    let line : Entry = record { phase = phase; letters = words.form; analysis = record { stem = words.form_stem; tag = tag } } in
     let (few, short, short_stem, up, is) = line_taken told after line words.taken in
     record {
       line = line;
@@ -347,7 +348,7 @@ entry_taken told after name (Some phase) letters stem tag e h =
     }
 
 pub took_form : (told after : Told) (fields : List (List ℕ)) → take_form told fields ≡ Ok after
-    → (name : List ℕ) × (line : FormLine) × (fields ≡ name ∷ slp1_of_word line.letters ∷ slp1_of_word line.analysis.stem ∷ line.analysis.tag ∷ []) × MayLine told name line
+    → (name : List ℕ) × (line : Entry) × (fields ≡ name ∷ slp1_of_word line.letters ∷ slp1_of_word line.analysis.stem ∷ line.analysis.tag ∷ []) × MayLine told name line
     × (with_line told line ≡ after)
 unfolding take_form
 took_form told after [] h = absurd (cc)
@@ -366,7 +367,7 @@ some_itself (letter ∷ word) n = refl
 some_spelled : (word : List ℕ) → IsWord word → word ≢ [] → some_word (word_of_slp1 (slp1_of_word word)) ≡ Some word
 some_spelled word w n = ap some_word (spelled word w) ∙ some_itself word n
 
-pub takes_form : (told : Told) (name : List ℕ) (line : FormLine) → MayLine told name line
+pub takes_form : (told : Told) (name : List ℕ) (line : Entry) → MayLine told name line
     → take_form told (name ∷ slp1_of_word line.letters ∷ slp1_of_word line.analysis.stem ∷ line.analysis.tag ∷ []) ≡ Ok (with_line told line)
 unfolding take_form
 takes_form told name line m =

@@ -12,7 +12,8 @@ use Rattle.std.proofs.lemmas.Map.Keys.{sorted_head, sorted_tail}
 use Rattle.text_definitions.specs.Words.{compare_words}
 use Rattle.lexicon_definitions.specs.Analyses.{Analysis, compare_analyses}
 use Rattle.lexicon_definitions.specs.Lexicons.{compare_pairs}
-use Rattle.lexicon_text_definitions.specs.FileContents.{FormLine, compare_lines, compare_last}
+use Rattle.lexicon_text_definitions.specs.FileContents.{compare_entries, compare_last}
+use Rattle.lexicon_definitions.specs.FormEntries.{Entry}
 use Rattle.list_laws.proofs.Sorted.{following_front, Contains-first}
 
 -- ---- the orders
@@ -26,10 +27,10 @@ pairs_total = then_total (on_total (λ (p : ℕ × ℕ). p.0) nat_cmp_total) (on
 pub analyses_total : IsTotalOrder compare_analyses
 analyses_total = then_total (on_total (λ (a : Analysis). a.stem) nat_list_cmp_total) (on_total (λ (a : Analysis). a.tag) nat_list_cmp_total)
 
-pub lines_total : IsTotalOrder compare_lines
+pub lines_total : IsTotalOrder compare_entries
 lines_total =
-    then_total (on_total (λ (l : FormLine). l.phase) nat_cmp_total)
-    (then_total (on_total (λ (l : FormLine). l.letters) words_total) (on_total (λ (l : FormLine). l.analysis) analyses_total))
+    then_total (on_total (λ (l : Entry). l.phase) nat_cmp_total)
+    (then_total (on_total (λ (l : Entry). l.letters) words_total) (on_total (λ (l : Entry). l.analysis) analyses_total))
 
 pub sorted_nil : {K : Type 0} (R : K → K → Ordering) → IsStrictlySortedBy R []
 unfolding IsStrictlySortedBy

@@ -16,7 +16,8 @@ use Rattle.lexicon_text_definitions.specs.LexiconTexts.{head_line, phase_line, g
 use Rattle.lexicon_text_definitions.specs.FileFaults as faults
 use Rattle.lexicon_text_definitions.specs.FileFaults.{Trailing, NoEnd, NotUtf8, Order}
 use Rattle.lexicon_text_definitions.specs.FileLines.{Line, Parts, parts_of, fields_of, Kind, Opening, Head, Phase, Grammar, Plain, Rule, Form, End, kind_named, may_follow, Shape}
-use Rattle.lexicon_text_definitions.specs.FileContents.{FormLine, Told, rule_between}
+use Rattle.lexicon_text_definitions.specs.FileContents.{Told, rule_between}
+use Rattle.lexicon_definitions.specs.FormEntries.{Entry}
 use Rattle.lexicon_text_definitions.specs.FileSteps.{Taken, take_phase, take_grammar, take_plain, take_rule, take_form, take_end, take_kind, take_named, take_parts, take_head, take_bytes, is_last, take_line}
 use Rattle.list_laws.proofs.Marks.{is_free, free_append}
 use Rattle.lexicon_text_definitions.proofs.CleanBytes.{clean_utf8}
@@ -34,7 +35,7 @@ pub data Took (told after : Told) (bytes : List ℕ) : Type 0 where
   a_pair : (pair : ℕ × ℕ) → may_follow told.last Plain ≡ true → bytes ≡ plain_line pair → MayPair told pair → with_pair told pair ≡ after → Took told after bytes
   a_rule : (u v w : List ℕ) → may_follow told.last Rule ≡ true → bytes ≡ rule_line (rule_between 0 u v w) → MayRule told u v w
       → with_rule told (rule_between (length told.names) u v w) ≡ after → Took told after bytes
-  a_form : (name : List ℕ) → (line : FormLine) → may_follow told.last Form ≡ true → bytes ≡ form_line name line.letters line.analysis → MayLine told name line
+  a_form : (name : List ℕ) → (line : Entry) → may_follow told.last Form ≡ true → bytes ≡ form_line name line.letters line.analysis → MayLine told name line
       → with_line told line ≡ after → Took told after bytes
   the_end : may_follow told.last End ≡ true → bytes ≡ end_line → with_end told ≡ after → Took told after bytes
 
@@ -58,10 +59,10 @@ plain_is pair = ap (λ fields. codes "plain " ++ fields) (regroup_two (slp1_of_w
 rule_is : (u v w : List ℕ) → rule_line (rule_between 0 u v w) ≡ line_with (codes "rule") (Some (rule_field u v w))
 rule_is u v w = ap (λ field. codes "rule " ++ field) (regroup_three (slp1_of_word u) (slp1_of_word v) (slp1_of_word w) 124 62)
 
-abbrev line_fields : List ℕ → FormLine → List ℕ
+abbrev line_fields : List ℕ → Entry → List ℕ
 line_fields name line = name ++ 32 ∷ (slp1_of_word line.letters ++ 32 ∷ (slp1_of_word line.analysis.stem ++ 32 ∷ line.analysis.tag))
 
-form_is : (name : List ℕ) (line : FormLine) → form_line name line.letters line.analysis ≡ line_with (codes "form") (Some (line_fields name line))
+form_is : (name : List ℕ) (line : Entry) → form_line name line.letters line.analysis ≡ line_with (codes "form") (Some (line_fields name line))
 form_is name line = ap (λ fields. codes "form " ++ fields) (regroup_four name (slp1_of_word line.letters) (slp1_of_word line.analysis.stem) line.analysis.tag 32 32 32)
 
 -- ---- fields
@@ -204,7 +205,7 @@ takes_rule_line told u v w f e m =
     ∙ taken_by told (with_rule told (rule_between (length told.names) u v w)) (line_with (codes "rule") (Some (rule_field u v w))) Rule (Some (rule_field u v w)) f (sym (ap is_utf8 is) ∙ e) refl refl
     (ap (take_rule told) (split_none 32 (rule_field u v w) (blank_free_field u v w m.u_word m.v_word m.w_word)) ∙ takes_rule told u v w m)
 
-pub takes_form_line : (told : Told) (name : List ℕ) (line : FormLine) → may_follow told.last Form ≡ true → is_utf8 (form_line name line.letters line.analysis) ≡ true
+pub takes_form_line : (told : Told) (name : List ℕ) (line : Entry) → may_follow told.last Form ≡ true → is_utf8 (form_line name line.letters line.analysis) ≡ true
     → IsPhaseName name → MayLine told name line
     → take_line told (record { bytes = form_line name line.letters line.analysis; ended = true }) ≡ Ok (with_line told line)
 takes_form_line told name line f u n m =

@@ -15,7 +15,8 @@ use Rattle.lexicon_definitions.specs.GrammarFaults.{IsGrammarTextWithinLimits}
 use Rattle.lexicon_definitions.specs.Limits.{IsShortRule}
 use Rattle.lexicon_text_definitions.specs.LexiconTexts.{head_line, phase_line, grammar_line, plain_line, rule_line, form_line, end_line}
 use Rattle.lexicon_text_definitions.specs.FileLines.{Kind, Opening, Head, Phase, Grammar, Plain, Rule, Form, End, may_follow}
-use Rattle.lexicon_text_definitions.specs.FileContents.{FormLine, compare_lines, Told, phases_after, rule_between, with_lead, leads_of}
+use Rattle.lexicon_text_definitions.specs.FileContents.{compare_entries, Told, phases_after, rule_between, with_lead, leads_of}
+use Rattle.lexicon_definitions.specs.FormEntries.{Entry}
 use Rattle.lexicon_text_definitions.proofs.LineTests.{IsOther, pairs_push}
 use Rattle.lexicon_text_definitions.proofs.RisingLines.{pairs_total, lines_total, sorted_with_last, sorted_nil}
 use Rattle.lexicon_text_definitions.proofs.FileLeads.{leads_with}
@@ -42,7 +43,7 @@ pub record IsLawful (told : Told) : Type 0 where
   pub few_rules : length told.rules ≤ MOST_RULES
   pub leads : length (leads_of told.rules) ≤ MOST_LEADS
   pub lines : AllByRecursion (IsFormLine (length told.names)) told.forms
-  pub rising_lines : IsStrictlySortedBy compare_lines told.forms
+  pub rising_lines : IsStrictlySortedBy compare_entries told.forms
   pub few_lines : length told.forms ≤ MOST_FORM_LINES
 
 -- nothing is told yet of what comes after a kind; after the first lines there is a phase
@@ -65,7 +66,7 @@ HasGrammar last told = IsGrammarTextWithinLimits told.names told.grammar
 
 -- ---- the lines so far
 
-abbrev pub text_of_form : List (List ℕ) → FormLine → List ℕ
+abbrev pub text_of_form : List (List ℕ) → Entry → List ℕ
 text_of_form names line = form_line (slice_index_or names line.phase []) line.letters line.analysis
 
 abbrev pub phases_so_far : Told → List (List ℕ)
@@ -336,7 +337,7 @@ module _ (told : Told) (h : IsLawful told) (n : NothingLater told.last told) whe
             ∙ sym (append_assoc (plain_so_far told) (map rule_line told.rules) (rule_line rule ∷ [])) ∙ ap (λ lines. lines ++ rule_line rule ∷ []) (sym b.so_far);
       }
 
-  line_goes_on : (name : List ℕ) (line : FormLine) → may_follow told.last Form ≡ true → MayLine told name line → GoesOn told (with_line told line) (form_line name line.letters line.analysis)
+  line_goes_on : (name : List ℕ) (line : Entry) → may_follow told.last Form ≡ true → MayLine told name line → GoesOn told (with_line told line) (form_line name line.letters line.analysis)
   line_goes_on name line f m =
       let b = before_form told.last told f n in
       let long = length_push told.forms line in

@@ -16,7 +16,9 @@ use Rattle.lexicon_definitions.specs.Limits.{IsShortRule, IsShortForm, count_lin
 use Rattle.lexicon_text_definitions.specs.LexiconTexts.{head_line, phase_line, grammar_line, plain_line, rule_line, form_line, end_line, phase_forms_lines, forms_lines, lines_of, text_of, text_of_lines}
 use Rattle.lexicon_text_definitions.specs.FileFaults.{Why, FileFault}
 use Rattle.lexicon_text_definitions.specs.FileLines.{Line, lines_of_bytes, Kind, Opening, Grammar, End}
-use Rattle.lexicon_text_definitions.specs.FileContents.{FormLine, compare_lines, Told, nothing_told, with_lines, form_line_with, phase_lines, lines_from, rules_told, lexicon_told}
+use Rattle.lexicon_text_definitions.specs.FileContents.{compare_entries, Told, nothing_told, entry_with, phase_entries, entries_from, rules_told, lexicon_told}
+use Rattle.lexicon_definitions.specs.FormEntries.{Entry}
+use Rattle.lexicon_text_definitions.proofs.FormLines.{with_lines}
 use Rattle.lexicon_text_definitions.specs.FileSteps.{Taken, take_line}
 use Rattle.lexicon_text_definitions.specs.FileReadings.{Reading, asking, read_on, read_lines, at_end, reading_of, IsResult, IsReadAs, FileResult}
 use Rattle.lexicon_text_definitions.specs.TextsOf.{HasSpelledStems, HasText, IsTextOf}
@@ -24,7 +26,7 @@ use Rattle.lexicon_text_definitions.proofs.LineCuts.{text_from_lines}
 use Rattle.lexicon_text_definitions.proofs.RisingLines.{sorted_nil}
 use Rattle.lexicon_text_definitions.proofs.FileLeads.{leads_counted}
 use Rattle.lexicon_text_definitions.proofs.FormLines.{AreEmpty, EmptyAfter, AreWithin, none_at_first, no_lines_at_first, lines_of_built}
-use Rattle.lexicon_text_definitions.proofs.FormPhases.{IsFormLine, IsLawfulForm, IsLawfulPhase, AreLawful, lawful_built, length-built}
+use Rattle.lexicon_text_definitions.proofs.FormPhases.{IsFormLine, IsLawfulForm, IsLawfulPhase, AreLawful, lawful_built, length-built, entries_placed}
 use Rattle.lexicon_text_definitions.proofs.TakenLines.{Took, took_line}
 use Rattle.lexicon_text_definitions.proofs.ToldLines.{IsTextRule, IsLawful, NothingLater, HasGrammar, text_of_form, lines_so_far, forms_so_far, GoesOn, goes_on}
 
@@ -109,19 +111,19 @@ nothing_lawful = record {
 -- ---- the lines of a lexicon's forms are those of its phases
 
 analyses_of : (names : List (List ℕ)) (phase : ℕ) (name letters : List ℕ) (analyses : List Analysis) → get_or names phase [] ≡ name
-    → map (form_line name letters) analyses ≡ map (text_of_form names) (map (form_line_with phase letters) analyses)
+    → map (form_line name letters) analyses ≡ map (text_of_form names) (map (entry_with phase letters) analyses)
 analyses_of names phase name letters [] e = refl
 analyses_of names phase name letters (a ∷ analyses) e = λ i. form_line (sym e i) letters a ∷ analyses_of names phase name letters analyses e i
 
 forms_of_phase : (names : List (List ℕ)) (phase : ℕ) (name : List ℕ) (forms : List Form) → get_or names phase [] ≡ name
-    → phase_forms_lines name forms ≡ map (text_of_form names) (phase_lines phase forms)
+    → phase_forms_lines name forms ≡ map (text_of_form names) (phase_entries phase forms)
 forms_of_phase names phase name [] e = refl
 forms_of_phase names phase name (form ∷ forms) e =
     (λ i. analyses_of names phase name form.letters form.analyses e i ++ forms_of_phase names phase name forms e i)
-    ∙ sym (map-append (text_of_form names) (map (form_line_with phase form.letters) form.analyses) (phase_lines phase forms))
+    ∙ sym (map-append (text_of_form names) (map (entry_with phase form.letters) form.analyses) (phase_entries phase forms))
 
 forms_of_phases : (before names : List (List ℕ)) (phases : List (List Form)) → length phases ≡ length names
-    → forms_lines names phases ≡ map (text_of_form (before ++ names)) (lines_from (length before) phases)
+    → forms_lines names phases ≡ map (text_of_form (before ++ names)) (entries_from (length before) phases)
 forms_of_phases before [] [] e = refl
 forms_of_phases before [] (forms ∷ phases) e = absurd (omega arith)
 forms_of_phases before (name ∷ names) [] e = absurd (omega arith)
@@ -131,15 +133,15 @@ forms_of_phases before (name ∷ names) (forms ∷ phases) e =
     let long : length (before ++ name ∷ []) ≡ length before + 1 = length_push before name in
     let later = forms_of_phases (before ++ name ∷ []) names phases (omega arith) in
     (λ i. forms_of_phase (before ++ name ∷ names) (length before) name forms at i
-    ++ (later ∙ (λ j. map (text_of_form (sym all j)) (lines_from (long j) phases))) i)
-    ∙ sym (map-append (text_of_form (before ++ name ∷ names)) (phase_lines (length before) forms) (lines_from (length before + 1) phases))
+    ++ (later ∙ (λ j. map (text_of_form (sym all j)) (entries_from (long j) phases))) i)
+    ∙ sym (map-append (text_of_form (before ++ name ∷ names)) (phase_entries (length before) forms) (entries_from (length before + 1) phases))
 
 pub forms_are : (names : List (List ℕ)) (phases : List (List Form)) → length phases ≡ length names
-    → forms_lines names phases ≡ map (text_of_form names) (lines_from 0 phases)
+    → forms_lines names phases ≡ map (text_of_form names) (entries_from 0 phases)
 forms_are names phases e = forms_of_phases [] names phases e
 
 -- the lines of a lexicon, in the order in which they are told
-pub lines_are : (told : Told) (phases : List (List Form)) → length phases ≡ length told.names → lines_from 0 phases ≡ told.forms
+pub lines_are : (told : Told) (phases : List (List Form)) → length phases ≡ length told.names → entries_from 0 phases ≡ told.forms
     → lines_of (record { rules = rules_told told; phases = phases }) ≡ lines_so_far End told
 lines_are told phases count forms =
     let front = head_line ∷ map phase_line told.names in
@@ -148,18 +150,18 @@ lines_are told phases count forms =
 
 -- ---- how many lines there are
 
-counted_phase : (phase : ℕ) (forms : List Form) → sum_by (λ (form : Form). length form.analyses) forms ≡ length (phase_lines phase forms)
+counted_phase : (phase : ℕ) (forms : List Form) → sum_by (λ (form : Form). length form.analyses) forms ≡ length (phase_entries phase forms)
 counted_phase phase [] = refl
 counted_phase phase (form ∷ forms) =
     sum_by-cons (λ (form : Form). length form.analyses) form forms
-    ∙ (λ i. sym (length-map form.analyses (form_line_with phase form.letters)) i + counted_phase phase forms i)
-    ∙ sym (length-append (map (form_line_with phase form.letters) form.analyses) (phase_lines phase forms))
+    ∙ (λ i. sym (length-map form.analyses (entry_with phase form.letters)) i + counted_phase phase forms i)
+    ∙ sym (length-append (map (entry_with phase form.letters) form.analyses) (phase_entries phase forms))
 
-pub counted : (phase : ℕ) (phases : List (List Form)) → count_lines phases ≡ length (lines_from phase phases)
+pub counted : (phase : ℕ) (phases : List (List Form)) → count_lines phases ≡ length (entries_from phase phases)
 counted phase [] = refl
 counted phase (forms ∷ phases) =
     sum_by-cons (λ forms. sum_by (λ (form : Form). length form.analyses) forms) forms phases
-    ∙ (λ i. counted_phase phase forms i + counted (phase + 1) phases i) ∙ sym (length-append (phase_lines phase forms) (lines_from (phase + 1) phases))
+    ∙ (λ i. counted_phase phase forms i + counted (phase + 1) phases i) ∙ sym (length-append (phase_entries phase forms) (entries_from (phase + 1) phases))
 
 -- ---- a grammar text within the limits is one over its names
 
@@ -176,15 +178,15 @@ grammar_over names text h = over_by names text _ _ _ _ refl refl refl refl h
 
 -- ---- the lexicon at the end
 
-empty_at_first : (count : ℕ) → 0 < count → EmptyAfter (replicate count []) 0
+pub empty_at_first : (count : ℕ) → 0 < count → EmptyAfter (replicate count []) 0
 empty_at_first zero n = absurd (omega arith)
 empty_at_first (suc count) n = none_at_first count
 
-lawful_at_first : (count : ℕ) → AreLawful (replicate count [])
+pub lawful_at_first : (count : ℕ) → AreLawful (replicate count [])
 lawful_at_first zero = tt
 lawful_at_first (suc count) = (record { each = tt; rising = sorted_nil _ }, lawful_at_first count)
 
-all_within : (count : ℕ) (lines : List FormLine) → AllByRecursion (IsFormLine count) lines → AreWithin 0 count lines
+pub all_within : (count : ℕ) (lines : List Entry) → AllByRecursion (IsFormLine count) lines → AreWithin 0 count lines
 all_within count [] h = tt
 all_within count (line ∷ lines) h = ((omega arith, h.0.phase), all_within count lines h.1)
 
@@ -219,10 +221,13 @@ module _ (told : Told) (h : IsLawful told) (some : 0 < length told.names) (gramm
   abbrev phases : List (List Form)
   phases = with_lines empty_phases told.forms
 
+  abbrev last_lexicon : Lexicon
+  last_lexicon = record { rules = rules_told told; phases = phases }
+
   within : AreWithin 0 (length empty_phases) told.forms
   within = subst (λ count. AreWithin 0 count told.forms) (sym (length-replicate (length told.names) [])) (all_within (length told.names) told.forms h.lines)
 
-  built : lines_from 0 phases ≡ told.forms
+  built : entries_from 0 phases ≡ told.forms
   built =
       lines_of_built empty_phases 0 told.forms (empty_at_first (length told.names) some) h.rising_lines within
       ∙ ap (λ front. front ++ told.forms) (no_lines_at_first 0 (length told.names))
@@ -230,12 +235,12 @@ module _ (told : Told) (h : IsLawful told) (some : 0 < length told.names) (gramm
   lawful : AreLawful phases
   lawful =
       lawful_built (length told.names) empty_phases 0 told.forms (empty_at_first (length told.names) some) (lawful_at_first (length told.names)) h.lines within
-      (subst (λ front. IsStrictlySortedBy compare_lines (front ++ told.forms)) (sym (no_lines_at_first 0 (length told.names))) h.rising_lines)
+      (subst (λ front. IsStrictlySortedBy compare_entries (front ++ told.forms)) (sym (no_lines_at_first 0 (length told.names))) h.rising_lines)
 
   count : length phases ≡ length told.names
   count = length-built empty_phases told.forms ∙ length-replicate (length told.names) []
 
-  lexicon_itself : IsLexicon (lexicon_told told)
+  lexicon_itself : IsLexicon last_lexicon
   lexicon_itself = record {
     rules = record {
       names_are_names = h.names;
@@ -250,7 +255,7 @@ module _ (told : Told) (h : IsLawful told) (some : 0 < length told.names) (gramm
     phases = All-from_recursion IsPhase phases (each_phase phases lawful);
   }
 
-  limits : IsWithinLimits (lexicon_told told)
+  limits : IsWithinLimits last_lexicon
   limits = record {
     rule_set = record {
       some_phase = some;
@@ -264,16 +269,27 @@ module _ (told : Told) (h : IsLawful told) (some : 0 < length told.names) (gramm
     lines = let same = counted 0 phases ∙ ap length built in let few = h.few_lines in omega arith;
   }
 
-  has_text : HasText (lexicon_told told)
-  has_text = record {
+  has_last_text : HasText last_lexicon
+  has_last_text = record {
     lexicon_itself = lexicon_itself;
     limits = limits;
     unlimited = All-weaker (IsTextRule (length told.names)) (IsUnlimited (length told.names)) (λ rule r. r.unlimited) told.rules h.rules;
     stems = All-from_recursion (λ forms. All HasSpelledStems forms) phases (each_spelled phases lawful);
   }
 
+  sorted_all : IsStrictlySortedBy compare_entries (entries_from 0 empty_phases ++ told.forms)
+  sorted_all = subst (λ front. IsStrictlySortedBy compare_entries (front ++ told.forms)) (sym (no_lines_at_first 0 (length told.names))) h.rising_lines
+
+  is_last : last_lexicon ≡ lexicon_told told
+  is_last =
+      let placed = entries_placed (length told.names) empty_phases 0 told.forms (empty_at_first (length told.names) some) (lawful_at_first (length told.names)) h.lines within sorted_all in
+      λ i. record { rules = rules_told told; phases = sym placed i }
+
+  has_text : HasText (lexicon_told told)
+  has_text = subst HasText is_last has_last_text
+
   text : lines_of (lexicon_told told) ≡ lines_so_far End told
-  text = lines_are told phases count built
+  text = sym (ap lines_of is_last) ∙ lines_are told phases count built
 
 text_by : (bytes : List ℕ) (lexicon : Lexicon) → IsRead nothing_told (lines_of_bytes bytes) lexicon → IsTextOf lexicon bytes
 unfolding text_of

@@ -5,7 +5,7 @@ use Rattle.std.specs.List.{AllByRecursion}
 use Rattle.std.specs.Str.{is_utf8}
 use Rattle.std.specs.List.Sorted.{IsStrictlySortedBy}
 use Rattle.std.specs.declared.cmp.Ordering.TheVariants.{Less}
-use Rattle.std.proofs.lemmas.List.{append_assoc, append-nil, map-append, length-append, length_push}
+use Rattle.std.proofs.lemmas.List.{append_assoc, append-nil, map-append, length-append, length_push, length-replicate}
 use Rattle.std.proofs.lemmas.List.Elements.{All-from_recursion, recursion_from_All, All-get_or, All-cons, All-nil}
 use Rattle.text_definitions.specs.Letters.{IsLetter}
 use Rattle.text_definitions.specs.Words.{IsWord}
@@ -18,7 +18,9 @@ use Rattle.lexicon_definitions.specs.Limits.{IsShortForm}
 use Rattle.lexicon_text_definitions.specs.LexiconTexts.{head_line, phase_line, grammar_line, plain_line, rule_line, form_line, end_line, lines_of, text_of, text_of_lines}
 use Rattle.lexicon_text_definitions.specs.FileFaults.{Why}
 use Rattle.lexicon_text_definitions.specs.FileLines.{Line, lines_of_bytes, Kind, Opening, Head, Phase, Grammar, Plain, Rule, Form, End, may_follow}
-use Rattle.lexicon_text_definitions.specs.FileContents.{FormLine, compare_lines, Told, nothing_told, phases_after, rule_between, leads_of, with_lines, lines_from, lexicon_told}
+use Rattle.lexicon_text_definitions.specs.FileContents.{compare_entries, Told, nothing_told, phases_after, rule_between, leads_of, entries_from, lexicon_told}
+use Rattle.lexicon_definitions.specs.FormEntries.{Entry}
+use Rattle.lexicon_text_definitions.proofs.FormLines.{with_lines}
 use Rattle.lexicon_text_definitions.specs.FileSteps.{take_line}
 use Rattle.lexicon_text_definitions.specs.FileReadings.{asking, read_on, read_lines, reading_of, IsResult, IsReadAs, FileResult}
 use Rattle.lexicon_text_definitions.specs.TextsOf.{HasSpelledStems, HasText}
@@ -27,12 +29,13 @@ use Rattle.lexicon_text_definitions.proofs.LineTests.{IsOther, pairs_before}
 use Rattle.lexicon_text_definitions.proofs.LineCuts.{ended_line, lines_back}
 use Rattle.lexicon_text_definitions.proofs.RisingLines.{pairs_total, lines_total, last_below}
 use Rattle.lexicon_text_definitions.proofs.FileLeads.{leads_with, leads_front, leads_counted}
-use Rattle.lexicon_text_definitions.proofs.FormPhases.{IsFormLine, IsLawfulForm, IsLawfulPhase, AreLawful, all_right, all_both, lines_rise, lines_lawful, phases_built}
+use Rattle.lexicon_text_definitions.proofs.FormPhases.{IsFormLine, IsLawfulForm, IsLawfulPhase, AreLawful, all_right, all_both, lines_rise, lines_lawful, phases_built, entries_placed}
 use Rattle.lexicon_text_definitions.proofs.CleanBytes.{IsClean, clean_append, clean_utf8, clean_free, clean_name, clean_word, clean_tag, clean_grammar}
 use Rattle.lexicon_text_definitions.proofs.LineSteps.{MayName, MayPair, MayRule, MayLine, place_of_name}
 use Rattle.lexicon_text_definitions.proofs.TakenLines.{takes_head, takes_name_line, takes_grammar_line, takes_pair_line, takes_rule_line, takes_form_line, takes_end_line}
 use Rattle.lexicon_text_definitions.proofs.ToldLines.{IsTextRule, text_of_form, lines_so_far, NothingLater}
-use Rattle.lexicon_text_definitions.proofs.WholeTexts.{lines_are, counted, grammar_over}
+use Rattle.lexicon_text_definitions.proofs.WholeTexts.{lines_are, counted, grammar_over, empty_at_first, lawful_at_first, all_within}
+use Rattle.lexicon_text_definitions.proofs.FormLines.{AreWithin, no_lines_at_first}
 
 -- ---- parts of a lexicon that are lawful as a whole
 
@@ -51,9 +54,9 @@ record AreRules (count : ℕ) (rules : List RuleValue) : Type 0 where
   few : length rules ≤ MOST_RULES
   leads : length (leads_of rules) ≤ MOST_LEADS
 
-record AreLines (count : ℕ) (lines : List FormLine) : Type 0 where
+record AreLines (count : ℕ) (lines : List Entry) : Type 0 where
   each : AllByRecursion (IsFormLine count) lines
-  rising : IsStrictlySortedBy compare_lines lines
+  rising : IsStrictlySortedBy compare_entries lines
   few : length lines ≤ MOST_FORM_LINES
 
 -- ---- the lines are clean
@@ -79,7 +82,7 @@ clean_rule_line rule a b c =
     (clean_append ((codes "rule " ++ u) ++ codes "|") v (clean_append (codes "rule " ++ u) (codes "|") (clean_append (codes "rule ") u refl (clean_word rule.u a)) refl) (clean_word rule.v b)) refl)
     (clean_word rule.w c)
 
-clean_form_line : (count : ℕ) (name : List ℕ) (line : FormLine) → IsPhaseName name → IsFormLine count line → IsClean (form_line name line.letters line.analysis)
+clean_form_line : (count : ℕ) (name : List ℕ) (line : Entry) → IsPhaseName name → IsFormLine count line → IsClean (form_line name line.letters line.analysis)
 clean_form_line count name line n h =
     let form = slp1_of_word line.letters in
     let stem = slp1_of_word line.analysis.stem in
@@ -99,7 +102,7 @@ BeforeForms last = (may_follow last Form ≡ true) × (may_follow last End ≡ t
 abbrev BeforeRules : Kind → Type 0
 BeforeRules last = (may_follow last Rule ≡ true) × BeforeForms last
 
-abbrev told_at : Kind → List (List ℕ) → List ℕ → List (ℕ × ℕ) → List RuleValue → List FormLine → Told
+abbrev told_at : Kind → List (List ℕ) → List ℕ → List (ℕ × ℕ) → List RuleValue → List Entry → Told
 told_at last names grammar plain rules forms =
     record { last = last; names = names; grammar = grammar; plain = plain; rules = rules; forms = forms }
 
@@ -204,7 +207,7 @@ module _ (result : FileResult) where
           (λ last b. subst (λ rules. Reads (told_at last names grammar plain rules []) lines) all (k last b)) (number + 1))
 
       module _ (rules : List RuleValue) (h : AreNames names) where
-        lines_read : (before more : List FormLine) (last : Kind) (lines : List Line) → BeforeForms last → AreLines (length names) (before ++ more)
+        lines_read : (before more : List Entry) (last : Kind) (lines : List Line) → BeforeForms last → AreLines (length names) (before ++ more)
             → ((last : Kind) → may_follow last End ≡ true → Reads (told_at last names grammar plain rules (before ++ more)) lines)
             → Reads (told_at last names grammar plain rules before) (map ended_line (map (text_of_form names) more) ++ lines)
         lines_read before [] last lines b l k = subst (λ forms. Reads (told_at last names grammar plain rules forms) lines) (append-nil before) (k last b.1)
@@ -226,7 +229,7 @@ module _ (result : FileResult) where
             (λ number. lines_read (before ++ line ∷ []) more Form lines (refl, refl) (subst (AreLines (length names)) all l)
             (λ last b. subst (λ forms. Reads (told_at last names grammar plain rules forms) lines) all (k last b)) (number + 1))
 
-        end_read : (forms : List FormLine) (last : Kind) → may_follow last End ≡ true → result ≡ Ok (lexicon_told (told_at End names grammar plain rules forms))
+        end_read : (forms : List Entry) (last : Kind) → may_follow last End ≡ true → result ≡ Ok (lexicon_told (told_at End names grammar plain rules forms))
             → Reads (told_at last names grammar plain rules forms) (ended_line end_line ∷ [])
         end_read forms last f e =
             one_line (told_at last names grammar plain rules forms) (told_at End names grammar plain rules forms) end_line []
@@ -275,8 +278,8 @@ module _ (lexicon : Lexicon) (t : HasText lexicon) where
   abbrev names : List (List ℕ)
   names = lexicon.rules.names
 
-  abbrev lines : List FormLine
-  lines = lines_from 0 lexicon.phases
+  abbrev lines : List Entry
+  lines = entries_from 0 lexicon.phases
 
   abbrev final : Told
   final = told_at End names lexicon.rules.grammar lexicon.rules.plain lexicon.rules.rules lines
@@ -345,9 +348,13 @@ module _ (lexicon : Lexicon) (t : HasText lexicon) where
   is_told =
       let phases = phases_built lexicon.phases lawful in
       let count = t.lexicon_itself.count in
+      let built = sym phases ∙ ap (λ n. with_lines (replicate n []) lines) count in
+      let placed = entries_placed (length names) (replicate (length names) []) 0 lines (empty_at_first (length names) t.limits.rule_set.some_phase) (lawful_at_first (length names)) are_lines.each
+      (subst (λ count. AreWithin 0 count lines) (sym (length-replicate (length names) [])) (all_within (length names) lines are_lines.each))
+      (subst (λ front. IsStrictlySortedBy compare_entries (front ++ lines)) (sym (no_lines_at_first 0 (length names))) are_lines.rising) in
       λ i. record {
         rules = lexicon.rules;
-        phases = (sym phases ∙ ap (λ n. with_lines (replicate n []) lines) count) i;
+        phases = (built ∙ sym placed) i;
       }
 
   read_in_order : Reads (Ok lexicon) nothing_told (map ended_line (lines_so_far End final))

@@ -13,29 +13,24 @@ use Rattle.lexicon_definitions.specs.GrammarTexts.{is_name_byte}
 use Rattle.lexicon_definitions.specs.GrammarFaults.{is_small_letter}
 use Rattle.lexicon_definitions.specs.Rules.{Rule, all_phases}
 use Rattle.lexicon_definitions.specs.Lexicons.{RuleSet, Lexicon, Form}
+use Rattle.lexicon_definitions.specs.FormEntries.{Entry, with_entry}
 use Rattle.lexicon_text_definitions.specs.FileLines.{Kind, Opening}
 
--- what a `form` line tells: a form of a phase, and one analysis of it
-pub record FormLine : Type 0 where
-  pub phase : ℕ
-  pub letters : List ℕ
-  pub analysis : Analysis
-
--- lines of forms are ordered by the number of the phase, then by the form, the stem and the tag's text
-abbrev pub compare_lines : FormLine → FormLine → Ordering
-compare_lines left right =
+-- entries are ordered by the number of the phase, then by the form, the stem and the tag's text
+abbrev pub compare_entries : Entry → Entry → Ordering
+compare_entries left right =
     ordering_then (nat_cmp left.phase right.phase)
     (ordering_then (compare_words left.letters right.letters) (compare_analyses left.analysis right.analysis))
 
 -- what the lines so far told: the kind of the last line, the names of the phases, the grammar's text, and the plain pairs,
--- rules and forms in the order of their lines
+-- rules and entries in the order of their lines
 pub record Told : Type 0 where
   pub last : Kind
   pub names : List (List ℕ)
   pub grammar : List ℕ
   pub plain : List (ℕ × ℕ)
   pub rules : List Rule
-  pub forms : List FormLine
+  pub forms : List Entry
 
 -- before the first line nothing is told
 abbrev pub nothing_told : Told
@@ -105,46 +100,24 @@ leads_of rules = leads_from [] rules
 
 -- ---- forms
 
-abbrev pub new_form : List ℕ → Analysis → Form
-new_form letters analysis = record { letters = letters; analyses = analysis ∷ [] }
+-- the phases with these entries too
+abbrev pub with_entries : List (List Form) → List Entry → List (List Form)
+with_entries phases [] = phases
+with_entries phases (entry ∷ entries) = with_entries (with_entry phases entry) entries
 
--- the form with one analysis more, where it has these letters; else a new form after it
-abbrev pub after_form : Form → List ℕ → Analysis → List Form
-after_form form letters analysis =
-    if bytes_eq form.letters letters
-    then record { letters = form.letters; analyses = form.analyses ++ analysis ∷ [] } ∷ []
-    else form ∷ new_form letters analysis ∷ []
+-- the entry of a form of a phase with this analysis
+abbrev pub entry_with : ℕ → List ℕ → Analysis → Entry
+entry_with phase letters analysis = record { phase = phase; letters = letters; analysis = analysis }
 
--- the forms of a phase with one analysis more, which goes to the last form where this has these letters
-abbrev pub with_analysis : List Form → List ℕ → Analysis → List Form
-with_analysis [] letters analysis = new_form letters analysis ∷ []
-with_analysis (form ∷ []) letters analysis = after_form form letters analysis
-with_analysis (first ∷ second ∷ forms) letters analysis = first ∷ with_analysis (second ∷ forms) letters analysis
+-- the entries of the forms of the phase with this number, one for each analysis
+abbrev pub phase_entries : ℕ → List Form → List Entry
+phase_entries phase [] = []
+phase_entries phase (form ∷ forms) = map (entry_with phase form.letters) form.analyses ++ phase_entries phase forms
 
--- the same in the phase with this number, counted from 0
-abbrev pub with_form : List (List Form) → ℕ → List ℕ → Analysis → List (List Form)
-with_form [] phase letters analysis = []
-with_form (forms ∷ phases) zero letters analysis = with_analysis forms letters analysis ∷ phases
-with_form (forms ∷ phases) (suc phase) letters analysis = forms ∷ with_form phases phase letters analysis
-
--- the phases with what these lines tell
-abbrev pub with_lines : List (List Form) → List FormLine → List (List Form)
-with_lines phases [] = phases
-with_lines phases (line ∷ lines) = with_lines (with_form phases line.phase line.letters line.analysis) lines
-
--- the line of a form of a phase with this analysis
-abbrev pub form_line_with : ℕ → List ℕ → Analysis → FormLine
-form_line_with phase letters analysis = record { phase = phase; letters = letters; analysis = analysis }
-
--- the lines of the forms of the phase with this number, one for each analysis
-abbrev pub phase_lines : ℕ → List Form → List FormLine
-phase_lines phase [] = []
-phase_lines phase (form ∷ forms) = map (form_line_with phase form.letters) form.analyses ++ phase_lines phase forms
-
--- the lines of the forms of phases, the first of which has this number
-abbrev pub lines_from : ℕ → List (List Form) → List FormLine
-lines_from phase [] = []
-lines_from phase (forms ∷ phases) = phase_lines phase forms ++ lines_from (phase + 1) phases
+-- the entries of the forms of phases, the first of which has this number
+abbrev pub entries_from : ℕ → List (List Form) → List Entry
+entries_from phase [] = []
+entries_from phase (forms ∷ phases) = phase_entries phase forms ++ entries_from (phase + 1) phases
 
 -- the rule set and the lexicon that the lines told
 abbrev pub rules_told : Told → RuleSet
@@ -152,4 +125,4 @@ rules_told told = record { names = told.names; grammar = told.grammar; plain = t
 
 abbrev pub lexicon_told : Told → Lexicon
 lexicon_told told =
-    record { rules = rules_told told; phases = with_lines (replicate (length told.names) []) told.forms }
+    record { rules = rules_told told; phases = with_entries (replicate (length told.names) []) told.forms }

@@ -8,11 +8,12 @@ use Rattle.text_definitions.specs.Spellings.{Reading}
 use Rattle.text_definitions.specs.Slp1.{word_of_slp1}
 use Rattle.lexicon_definitions.specs.declared.limits.TheConstants.{MOST_PHASES, MOST_RULES, MOST_RULE_LETTERS, MOST_LEADS, MOST_FORM_LETTERS, MOST_FORM_LINES}
 use Rattle.lexicon_definitions.specs.Lexicons.{compare_pairs}
+use Rattle.lexicon_definitions.specs.FormEntries.{Entry}
 use Rattle.lexicon_text_definitions.specs.LexiconTexts.{head_line}
 use Rattle.lexicon_text_definitions.specs.FileFaults as faults
 use Rattle.lexicon_text_definitions.specs.FileFaults.{Why, Trailing, NoEnd, NotUtf8, Order, Field, Spelling, Strict, Limit, Twice, Falling}
 use Rattle.lexicon_text_definitions.specs.FileLines.{Line, Parts, parts_of, fields_of, Kind, Opening, Head, Phase, Grammar, Plain, Rule, Form, End, kind_named, may_follow, Shape, shape_of}
-use Rattle.lexicon_text_definitions.specs.FileContents.{FormLine, compare_lines, Told, is_empty, is_phase_name, is_tag_text, compare_last, rule_between, has_triple, with_lead, leads_of}
+use Rattle.lexicon_text_definitions.specs.FileContents.{compare_entries, Told, is_empty, is_phase_name, is_tag_text, compare_last, rule_between, has_triple, with_lead, leads_of}
 
 -- what is told after a line, or why the line is refused
 abbrev pub Taken : Type 0
@@ -95,15 +96,15 @@ some_word (Ok (letter ∷ word)) = Some (letter ∷ word)
 some_word reading = None
 
 -- with this line there are too many, or its form or its stem is too long
-abbrev pub passes_form_limits : Told → FormLine → Bool
+abbrev pub passes_form_limits : Told → Entry → Bool
 passes_form_limits told line =
     nat_le MOST_FORM_LINES (length told.forms)
     || nat_lt MOST_FORM_LETTERS (length line.letters) || nat_lt MOST_FORM_LETTERS (length line.analysis.stem)
 
-abbrev pub take_form_line : Told → FormLine → Taken
+abbrev pub take_form_line : Told → Entry → Taken
 take_form_line told line =
     if passes_form_limits told line then Err Limit
-    else if_rising (compare_last compare_lines told.forms line)
+    else if_rising (compare_last compare_entries told.forms line)
     (record told { last = Form; forms = told.forms ++ line ∷ [] })
 
 abbrev pub take_analysis : Told → ℕ → List ℕ → Option (List ℕ) → Option (List ℕ) → Taken
