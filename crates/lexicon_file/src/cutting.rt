@@ -1,0 +1,79 @@
+ghost use Rattle.std.specs.Prelude.{◌≡◌, ◌==◌, ℕ, ◌∷◌, [], MatchOption, None, Some, Err};
+ghost use Rattle.std.specs.List.{slice_split};
+ghost use Rattle.lexicon_text_definitions.specs.FileLines.{cut as cut_of, parts_of, lines_of_bytes, has_mark as has_mark_of, shape_of};
+
+/// The parts before and after the first of these bytes.
+pub(crate) fn cut(text: &[u8], mark: u8) -> Option<(&[u8], &[u8])>
+    ensures { MatchOption result (cut_of mark text.now ≡ None) (λ parts. cut_of mark text.now ≡ Some (parts.0.now, parts.1.now)) }
+{
+    let at = text.iter().position(|byte| *byte == mark)?;
+    Some((&text[..at], &text[at + 1..]))
+}
+
+/// The first line of the bytes, whether a line end comes after it, and what follows. `None` where there are no bytes.
+pub(crate) fn first_line(bytes: &[u8]) -> Option<(&[u8], bool, &[u8])>
+    ensures { MatchOption result (bytes.now ≡ [])
+        (λ line. lines_of_bytes bytes.now ≡ record { bytes = line.0.now; ended = line.1 } ∷ lines_of_bytes line.2.now) }
+{
+    if let Some((line, rest)) = cut(bytes, b'\n') {
+        Some((line, true, rest))
+    } else if bytes.is_empty() {
+        None
+    } else {
+        Some((bytes, false, &[]))
+    }
+}
+
+/// The bytes of a line before its first blank, or all its bytes; and what comes after this blank.
+pub(crate) fn kind_and_rest(line: &[u8]) -> (&[u8], Option<&[u8]>)
+{
+    match cut(line, b' ') {
+        Some((kind, rest)) => (kind, Some(rest)),
+        None => (line, None),
+    }
+}
+
+/// The only field, where there is one.
+pub(crate) fn one_field(rest: Option<&[u8]>) -> Option<&[u8]>
+{
+    let field = rest?;
+    if cut(field, b' ').is_some() { None } else { Some(field) }
+}
+
+/// Two fields with a blank between.
+pub(crate) fn two_fields(rest: Option<&[u8]>) -> Option<(&[u8], &[u8])>
+{
+    let (first, rest) = cut(rest?, b' ')?;
+    let second = one_field(Some(rest))?;
+    Some((first, second))
+}
+
+/// Four fields with a blank between each two.
+pub(crate) fn four_fields(rest: Option<&[u8]>) -> Option<(&[u8], &[u8], &[u8], &[u8])>
+{
+    let (first, rest) = cut(rest?, b' ')?;
+    let (second, rest) = cut(rest, b' ')?;
+    let (third, fourth) = two_fields(Some(rest))?;
+    Some((first, second, third, fourth))
+}
+
+/// Whether one of the marks `|` and `>` stands in the part of a rule.
+fn has_mark(part: &[u8]) -> bool
+    ensures { result ≡ has_mark_of part.now }
+{
+    part.iter().any(|byte| *byte == b'|' || *byte == b'>')
+}
+
+/// The parts of a rule of the shape `u|v>w`, with one `|` and one `>` in all.
+pub(crate) fn rule_parts(field: &[u8]) -> Option<(&[u8], &[u8], &[u8])>
+    ensures { MatchOption result (shape_of field.now ≡ None)
+        (λ parts. shape_of field.now ≡ Some (record { u = parts.0.now; v = parts.1.now; w = parts.2.now })) }
+{
+    let (u, rest) = cut(field, b'|')?;
+    let (v, w) = cut(rest, b'>')?;
+    if has_mark(u) || has_mark(v) || has_mark(w) {
+        None
+    } else {
+        Some((u, v, w))
+    }
+}
