@@ -1,1 +1,4 @@
 pub mod Kinds
+pub mod Fields
+pub mod Faults
+pub mod Words

@@ -1,6 +1,6 @@
-ghost use Rattle.std.specs.Prelude.{◌≡◌, ◌==◌, ℕ, ◌∷◌, [], MatchOption, None, Some, Err};
-ghost use Rattle.std.specs.List.{slice_split};
-ghost use Rattle.lexicon_text_definitions.specs.FileLines.{cut as cut_of, parts_of, lines_of_bytes, has_mark as has_mark_of, shape_of};
+ghost use Rattle.std.specs.Prelude.{◌≡◌, ◌<◌, ℕ, ◌∷◌, [], length, MatchOption, IfSome, None, Some};
+ghost use Rattle.lexicon_text_definitions.specs.FileLines.{cut as cut_of, parts_of, fields_of, lines_of_bytes, has_mark as has_mark_of, shape_of};
+ghost use Rattle.lexicon_file.specs.Fields.{one_of, two_of, four_of, text_of_rest};
 
 /// The parts before and after the first of these bytes.
 pub(crate) fn cut(text: &[u8], mark: u8) -> Option<(&[u8], &[u8])>
@@ -12,8 +12,9 @@ pub(crate) fn cut(text: &[u8], mark: u8) -> Option<(&[u8], &[u8])>
 
 /// The first line of the bytes, whether a line end comes after it, and what follows. `None` where there are no bytes.
 pub(crate) fn first_line(bytes: &[u8]) -> Option<(&[u8], bool, &[u8])>
-    ensures { MatchOption result (bytes.now ≡ [])
+    ensures line { MatchOption result (bytes.now ≡ [])
         (λ line. lines_of_bytes bytes.now ≡ record { bytes = line.0.now; ended = line.1 } ∷ lines_of_bytes line.2.now) }
+    ensures shorter { IfSome result (λ line. length line.2.now < length bytes.now) }
 {
     if let Some((line, rest)) = cut(bytes, b'\n') {
         Some((line, true, rest))
@@ -26,6 +27,7 @@ pub(crate) fn first_line(bytes: &[u8]) -> Option<(&[u8], bool, &[u8])>
 
 /// The bytes of a line before its first blank, or all its bytes; and what comes after this blank.
 pub(crate) fn kind_and_rest(line: &[u8]) -> (&[u8], Option<&[u8]>)
+    ensures { parts_of line.now ≡ record { kind = result.0.now; rest = text_of_rest result.1 } }
 {
     match cut(line, b' ') {
         Some((kind, rest)) => (kind, Some(rest)),
@@ -35,6 +37,8 @@ pub(crate) fn kind_and_rest(line: &[u8]) -> (&[u8], Option<&[u8]>)
 
 /// The only field, where there is one.
 pub(crate) fn one_field(rest: Option<&[u8]>) -> Option<&[u8]>
+    ensures { MatchOption result (one_of (fields_of (text_of_rest rest.entry)) ≡ None)
+        (λ field. fields_of (text_of_rest rest.entry) ≡ field.now ∷ []) }
 {
     let field = rest?;
     if cut(field, b' ').is_some() { None } else { Some(field) }
@@ -42,6 +46,8 @@ pub(crate) fn one_field(rest: Option<&[u8]>) -> Option<&[u8]>
 
 /// Two fields with a blank between.
 pub(crate) fn two_fields(rest: Option<&[u8]>) -> Option<(&[u8], &[u8])>
+    ensures { MatchOption result (two_of (fields_of (text_of_rest rest.entry)) ≡ None)
+        (λ fields. fields_of (text_of_rest rest.entry) ≡ fields.0.now ∷ fields.1.now ∷ []) }
 {
     let (first, rest) = cut(rest?, b' ')?;
     let second = one_field(Some(rest))?;
@@ -50,6 +56,8 @@ pub(crate) fn two_fields(rest: Option<&[u8]>) -> Option<(&[u8], &[u8])>
 
 /// Four fields with a blank between each two.
 pub(crate) fn four_fields(rest: Option<&[u8]>) -> Option<(&[u8], &[u8], &[u8], &[u8])>
+    ensures { MatchOption result (four_of (fields_of (text_of_rest rest.entry)) ≡ None)
+        (λ fields. fields_of (text_of_rest rest.entry) ≡ fields.0.now ∷ fields.1.now ∷ fields.2.now ∷ fields.3.now ∷ []) }
 {
     let (first, rest) = cut(rest?, b' ')?;
     let (second, rest) = cut(rest, b' ')?;

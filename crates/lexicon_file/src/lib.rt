@@ -6,15 +6,15 @@ mod cutting;
 mod error;
 mod kind;
 mod line_error;
-mod read;
+mod reading;
 mod rules_so_far;
 #[cfg(test)]
 mod tests;
 mod told;
 mod words;
-mod write;
+mod writing;
 
 pub use contents::Contents;
 pub use error::{FileError, FileFault, FileWhy};
-pub use read::read;
-pub use write::write;
+pub use reading::read;
+pub use writing::write;
