@@ -2,3 +2,4 @@ pub mod Kinds
 pub mod Fields
 pub mod Faults
 pub mod Words
+pub mod Told

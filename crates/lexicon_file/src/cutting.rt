@@ -1,10 +1,11 @@
-ghost use Rattle.std.specs.Prelude.{◌≡◌, ◌<◌, ℕ, ◌∷◌, [], length, MatchOption, IfSome, None, Some};
-ghost use Rattle.lexicon_text_definitions.specs.FileLines.{cut as cut_of, parts_of, fields_of, lines_of_bytes, has_mark as has_mark_of, shape_of};
+ghost use Rattle.std.specs.Prelude.{◌≡◌, ◌≢◌, ◌<◌, ◌∷◌, ◌++◌, [], length, All, MatchOption, IfSome, None, Some};
+ghost use Rattle.lexicon_text_definitions.specs.FileLines.{parts_of, fields_of, lines_of_bytes, has_mark as has_mark_of, shape_of};
 ghost use Rattle.lexicon_file.specs.Fields.{one_of, two_of, four_of, text_of_rest};
 
 /// The parts before and after the first of these bytes.
 pub(crate) fn cut(text: &[u8], mark: u8) -> Option<(&[u8], &[u8])>
-    ensures { MatchOption result (cut_of mark text.now ≡ None) (λ parts. cut_of mark text.now ≡ Some (parts.0.now, parts.1.now)) }
+    ensures { MatchOption result (All (λ byte. byte ≢ mark) text.now)
+        (λ parts. (text.now ≡ parts.0.now ++ mark ∷ parts.1.now) × All (λ byte. byte ≢ mark) parts.0.now) }
 {
     let at = text.iter().position(|byte| *byte == mark)?;
     Some((&text[..at], &text[at + 1..]))

@@ -1,3 +1,6 @@
+ghost use Rattle.std.specs.Prelude.{◌≡◌, ◌≤◌};
+ghost use Rattle.lexicon_definitions.specs.Rules.{all_phases as all_phases_of};
+
 use crate::cutting::{four_fields, kind_and_rest, one_field, rule_parts, two_fields};
 use crate::kind::Kind;
 use crate::line_error::LineError;
@@ -50,7 +53,10 @@ fn rising(order: Ordering) -> Result<(), LineError> {
 }
 
 /// The set of the first count phases.
-fn all_phases(count: usize) -> u16 {
+fn all_phases(count: usize) -> u16
+    requires { count ≤ MOST_PHASES }
+    ensures { result ≡ all_phases_of count }
+{
     ((1u32 << count) - 1) as u16
 }
 
