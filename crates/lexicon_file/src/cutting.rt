@@ -37,33 +37,44 @@ pub(crate) fn kind_and_rest(line: &[u8]) -> (&[u8], Option<&[u8]>)
 }
 
 /// The only field, where there is one.
-pub(crate) fn one_field(rest: Option<&[u8]>) -> Option<&[u8]>
-    ensures { MatchOption result (one_of (fields_of (text_of_rest rest.entry)) ≡ None)
-        (λ field. fields_of (text_of_rest rest.entry) ≡ field.now ∷ []) }
+pub(crate) fn one_field(text: &[u8]) -> Option<&[u8]>
+    ensures { MatchOption result (one_of (fields_of (Some text.now)) ≡ None) (λ field. fields_of (Some text.now) ≡ field.now ∷ []) }
 {
-    let field = rest?;
-    if cut(field, b' ').is_some() { None } else { Some(field) }
+    match cut(text, b' ') {
+        Some(_) => None,
+        None => Some(text),
+    }
 }
 
 /// Two fields with a blank between.
-pub(crate) fn two_fields(rest: Option<&[u8]>) -> Option<(&[u8], &[u8])>
-    ensures { MatchOption result (two_of (fields_of (text_of_rest rest.entry)) ≡ None)
-        (λ fields. fields_of (text_of_rest rest.entry) ≡ fields.0.now ∷ fields.1.now ∷ []) }
+pub(crate) fn two_fields(text: &[u8]) -> Option<(&[u8], &[u8])>
+    ensures { MatchOption result (two_of (fields_of (Some text.now)) ≡ None)
+        (λ fields. fields_of (Some text.now) ≡ fields.0.now ∷ fields.1.now ∷ []) }
 {
-    let (first, rest) = cut(rest?, b' ')?;
-    let second = one_field(Some(rest))?;
-    Some((first, second))
+    let Some((first, rest)) = cut(text, b' ') else {
+        return None;
+    };
+    match one_field(rest) {
+        Some(second) => Some((first, second)),
+        None => None,
+    }
 }
 
 /// Four fields with a blank between each two.
-pub(crate) fn four_fields(rest: Option<&[u8]>) -> Option<(&[u8], &[u8], &[u8], &[u8])>
-    ensures { MatchOption result (four_of (fields_of (text_of_rest rest.entry)) ≡ None)
-        (λ fields. fields_of (text_of_rest rest.entry) ≡ fields.0.now ∷ fields.1.now ∷ fields.2.now ∷ fields.3.now ∷ []) }
+pub(crate) fn four_fields(text: &[u8]) -> Option<(&[u8], &[u8], &[u8], &[u8])>
+    ensures { MatchOption result (four_of (fields_of (Some text.now)) ≡ None)
+        (λ fields. fields_of (Some text.now) ≡ fields.0.now ∷ fields.1.now ∷ fields.2.now ∷ fields.3.now ∷ []) }
 {
-    let (first, rest) = cut(rest?, b' ')?;
-    let (second, rest) = cut(rest, b' ')?;
-    let (third, fourth) = two_fields(Some(rest))?;
-    Some((first, second, third, fourth))
+    let Some((first, rest)) = cut(text, b' ') else {
+        return None;
+    };
+    let Some((second, rest)) = cut(rest, b' ') else {
+        return None;
+    };
+    match two_fields(rest) {
+        Some((third, fourth)) => Some((first, second, third, fourth)),
+        None => None,
+    }
 }
 
 /// Whether one of the marks `|` and `>` stands in the part of a rule.
@@ -78,9 +89,14 @@ pub(crate) fn rule_parts(field: &[u8]) -> Option<(&[u8], &[u8], &[u8])>
     ensures { MatchOption result (shape_of field.now ≡ None)
         (λ parts. shape_of field.now ≡ Some (record { u = parts.0.now; v = parts.1.now; w = parts.2.now })) }
 {
-    let (u, rest) = cut(field, b'|')?;
-    let (v, w) = cut(rest, b'>')?;
-    if has_mark(u) || has_mark(v) || has_mark(w) {
+    let Some((u, rest)) = cut(field, b'|') else {
+        return None;
+    };
+    let Some((v, w)) = cut(rest, b'>') else {
+        return None;
+    };
+    let marked = has_mark(u) || has_mark(v) || has_mark(w);
+    if marked {
         None
     } else {
         Some((u, v, w))

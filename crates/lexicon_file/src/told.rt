@@ -86,8 +86,8 @@ impl Told {
         self.names.iter().position(|other| other.as_bytes() == name)
     }
 
-    fn take_phase(&mut self, alloc: Global, rest: Option<&[u8]>) -> Result<(), LineError> {
-        let Some(name) = one_field(rest) else {
+    fn take_phase(&mut self, alloc: Global, text: &[u8]) -> Result<(), LineError> {
+        let Some(name) = one_field(text) else {
             return Err(FileWhy::Field.into());
         };
         if !is_phase_name(name) {
@@ -99,18 +99,15 @@ impl Told {
         if self.phase_named(name).is_some() {
             return Err(FileWhy::Twice.into());
         }
-        let Ok(text) = std::str::from_utf8(name) else {
+        let Ok(name) = std::str::from_utf8(name) else {
             return Err(FileWhy::Field.into());
         };
-        self.names.push(String::from_str(alloc, text)?)?;
+        self.names.push(String::from_str(alloc, name)?)?;
         self.last = Kind::Phase;
         Ok(())
     }
 
-    fn take_grammar(&mut self, alloc: Global, rest: Option<&[u8]>) -> Result<(), LineError> {
-        let Some(text) = rest else {
-            return Err(FileWhy::Field.into());
-        };
+    fn take_grammar(&mut self, alloc: Global, text: &[u8]) -> Result<(), LineError> {
         let automaton = match read_grammar(alloc, text, self.names.as_slice()) {
             Ok(automaton) => automaton,
             Err(GrammarError::Fault(fault)) => return Err(FileWhy::Grammar(fault).into()),
@@ -123,8 +120,8 @@ impl Told {
         Ok(())
     }
 
-    fn take_plain(&mut self, alloc: Global, rest: Option<&[u8]>) -> Result<(), LineError> {
-        let Some((left, right)) = two_fields(rest) else {
+    fn take_plain(&mut self, alloc: Global, text: &[u8]) -> Result<(), LineError> {
+        let Some((left, right)) = two_fields(text) else {
             return Err(FileWhy::Field.into());
         };
         let pair = (read_letter(alloc, left)?, read_letter(alloc, right)?);
@@ -136,8 +133,8 @@ impl Told {
         Ok(())
     }
 
-    fn take_rule(&mut self, alloc: Global, rest: Option<&[u8]>) -> Result<(), LineError> {
-        let Some(field) = one_field(rest) else {
+    fn take_rule(&mut self, alloc: Global, text: &[u8]) -> Result<(), LineError> {
+        let Some(field) = one_field(text) else {
             return Err(FileWhy::Field.into());
         };
         let Some((u, v, w)) = rule_parts(field) else {
@@ -190,8 +187,8 @@ impl Told {
             .then(analysis.compare(&entry.analysis))
     }
 
-    fn take_form(&mut self, alloc: Global, rest: Option<&[u8]>) -> Result<(), LineError> {
-        let Some((phase, form, stem, tag)) = four_fields(rest) else {
+    fn take_form(&mut self, alloc: Global, text: &[u8]) -> Result<(), LineError> {
+        let Some((phase, form, stem, tag)) = four_fields(text) else {
             return Err(FileWhy::Field.into());
         };
         let Some(phase) = self.phase_named(phase) else {
@@ -254,14 +251,19 @@ impl Told {
         if !kind.may_come_after(self.last) {
             return Err(FileWhy::Order.into());
         }
+        if kind == Kind::End {
+            return self.take_end(rest);
+        }
+        let Some(text) = rest else {
+            return Err(FileWhy::Field.into());
+        };
         match kind {
-            Kind::Phase => self.take_phase(alloc, rest),
-            Kind::Grammar => self.take_grammar(alloc, rest),
-            Kind::Plain => self.take_plain(alloc, rest),
-            Kind::Rule => self.take_rule(alloc, rest),
-            Kind::Form => self.take_form(alloc, rest),
-            Kind::End => self.take_end(rest),
-            Kind::Opening | Kind::Head => Err(FileWhy::Order.into()),
+            Kind::Phase => self.take_phase(alloc, text),
+            Kind::Grammar => self.take_grammar(alloc, text),
+            Kind::Plain => self.take_plain(alloc, text),
+            Kind::Rule => self.take_rule(alloc, text),
+            Kind::Form => self.take_form(alloc, text),
+            Kind::Opening | Kind::Head | Kind::End => Err(FileWhy::Order.into()),
         }
     }
 
