@@ -1,1 +1,7 @@
 pub mod LexiconTexts
+pub mod FileFaults
+pub mod FileLines
+pub mod FileContents
+pub mod FileSteps
+pub mod FileReadings
+pub mod TextsOf

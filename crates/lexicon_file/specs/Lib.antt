@@ -1,0 +1,5 @@
+pub mod Kinds
+pub mod Fields
+pub mod Faults
+pub mod Words
+pub mod Told

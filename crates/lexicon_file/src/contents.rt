@@ -1,0 +1,11 @@
+use form_lists::FormLists;
+use phase_automaton::Automaton;
+use sandhi_rules::RuleSet;
+
+/// What a lexicon file holds: the rule set, the automaton of its grammar, and the forms of each phase with their analyses.
+#[derive(Debug, Drop)]
+pub struct Contents {
+    pub rules: RuleSet,
+    pub automaton: Automaton,
+    pub lists: FormLists,
+}

@@ -1,0 +1,102 @@
+ghost use Rattle.std.specs.Prelude.{◌<◌, length};
+
+use super::{FileError, FileFault, FileWhy, read, write};
+use phase_automaton::GrammarFault;
+use std::test::Fail;
+
+const WORD: &[u8] =
+    b"slx 1\nphase word\ngrammar word+\nrule a|i>e\nform word iti iti ind\nform word ca ca ind\nend\n";
+
+const PHASES: &[u8] = b"slx 1\nphase ind\nphase pre\nphase verb\ngrammar (ind | pre? verb)+\nplain a a\nplain A k\nplain A K\nrule a|A>A\nrule s|>H\nrule aH|a>o'\nform ind ca ca ind\nform ind ca ca m.sg.nom\nform ind ca cA iic\nform ind cA ca ind\nform pre A A pv\nform verb gacCati gam pr.ac.3.sg\nend\n";
+
+/// Whether the bytes have this first fault.
+fn has_fault(rt: &HostRuntime, bytes: &[u8], line: u32, why: FileWhy) -> bool {
+    match read(rt.alloc(), bytes) {
+        Err(FileError::Fault(fault)) => fault == FileFault { line, why },
+        _ => false,
+    }
+}
+
+#[test]
+fn what_is_read_is_written_back(rt: HostRuntime) -> Result<(), Fail> {
+    for text in [WORD, PHASES] {
+        let written = match read(rt.alloc(), text) {
+            Ok(contents) => write(rt.alloc(), &contents)?,
+            Err(_) => Vec::new(rt.alloc()),
+        };
+        assert!(rt; written.as_slice() == text);
+    }
+    Ok(())
+}
+
+#[test]
+fn each_proper_front_has_no_end(rt: HostRuntime) -> Result<(), Fail> {
+    for text in [WORD, PHASES] {
+        let mut line = 1;
+        for (at, byte) in text.iter().enumerate() {
+            assert!(rt; has_fault(&rt, &text[..at], line, FileWhy::NoEnd));
+            if *byte == b'\n' && line < 100 {
+                line += 1;
+            }
+        }
+    }
+    Ok(())
+}
+
+#[test]
+fn faults_are_told_with_their_lines(rt: HostRuntime) -> Result<(), Fail> {
+    let rows: [(&[u8], u32, FileWhy); 24] = [
+        (b"", 1, FileWhy::NoEnd),
+        (b"\n", 1, FileWhy::Head),
+        (b"\xef\xbb\xbfslx 1\n", 1, FileWhy::Head),
+        (b"slx 1\r\n", 1, FileWhy::Head),
+        (b"# a comment\nslx 1\n", 1, FileWhy::Head),
+        (b"slx 1\nphase word\r\n", 2, FileWhy::Field),
+        (b"slx 1\n# a comment\n", 2, FileWhy::Order),
+        (b"slx 1\ngrammar word\n", 2, FileWhy::Order),
+        (b"slx 1\nphase word\nphase word\n", 3, FileWhy::Twice),
+        (b"slx 1\nphase word\nend\n", 3, FileWhy::Order),
+        (b"slx 1\nphase Word\n", 2, FileWhy::Field),
+        (b"slx 1\nphase abcdefghijklmnopq\n", 2, FileWhy::Field),
+        (b"slx 1\nphase word\ngrammar\n", 3, FileWhy::Field),
+        (b"slx 1\nphase word\ngrammar \n", 3, FileWhy::Grammar(GrammarFault::Syntax { at: 0 })),
+        (b"slx 1\nphase w\ngrammar w\nplain a aa\n", 4, FileWhy::Spelling),
+        (b"slx 1\nphase w\ngrammar w\nplain a k\nplain a a\n", 5, FileWhy::Falling),
+        (b"slx 1\nphase w\ngrammar w\nrule a|i>\n", 4, FileWhy::Strict),
+        (b"slx 1\nphase w\ngrammar w\nrule a>i|e\n", 4, FileWhy::Field),
+        (b"slx 1\nphase w\ngrammar w\nrule a|i>aaaaaaaaa\n", 4, FileWhy::Limit),
+        (b"slx 1\nphase w\ngrammar w\nrule a|i>e\nrule a|i>e\n", 5, FileWhy::Twice),
+        (b"slx 1\nphase w\ngrammar w\nform w  a ind\n", 4, FileWhy::Spelling),
+        (b"slx 1\nphase w\ngrammar w\nform w a a m.sg\n", 4, FileWhy::Field),
+        (b"slx 1\nphase w\ngrammar w\nform w i i ind\nform w a a ind\n", 5, FileWhy::Falling),
+        (b"slx 1\nphase w\ngrammar w\nend\n\n", 5, FileWhy::Trailing),
+    ];
+    for (bytes, line, why) in rows {
+        assert!(rt; has_fault(&rt, bytes, line, why));
+    }
+    Ok(())
+}
+
+/// The bytes with the byte at the place replaced.
+fn with_byte(rt: &HostRuntime, text: &[u8], at: usize, byte: u8) -> Result<Vec<u8>, Fail>
+    requires { at < length text.now }
+{
+    let mut changed = Vec::from_slice(rt.alloc(), text)?;
+    changed.as_mut_slice()[at] = byte;
+    Ok(changed)
+}
+
+#[test]
+fn a_byte_ff_is_not_utf8(rt: HostRuntime) -> Result<(), Fail> {
+    let mut line = 1;
+    for (at, byte) in WORD.iter().enumerate() {
+        let changed = with_byte(&rt, WORD, at, 0xff)?;
+        let last = at + 1 == WORD.len();
+        let why = if last { FileWhy::NoEnd } else { FileWhy::NotUtf8 };
+        assert!(rt; has_fault(&rt, changed.as_slice(), line, why));
+        if *byte == b'\n' && line < 100 {
+            line += 1;
+        }
+    }
+    Ok(())
+}

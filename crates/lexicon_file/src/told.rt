@@ -1,0 +1,295 @@
+ghost use Rattle.std.specs.Prelude.{◌≡◌, ◌≤◌};
+ghost use Rattle.lexicon_definitions.specs.Rules.{all_phases as all_phases_of};
+
+use crate::cutting::{four_fields, kind_and_rest, one_field, rule_parts, two_fields};
+use crate::kind::Kind;
+use crate::line_error::LineError;
+use crate::rules_so_far::RulesSoFar;
+use crate::words::{read_letter, read_some_word, read_word};
+use crate::{Contents, FileWhy};
+use form_lists::FormLists;
+use form_tags::{Analysis, Entry, read_tag};
+use lexicon_definitions::{
+    MOST_FORM_LETTERS, MOST_FORM_LINES, MOST_NAME_BYTES, MOST_PHASES, MOST_RULE_LETTERS,
+};
+use phase_automaton::{Automaton, GrammarError, read_grammar};
+use phoneme::{Letter, Memory};
+use sandhi_rules::{Rule, RuleSet};
+use std::alloc::Global;
+use std::cmp::Ordering;
+
+/// What the lines so far told.
+#[derive(Debug, Drop)]
+pub(crate) struct Told {
+    last: Kind,
+    names: Vec<String>,
+    grammar: Vec<u8>,
+    automaton: Option<Automaton>,
+    plain: Vec<(Letter, Letter)>,
+    rules: RulesSoFar,
+    lists: FormLists,
+    last_phase: u32,
+}
+
+/// Whether a phase's name has 1 to 16 bytes, the first a small letter, the others small letters, digits or `_`.
+fn is_phase_name(name: &[u8]) -> bool {
+    let Some(first) = name.first() else {
+        return false;
+    };
+    first.is_ascii_lowercase()
+        && name.len() <= MOST_NAME_BYTES
+        && name
+            .iter()
+            .all(|byte| byte.is_ascii_lowercase() || byte.is_ascii_digit() || *byte == b'_')
+}
+
+/// The reason that comes from how a new one compares with the last before it.
+fn rising(order: Ordering) -> Result<(), LineError> {
+    match order {
+        Ordering::Less => Ok(()),
+        Ordering::Equal => Err(FileWhy::Twice.into()),
+        Ordering::Greater => Err(FileWhy::Falling.into()),
+    }
+}
+
+/// The set of the first count phases.
+fn all_phases(count: usize) -> u16
+    requires { count ≤ MOST_PHASES }
+    ensures { result ≡ all_phases_of count }
+{
+    ((1u32 << count) - 1) as u16
+}
+
+impl Told {
+    pub(crate) fn new(alloc: Global) -> Result<Told, Memory> {
+        Ok(Told {
+            last: Kind::Opening,
+            names: Vec::new(alloc),
+            grammar: Vec::new(alloc),
+            automaton: None,
+            plain: Vec::new(alloc),
+            rules: RulesSoFar::new(alloc),
+            lists: FormLists::new(alloc, 0)?,
+            last_phase: 0,
+        })
+    }
+
+    fn take_head(&mut self, line: &[u8]) -> Result<(), LineError> {
+        if line != b"slx 1".as_slice() {
+            return Err(FileWhy::Head.into());
+        }
+        self.last = Kind::Head;
+        Ok(())
+    }
+
+    fn phase_named(&self, name: &[u8]) -> Option<usize> {
+        self.names.iter().position(|other| other.as_bytes() == name)
+    }
+
+    fn take_phase(&mut self, alloc: Global, text: &[u8]) -> Result<(), LineError> {
+        let Some(name) = one_field(text) else {
+            return Err(FileWhy::Field.into());
+        };
+        if !is_phase_name(name) {
+            return Err(FileWhy::Field.into());
+        }
+        if self.names.len() >= MOST_PHASES {
+            return Err(FileWhy::Limit.into());
+        }
+        if self.phase_named(name).is_some() {
+            return Err(FileWhy::Twice.into());
+        }
+        let Ok(name) = std::str::from_utf8(name) else {
+            return Err(FileWhy::Field.into());
+        };
+        self.names.push(String::from_str(alloc, name)?)?;
+        self.last = Kind::Phase;
+        Ok(())
+    }
+
+    fn take_grammar(&mut self, alloc: Global, text: &[u8]) -> Result<(), LineError> {
+        let automaton = match read_grammar(alloc, text, self.names.as_slice()) {
+            Ok(automaton) => automaton,
+            Err(GrammarError::Fault(fault)) => return Err(FileWhy::Grammar(fault).into()),
+            Err(GrammarError::Memory) => return Err(LineError::Memory),
+        };
+        self.grammar = Vec::from_slice(alloc, text)?;
+        self.lists = FormLists::new(alloc, self.names.len() as u32)?;
+        self.automaton = Some(automaton);
+        self.last = Kind::Grammar;
+        Ok(())
+    }
+
+    fn take_plain(&mut self, alloc: Global, text: &[u8]) -> Result<(), LineError> {
+        let Some((left, right)) = two_fields(text) else {
+            return Err(FileWhy::Field.into());
+        };
+        let pair = (read_letter(alloc, left)?, read_letter(alloc, right)?);
+        if let Some(last) = self.plain.last() {
+            rising(last.cmp(&pair))?;
+        }
+        self.plain.push(pair)?;
+        self.last = Kind::Plain;
+        Ok(())
+    }
+
+    fn take_rule(&mut self, alloc: Global, text: &[u8]) -> Result<(), LineError> {
+        let Some(field) = one_field(text) else {
+            return Err(FileWhy::Field.into());
+        };
+        let Some((u, v, w)) = rule_parts(field) else {
+            return Err(FileWhy::Field.into());
+        };
+        let (u, v, w) = (
+            read_word(alloc, u)?,
+            read_word(alloc, v)?,
+            read_word(alloc, w)?,
+        );
+        if u.is_empty() || w.is_empty() {
+            return Err(FileWhy::Strict.into());
+        }
+        if self.rules.is_full(&v)
+            || u.len() > MOST_RULE_LETTERS
+            || v.len() > MOST_RULE_LETTERS
+            || w.len() > MOST_RULE_LETTERS
+        {
+            return Err(FileWhy::Limit.into());
+        }
+        let before = all_phases(self.names.len());
+        let after = if v.is_empty() { 0 } else { before };
+        self.rules.add(
+            alloc,
+            Rule {
+                u,
+                v,
+                w,
+                before,
+                after,
+            },
+        )?;
+        self.last = Kind::Rule;
+        Ok(())
+    }
+
+    /// How the last entry compares with a new one; below it where there is none.
+    fn compare_last(&self, entry: &Entry) -> Ordering {
+        let forms = self.lists.forms(self.last_phase);
+        let Some(last) = forms.last() else {
+            return Ordering::Less;
+        };
+        let analyses = self.lists.analyses(self.last_phase, forms.len() as u32 - 1);
+        let Some(analysis) = analyses.last() else {
+            return Ordering::Less;
+        };
+        self.last_phase
+            .cmp(&entry.phase)
+            .then(last.compare(&entry.form))
+            .then(analysis.compare(&entry.analysis))
+    }
+
+    fn take_form(&mut self, alloc: Global, text: &[u8]) -> Result<(), LineError> {
+        let Some((phase, form, stem, tag)) = four_fields(text) else {
+            return Err(FileWhy::Field.into());
+        };
+        let Some(phase) = self.phase_named(phase) else {
+            return Err(FileWhy::Field.into());
+        };
+        let Some(tag) = read_tag(tag) else {
+            return Err(FileWhy::Field.into());
+        };
+        let form = read_some_word(alloc, form)?;
+        let stem = read_some_word(alloc, stem)?;
+        if self.lists.lines() as usize >= MOST_FORM_LINES
+            || form.len() > MOST_FORM_LETTERS
+            || stem.len() > MOST_FORM_LETTERS
+        {
+            return Err(FileWhy::Limit.into());
+        }
+        let entry = Entry {
+            phase: phase as u32,
+            form,
+            analysis: Analysis { stem, tag },
+        };
+        rising(self.compare_last(&entry))?;
+        self.last_phase = entry.phase;
+        self.lists.insert(entry)?;
+        self.last = Kind::Form;
+        Ok(())
+    }
+
+    fn take_end(&mut self, rest: Option<&[u8]>) -> Result<(), LineError> {
+        if rest.is_some() {
+            return Err(FileWhy::Field.into());
+        }
+        self.last = Kind::End;
+        Ok(())
+    }
+
+    /// Takes the next line, whether ended by a line end or not.
+    pub(crate) fn take_line(
+        &mut self,
+        alloc: Global,
+        line: &[u8],
+        ended: bool,
+    ) -> Result<(), LineError> {
+        if self.last == Kind::End {
+            return Err(FileWhy::Trailing.into());
+        }
+        if !ended {
+            return Err(FileWhy::NoEnd.into());
+        }
+        if std::str::from_utf8(line).is_err() {
+            return Err(FileWhy::NotUtf8.into());
+        }
+        if self.last == Kind::Opening {
+            return self.take_head(line);
+        }
+        let (name, rest) = kind_and_rest(line);
+        let Some(kind) = Kind::named(name) else {
+            return Err(FileWhy::Order.into());
+        };
+        if !kind.may_come_after(self.last) {
+            return Err(FileWhy::Order.into());
+        }
+        if kind == Kind::End {
+            return self.take_end(rest);
+        }
+        let Some(text) = rest else {
+            return Err(FileWhy::Field.into());
+        };
+        match kind {
+            Kind::Phase => self.take_phase(alloc, text),
+            Kind::Grammar => self.take_grammar(alloc, text),
+            Kind::Plain => self.take_plain(alloc, text),
+            Kind::Rule => self.take_rule(alloc, text),
+            Kind::Form => self.take_form(alloc, text),
+            Kind::Opening | Kind::Head | Kind::End => Err(FileWhy::Order.into()),
+        }
+    }
+
+    /// The contents of the file, where the last line was its end.
+    pub(crate) fn finish(self, alloc: Global) -> Result<Contents, LineError> {
+        let Told {
+            last,
+            names,
+            grammar,
+            automaton,
+            plain,
+            rules,
+            lists,
+            last_phase: _,
+        } = self;
+        let Some(automaton) = automaton else {
+            return Err(FileWhy::NoEnd.into());
+        };
+        if last != Kind::End {
+            return Err(FileWhy::NoEnd.into());
+        }
+        let rules = RuleSet::new(alloc, names, grammar, plain, rules.into_rules())?;
+        Ok(Contents {
+            rules,
+            automaton,
+            lists,
+        })
+    }
+}

@@ -1,0 +1,14 @@
+pub mod LineTests
+pub mod LineCuts
+pub mod TagTests
+pub mod RisingLines
+pub mod FileLeads
+pub mod FormLines
+pub mod FormPhases
+pub mod LineSteps
+pub mod CleanBytes
+pub mod TakenLines
+pub mod ToldLines
+pub mod WholeTexts
+pub mod WrittenTexts
+pub mod OneReading
