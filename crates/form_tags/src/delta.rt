@@ -1,18 +1,42 @@
 ghost use Rattle.std.specs.Prelude.{◌≡◌, ◌≢◌, ◌<◌, ◌≤◌, ◌^◌, IfOk, length, slice_index, take};
-ghost use Rattle.lexicon_definitions.specs.Deltas.{IsDelta, analysis_by};
+ghost use Rattle.lexicon_definitions.specs.Deltas.{IsDelta, analysis_by, compare_deltas};
 ghost use Rattle.form_tags.specs.Analyses.{text_analysis, text_delta};
 
 use super::{Analysis, Tag};
 use phoneme::{Letter, Memory, Word};
 use std::alloc::Global;
+use std::cmp::Ordering;
 
 /// How the stem of a form differs from the form at its end: the stem is the form without its last `cut` letters,
 /// followed by `append` (Huet's differential words).
-#[derive(Debug, Drop)]
+#[derive(Debug, Drop, PartialEq, Eq, Hash)]
 pub struct Delta {
     pub cut: u32,
     pub append: Word,
     pub tag: Tag,
+}
+
+impl Delta {
+    /// The order of deltas: by `cut`, then by `append`, then by the bytes of the tag's text. Takes no memory.
+    pub fn compare(&self, other: &Delta) -> Ordering
+        ensures { result ≡ compare_deltas (text_delta self.now) (text_delta other.now) }
+    {
+        self.cut
+            .cmp(&other.cut)
+            .then(self.append.compare(&other.append))
+            .then(self.tag.compare(&other.tag))
+    }
+
+    /// The same delta, in memory of its own.
+    pub fn copy(&self, alloc: Global) -> Result<Delta, Memory>
+        ensures { IfOk result (λ delta. delta ≡ self.now) }
+    {
+        Ok(Delta {
+            cut: self.cut,
+            append: self.append.copy(alloc)?,
+            tag: self.tag,
+        })
+    }
 }
 
 /// The delta of an analysis of a form, with the least `cut`. The form has fewer than 2^32 letters.

@@ -1,7 +1,8 @@
 ghost use Rattle.std.specs.Prelude.{◌≡◌, ℕ, List};
+ghost use Rattle.std.specs.Cmp.{IsTotalOrder};
 ghost use Rattle.lexicon_definitions.specs.Analyses.{Analysis as TextAnalysis};
 ghost use Rattle.lexicon_definitions.specs.Lexicons.{IsAnalysis};
-ghost use Rattle.lexicon_definitions.specs.Deltas.{Delta as TextDelta, IsDelta, analysis_by};
+ghost use Rattle.lexicon_definitions.specs.Deltas.{Delta as TextDelta, IsDelta, analysis_by, compare_deltas};
 ghost use Rattle.lexicon_definitions.specs.Tags.{IsTagText};
 ghost use Rattle.text_definitions.specs.Words.{IsWord};
 ghost use Rattle.form_tags.specs.declared.analysis.Analysis.{Analysis};
@@ -30,6 +31,11 @@ pub fn delta_is_one()
         → IsDelta form analysis left
         → IsDelta form analysis right
         → left ≡ right }
+{}
+
+/// Deltas are totally ordered by their cuts, then by what they append, then by their tags' texts.
+pub fn deltas_are_ordered()
+    ensures { IsTotalOrder compare_deltas }
 {}
 
 /// The analysis that `from_delta` gives of the delta that `to_delta` gave is the analysis.

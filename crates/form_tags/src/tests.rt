@@ -1,10 +1,11 @@
 use super::{
-    Analysis, Case, Entry, Gender, Number, Person, Tag, Tense, Voice, from_delta, print_tag,
+    Analysis, Case, Delta, Entry, Gender, Number, Person, Tag, Tense, Voice, from_delta, print_tag,
     read_tag, to_delta,
 };
 use phoneme::{Letter, Memory, Word};
 use std::alloc::Global;
 use std::cmp::Ordering;
+use std::hash::{DefaultHasher, Hash, Hasher};
 use std::process::Abort;
 use std::test::Fail;
 
@@ -245,4 +246,57 @@ fn analyses_are_ordered_by_stem_and_then_by_the_text_of_the_tag(
         }
     }
     Ok(())
+}
+
+#[test]
+fn deltas_are_ordered_by_cut_and_append_and_the_text_of_the_tag(
+    rt: HostRuntime,
+) -> Result<(), Fail> {
+    let rising = [
+        (0u32, "tA", "pv"),
+        (1, "", "m.sg.nom"),
+        (1, "a", "ind"),
+        (1, "a", "m.sg.acc"),
+        (1, "a", "m.sg.nom"),
+        (1, "ab", "f.sg.nom"),
+        (10, "", "ind"),
+    ];
+    for (place, (cut, append, tag)) in rising.iter().enumerate() {
+        let left = delta(&rt, rt.alloc(), *cut, append, tag)?;
+        for (other, (cut, append, tag)) in rising.iter().enumerate() {
+            let right = delta(&rt, rt.alloc(), *cut, append, tag)?.copy(rt.alloc())?;
+            assert_eq!(rt;
+                left.compare(&right),
+                place.cmp(&other),
+                "{cut} {append} {tag}"
+            );
+            assert_eq!(rt; left == right, place == other, "{cut} {append} {tag}");
+            assert_eq!(rt;
+                hash_of(&left) == hash_of(&right),
+                place == other,
+                "{cut} {append} {tag}"
+            );
+        }
+    }
+    Ok(())
+}
+
+fn delta(
+    rt: &impl Abort,
+    alloc: Global,
+    cut: u32,
+    append: &str,
+    tag: &str,
+) -> Result<Delta, Memory> {
+    Ok(Delta {
+        cut,
+        append: word(rt, alloc, append)?,
+        tag: read_tag(tag.as_bytes()).expect(rt, "a tag"),
+    })
+}
+
+fn hash_of<T: Hash>(value: &T) -> u64 {
+    let mut state = DefaultHasher::new();
+    value.hash(&mut state);
+    state.finish()
 }

@@ -1,5 +1,9 @@
 -- Deltas: how a form's stem differs from the form at its end (Huet's differential words).
 use Rattle.std.specs.Prelude.{◌≡◌, ℕ, ◌-◌, ◌≤◌, List, ◌++◌, length, take}
+use Rattle.std.specs.declared.cmp.Ordering.{Ordering}
+use Rattle.std.specs.Ordering.{nat_cmp, ordering_then}
+use Rattle.std.specs.Cmp.Lexicographic.{slice_cmp}
+use Rattle.text_definitions.specs.Words.{compare_words}
 use Rattle.lexicon_definitions.specs.Analyses.{Analysis}
 
 -- how many letters are cut off the form's end, which letters follow, and the text of the tag as its bytes
@@ -25,3 +29,8 @@ pub record IsDelta (form : List ℕ) (analysis : Analysis) (delta : Delta) : Typ
   pub within : delta.cut ≤ length form
   pub gives : analysis_by form delta ≡ analysis
   pub least : (other : Delta) → other.cut ≤ length form → analysis_by form other ≡ analysis → delta.cut ≤ other.cut
+
+-- deltas are ordered by how many letters they cut, then by what they append, then by the bytes of the tag's text
+abbrev pub compare_deltas : Delta → Delta → Ordering
+compare_deltas left right =
+    ordering_then (nat_cmp left.cut right.cut) (ordering_then (compare_words left.append right.append) (slice_cmp nat_cmp left.tag right.tag))
