@@ -8,3 +8,4 @@ pub mod GrammarFaultCases
 pub mod GrammarSpelling
 pub mod SpelledTokens
 pub mod LeadLaws
+pub mod TrieChildren

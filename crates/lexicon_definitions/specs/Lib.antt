@@ -10,3 +10,4 @@ pub mod GrammarMarks
 pub mod Leads
 pub mod GrammarSyntax
 pub mod Limits
+pub mod Tries
