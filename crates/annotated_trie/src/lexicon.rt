@@ -11,9 +11,10 @@ use lexicon_definitions::MOST_FORM_LINES;
 use phase_automaton::Automaton;
 use phoneme::Memory;
 use sandhi_rules::RuleSet;
-use shared_trie::build;
+use super::building::build;
 use std::alloc::Global;
 use std::marker::Model;
+use std::snapshot::Snapshot;
 
 /// A lexicon as searches walk it (after Huet 2005): its rules, the automaton of its phase grammar, and its forms as an
 /// annotated trie.
