@@ -10,3 +10,8 @@ pub mod GrammarFaultCases
 pub mod GrammarSpelling
 pub mod SpelledTokens
 pub mod LeadLaws
+pub mod TrieChildren
+pub mod TrieGrowth
+pub mod TrieSteps
+pub mod TrieSuffixes
+pub mod TrieWalks

@@ -11,3 +11,4 @@ pub mod Leads
 pub mod GrammarSyntax
 pub mod Limits
 pub mod FormEntries
+pub mod Tries
