@@ -1,88 +1,129 @@
--- Two outcomes of one run are of one command, with the same file, lexicon, line and page.
-use Rattle.std.proofs.Common.{◌≡◌, ℕ, List, [], ◌∷◌, Bool, Option, Some, None, Ok, sym, ◌∙◌, ap, subst, refl, inl, inr}
+-- Two outcomes of one run are of one command; its file tells one thing, its text has one line, and this has one page.
+use Rattle.std.proofs.Common.{◌≡◌, ℕ, ◌<◌, ◌≤◌, List, [], ◌∷◌, length, Bool, Option, Some, None, Result, Ok, Err, sym, ◌∙◌, ap, subst, refl, arith}
 use Rattle.std.specs.Prelude.{codes}
 use Rattle.outside.specs.Files.{Files, contents_of}
+use Rattle.text_definitions.specs.Lines.{Line}
+use Rattle.text_definitions.specs.Schemes.{Slp1}
+use Rattle.text_definitions.specs.LineTexts.{LineFault, line_of_text}
 use Rattle.lexicon_definitions.specs.Lexicons.{Lexicon}
-use Rattle.thin_text_definitions.specs.ThinTexts.{IsThinTextOf}
+use Rattle.lexicon_text_definitions.specs.FileFaults.{FileFault}
+use Rattle.lexicon_text_definitions.specs.FileReadings.{FileResult, IsReadAs}
 use Rattle.segmentation_definitions.specs.Listings.{BeforeFirst, IsPage}
 use Rattle.segmentation_definitions.specs.PrintedAnswers.{printed_page}
 use Rattle.segmentation_definitions.proofs.Listings.{same_page}
 use Rattle.run_definitions.specs.declared.limits.TheConstants.{SEGMENT_PAGE}
-use Rattle.run_definitions.specs.Commands.{Command, Segment, AreWordsOf}
-use Rattle.run_definitions.specs.Ends.{Outcome, Done, outcome_over}
-use Rattle.run_definitions.specs.SegmentOutcomes.{IsUnbrokenText, unbroken_line, IsNotBuiltOutcome, IsPageOutcome, IsSegmentOutcome, Missing, Unbuilt, OfPage}
+use Rattle.run_definitions.specs.Commands.{Command, Segment, FileWord, AreWordsOf}
+use Rattle.run_definitions.specs.Ends as ends
+use Rattle.run_definitions.specs.Ends.{Outcome, Done, Large, outcome_over}
+use Rattle.run_definitions.specs.Refusals.{file_refusal, text_refusal}
+use Rattle.run_definitions.specs.SegmentOutcomes.{FileTells, NotThere, Refused, Holds, DoesTell, IsMissing, IsLarge, IsFaulty, IsLexicon, IsPageOutcome, IsListedOutcome, OfText, OfPage, IsOutcomeWith, IsSegmentOutcome}
 use Rattle.run_definitions.specs.Outcomes.{IsOutcome, IsOutcomeOf, OfNoCommand, OfCommand}
 
 -- words are those of one command
 pub one_command : (words : List (List ℕ)) (left right : Command) → AreWordsOf left words → AreWordsOf right words → left ≡ right
-one_command words (Segment lex text) (Segment other_lex other_text) p q =
-    let e : codes "segment" ∷ lex ∷ text ∷ [] ≡ codes "segment" ∷ other_lex ∷ other_text ∷ [] = sym p.are ∙ q.are in
-    let same_lex : lex ≡ other_lex = cc in
-    let same_text : text ≡ other_text = cc in
-    λ i. Segment (same_lex i) (same_text i)
+one_command words (Segment lex text) (Segment other more) p q =
+    let e : codes "segment" ∷ lex.name ∷ text ∷ [] ≡ codes "segment" ∷ other.name ∷ more ∷ [] = sym p.0.are ∙ q.0.are in
+    let same_name : lex.name ≡ other.name = cc in
+    let same_text : text ≡ more = cc in
+    let same_place : lex.place ≡ other.place = p.1 ∙ sym q.1 in
+    λ i. Segment (record { place = same_place i; name = same_name i }) (same_text i)
 
 -- one file has one content
-same_bytes : (files : Files) (lex : List ℕ) (bytes more : List ℕ) → contents_of files lex ≡ Some bytes → contents_of files lex ≡ Some more
+same_bytes : (files : Files) (name bytes more : List ℕ) → contents_of files name ≡ Some bytes → contents_of files name ≡ Some more
     → bytes ≡ more
-same_bytes files lex bytes more p q = let f : Some bytes ≡ Some more = sym p ∙ q in cc (f)
+same_bytes files name bytes more p q = let f : Some bytes ≡ Some more = sym p ∙ q in cc (f)
 
 -- a file that is there is not missing
-not_missing : (files : Files) (lex bytes : List ℕ) → contents_of files lex ≡ None → contents_of files lex ≡ Some bytes → ⊥
-not_missing files lex bytes p q = let f : None ≡ Some bytes = sym p ∙ q in cc (f)
+not_missing : (files : Files) (name bytes : List ℕ) → contents_of files name ≡ None → contents_of files name ≡ Some bytes → ⊥
+not_missing files name bytes p q = let f : None ≡ Some bytes = sym p ∙ q in cc (f)
 
--- one text has one word
-same_word : (text word more : List ℕ) → IsUnbrokenText text word → IsUnbrokenText text more → word ≡ more
-same_word text word more p q = let f : Ok word ≡ Ok more = sym p.spelled ∙ q.spelled in cc (f)
+-- where bytes are read in one way, a file tells one thing
+module _ (one : (bytes : List ℕ) (left right : FileResult) → IsReadAs bytes left → IsReadAs bytes right → left ≡ right) where
+  -- and the same of one file, whose content is given twice
+  one_reading : (files : Files) (name bytes more : List ℕ) (left right : FileResult) → contents_of files name ≡ Some bytes
+      → contents_of files name ≡ Some more → IsReadAs bytes left → IsReadAs more right → left ≡ right
+  one_reading files name bytes more left right p q r s =
+      one more left right (subst (λ b. IsReadAs b left) (same_bytes files name bytes more p q) r) s
 
--- where a text has one lexicon at most, `segment` has one outcome at most
-module _ (one : (left right : Lexicon) (bytes : List ℕ) → IsThinTextOf left bytes → IsThinTextOf right bytes → left ≡ right)
-    (lex text : List ℕ) (files : Files) where
-  one_page_outcome : (a b : Outcome) → IsPageOutcome lex text files a → IsPageOutcome lex text files b → a ≡ b
-  one_page_outcome a b p q =
-      let e = same_bytes files lex p.bytes q.bytes p.there q.there in
-      let l : p.lexicon ≡ q.lexicon = one p.lexicon q.lexicon q.bytes (subst (IsThinTextOf p.lexicon) e p.thin) q.thin in
-      let v = same_word text p.word q.word p.spelled q.spelled in
-      let moved : IsPage q.lexicon (unbroken_line q.word) [] BeforeFirst SEGMENT_PAGE p.answers p.more =
-      subst (λ (word : List ℕ). IsPage q.lexicon (unbroken_line word) [] BeforeFirst SEGMENT_PAGE p.answers p.more) v
-      (subst (λ (lexicon : Lexicon). IsPage lexicon (unbroken_line p.word) [] BeforeFirst SEGMENT_PAGE p.answers p.more) l p.page) in
-      let page = same_page q.lexicon (unbroken_line q.word) [] BeforeFirst SEGMENT_PAGE p.answers q.answers p.more q.more moved q.page in
-      let printed : outcome_over files (printed_page p.lexicon.rules 1 p.answers p.more) Done
-          ≡ outcome_over files (printed_page q.lexicon.rules 1 q.answers q.more) Done =
-      λ i. outcome_over files (printed_page (l i).rules 1 (page.0 i) (page.1 i)) Done in
+  -- a file is not too large and within the limit
+  not_large : (files : Files) (name bytes more : List ℕ) (limit : ℕ) → contents_of files name ≡ Some bytes
+      → contents_of files name ≡ Some more → limit < length bytes → length more ≤ limit → ⊥
+  not_large files name bytes more limit p q large small =
+      let same = ap length (same_bytes files name bytes more p q) in omega arith
+
+  one_telling : (files : Files) (name : List ℕ) (left right : FileTells) → DoesTell files name left → DoesTell files name right → left ≡ right
+  one_telling files name left right (IsMissing p e) (IsMissing q f) = e ∙ sym f
+  one_telling files name left right (IsMissing p e) (IsLarge more q l f) = absurd (not_missing files name more p q)
+  one_telling files name left right (IsMissing p e) (IsFaulty more q l fault r f) = absurd (not_missing files name more p q)
+  one_telling files name left right (IsMissing p e) (IsLexicon more q l lexicon r f) = absurd (not_missing files name more p q)
+  one_telling files name left right (IsLarge bytes p l e) (IsMissing q f) = absurd (not_missing files name bytes q p)
+  one_telling files name left right (IsLarge bytes p l e) (IsLarge more q m f) = e ∙ sym f
+  one_telling files name left right (IsLarge bytes p l e) (IsFaulty more q m fault r f) = absurd (not_large files name bytes more _ p q l m)
+  one_telling files name left right (IsLarge bytes p l e) (IsLexicon more q m lexicon r f) = absurd (not_large files name bytes more _ p q l m)
+  one_telling files name left right (IsFaulty bytes p l fault r e) (IsMissing q f) = absurd (not_missing files name bytes q p)
+  one_telling files name left right (IsFaulty bytes p l fault r e) (IsLarge more q m f) = absurd (not_large files name more bytes _ q p m l)
+  one_telling files name left right (IsFaulty bytes p l fault r e) (IsFaulty more q m other s f) =
+      let same : Err fault ≡ Err other = one_reading files name bytes more (Err fault) (Err other) p q r s in
+      let same_fault : fault ≡ other = cc in
+      e ∙ ap (λ x. Refused (ends.Lexicon x)) same_fault ∙ sym f
+  one_telling files name left right (IsFaulty bytes p l fault r e) (IsLexicon more q m lexicon s f) =
+      let same : Err fault ≡ Ok lexicon = one_reading files name bytes more (Err fault) (Ok lexicon) p q r s in absurd (cc)
+  one_telling files name left right (IsLexicon bytes p l lexicon r e) (IsMissing q f) = absurd (not_missing files name bytes q p)
+  one_telling files name left right (IsLexicon bytes p l lexicon r e) (IsLarge more q m f) = absurd (not_large files name more bytes _ q p m l)
+  one_telling files name left right (IsLexicon bytes p l lexicon r e) (IsFaulty more q m other s f) =
+      let same : Ok lexicon ≡ Err other = one_reading files name bytes more (Ok lexicon) (Err other) p q r s in absurd (cc)
+  one_telling files name left right (IsLexicon bytes p l lexicon r e) (IsLexicon more q m other s f) =
+      let same : Ok lexicon ≡ Ok other = one_reading files name bytes more (Ok lexicon) (Ok other) p q r s in
+      let same_lexicon : lexicon ≡ other = cc in
+      e ∙ ap Holds same_lexicon ∙ sym f
+
+  one_page_outcome : (lexicon : Lexicon) (line : Line) (files : Files) (a b : Outcome) → IsPageOutcome lexicon line files a
+      → IsPageOutcome lexicon line files b → a ≡ b
+  one_page_outcome lexicon line files a b p q =
+      let page = same_page lexicon line [] BeforeFirst SEGMENT_PAGE p.answers q.answers p.more q.more p.page q.page in
+      let printed : outcome_over files (printed_page lexicon.rules 1 p.answers p.more) Done
+      ≡ outcome_over files (printed_page lexicon.rules 1 q.answers q.more) Done =
+      λ i. outcome_over files (printed_page lexicon.rules 1 (page.0 i) (page.1 i)) Done in
       p.is ∙ printed ∙ sym q.is
 
-  built_or_not : (a b : Outcome) → IsNotBuiltOutcome lex text files a → IsPageOutcome lex text files b → ⊥
-  built_or_not a b p q =
-      let e = same_bytes files lex p.bytes q.bytes p.there q.there in
-      elim p.why [
-        | inl n ↦ n (q.lexicon, subst (IsThinTextOf q.lexicon) (sym e) q.thin)
-        | inr n ↦ n q.word q.spelled
-      ]
+  one_listed : (lexicon : Lexicon) (text : List ℕ) (files : Files) (a b : Outcome) → IsListedOutcome lexicon text files a
+      → IsListedOutcome lexicon text files b → a ≡ b
+  one_listed lexicon text files a b (OfText fault p e) (OfText other q f) =
+      let same : Err fault ≡ Err other = sym p ∙ q in
+      let same_fault : fault ≡ other = cc in
+      e ∙ ap (λ (x : LineFault). outcome_over files (text_refusal x) (ends.BadText x)) same_fault ∙ sym f
+  one_listed lexicon text files a b (OfText fault p e) (OfPage line q f) =
+      let same : Err fault ≡ Ok line = sym p ∙ q in absurd (cc)
+  one_listed lexicon text files a b (OfPage line p e) (OfText fault q f) =
+      let same : Ok line ≡ Err fault = sym p ∙ q in absurd (cc)
+  one_listed lexicon text files a b (OfPage line p e) (OfPage other q f) =
+      let same : Ok line ≡ Ok other = sym p ∙ q in
+      let same_line : line ≡ other = cc in
+      one_page_outcome lexicon other files a b (subst (λ (l : Line). IsPageOutcome lexicon l files a) same_line e) f
 
-  pub one_segment_outcome : (a b : Outcome) → IsSegmentOutcome lex text files a → IsSegmentOutcome lex text files b → a ≡ b
-  one_segment_outcome a b (Missing p) (Missing q) = p.is ∙ sym q.is
-  one_segment_outcome a b (Missing p) (Unbuilt q) = absurd (not_missing files lex q.bytes p.missing q.there)
-  one_segment_outcome a b (Missing p) (OfPage q) = absurd (not_missing files lex q.bytes p.missing q.there)
-  one_segment_outcome a b (Unbuilt p) (Missing q) = absurd (not_missing files lex p.bytes q.missing p.there)
-  one_segment_outcome a b (Unbuilt p) (Unbuilt q) = p.is ∙ sym q.is
-  one_segment_outcome a b (Unbuilt p) (OfPage q) = absurd (built_or_not a b p q)
-  one_segment_outcome a b (OfPage p) (Missing q) = absurd (not_missing files lex p.bytes q.missing p.there)
-  one_segment_outcome a b (OfPage p) (Unbuilt q) = absurd (built_or_not b a q p)
-  one_segment_outcome a b (OfPage p) (OfPage q) = one_page_outcome a b p q
+  one_outcome_with : (tells : FileTells) (lex : FileWord) (text : List ℕ) (files : Files) (a b : Outcome)
+      → IsOutcomeWith tells lex text files a → IsOutcomeWith tells lex text files b → a ≡ b
+  one_outcome_with NotThere lex text files a b p q = p ∙ sym q
+  one_outcome_with (Refused fault) lex text files a b p q = p ∙ sym q
+  one_outcome_with (Holds lexicon) lex text files a b p q = one_listed lexicon text files a b p q
 
--- each command has one outcome at most
-one_outcome_of : ((left right : Lexicon) (bytes : List ℕ) → IsThinTextOf left bytes → IsThinTextOf right bytes → left ≡ right)
-    → (command : Command) (files : Files) (input : Option (List ℕ)) (a b : Outcome) → IsOutcomeOf command files input a
-    → IsOutcomeOf command files input b → a ≡ b
-one_outcome_of one (Segment lex text) files input a b p q = one_segment_outcome one lex text files a b p q
+  pub one_segment_outcome : (lex : FileWord) (text : List ℕ) (files : Files) (a b : Outcome) → IsSegmentOutcome lex text files a
+      → IsSegmentOutcome lex text files b → a ≡ b
+  one_segment_outcome lex text files a b p q =
+      let same = one_telling files lex.name p.tells q.tells p.does_tell q.does_tell in
+      one_outcome_with q.tells lex text files a b (subst (λ (t : FileTells). IsOutcomeWith t lex text files a) same p.is_outcome) q.is_outcome
 
--- and so has a run
-pub one_outcome : ((left right : Lexicon) (bytes : List ℕ) → IsThinTextOf left bytes → IsThinTextOf right bytes → left ≡ right)
-    → (words : List (List ℕ)) (files : Files) (input : Option (List ℕ)) (a b : Outcome)
-    → IsOutcome words files input a → IsOutcome words files input b → a ≡ b
-one_outcome one words files input a b (OfNoCommand none p) (OfNoCommand other q) = p ∙ sym q
-one_outcome one words files input a b (OfNoCommand none p) (OfCommand command are q) = absurd (none command are)
-one_outcome one words files input a b (OfCommand command are p) (OfNoCommand none q) = absurd (none command are)
-one_outcome one words files input a b (OfCommand command are p) (OfCommand other too q) =
-    let same = one_command words command other are too in
-    one_outcome_of one other files input a b (subst (λ (c : Command). IsOutcomeOf c files input a) same p) q
+  -- each command has one outcome at most
+  one_outcome_of : (command : Command) (files : Files) (input : Option (List ℕ)) (a b : Outcome) → IsOutcomeOf command files input a
+      → IsOutcomeOf command files input b → a ≡ b
+  one_outcome_of (Segment lex text) files input a b p q = one_segment_outcome lex text files a b p q
+
+  -- and so has a run
+  pub one_outcome : (words : List (List ℕ)) (files : Files) (input : Option (List ℕ)) (a b : Outcome)
+      → IsOutcome words files input a → IsOutcome words files input b → a ≡ b
+  one_outcome words files input a b (OfNoCommand none p) (OfNoCommand other q) = p ∙ sym q
+  one_outcome words files input a b (OfNoCommand none p) (OfCommand command are q) = absurd (none command are)
+  one_outcome words files input a b (OfCommand command are p) (OfNoCommand none q) = absurd (none command are)
+  one_outcome words files input a b (OfCommand command are p) (OfCommand other too q) =
+      let same = one_command words command other are too in
+      one_outcome_of other files input a b (subst (λ (c : Command). IsOutcomeOf c files input a) same p) q

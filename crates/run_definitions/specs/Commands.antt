@@ -2,9 +2,14 @@
 use Rattle.std.specs.Prelude.{◌≡◌, ℕ, ◌<◌, ◌≤◌, List, [], ◌∷◌, length, slice_index, codes, All}
 use Rattle.run_definitions.specs.declared.limits.TheConstants.{MOST_WORD_BYTES}
 
+-- the name of a file, and which of the words it is, counted from 0
+pub record FileWord : Type 0 where
+  pub place : ℕ
+  pub name : List ℕ
+
 -- a command with its arguments
 pub data Command : Type 0 where
-  Segment : (lex : List ℕ) → (text : List ℕ) → Command
+  Segment : (lex : FileWord) → (text : List ℕ) → Command
 
 -- the word is an option: it begins with `-`, and that is not all of it
 pub record IsOption (word : List ℕ) : Type 0 where
@@ -23,7 +28,8 @@ pub record AreNameAndArguments (words : List (List ℕ)) (name : List ℕ) (argu
 
 -- the words are those of the command
 abbrev pub AreWordsOf : Command → List (List ℕ) → Type 0
-AreWordsOf (Segment lex text) words = AreNameAndArguments words (codes "segment") (lex ∷ text ∷ [])
+AreWordsOf (Segment lex text) words =
+    AreNameAndArguments words (codes "segment") (lex.name ∷ text ∷ []) × (lex.place ≡ 1)
 
 -- the words are those of no command
 abbrev pub AreOfNoCommand : List (List ℕ) → Type 0

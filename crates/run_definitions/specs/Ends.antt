@@ -1,13 +1,22 @@
 -- How a run ends, and what it leaves (own).
 use Rattle.std.specs.Prelude.{ℕ, List}
 use Rattle.outside.specs.Files.{Files}
+use Rattle.text_definitions.specs.LineTexts.{LineFault}
+use Rattle.lexicon_text_definitions.specs.FileFaults.{FileFault}
 
--- how a run ends, where no device fails and memory is found
+-- why a file is refused: it is too large, or it has this fault as a lexicon file
+pub data AnyFault : Type 0 where
+  Large : AnyFault
+  Lexicon : (fault : FileFault) → AnyFault
+
+-- how a run ends, where no device fails and memory is found; a refused file is told by the place of its name among the
+-- words, counted from 0
 pub data End : Type 0 where
   Done : End
   Usage : End
   ReadFault : End
-  NotBuilt : End
+  BadFile : (word : ℕ) → (fault : AnyFault) → End
+  BadText : (fault : LineFault) → End
 
 -- what a run writes, the files after it, and how it ends
 pub record Outcome : Type 0 where

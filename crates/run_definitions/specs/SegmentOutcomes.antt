@@ -1,54 +1,61 @@
 -- What `segment` does with the name of a lexicon file and a text (own).
-use Rattle.std.specs.Prelude.{◌≡◌, ℕ, ◌<◌, ◌≤◌, ◌⊎◌, Bool, List, [], length, codes, Option, Some, None, Ok}
+use Rattle.std.specs.Prelude.{◌≡◌, ℕ, ◌<◌, ◌≤◌, Bool, List, [], length, Option, Some, None, Ok, Err}
 use Rattle.outside.specs.Files.{Files, contents_of}
 use Rattle.text_definitions.specs.Lines.{Line}
-use Rattle.text_definitions.specs.Slp1.{word_of_slp1}
-use Rattle.text_definitions.specs.declared.limits.TheConstants.{MOST_LINE_LETTERS}
+use Rattle.text_definitions.specs.Schemes.{Slp1}
+use Rattle.text_definitions.specs.LineTexts.{LineFault, line_of_text}
 use Rattle.lexicon_definitions.specs.Lexicons.{Lexicon}
-use Rattle.thin_text_definitions.specs.ThinTexts.{IsThinText, IsThinTextOf}
+use Rattle.lexicon_text_definitions.specs.declared.limits.TheConstants.{MOST_FILE_BYTES}
+use Rattle.lexicon_text_definitions.specs.FileFaults.{FileFault}
+use Rattle.lexicon_text_definitions.specs.FileReadings.{IsReadAs}
 use Rattle.segmentation_definitions.specs.Derivations.{Step}
 use Rattle.segmentation_definitions.specs.Listings.{BeforeFirst, IsPage}
-use Rattle.segmentation_definitions.specs.PrintedAnswers.{output_line, printed_page}
+use Rattle.segmentation_definitions.specs.PrintedAnswers.{printed_page}
 use Rattle.run_definitions.specs.declared.limits.TheConstants.{SEGMENT_PAGE}
-use Rattle.run_definitions.specs.Ends.{Outcome, Done, ReadFault, NotBuilt, outcome_over}
+use Rattle.run_definitions.specs.Commands.{FileWord}
+use Rattle.run_definitions.specs.Ends as ends
+use Rattle.run_definitions.specs.Ends.{Outcome, AnyFault, Large, Done, ReadFault, BadFile, BadText, outcome_over}
+use Rattle.run_definitions.specs.Refusals.{file_refusal, text_refusal}
 
--- the text is letters in SLP1, not too many, and these are the letters
-pub record IsUnbrokenText (text word : List ℕ) : Type 0 where
-  pub spelled : word_of_slp1 text ≡ Ok word
-  pub some_letter : 0 < length word
-  pub within_limit : length word ≤ MOST_LINE_LETTERS
+-- what a file of this name tells: that it is not there, that it is too large, its first fault, or its lexicon
+pub data FileTells : Type 0 where
+  NotThere : FileTells
+  Refused : (fault : AnyFault) → FileTells
+  Holds : (lexicon : Lexicon) → FileTells
 
--- the line of a word without blanks
-abbrev pub unbroken_line : List ℕ → Line
-unbroken_line word = record { letters = word; blanks = [] }
+-- the file under the name tells this
+pub data DoesTell (files : Files) (name : List ℕ) (tells : FileTells) : Type 0 where
+  IsMissing : contents_of files name ≡ None → tells ≡ NotThere → DoesTell files name tells
+  IsLarge : (bytes : List ℕ) → contents_of files name ≡ Some bytes → MOST_FILE_BYTES < length bytes → tells ≡ Refused Large
+      → DoesTell files name tells
+  IsFaulty : (bytes : List ℕ) → contents_of files name ≡ Some bytes → length bytes ≤ MOST_FILE_BYTES → (fault : FileFault)
+      → IsReadAs bytes (Err fault) → tells ≡ Refused (ends.Lexicon fault) → DoesTell files name tells
+  IsLexicon : (bytes : List ℕ) → contents_of files name ≡ Some bytes → length bytes ≤ MOST_FILE_BYTES → (lexicon : Lexicon)
+      → IsReadAs bytes (Ok lexicon) → tells ≡ Holds lexicon → DoesTell files name tells
 
--- the file is not there, and nothing is written
-pub record IsMissingOutcome (lex : List ℕ) (files : Files) (outcome : Outcome) : Type 0 where
-  pub missing : contents_of files lex ≡ None
-  pub is : outcome ≡ outcome_over files [] ReadFault
-
--- the file is no thin text, or the text is not letters in SLP1 within the limit; `not built` is written
-pub record IsNotBuiltOutcome (lex text : List ℕ) (files : Files) (outcome : Outcome) : Type 0 where
-  pub bytes : List ℕ
-  pub there : contents_of files lex ≡ Some bytes
-  pub why : (IsThinText bytes → ⊥) ⊎ ((word : List ℕ) → IsUnbrokenText text word → ⊥)
-  pub is : outcome ≡ outcome_over files (output_line (codes "not built")) NotBuilt
-
--- the file is the thin text of a lexicon, the text is a line, and the line's page before the first answer is written
-pub record IsPageOutcome (lex text : List ℕ) (files : Files) (outcome : Outcome) : Type 0 where
-  pub bytes : List ℕ
-  pub there : contents_of files lex ≡ Some bytes
-  pub lexicon : Lexicon
-  pub thin : IsThinTextOf lexicon bytes
-  pub word : List ℕ
-  pub spelled : IsUnbrokenText text word
+-- the page of a lexicon and a line before the first answer is written
+pub record IsPageOutcome (lexicon : Lexicon) (line : Line) (files : Files) (outcome : Outcome) : Type 0 where
   pub answers : List (List Step)
   pub more : Bool
-  pub page : IsPage lexicon (unbroken_line word) [] BeforeFirst SEGMENT_PAGE answers more
+  pub page : IsPage lexicon line [] BeforeFirst SEGMENT_PAGE answers more
   pub is : outcome ≡ outcome_over files (printed_page lexicon.rules 1 answers more) Done
 
+-- with a lexicon and the reading of a text, its fault is written, or the page of its line
+pub data IsListedOutcome (lexicon : Lexicon) (text : List ℕ) (files : Files) (outcome : Outcome) : Type 0 where
+  OfText : (fault : LineFault) → line_of_text Slp1 text ≡ Err fault
+      → outcome ≡ outcome_over files (text_refusal fault) (BadText fault) → IsListedOutcome lexicon text files outcome
+  OfPage : (line : Line) → line_of_text Slp1 text ≡ Ok line → IsPageOutcome lexicon line files outcome
+      → IsListedOutcome lexicon text files outcome
+
+-- by what the file tells: nothing is written, its refusal is, or what is listed
+abbrev pub IsOutcomeWith : FileTells → FileWord → List ℕ → Files → Outcome → Type 0
+IsOutcomeWith NotThere lex text files outcome = outcome ≡ outcome_over files [] ReadFault
+IsOutcomeWith (Refused fault) lex text files outcome =
+    outcome ≡ outcome_over files (file_refusal lex.name fault) (BadFile lex.place fault)
+IsOutcomeWith (Holds lexicon) lex text files outcome = IsListedOutcome lexicon text files outcome
+
 -- the outcome of `segment` with this name of a file and this text
-pub data IsSegmentOutcome (lex text : List ℕ) (files : Files) (outcome : Outcome) : Type 0 where
-  Missing : IsMissingOutcome lex files outcome → IsSegmentOutcome lex text files outcome
-  Unbuilt : IsNotBuiltOutcome lex text files outcome → IsSegmentOutcome lex text files outcome
-  OfPage : IsPageOutcome lex text files outcome → IsSegmentOutcome lex text files outcome
+pub record IsSegmentOutcome (lex : FileWord) (text : List ℕ) (files : Files) (outcome : Outcome) : Type 0 where
+  pub tells : FileTells
+  pub does_tell : DoesTell files lex.name tells
+  pub is_outcome : IsOutcomeWith tells lex text files outcome

@@ -1,6 +1,6 @@
 ghost use Rattle.std.specs.Prelude.{◌≡◌, ℕ, List, Option};
 ghost use Rattle.outside.specs.Files.{Files};
-ghost use Rattle.run_definitions.specs.Commands.{Command, AreWordsOf};
+ghost use Rattle.run_definitions.specs.Commands.{Command, FileWord, AreWordsOf};
 ghost use Rattle.run_definitions.specs.Outcomes.{Outcome, IsOutcome};
 ghost use Rattle.run_definitions.specs.SegmentOutcomes.{IsSegmentOutcome};
 
@@ -11,7 +11,7 @@ pub fn words_are_of_one_command()
 
 /// With one file and one text, `segment` has one outcome at most over the same files.
 pub fn segment_has_one_outcome()
-    ensures { (lex text : List ℕ) (files : Files) (left right : Outcome)
+    ensures { (lex : FileWord) (text : List ℕ) (files : Files) (left right : Outcome)
         → IsSegmentOutcome lex text files left → IsSegmentOutcome lex text files right → left ≡ right }
 {}
 
