@@ -1,16 +1,17 @@
 -- Forms with one entry more are forms of a phase again, as long as before or longer by one: by what placing an element does.
-use Rattle.std.proofs.Common.{◌≡◌, ◌≢◌, ℕ, ◌<◌, ◌≤◌, List, [], ◌∷◌, length, All, Ordering, refl, ap, arith}
+use Rattle.std.proofs.Common.{◌≡◌, ◌≢◌, ℕ, ◌<◌, ◌≤◌, List, [], ◌∷◌, length, All, Ordering, refl, ap, arith, ◌++◌, get_or, ◌∙◌}
 use Rattle.std.specs.declared.cmp.Ordering.TheVariants.{Less, Equal, Greater}
 use Rattle.std.specs.List.Sorted.{IsStrictlySortedBy}
 use Rattle.std.specs.Cmp.{IsTotalOrder}
 use Rattle.std.proofs.lemmas.Cmp.{nat_list_cmp_total, then_total, on_total}
+use Rattle.std.proofs.lemmas.List.Edits.{insert_end}
 use Rattle.std.proofs.lemmas.List.Elements.{All-nil, All-cons}
 use Rattle.text_definitions.specs.Words.{IsWord, compare_words}
 use Rattle.lexicon_definitions.specs.Analyses.{Analysis, compare_analyses}
 use Rattle.lexicon_definitions.specs.Lexicons.{Form, IsAnalysis, IsFormEntry, IsPhase}
 use Rattle.lexicon_definitions.specs.FormEntries.{placed, placed_at, with_analysis, with_form, IsListedStem, IsListedForm, IsListedPhase}
 use Rattle.lexicon_definitions.specs.declared.limits.TheConstants.{MOST_FORM_LETTERS}
-use Rattle.lexicon_definitions.proofs.FormsPlaced.{All-placed, sorted_placed}
+use Rattle.lexicon_definitions.proofs.FormsPlaced.{All-placed, sorted_placed, placed_new}
 
 -- the list with one more has an element
 placed_not_empty : {X : Type 0} (side : X → Ordering) (new : X) (change : X → X) (xs : List X) → placed side new change xs ≢ []
@@ -90,3 +91,10 @@ module _ (letters : List ℕ) (analysis : Analysis) where
               stems = All-with_analysis IsListedStem analysis stem form.analyses listed.stems;
             }) forms phase.each;
       }
+
+  -- a form that comes after all others is appended
+  pub with_form_last : (forms : List Form) → ((k : ℕ) (d : Form) → k < length forms → compare_words (get_or forms k d).letters letters ≡ Less)
+      → with_form letters analysis forms ≡ forms ++ alone ∷ []
+  with_form_last forms before =
+      placed_new (λ (form : Form). compare_words form.letters letters) alone (more_analyzed analysis) forms (length forms) (omega arith) before (λ k d low high. absurd (omega (arith, low, high)))
+      ∙ insert_end forms alone
