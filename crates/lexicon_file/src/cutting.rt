@@ -1,4 +1,4 @@
-ghost use Rattle.std.specs.Prelude.{◌≡◌, ◌≢◌, ◌<◌, ◌∷◌, ◌++◌, [], length, All, MatchOption, IfSome, None, Some};
+ghost use Rattle.std.specs.Prelude.{◌≡◌, ◌≢◌, ◌<◌, ◌||◌, ◌∷◌, ◌++◌, [], length, All, MatchOption, IfSome, None, Some};
 ghost use Rattle.lexicon_text_definitions.specs.FileLines.{parts_of, fields_of, lines_of_bytes, has_mark as has_mark_of, shape_of};
 ghost use Rattle.lexicon_file.specs.Fields.{one_of, two_of, four_of, text_of_rest};
 
@@ -84,6 +84,13 @@ fn has_mark(part: &[u8]) -> bool
     part.iter().any(|byte| *byte == b'|' || *byte == b'>')
 }
 
+/// Whether one of them stands in one of the parts.
+fn has_marks(u: &[u8], v: &[u8], w: &[u8]) -> bool
+    ensures { result ≡ (has_mark_of u.now || has_mark_of v.now || has_mark_of w.now) }
+{
+    has_mark(u) || has_mark(v) || has_mark(w)
+}
+
 /// The parts of a rule of the shape `u|v>w`, with one `|` and one `>` in all.
 pub(crate) fn rule_parts(field: &[u8]) -> Option<(&[u8], &[u8], &[u8])>
     ensures { MatchOption result (shape_of field.now ≡ None)
@@ -95,8 +102,7 @@ pub(crate) fn rule_parts(field: &[u8]) -> Option<(&[u8], &[u8], &[u8])>
     let Some((v, w)) = cut(rest, b'>') else {
         return None;
     };
-    let marked = has_mark(u) || has_mark(v) || has_mark(w);
-    if marked {
+    if has_marks(u, v, w) {
         None
     } else {
         Some((u, v, w))
