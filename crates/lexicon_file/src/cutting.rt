@@ -1,4 +1,4 @@
-ghost use Rattle.std.specs.Prelude.{◌≡◌, ◌≢◌, ◌<◌, ◌||◌, ◌∷◌, ◌++◌, [], length, All, MatchOption, IfSome, None, Some};
+ghost use Rattle.std.specs.Prelude.{◌≡◌, ◌≢◌, ◌<◌, ◌≤◌, ◌||◌, ◌∷◌, ◌++◌, [], length, All, MatchOption, IfSome, None, Some};
 ghost use Rattle.lexicon_text_definitions.specs.FileLines.{parts_of, fields_of, lines_of_bytes, has_mark as has_mark_of, shape_of};
 ghost use Rattle.lexicon_file.specs.Fields.{one_of, two_of, four_of, text_of_rest};
 
@@ -15,6 +15,7 @@ pub(crate) fn cut(text: &[u8], mark: u8) -> Option<(&[u8], &[u8])>
 pub(crate) fn first_line(bytes: &[u8]) -> Option<(&[u8], bool, &[u8])>
     ensures line { MatchOption result (bytes.now ≡ [])
         (λ line. lines_of_bytes bytes.now ≡ record { bytes = line.0.now; ended = line.1 } ∷ lines_of_bytes line.2.now) }
+    ensures within { IfSome result (λ line. length line.0.now ≤ length bytes.now) }
     ensures shorter { IfSome result (λ line. length line.2.now < length bytes.now) }
 {
     if let Some((line, rest)) = cut(bytes, b'\n') {
