@@ -3,3 +3,4 @@ pub mod Fields
 pub mod Faults
 pub mod Words
 pub mod Told
+pub mod Contents

@@ -1,4 +1,4 @@
-ghost use Rattle.std.specs.Prelude.{◌≡◌, ◌≢◌, ◌<◌, ◌∷◌, ◌++◌, [], length, All, MatchOption, IfSome, None, Some};
+ghost use Rattle.std.specs.Prelude.{◌≡◌, ◌≢◌, ◌<◌, ◌≤◌, ◌||◌, ◌∷◌, ◌++◌, [], length, All, MatchOption, IfSome, None, Some};
 ghost use Rattle.lexicon_text_definitions.specs.FileLines.{parts_of, fields_of, lines_of_bytes, has_mark as has_mark_of, shape_of};
 ghost use Rattle.lexicon_file.specs.Fields.{one_of, two_of, four_of, text_of_rest};
 
@@ -15,6 +15,7 @@ pub(crate) fn cut(text: &[u8], mark: u8) -> Option<(&[u8], &[u8])>
 pub(crate) fn first_line(bytes: &[u8]) -> Option<(&[u8], bool, &[u8])>
     ensures line { MatchOption result (bytes.now ≡ [])
         (λ line. lines_of_bytes bytes.now ≡ record { bytes = line.0.now; ended = line.1 } ∷ lines_of_bytes line.2.now) }
+    ensures within { IfSome result (λ line. length line.0.now ≤ length bytes.now) }
     ensures shorter { IfSome result (λ line. length line.2.now < length bytes.now) }
 {
     if let Some((line, rest)) = cut(bytes, b'\n') {
@@ -84,6 +85,13 @@ fn has_mark(part: &[u8]) -> bool
     part.iter().any(|byte| *byte == b'|' || *byte == b'>')
 }
 
+/// Whether one of them stands in one of the parts.
+fn has_marks(u: &[u8], v: &[u8], w: &[u8]) -> bool
+    ensures { result ≡ (has_mark_of u.now || has_mark_of v.now || has_mark_of w.now) }
+{
+    has_mark(u) || has_mark(v) || has_mark(w)
+}
+
 /// The parts of a rule of the shape `u|v>w`, with one `|` and one `>` in all.
 pub(crate) fn rule_parts(field: &[u8]) -> Option<(&[u8], &[u8], &[u8])>
     ensures { MatchOption result (shape_of field.now ≡ None)
@@ -95,8 +103,7 @@ pub(crate) fn rule_parts(field: &[u8]) -> Option<(&[u8], &[u8], &[u8])>
     let Some((v, w)) = cut(rest, b'>') else {
         return None;
     };
-    let marked = has_mark(u) || has_mark(v) || has_mark(w);
-    if marked {
+    if has_marks(u, v, w) {
         None
     } else {
         Some((u, v, w))

@@ -1,3 +1,5 @@
+ghost use Rattle.std.specs.Prelude.{◌≡◌, []};
+
 use crate::FileWhy;
 use crate::line_error::LineError;
 use lexicon_definitions::{MOST_LEADS, MOST_RULES};
@@ -5,6 +7,7 @@ use phoneme::Word;
 use sandhi_rules::Rule;
 use std::alloc::Global;
 use std::collections::BTreeSet;
+use std::marker::Model;
 
 /// The rules that were read, in their order; and what finds twins among them, and counts their different `v`.
 #[derive(Debug, Drop)]
@@ -14,8 +17,19 @@ pub(crate) struct RulesSoFar {
     leads: BTreeSet<Word>,
 }
 
+impl Model for RulesSoFar {
+    ghost use Rattle.std.specs.Prelude.{List};
+    ghost use Rattle.lexicon_definitions.specs.Rules.{Rule as RuleValue};
+
+    ghost Value = { List RuleValue };
+
+    ghost view = { λ r. r.rules.items };
+}
+
 impl RulesSoFar {
-    pub(crate) fn new(alloc: Global) -> RulesSoFar {
+    pub(crate) fn new(alloc: Global) -> RulesSoFar
+        ensures { result ≡ [] }
+    {
         RulesSoFar {
             rules: Vec::new(alloc),
             triples: BTreeSet::new(alloc),
@@ -24,7 +38,9 @@ impl RulesSoFar {
     }
 
     /// The rules, in their order.
-    pub(crate) fn into_rules(self) -> Vec<Rule> {
+    pub(crate) fn into_rules(self) -> Vec<Rule>
+        ensures { result.items ≡ self }
+    {
         let RulesSoFar {
             rules,
             triples: _,

@@ -1,5 +1,13 @@
-ghost use Rattle.std.specs.Prelude.{◌≡◌, ◌≤◌};
+ghost use Rattle.std.specs.Prelude.{◌≡◌, ◌<◌, ◌≤◌, ◌^◌, length, IfOk, IfErr};
 ghost use Rattle.lexicon_definitions.specs.Rules.{all_phases as all_phases_of};
+ghost use Rattle.lexicon_definitions.specs.Lexicons.{IsRuleSet, tree_of};
+ghost use Rattle.lexicon_definitions.specs.Limits.{IsRuleSetWithinLimits};
+ghost use Rattle.phase_automaton.specs.Automata.{Recognizes};
+ghost use Rattle.lexicon_text_definitions.specs.FileLines.{End};
+ghost use Rattle.lexicon_text_definitions.specs.FileContents.{nothing_told, rules_told, lexicon_told};
+ghost use Rattle.lexicon_text_definitions.specs.FileSteps.{take_line as take_line_of};
+ghost use Rattle.lexicon_file.specs.Told.{IsLineAnswer, IsNoEnd};
+ghost use Rattle.lexicon_file.specs.Contents.{lexicon_of};
 
 use crate::cutting::{four_fields, kind_and_rest, one_field, rule_parts, two_fields};
 use crate::kind::Kind;
@@ -17,8 +25,10 @@ use phoneme::{Letter, Memory};
 use sandhi_rules::{Rule, RuleSet};
 use std::alloc::Global;
 use std::cmp::Ordering;
+use std::marker::Model;
 
-/// What the lines so far told.
+/// What the lines so far told: the kind of the last line, the names of the phases, the grammar's text with its automaton, the
+/// plain pairs, the rules, and the forms, of which the last one is of the last phase.
 #[derive(Debug, Drop)]
 pub(crate) struct Told {
     last: Kind,
@@ -29,6 +39,19 @@ pub(crate) struct Told {
     rules: RulesSoFar,
     lists: FormLists,
     last_phase: u32,
+}
+
+impl Model for Told {
+    ghost use Rattle.std.specs.Prelude.{map, string_bytes};
+    ghost use Rattle.lexicon_text_definitions.specs.FileContents.{Told as ToldValue, entries_from};
+    ghost use Rattle.lexicon_file.specs.Kinds.{kind_of};
+    ghost use Rattle.lexicon_file.specs.Told.{IsKept};
+
+    ghost Value = { ToldValue };
+
+    ghost view = { λ t. record { last = kind_of t.last; names = map string_bytes t.names.items; grammar = t.grammar.items; plain = t.plain.items; rules = t.rules; forms = entries_from 0 t.lists } };
+
+    ghost invariant = { λ t. IsKept (record { last = kind_of t.last; names = map string_bytes t.names.items; grammar = t.grammar.items; plain = t.plain.items; rules = t.rules; forms = entries_from 0 t.lists }) t.automaton t.lists t.last_phase };
 }
 
 /// Whether a phase's name has 1 to 16 bytes, the first a small letter, the others small letters, digits or `_`.
@@ -61,7 +84,9 @@ fn all_phases(count: usize) -> u16
 }
 
 impl Told {
-    pub(crate) fn new(alloc: Global) -> Result<Told, Memory> {
+    pub(crate) fn new(alloc: Global) -> Result<Told, Memory>
+        ensures { IfOk result (λ told. told ≡ nothing_told) }
+    {
         Ok(Told {
             last: Kind::Opening,
             names: Vec::new(alloc),
@@ -231,7 +256,10 @@ impl Told {
         alloc: Global,
         line: &[u8],
         ended: bool,
-    ) -> Result<(), LineError> {
+    ) -> Result<(), LineError>
+        requires { length line.now < 2 ^ 32 }
+        ensures { IsLineAnswer (take_line_of self.old (record { bytes = line.now; ended = ended })) result self.new }
+    {
         if self.last == Kind::End {
             return Err(FileWhy::Trailing.into());
         }
@@ -268,7 +296,13 @@ impl Told {
     }
 
     /// The contents of the file, where the last line was its end.
-    pub(crate) fn finish(self, alloc: Global) -> Result<Contents, LineError> {
+    pub(crate) fn finish(self, alloc: Global) -> Result<Contents, LineError>
+        requires set { self.last ≡ End → IsRuleSet (rules_told self) }
+        requires limits { self.last ≡ End → IsRuleSetWithinLimits (rules_told self) }
+        ensures ok { IfOk result (λ contents. (self.last ≡ End) × (lexicon_of contents ≡ lexicon_told self)) }
+        ensures automaton { IfOk result (λ contents. Recognizes contents.automaton (tree_of (rules_told self))) }
+        ensures no_end { IfErr result (λ error. IsNoEnd error (self.last ≡ End)) }
+    {
         let Told {
             last,
             names,
