@@ -18,7 +18,7 @@ use Rattle.derivation.specs.Steps.{entered_with, form_with, steps_from, steps_of
 use Rattle.derivation.proofs.PlacedSteps.{same_places}
 use Rattle.segmenter.specs.declared.lexicon.Lexicon.{Lexicon}
 use Rattle.segmenter.specs.declared.place.Place.{Place}
-use Rattle.segmenter.specs.Forms.{lists_of, list_of, HasRisingLists, IsThin}
+use Rattle.segmenter.specs.Forms.{lists_of, list_of, IsSearchable, IsThin}
 use Rattle.segmenter.specs.Completions.{lead_at, form_at, EndsLine, GoesOn, CanFollow, last_of, place_after, opening, Completes}
 use Rattle.segmenter.proofs.CutLetters.{parts_after, first_and_rest, front_and_last, get_or-map_nil}
 use Rattle.segmenter.proofs.GrammarWords.{thin_tree, thin_word}
@@ -42,7 +42,7 @@ pub stand_from : (lexicon : Lexicon) (line : Line) (place : Place) (steps : List
 stand_from lexicon line place [] c = tt
 stand_from lexicon line place (step ∷ []) c = (c.0.stands, tt)
 stand_from lexicon line place (step ∷ next ∷ steps) c =
-    (c.0.stands, stand_from lexicon line (place_after lexicon.rules line place step) (next ∷ steps) c.2)
+    (c.0.stands, stand_from lexicon line (place_after lexicon line place step) (next ∷ steps) c.2)
 
 -- their forms are forms of their phases
 pub forms_from : (lexicon : Lexicon) (phases : List (List Form)) (line : Line) (place : Place) (steps : List ProgramStep) → HaveForms lexicon phases
@@ -52,7 +52,7 @@ forms_from lexicon phases line place (step ∷ []) same c =
     (subst (λ forms. Contains forms (form_at lexicon.rules line place step)) (sym (same_forms lexicon phases step.phase same)) c.0.form, tt)
 forms_from lexicon phases line place (step ∷ next ∷ steps) same c = (
   subst (λ forms. Contains forms (form_at lexicon.rules line place step)) (sym (same_forms lexicon phases step.phase same)) c.0.form,
-  forms_from lexicon phases line (place_after lexicon.rules line place step) (next ∷ steps) same c.2,
+  forms_from lexicon phases line (place_after lexicon line place step) (next ∷ steps) same c.2,
 )
 
 -- they cover what is left of the word
@@ -78,11 +78,11 @@ covers_from lexicon line place (step ∷ next ∷ steps) c =
       refl,
       subst (λ at. drop at line.letters ≡ take step.taken (drop step.at line.letters) ++ w ++ following) c.0.stands.at
           (parts_after line.letters w step.at step.taken c.0.stands.following),
-      covers_from lexicon line (place_after lexicon.rules line place step) (next ∷ steps) c.2,
+      covers_from lexicon line (place_after lexicon line place step) (next ∷ steps) c.2,
     )
 
 -- a form of the lexicon has a letter
-pub form_some : (lexicon : Lexicon) (phase : ℕ) (form : List ℕ) → HasRisingLists lexicon → Contains (list_of lexicon phase) form → form ≢ []
+pub form_some : (lexicon : Lexicon) (phase : ℕ) (form : List ℕ) → IsSearchable lexicon → Contains (list_of lexicon phase) form → form ≢ []
 form_some lexicon phase form rising m = elim (cases_lt phase (length (lists_of lexicon))) [
   | inl below ↦ All-contains (λ word. word ≢ []) (list_of lexicon phase) form (rising.not_empty phase [] below) m
   | inr above ↦ absurd (not_Contains-nil form (subst (λ words. Contains words form) (get_or_past (lists_of lexicon) phase [] above) m))
@@ -97,8 +97,8 @@ pub rule_cases : (rule : ℕ) → (rule ≡ 0) ⊎ ((0 < rule) × (rule ≢ 0))
 rule_cases zero = inl refl
 rule_cases (suc rule) = inr (omega arith, λ e. omega arith)
 
-meets_from : (lexicon : Lexicon) (line : Line) (place : Place) (step next : ProgramStep) → HasRisingLists lexicon → CanFollow lexicon line place step
-    → GoesOn lexicon.rules line step → CanFollow lexicon line (place_after lexicon.rules line place step) next
+meets_from : (lexicon : Lexicon) (line : Line) (place : Place) (step next : ProgramStep) → IsSearchable lexicon → CanFollow lexicon line place step
+    → GoesOn lexicon.rules line step → CanFollow lexicon line (place_after lexicon line place step) next
     → Meets lexicon.rules (entered_with lexicon.rules line.letters (lead_at lexicon.rules place) step)
     (entered_with lexicon.rules line.letters (rule_of lexicon.rules step.rule).v next)
 meets_from lexicon line place step next rising can goes then =
@@ -124,7 +124,7 @@ meets_from lexicon line place step next rising can goes then =
       | inr some ↦ inr (((some.0, can.stands.rule), goes.inner some.1, can.fits.follows some.1), then.enters.precedes some.1)
     ]
 
-pub joined_from : (lexicon : Lexicon) (line : Line) (place : Place) (steps : List ProgramStep) → HasRisingLists lexicon → Completes lexicon line place steps
+pub joined_from : (lexicon : Lexicon) (line : Line) (place : Place) (steps : List ProgramStep) → IsSearchable lexicon → Completes lexicon line place steps
     → AreJoined lexicon.rules (steps_from lexicon.rules line.letters (lead_at lexicon.rules place) steps)
 joined_from lexicon line place [] rising c = tt
 joined_from lexicon line place (step ∷ []) rising c = tt
@@ -132,7 +132,7 @@ joined_from lexicon line place (step ∷ next ∷ []) rising c =
     (meets_from lexicon line place step next rising c.0 c.1 c.2.0, tt)
 joined_from lexicon line place (step ∷ next ∷ third ∷ steps) rising c = (
   meets_from lexicon line place step next rising c.0 c.1 c.2.0,
-  joined_from lexicon line (place_after lexicon.rules line place step) (next ∷ third ∷ steps) rising c.2,
+  joined_from lexicon line (place_after lexicon line place step) (next ∷ third ∷ steps) rising c.2,
 )
 
 -- after the last one stands no change or a final rule
@@ -148,7 +148,7 @@ pub ends_from : (lexicon : Lexicon) (line : Line) (place : Place) (steps : List 
 ends_from lexicon line place [] c = absurd c
 ends_from lexicon line place (step ∷ []) c = ends_alone lexicon line place step c.0 c.1
 ends_from lexicon line place (step ∷ next ∷ steps) c =
-    ends_from lexicon line (place_after lexicon.rules line place step) (next ∷ steps) c.2
+    ends_from lexicon line (place_after lexicon line place step) (next ∷ steps) c.2
 
 -- no blank stands inside what one takes, and none after the beginning of the last
 pub inside_from : (lexicon : Lexicon) (line : Line) (place : Place) (steps : List ProgramStep) → Completes lexicon line place steps
@@ -156,14 +156,14 @@ pub inside_from : (lexicon : Lexicon) (line : Line) (place : Place) (steps : Lis
 inside_from lexicon line place [] c = tt
 inside_from lexicon line place (step ∷ []) c = (c.0.fits.blanks.inside, tt)
 inside_from lexicon line place (step ∷ next ∷ steps) c =
-    (c.0.fits.blanks.inside, inside_from lexicon line (place_after lexicon.rules line place step) (next ∷ steps) c.2)
+    (c.0.fits.blanks.inside, inside_from lexicon line (place_after lexicon line place step) (next ∷ steps) c.2)
 
 pub following_from : (lexicon : Lexicon) (line : Line) (place : Place) (steps : List ProgramStep) → Completes lexicon line place steps
     → HasNoBlankAfterLast line.blanks (places_of lexicon.rules line.letters (lead_at lexicon.rules place) steps)
 following_from lexicon line place [] c = tt
 following_from lexicon line place (step ∷ []) c = c.0.fits.blanks.last c.1
 following_from lexicon line place (step ∷ next ∷ steps) c =
-    following_from lexicon line (place_after lexicon.rules line place step) (next ∷ steps) c.2
+    following_from lexicon line (place_after lexicon line place step) (next ∷ steps) c.2
 
 -- each phase is the only one
 pub phases_from : (lexicon : Lexicon) (line : Line) (place : Place) (steps : List ProgramStep) → IsThin lexicon → Completes lexicon line place steps
@@ -173,7 +173,7 @@ phases_from lexicon line place (step ∷ []) thin c =
     let one = ap length thin.names in (omega (arith, c.0.stands.phase), tt)
 phases_from lexicon line place (step ∷ next ∷ steps) thin c =
     let one = ap length thin.names in
-    (omega (arith, c.0.stands.phase), phases_from lexicon line (place_after lexicon.rules line place step) (next ∷ steps) thin c.2)
+    (omega (arith, c.0.stands.phase), phases_from lexicon line (place_after lexicon line place step) (next ∷ steps) thin c.2)
 
 pub some_steps : (lexicon : Lexicon) (line : Line) (place : Place) (lead : List ℕ) (steps : List ProgramStep) → Completes lexicon line place steps
     → phases_of (steps_from lexicon.rules line.letters lead steps) ≢ []
@@ -184,7 +184,7 @@ pub stand_in : (lexicon : Lexicon) (line : Line) (steps : List ProgramStep) → 
 stand_in lexicon line steps c = stand_from lexicon line opening steps c
 
 -- lists that complete the line are answers
-pub answer_from : (lexicon : Lexicon) (phases : List (List Form)) (line : Line) (steps : List ProgramStep) → HasRisingLists lexicon → IsThin lexicon → IsLine line
+pub answer_from : (lexicon : Lexicon) (phases : List (List Form)) (line : Line) (steps : List ProgramStep) → IsSearchable lexicon → IsThin lexicon → IsLine line
     → IsLexicon (full lexicon phases) → HaveForms lexicon phases → Completes lexicon line opening steps
     → IsAnswer (full lexicon phases) line [] (steps_of lexicon.rules line.letters steps)
 answer_from lexicon phases line steps rising thin is lexical same c =

@@ -25,7 +25,7 @@ use Rattle.derivation.specs.Steps.{key_of, keys_of}
 use Rattle.segmenter.specs.declared.lexicon.Lexicon.{Lexicon}
 use Rattle.segmenter.specs.declared.place.Place.{Place}
 use Rattle.segmenter.specs.declared.found.Found.{Found}
-use Rattle.segmenter.specs.Forms.{HasRisingLists}
+use Rattle.segmenter.specs.Forms.{IsSearchable}
 use Rattle.list_laws.specs.Firsts.{AreAll}
 use Rattle.segmenter.specs.Completions.{lead_at, form_at, EndsLine, GoesOn, CanFollow, place_after, rank, Completes, compare_steps}
 use Rattle.segmenter.specs.Pages.{compare_lists, answers_of, TakesAnswer, AppendsFirst}
@@ -173,26 +173,26 @@ module _ (lexicon : Lexicon) (line : Line) (place : Place) (most : ℕ) (path : 
 
   -- goes on after the step
   with_step : (step : Step) → CanFollow lexicon line place step → GoesOn lexicon.rules line step → (x : List Step)
-      → Completes lexicon line (place_after lexicon.rules line place step) x → Begins lexicon line place (λ s. s ≡ step) (step ∷ x)
+      → Completes lexicon line (place_after lexicon line place step) x → Begins lexicon line place (λ s. s ≡ step) (step ∷ x)
   with_step step can goes [] c = absurd c
   with_step step can goes (next ∷ x) c = ((can, goes, c), refl)
 
   following_step : (step : Step) → CanFollow lexicon line place step → GoesOn lexicon.rules line step → (y : List Step) → Begins lexicon line place (λ s. s ≡ step) y
-      → (x : List Step) × Completes lexicon line (place_after lexicon.rules line place step) x × (step ∷ x ≡ y)
+      → (x : List Step) × Completes lexicon line (place_after lexicon line place step) x × (step ∷ x ≡ y)
   following_step step can goes [] h = absurd h.0
   following_step step can goes (s ∷ []) h =
       absurd (not_both lexicon.rules line step (subst (EndsLine lexicon.rules line) h.1 h.0.1) goes)
   following_step step can goes (s ∷ next ∷ steps) h = (
     next ∷ steps,
-    subst (λ t. Completes lexicon line (place_after lexicon.rules line place t) (next ∷ steps)) h.1 h.0.2,
+    subst (λ t. Completes lexicon line (place_after lexicon line place t) (next ∷ steps)) h.1 h.0.2,
     ap (λ t. t ∷ next ∷ steps) (sym h.1),
   )
 
   pub goes_deeper : (step : Step) (before after : List (List Step)) (more : Bool) → CanFollow lexicon line place step → GoesOn lexicon.rules line step
-      → AppendsFirst (Completes lexicon line (place_after lexicon.rules line place step)) most (path ++ step ∷ []) before after more
+      → AppendsFirst (Completes lexicon line (place_after lexicon line place step)) most (path ++ step ∷ []) before after more
       → AppendsFirst (Begins lexicon line place (λ s. s ≡ step)) most path before after more
   goes_deeper step before after more can goes appends =
-      let P = Completes lexicon line (place_after lexicon.rules line place step) in
+      let P = Completes lexicon line (place_after lexicon line place step) in
       record {
         rests = map (λ rest. step ∷ rest) appends.rests;
         is = appends.is ∙ ap (λ xs. before ++ xs) (map_after path step appends.rests);
@@ -311,8 +311,8 @@ rank_cases zero = inl (refl, refl)
 rank_cases (suc rule) = inr (omega arith, refl)
 
 -- and is above the one before it, where the rule after the step has a w
-pub rank_rises : (lexicon : Lexicon) (line : Line) (place : Place) (step : Step) → HasRisingLists lexicon → CanFollow lexicon line place step
-    → (step.rule ≡ 0) ⊎ (0 < length (rule_of lexicon.rules step.rule).w) → rank place < rank (place_after lexicon.rules line place step)
+pub rank_rises : (lexicon : Lexicon) (line : Line) (place : Place) (step : Step) → IsSearchable lexicon → CanFollow lexicon line place step
+    → (step.rule ≡ 0) ⊎ (0 < length (rule_of lexicon.rules step.rule).w) → rank place < rank (place_after lexicon line place step)
 rank_rises lexicon line place step rising can h =
     let rules = lexicon.rules in
     let form = form_at rules line place step in
@@ -378,7 +378,7 @@ module _ (lexicon : Lexicon) (line : Line) (place : Place) (most : ℕ) (steps :
 
   -- the line goes on after the step
   pub step_goes_on : (with_step : List Step) (following : Place) (after : Found) → (EndsLine lexicon.rules line (get_or steps index d) → ⊥)
-      → with_step ≡ path ++ get_or steps index d ∷ [] → following ≡ place_after lexicon.rules line place (get_or steps index d)
+      → with_step ≡ path ++ get_or steps index d ∷ [] → following ≡ place_after lexicon line place (get_or steps index d)
       → AppendsFirst (Completes lexicon line following) most with_step (answers_of found) (answers_of after) after.more
       → AppendsFirst (Begins lexicon line place (Contains (take (index + 1) steps))) most old_path (answers_of old) (answers_of after) after.more
   step_goes_on with_step following after not_ends e b appends =
@@ -387,5 +387,5 @@ module _ (lexicon : Lexicon) (line : Line) (place : Place) (most : ℕ) (steps :
       let goes : GoesOn lexicon.rules line step = elim here_follows.fits.goes [ inl ends ↦ absurd (not_ends ends) | inr on ↦ on ] in
       next_step after
       (goes_deeper lexicon line place most old_path step (answers_of found) (answers_of after) after.more here_follows goes
-      (subst (λ p. AppendsFirst (Completes lexicon line (place_after lexicon.rules line place step)) most p (answers_of found) (answers_of after) after.more) same
+      (subst (λ p. AppendsFirst (Completes lexicon line (place_after lexicon line place step)) most p (answers_of found) (answers_of after) after.more) same
       (subst (λ q. AppendsFirst (Completes lexicon line q) most with_step (answers_of found) (answers_of after) after.more) b appends)))

@@ -15,7 +15,7 @@ use Rattle.derivation.specs.declared.step.Step.{Step as ProgramStep}
 use Rattle.derivation.specs.Steps.{steps_of, StandIn}
 use Rattle.derivation.proofs.PlacedSteps.{same_keys}
 use Rattle.segmenter.specs.declared.lexicon.Lexicon.{Lexicon}
-use Rattle.segmenter.specs.Forms.{HasRisingLists, IsThin, HasForms}
+use Rattle.segmenter.specs.Forms.{IsSearchable, IsThin, HasForms}
 use Rattle.list_laws.specs.Firsts.{AreFirst}
 use Rattle.segmenter.specs.Completions.{opening, Completes}
 use Rattle.segmenter.specs.Pages.{compare_lists, AppendsFirst}
@@ -50,7 +50,7 @@ page_of_first lexicon line most answers more first at_most full =
       );
     }
 
-module _ (lexicon : Lexicon) (line : Line) (most : ℕ) (lists : List (List ProgramStep)) (more : Bool) (rising : HasRisingLists lexicon) (thin : IsThin lexicon)
+module _ (lexicon : Lexicon) (line : Line) (most : ℕ) (lists : List (List ProgramStep)) (more : Bool) (rising : IsSearchable lexicon) (thin : IsThin lexicon)
     (is : IsLine line) (first : AreFirst compare_lists (Completes lexicon line opening) lists more) (at_most : length lists ≤ most)
     (all_taken : more ≡ true → length lists ≡ most) where
   page_with : (phases : List (List Form)) → HaveForms lexicon phases → IsLexicon (full lexicon phases)

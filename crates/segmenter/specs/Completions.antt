@@ -1,11 +1,12 @@
 -- Which steps may follow at a place of the line, and which lists of steps complete what stands before it.
-use Rattle.std.specs.Prelude.{◌≡◌, ◌≢◌, ℕ, zero, suc, ◌+◌, ◌*◌, ◌-◌, ◌<◌, ◌≤◌, ◌⊎◌, List, [], ◌∷◌, length, take, drop, All, Contains, slice_index, Option, Some, None, IfSome}
+use Rattle.std.specs.Prelude.{◌≡◌, ◌≢◌, ℕ, zero, suc, ◌+◌, ◌*◌, ◌-◌, ◌<◌, ◌≤◌, ◌⊎◌, List, [], ◌∷◌, IsTrue, length, take, drop, All, Contains, slice_index, Option, Some, None, IfSome}
 use Rattle.std.specs.declared.cmp.Ordering.{Ordering}
 use Rattle.text_definitions.specs.Lines.{Line}
 use Rattle.lexicon_definitions.specs.Rules.{IsFinal, IsInner, HasPhase}
 use Rattle.lexicon_definitions.specs.Lexicons.{RuleSet, rule_of, IsPlain}
 use Rattle.segmentation_definitions.specs.Items.{after_lead}
 use Rattle.segmentation_definitions.specs.Listings.{compare_keys}
+use Rattle.phase_automaton.specs.Automata.{start_state, next_state, is_accepting}
 use Rattle.derivation.specs.Steps.{key_of, form_with, StandsAt}
 use Rattle.derivation.specs.declared.step.Step.{Step}
 use Rattle.segmenter.specs.declared.lexicon.Lexicon.{Lexicon}
@@ -70,29 +71,35 @@ last_of zero form = Some (slice_index form (length form - 1))
 last_of (suc rule) form = None
 
 -- the place after a step
-abbrev pub place_after : RuleSet → Line → Place → Step → Place
-place_after rules line place step =
+abbrev pub place_after : Lexicon → Line → Place → Step → Place
+place_after lexicon line place step =
     record {
-      at = step.at + step.taken + length (rule_of rules step.rule).w;
+      at = step.at + step.taken + length (rule_of lexicon.rules step.rule).w;
       rule = step.rule;
-      last = last_of step.rule (form_at rules line place step);
+      last = last_of step.rule (form_at lexicon.rules line place step);
+      state = next_state lexicon.automaton place.state step.phase;
     }
 
 -- the place before the first step
 abbrev pub opening : Place
-opening = record { at = 0; rule = 0; last = None }
+opening = record { at = 0; rule = 0; last = None; state = start_state }
 
 -- the number of a place: twice the letters before it, and one more where no rule stands before it
 abbrev pub rank : Place → ℕ
 rank place = 2 * place.at + after_lead place.rule
 
--- the steps follow one another from the place to the end of the line
+-- the phases that lead to the place, with that of the step, are a word of the grammar
+abbrev pub IsAccepted : Lexicon → Place → Step → Type 0
+IsAccepted lexicon place step = IsTrue (is_accepting lexicon.automaton (next_state lexicon.automaton place.state step.phase))
+
+-- the steps follow one another from the place to the end of the line, with phases of the grammar
 abbrev pub Completes : Lexicon → Line → Place → List Step → Type 0
 Completes lexicon line place [] = ⊥
-Completes lexicon line place (step ∷ []) = CanFollow lexicon line place step × EndsLine lexicon.rules line step
+Completes lexicon line place (step ∷ []) =
+    CanFollow lexicon line place step × EndsLine lexicon.rules line step × IsAccepted lexicon place step
 Completes lexicon line place (step ∷ next ∷ steps) =
     CanFollow lexicon line place step × GoesOn lexicon.rules line step
-    × Completes lexicon line (place_after lexicon.rules line place step) (next ∷ steps)
+    × Completes lexicon line (place_after lexicon line place step) (next ∷ steps)
 
 -- steps are compared by their keys
 abbrev pub compare_steps : Step → Step → Ordering

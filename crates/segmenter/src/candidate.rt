@@ -1,7 +1,7 @@
 ghost use Rattle.std.specs.Prelude.{◌≡◌, ◌≢◌, ◌+◌, ◌<◌, ◌≤◌, ◌↔◌, length, take, drop, All, IsTrue, IfOk};
 ghost use Rattle.lexicon_definitions.specs.Rules.{HasPhase};
 ghost use Rattle.lexicon_definitions.specs.Lexicons.{rule_of};
-ghost use Rattle.segmenter.specs.Forms.{HasRisingLists};
+ghost use Rattle.segmenter.specs.Forms.{IsSearchable};
 ghost use Rattle.segmenter.specs.Completions.{EndsLine, GoesOn, KeepsBlanks, FitsLine, MayEnter, IsCandidate, CanFollow};
 
 use super::Lexicon;
@@ -138,7 +138,7 @@ pub(crate) fn can_follow(
     place: &Place,
     step: &Step,
 ) -> Result<bool, Memory>
-    requires lists { HasRisingLists lexicon.now }
+    requires searchable { IsSearchable lexicon.now }
     requires rule { place.now.rule ≤ length lexicon.now.rules.rules }
     requires candidate { IsCandidate lexicon.now.rules line.now place.now step.now }
     ensures ok { IfOk result (λ can. IsTrue can ↔ CanFollow lexicon.now line.now place.now step.now) }

@@ -1,6 +1,6 @@
 ghost use Rattle.std.specs.Prelude.{◌≡◌, ◌+◌, ◌<◌, ◌≤◌, length, OnOk, IfOk};
 ghost use Rattle.list_laws.specs.Firsts.{AreAll, AppendsAll};
-ghost use Rattle.segmenter.specs.Forms.{HasRisingLists};
+ghost use Rattle.segmenter.specs.Forms.{IsSearchable};
 ghost use Rattle.segmenter.specs.Completions.{CanFollow, compare_steps};
 
 use super::Lexicon;
@@ -20,7 +20,7 @@ fn push_rules(
     taken: u32,
     steps: &mut Vec<Step>,
 ) -> Result<(), Memory>
-    requires lists { HasRisingLists lexicon.now }
+    requires searchable { IsSearchable lexicon.now }
     requires rule { place.now.rule ≤ length lexicon.now.rules.rules }
     requires phase { phase < length lexicon.now.rules.names }
     requires taken { place.now.at + taken ≤ length line.now.letters }
@@ -51,7 +51,7 @@ fn push_phase(
     phase: u32,
     steps: &mut Vec<Step>,
 ) -> Result<(), Memory>
-    requires lists { HasRisingLists lexicon.now }
+    requires searchable { IsSearchable lexicon.now }
     requires rule { place.now.rule ≤ length lexicon.now.rules.rules }
     requires phase { phase < length lexicon.now.rules.names }
     requires within { place.now.at ≤ length line.now.letters }
@@ -79,14 +79,14 @@ pub(crate) fn steps_following(
     line: &Line,
     place: &Place,
 ) -> Result<Vec<Step>, Memory>
-    requires lists { HasRisingLists lexicon.now }
+    requires searchable { IsSearchable lexicon.now }
     requires rule { place.now.rule ≤ length lexicon.now.rules.rules }
     requires within { place.now.at ≤ length line.now.letters }
     ensures ok { IfOk result (λ steps. AreAll compare_steps (CanFollow lexicon.now line.now place.now) steps.items) }
 {
     let mut steps = Vec::new(alloc);
-    for phase in 0..lexicon.lists.len() {
-        push_phase(alloc, lexicon, line, place, phase as u32, &mut steps)?;
+    for phase in 0..lexicon.lists.phases() {
+        push_phase(alloc, lexicon, line, place, phase, &mut steps)?;
     }
     Ok(steps)
 }

@@ -2,7 +2,7 @@ ghost use Rattle.std.specs.Prelude.{◌<◌, ◌≤◌, [], length, map, IfOk, A
 ghost use Rattle.lexicon_definitions.specs.Lexicons.{Lexicon as LexiconValue, IsLexicon};
 ghost use Rattle.segmentation_definitions.specs.Listings.{IsPage, BeforeFirst};
 ghost use Rattle.derivation.specs.Steps.{StandIn, steps_of};
-ghost use Rattle.segmenter.specs.Forms.{HasRisingLists, IsThin, HasForms};
+ghost use Rattle.segmenter.specs.Forms.{IsSearchable, HasForms};
 ghost use Rattle.segmenter.specs.Pages.{answers_of};
 
 use super::extend::extend;
@@ -15,8 +15,7 @@ use std::alloc::Global;
 /// order, or all where they are fewer, and whether an answer is left after them. What an answer is stands in Huet 2005;
 /// the order, that of `derivation::compare`, is our own.
 pub fn first_page(alloc: Global, lexicon: &Lexicon, line: &Line, most: u32) -> Result<Found, Memory>
-    requires lists { HasRisingLists lexicon.now }
-    requires thin { IsThin lexicon.now }
+    requires searchable { IsSearchable lexicon.now }
     requires some { 1 ≤ most }
     ensures page { IfOk result (λ found. (lexical : LexiconValue) → IsLexicon lexical → HasForms lexicon.now lexical
         → IsPage lexical line.now [] BeforeFirst most (map (steps_of lexicon.now.rules line.now.letters) (answers_of found)) found.more) }
@@ -34,7 +33,7 @@ pub fn first_page(alloc: Global, lexicon: &Lexicon, line: &Line, most: u32) -> R
         lexicon,
         line,
         most as usize,
-        Place::OPENING,
+        Place::opening(&lexicon.automaton),
         &mut path,
         &mut found,
     )?;

@@ -12,12 +12,12 @@ pub returns : goal.returns
 returns c =
     let lists = c.args.self.now.lists.items in
     let count : length (lists_of c.args.self.now) ≡ length lists = simp length-map in
-    let within : c.args.phase < length (lists_of c.args.self.now) = omega (arith, c.requires.lists.count) in
+    let within : c.args.phase < length (lists_of c.args.self.now) = omega (arith, c.requires.searchable.count) in
     let below : c.args.phase < length lists = omega (arith, count) in
     let items : list_of c.args.self.now c.args.phase ≡ c.deref.result.now =
     cc (get_or-map (λ list. list.items) lists c.args.phase c.index.result.now [] below) in
     let rising : IsStrictlySortedBy compare_words c.deref.result.now =
-    subst (IsStrictlySortedBy compare_words) items (c.requires.lists.rising c.args.phase [] within) in
+    subst (IsStrictlySortedBy compare_words) items (c.requires.searchable.rising c.args.phase [] within) in
     rw c.is_ok.ensures.value
     (subst (λ (words : List (List ℕ)). IsTrue (is_ok c.binary_search_by.result) ↔ Contains words c.args.word.now) (sym items)
     (found_word c.deref.result.now c.args.word.now c.binary_search_by.result rising c.binary_search_by.ensures.bound

@@ -1,3 +1,0 @@
-pub mod Annotations
-pub mod SearchedLexicons
-pub mod Tables
