@@ -6,10 +6,11 @@ ghost use Rattle.sandhi_program.specs.SegmentErrors.{IsFileError, IsRefusal};
 
 use super::page::print_page;
 use super::status::{AnyFault, TextFault};
-use annotated_trie::Lexicon;
 use lexicon_file::{Contents, FileError, read};
 use lexicon_text_definitions::MOST_FILE_BYTES;
 use phoneme::Memory;
+use run_definitions::SEGMENT_PAGE;
+use segmenter::{Lexicon, first_page};
 use std::alloc::Global;
 use text_line::{LineError, Scheme, read_line};
 
@@ -63,6 +64,7 @@ impl From<LineError> for SegmentError {
 fn read_contents(alloc: Global, bytes: &[u8]) -> Result<Contents, SegmentError>
     ensures within { IfOk result (λ contents. length bytes.now ≤ MOST_FILE_BYTES) }
     ensures ok { IfOk result (λ contents. IsReadAs bytes.now (Ok (lexicon_of contents))) }
+    ensures searchable { IfOk result (λ contents. IsSearchable (searched contents)) }
     ensures refused { IfErr result (IsFileError bytes.now) }
 {
     if bytes.len() > MOST_FILE_BYTES {
@@ -83,6 +85,11 @@ pub(crate) fn segment(alloc: Global, bytes: &[u8], text: &str) -> Result<String,
         lists,
     } = read_contents(alloc, bytes)?;
     let line = read_line(alloc, Scheme::Slp1, text.as_bytes())?;
-    let lexicon = Lexicon::build(alloc, &lists, rules, automaton)?;
-    Ok(print_page(alloc, &lexicon, &line)?)
+    let lexicon = Lexicon {
+        rules,
+        automaton,
+        lists,
+    };
+    let found = first_page(alloc, &lexicon, &line, SEGMENT_PAGE)?;
+    Ok(print_page(alloc, &lexicon.rules, &line, &found)?)
 }

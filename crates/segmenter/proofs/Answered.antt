@@ -1,11 +1,11 @@
 -- Each answer is a list of the program's steps that complete the line: the program's steps are read off the places of the
 -- answer's steps, and each clause of what may follow is one of the definitions' at that step, by recursion over the steps.
-use Rattle.std.proofs.Common.{◌≡◌, ◌≢◌, ℕ, zero, suc, ◌+◌, ◌-◌, ◌<◌, ◌≤◌, ◌⊎◌, inl, inr, List, [], ◌∷◌, ◌++◌, length, take, drop, get_or, Contains, IfSome, refl, sym, ap, ap₂, ◌∙◌, subst, arith}
+use Rattle.std.proofs.Common.{◌≡◌, ◌≢◌, ℕ, zero, suc, ◌+◌, ◌-◌, ◌<◌, ◌≤◌, ◌⊎◌, inl, inr, List, [], ◌∷◌, ◌++◌, length, take, drop, get_or, Contains, IfSome, IsTrue, refl, sym, ap, ap₂, ◌∙◌, subst, arith}
 use Rattle.std.specs.List.{AllByRecursion}
 use Rattle.text_definitions.specs.Lines.{Line}
 use Rattle.lexicon_definitions.specs.Rules.{HasPhase}
 use Rattle.lexicon_definitions.specs.Lexicons.{Lexicon as LexiconValue, RuleSet, Form, IsForm, IsPlain, IsLexicon}
-use Rattle.segmentation_definitions.specs.Derivations.{Step, rule_after, HasFinalRule, Meets, AreForms, AreJoined, EndsWell, Covers}
+use Rattle.segmentation_definitions.specs.Derivations.{Step, rule_after, HasFinalRule, Meets, AreForms, AreJoined, EndsWell, Covers, phases_of}
 use Rattle.segmentation_definitions.specs.Items.{Placed, placed_from, taken_by, next_at}
 use Rattle.segmentation_definitions.specs.Answers.{IsAnswer}
 use Rattle.segmentation_definitions.specs.LocalTests.{HasNoBlankInside, HasNoBlankAfterLast}
@@ -15,6 +15,8 @@ use Rattle.derivation.specs.declared.step.Step.{Step as ProgramStep}
 use Rattle.derivation.specs.Steps.{entered_with, form_with, steps_from, steps_of, StandsAt}
 use Rattle.segmenter.specs.declared.lexicon.Lexicon.{Lexicon}
 use Rattle.segmenter.specs.declared.place.Place.{Place}
+use Rattle.phase_automaton.specs.Automata.{state_from, is_accepting}
+use Rattle.segmenter.specs.Forms.{IsSearchable}
 use Rattle.segmenter.specs.Completions.{lead_at, form_at, EndsLine, GoesOn, MayEnter, last_of, place_after, opening, Completes}
 use Rattle.segmenter.proofs.CutLetters.{cut_parts, last_is}
 use Rattle.segmenter.proofs.Answering.{full, HaveForms, same_forms, rule_cases}
@@ -78,10 +80,11 @@ after_if_met : (rules : RuleSet) (step next : Step) → Meets rules step next �
 after_if_met rules step next (inl (none, seam)) some = absurd (some none)
 after_if_met rules step next (inr (inner, after)) some = after
 
-entered_if_met : (rules : RuleSet) (line : Line) (place : Place) (step next : Step) → Meets rules step next
-    → form_at rules line place (program_step_of rules place.at (lead_at rules place) step) ≡ step.form
-    → MayEnter rules (place_after rules line place (program_step_of rules place.at (lead_at rules place) step)) next.phase next.form
-entered_if_met rules line place step next meets same = record {
+entered_if_met : (lexicon : Lexicon) (line : Line) (place : Place) (step next : Step) → Meets lexicon.rules step next
+    → form_at lexicon.rules line place (program_step_of lexicon.rules place.at (lead_at lexicon.rules place) step) ≡ step.form
+    → MayEnter lexicon.rules (place_after lexicon line place (program_step_of lexicon.rules place.at (lead_at lexicon.rules place) step)) next.phase next.form
+entered_if_met lexicon line place step next meets same =
+  let rules = lexicon.rules in record {
   plain = if_last step.rule (form_at rules line place (program_step_of rules place.at (lead_at rules place) step)) (λ last. IsPlain rules last (get_or next.form 0 0))
       (λ none. subst (λ form. IsPlain rules (get_or form (length form - 1) 0) (get_or next.form 0 0)) (sym same) (plain_if_met rules step next meets none));
   precedes = after_if_met rules step next meets;
@@ -169,9 +172,10 @@ pub completes_from : (lexicon : Lexicon) (phases : List (List Form)) (line : Lin
     → AllByRecursion (HasNoBlankInside line.blanks) (placed_from lexicon.rules place.at (lead_at lexicon.rules place) steps)
     → HasNoBlankAfterLast line.blanks (placed_from lexicon.rules place.at (lead_at lexicon.rules place) steps)
     → IsEntered lexicon.rules place steps
+    → IsTrue (is_accepting lexicon.automaton (state_from lexicon.automaton place.state (phases_of steps)))
     → Completes lexicon line place (program_steps_from lexicon.rules place.at (lead_at lexicon.rules place) steps)
-completes_from lexicon phases line place [] word same lexical e places forms joined ends covers inside following enters = absurd ends
-completes_from lexicon phases line place (step ∷ []) word same lexical e places forms joined ends (taken, rest, f, g, covers) inside following enters =
+completes_from lexicon phases line place [] word same lexical e places forms joined ends covers inside following enters accepted = absurd ends
+completes_from lexicon phases line place (step ∷ []) word same lexical e places forms joined ends (taken, rest, f, g, covers) inside following enters accepted =
     let rules = lexicon.rules in
     let lead = lead_at rules place in
     let read = read_step rules line.letters place.at lead step taken rest f (e ∙ g) in
@@ -193,8 +197,9 @@ completes_from lexicon phases line place (step ∷ []) word same lexical e place
         enters = subst (MayEnter rules place step.phase) (sym read.form) enters;
       },
       ends_line,
+      accepted,
     )
-completes_from lexicon phases line place (step ∷ next ∷ steps) word same lexical e places forms joined ends (taken, rest, f, g, covers) inside following enters =
+completes_from lexicon phases line place (step ∷ next ∷ steps) word same lexical e places forms joined ends (taken, rest, f, g, covers) inside following enters accepted =
     let rules = lexicon.rules in
     let lead = lead_at rules place in
     let mine = program_step_of rules place.at lead step in
@@ -218,20 +223,20 @@ completes_from lexicon phases line place (step ∷ next ∷ steps) word same lex
         enters = subst (MayEnter rules place step.phase) (sym read.form) enters;
       },
       goes_on,
-      completes_from lexicon phases line (place_after rules line place mine) (next ∷ steps) rest same lexical read.rest stands.2 forms.1 joined.1 ends covers
-          inside.1 following (entered_if_met rules line place step next joined.0 read.form),
+      completes_from lexicon phases line (place_after lexicon line place mine) (next ∷ steps) rest same lexical read.rest stands.2 forms.1 joined.1 ends covers
+          inside.1 following (entered_if_met lexicon line place step next joined.0 read.form) accepted,
     )
 
 -- each answer is the list of steps of one list that completes the line
-pub answered_by : (lexicon : Lexicon) (phases : List (List Form)) (line : Line) (steps : List Step) → HaveForms lexicon phases → IsLexicon (full lexicon phases)
+pub answered_by : (lexicon : Lexicon) (phases : List (List Form)) (line : Line) (steps : List Step) → IsSearchable lexicon → HaveForms lexicon phases → IsLexicon (full lexicon phases)
     → IsAnswer (full lexicon phases) line [] steps
     → (mine : List ProgramStep) × Completes lexicon line opening mine × (steps_of lexicon.rules line.letters mine ≡ steps)
-answered_by lexicon phases line steps same lexical answer =
+answered_by lexicon phases line steps searchable same lexical answer =
     let rules = lexicon.rules in
     let derives = answer.derives in
     let locally = locally_from_seams (full lexicon phases) line steps lexical derives answer.blanks_kept in (
       program_steps_from rules 0 [] steps,
       completes_from lexicon phases line opening steps line.letters same lexical refl (in_place (full lexicon phases) line.letters steps lexical derives)
-          derives.forms derives.joined derives.ends derives.covers locally.inside locally.following (entered_first rules steps),
+          derives.forms derives.joined derives.ends derives.covers locally.inside locally.following (entered_first rules steps) ((searchable.recognizes.accepts (phases_of steps)).1 answer.accepted),
       same_steps_from rules line.letters 0 [] steps line.letters [] refl derives.covers,
     )

@@ -1,6 +1,6 @@
 -- Lists of the program's steps that complete the line are answers: each clause of the definitions follows from the same
 -- clause of the steps that follow one another, by recursion over the list.
-use Rattle.std.proofs.Common.{◌≡◌, ◌≢◌, ℕ, zero, suc, ◌+◌, ◌-◌, ◌<◌, ◌⊎◌, inl, inr, List, [], ◌∷◌, ◌++◌, length, take, drop, get_or, map, Contains, IfSome, refl, sym, ap, ◌∙◌, subst, arith}
+use Rattle.std.proofs.Common.{◌≡◌, ◌≢◌, ℕ, zero, suc, ◌+◌, ◌-◌, ◌<◌, ◌⊎◌, inl, inr, List, [], ◌∷◌, ◌++◌, length, take, drop, get_or, map, Contains, IfSome, IsTrue, refl, sym, ap, ◌∙◌, subst, arith}
 use Rattle.std.specs.List.{AllByRecursion}
 use Rattle.std.proofs.lemmas.Bool.{cases_lt}
 use Rattle.std.proofs.lemmas.List.{drop_all, get_or_past}
@@ -18,10 +18,10 @@ use Rattle.derivation.specs.Steps.{entered_with, form_with, steps_from, steps_of
 use Rattle.derivation.proofs.PlacedSteps.{same_places}
 use Rattle.segmenter.specs.declared.lexicon.Lexicon.{Lexicon}
 use Rattle.segmenter.specs.declared.place.Place.{Place}
-use Rattle.segmenter.specs.Forms.{lists_of, list_of, IsSearchable, IsThin}
+use Rattle.phase_automaton.specs.Automata.{state_from, is_accepting}
+use Rattle.segmenter.specs.Forms.{lists_of, list_of, IsSearchable}
 use Rattle.segmenter.specs.Completions.{lead_at, form_at, EndsLine, GoesOn, CanFollow, last_of, place_after, opening, Completes}
 use Rattle.segmenter.proofs.CutLetters.{parts_after, first_and_rest, front_and_last, get_or-map_nil}
-use Rattle.segmenter.proofs.GrammarWords.{thin_tree, thin_word}
 
 -- the lexicon of the definitions with the rules of the one that is searched
 abbrev pub full : Lexicon → List (List Form) → LexiconValue
@@ -165,29 +165,23 @@ following_from lexicon line place (step ∷ []) c = c.0.fits.blanks.last c.1
 following_from lexicon line place (step ∷ next ∷ steps) c =
     following_from lexicon line (place_after lexicon line place step) (next ∷ steps) c.2
 
--- each phase is the only one
-pub phases_from : (lexicon : Lexicon) (line : Line) (place : Place) (steps : List ProgramStep) → IsThin lexicon → Completes lexicon line place steps
-    → AllByRecursion (λ phase. phase ≡ 0) (phases_of (steps_from lexicon.rules line.letters (lead_at lexicon.rules place) steps))
-phases_from lexicon line place [] thin c = tt
-phases_from lexicon line place (step ∷ []) thin c =
-    let one = ap length thin.names in (omega (arith, c.0.stands.phase), tt)
-phases_from lexicon line place (step ∷ next ∷ steps) thin c =
-    let one = ap length thin.names in
-    (omega (arith, c.0.stands.phase), phases_from lexicon line (place_after lexicon line place step) (next ∷ steps) thin c.2)
-
-pub some_steps : (lexicon : Lexicon) (line : Line) (place : Place) (lead : List ℕ) (steps : List ProgramStep) → Completes lexicon line place steps
-    → phases_of (steps_from lexicon.rules line.letters lead steps) ≢ []
-some_steps lexicon line place lead [] c e = c
-some_steps lexicon line place lead (step ∷ steps) c e = cc
+-- the phases lead from the place's state to one that ends words
+pub accepted_from : (lexicon : Lexicon) (line : Line) (place : Place) (steps : List ProgramStep) → Completes lexicon line place steps
+    → IsTrue (is_accepting lexicon.automaton
+    (state_from lexicon.automaton place.state (phases_of (steps_from lexicon.rules line.letters (lead_at lexicon.rules place) steps))))
+accepted_from lexicon line place [] c = absurd c
+accepted_from lexicon line place (step ∷ []) c = c.2
+accepted_from lexicon line place (step ∷ next ∷ steps) c =
+    accepted_from lexicon line (place_after lexicon line place step) (next ∷ steps) c.2
 
 pub stand_in : (lexicon : Lexicon) (line : Line) (steps : List ProgramStep) → Completes lexicon line opening steps → StandIn lexicon.rules line.letters steps
 stand_in lexicon line steps c = stand_from lexicon line opening steps c
 
 -- lists that complete the line are answers
-pub answer_from : (lexicon : Lexicon) (phases : List (List Form)) (line : Line) (steps : List ProgramStep) → IsSearchable lexicon → IsThin lexicon → IsLine line
+pub answer_from : (lexicon : Lexicon) (phases : List (List Form)) (line : Line) (steps : List ProgramStep) → IsSearchable lexicon → IsLine line
     → IsLexicon (full lexicon phases) → HaveForms lexicon phases → Completes lexicon line opening steps
     → IsAnswer (full lexicon phases) line [] (steps_of lexicon.rules line.letters steps)
-answer_from lexicon phases line steps rising thin is lexical same c =
+answer_from lexicon phases line steps rising is lexical same c =
     let rules = lexicon.rules in
     let these = steps_of rules line.letters steps in
     let places = sym (same_places rules line.letters steps (stand_in lexicon line steps c)) in
@@ -201,10 +195,9 @@ answer_from lexicon phases line steps rising thin is lexical same c =
       inside = subst (AllByRecursion (HasNoBlankInside line.blanks)) places (inside_from lexicon line opening steps c);
       following = subst (HasNoBlankAfterLast line.blanks) places (following_from lexicon line opening steps c);
     } in
-    let tree = thin_tree rules.names rules.grammar thin.names thin.grammar in
     record {
       derives = derives;
-      accepted = rw tree (thin_word (phases_of these) (some_steps lexicon line opening [] steps c) (phases_from lexicon line opening steps thin c));
+      accepted = (rising.recognizes.accepts (phases_of these)).0 (accepted_from lexicon line opening steps c);
       blanks_kept = seams_from_locally (full lexicon phases) line these lexical is derives locally;
       choices_kept = All-nil (KeepsChoice (items_of rules these));
     }

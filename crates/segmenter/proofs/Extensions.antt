@@ -1,6 +1,6 @@
 -- The lists that complete the line from a place, by their first step: those that begin with a smaller step come before those
 -- that begin with a larger, and those that begin with one step are that step before what completes the line after it.
-use Rattle.std.proofs.Common.{◌≡◌, ℕ, zero, suc, ◌+◌, ◌*◌, ◌-◌, ◌<◌, ◌≤◌, ◌⊎◌, inl, inr, Bool, true, false, List, [], ◌∷◌, ◌++◌, length, take, drop, map, get_or, min, refl, sym, ap, ap₂, ◌∙◌, subst, arith, length-append, length-take, length-drop}
+use Rattle.std.proofs.Common.{◌≡◌, ℕ, zero, suc, ◌+◌, ◌*◌, ◌-◌, ◌<◌, ◌≤◌, ◌⊎◌, inl, inr, Bool, true, false, IsTrue, Option, None, List, [], ◌∷◌, ◌++◌, length, take, drop, map, get_or, min, refl, sym, ap, ap₂, ◌∙◌, subst, arith, length-append, length-take, length-drop}
 use Rattle.std.specs.List.{Contains}
 use Rattle.std.specs.List.Sorted.{IsStrictlySortedBy}
 use Rattle.std.specs.Ordering.{ordering_then}
@@ -27,10 +27,11 @@ use Rattle.segmenter.specs.declared.place.Place.{Place}
 use Rattle.segmenter.specs.declared.found.Found.{Found}
 use Rattle.segmenter.specs.Forms.{IsSearchable}
 use Rattle.list_laws.specs.Firsts.{AreAll}
-use Rattle.segmenter.specs.Completions.{lead_at, form_at, EndsLine, GoesOn, CanFollow, place_after, rank, Completes, compare_steps}
+use Rattle.segmenter.specs.Completions.{lead_at, form_at, EndsLine, GoesOn, CanFollow, IsAccepted, place_after, rank, Completes, compare_steps}
 use Rattle.segmenter.specs.Pages.{compare_lists, answers_of, TakesAnswer, AppendsFirst}
 use Rattle.list_laws.proofs.FirstOnes.{none_at_all, one_in_all, first_with, all_from_first, first_from_all, first_of_both, first_before, first_images}
 use Rattle.segmenter.proofs.Answering.{form_some}
+use Rattle.phase_automaton.specs.Automata.{next_state, is_accepting}
 use Rattle.segmenter.proofs.Answered.{not_both}
 
 -- ---- first steps
@@ -136,12 +137,12 @@ module _ (lexicon : Lexicon) (line : Line) (place : Place) (most : ℕ) (path : 
       absurd (not_both lexicon.rules line step ends (subst (GoesOn lexicon.rules line) h.1 h.0.1))
 
   pub takes_last : (step : Step) (before after : Found) → CanFollow lexicon line place step → EndsLine lexicon.rules line step
-      → before.more ≡ false → length (answers_of before) ≤ most → TakesAnswer most (path ++ step ∷ []) before after
+      → IsAccepted lexicon place step → before.more ≡ false → length (answers_of before) ≤ most → TakesAnswer most (path ++ step ∷ []) before after
       → AppendsFirst (Begins lexicon line place (λ s. s ≡ step)) most path (answers_of before) (answers_of after) after.more
   unfolding IsStrictlySortedBy
-  takes_last step before after can ends none room takes =
+  takes_last step before after can ends accepted none room takes =
       let P = Begins lexicon line place (λ s. s ≡ step) in
-      let this : P (step ∷ []) = ((can, ends), refl) in
+      let this : P (step ∷ []) = ((can, ends, accepted), refl) in
       elim (cases_lt (length (answers_of before)) most) [
         | inl below ↦
             let t = takes.room below in
@@ -170,6 +171,23 @@ module _ (lexicon : Lexicon) (line : Line) (place : Place) (most : ℕ) (path : 
               full = λ e. let same = ap length t.0 in omega arith;
             })
       ]
+
+  -- ends the line at once, with phases that are no word of the grammar
+  refused_last : (step : Step) → EndsLine lexicon.rules line step → (IsAccepted lexicon place step → ⊥)
+      → (x : List Step) → Begins lexicon line place (λ s. s ≡ step) x → ⊥
+  refused_last step ends refused [] h = absurd h.0
+  refused_last step ends refused (s ∷ []) h = refused (subst (IsAccepted lexicon place) h.1 h.0.2)
+  refused_last step ends refused (s ∷ next ∷ steps) h =
+      not_both lexicon.rules line step ends (subst (GoesOn lexicon.rules line) h.1 h.0.1)
+
+  pub passes_last : (step : Step) (before after : Found) → EndsLine lexicon.rules line step → (IsAccepted lexicon place step → ⊥)
+      → before.more ≡ false → length (answers_of before) ≤ most → after ≡ before
+      → AppendsFirst (Begins lexicon line place (λ s. s ≡ step)) most path (answers_of before) (answers_of after) after.more
+  passes_last step before after ends refused none room same =
+      let P = Begins lexicon line place (λ s. s ≡ step) in
+      subst (λ (found : Found). AppendsFirst P most path (answers_of before) (answers_of found) found.more) (sym same)
+      (subst (λ more. AppendsFirst P most path (answers_of before) (answers_of before) more) (sym none)
+      (appends_none most path P (answers_of before) (refused_last step ends refused) room))
 
   -- goes on after the step
   with_step : (step : Step) → CanFollow lexicon line place step → GoesOn lexicon.rules line step → (x : List Step)
@@ -337,6 +355,20 @@ rank_rises lexicon line place step rising can h =
 pub rank_within : (place : Place) (letters : ℕ) → place.at ≤ letters → rank place ≤ 2 * letters + 1
 rank_within place letters within = let here = rank_cases place.rule in omega arith
 
+is_true_or_not : (b : Bool) → IsTrue b ⊎ (IsTrue b → ⊥)
+is_true_or_not true = inl tt
+is_true_or_not false = inr (λ t. t)
+
+-- from the dead state nothing completes the line
+pub none_from_dead : (lexicon : Lexicon) (line : Line) (place : Place) → place.state ≡ None → (steps : List Step)
+    → Completes lexicon line place steps → ⊥
+none_from_dead lexicon line place dead [] c = c
+none_from_dead lexicon line place dead (step ∷ []) c =
+    subst (λ (state : Option ℕ). IsTrue (is_accepting lexicon.automaton (next_state lexicon.automaton state step.phase))) dead c.2
+none_from_dead lexicon line place dead (step ∷ next ∷ steps) c =
+    none_from_dead lexicon line (place_after lexicon line place step)
+    (ap (λ state. next_state lexicon.automaton state step.phase) dead) (next ∷ steps) c.2
+
 -- ---- the loop over the steps that may follow
 
 pub record IsUnderWay (lexicon : Lexicon) (line : Line) (place : Place) (most : ℕ) (steps : List Step) (index : ℕ) (old_path path : List Step)
@@ -367,14 +399,20 @@ module _ (lexicon : Lexicon) (line : Line) (place : Place) (most : ℕ) (steps :
 
   -- the line ends after the step
   pub step_ends : (with_step : List Step) (after : Found) → EndsLine lexicon.rules line (get_or steps index d)
-      → with_step ≡ path ++ get_or steps index d ∷ [] → TakesAnswer most with_step found after
+      → with_step ≡ path ++ get_or steps index d ∷ [] → (IsAccepted lexicon place (get_or steps index d) → TakesAnswer most with_step found after)
+      → ((IsAccepted lexicon place (get_or steps index d) → ⊥) → after ≡ found)
       → AppendsFirst (Begins lexicon line place (Contains (take (index + 1) steps))) most old_path (answers_of old) (answers_of after) after.more
-  step_ends with_step after ends e takes =
+  step_ends with_step after ends e takes passes =
       let step = get_or steps index d in
       let same : with_step ≡ old_path ++ step ∷ [] = e ∙ ap (λ p. p ++ step ∷ []) way.same_path in
       next_step after
-      (takes_last lexicon line place most old_path step found after here_follows ends way.no_more way.appends.at_most
-      (subst (λ answer. TakesAnswer most answer found after) same takes))
+      (elim (is_true_or_not (is_accepting lexicon.automaton (next_state lexicon.automaton place.state step.phase))) [
+        | inl accepted ↦
+            takes_last lexicon line place most old_path step found after here_follows ends accepted way.no_more way.appends.at_most
+            (subst (λ answer. TakesAnswer most answer found after) same (takes accepted))
+        | inr refused ↦
+            passes_last lexicon line place most old_path step found after ends refused way.no_more way.appends.at_most (passes refused)
+      ])
 
   -- the line goes on after the step
   pub step_goes_on : (with_step : List Step) (following : Place) (after : Found) → (EndsLine lexicon.rules line (get_or steps index d) → ⊥)

@@ -15,7 +15,7 @@ use Rattle.derivation.specs.declared.step.Step.{Step as ProgramStep}
 use Rattle.derivation.specs.Steps.{steps_of, StandIn}
 use Rattle.derivation.proofs.PlacedSteps.{same_keys}
 use Rattle.segmenter.specs.declared.lexicon.Lexicon.{Lexicon}
-use Rattle.segmenter.specs.Forms.{IsSearchable, IsThin, HasForms}
+use Rattle.segmenter.specs.Forms.{IsSearchable, HasForms}
 use Rattle.list_laws.specs.Firsts.{AreFirst}
 use Rattle.segmenter.specs.Completions.{opening, Completes}
 use Rattle.segmenter.specs.Pages.{compare_lists, AppendsFirst}
@@ -50,7 +50,7 @@ page_of_first lexicon line most answers more first at_most full =
       );
     }
 
-module _ (lexicon : Lexicon) (line : Line) (most : ℕ) (lists : List (List ProgramStep)) (more : Bool) (rising : IsSearchable lexicon) (thin : IsThin lexicon)
+module _ (lexicon : Lexicon) (line : Line) (most : ℕ) (lists : List (List ProgramStep)) (more : Bool) (rising : IsSearchable lexicon)
     (is : IsLine line) (first : AreFirst compare_lists (Completes lexicon line opening) lists more) (at_most : length lists ≤ most)
     (all_taken : more ≡ true → length lists ≡ most) where
   page_with : (phases : List (List Form)) → HaveForms lexicon phases → IsLexicon (full lexicon phases)
@@ -63,8 +63,8 @@ module _ (lexicon : Lexicon) (line : Line) (most : ℕ) (lists : List (List Prog
       let count : length (map f lists) ≡ length lists = simp length-map in
       page_of_first (full lexicon phases) line most (map f lists) more
       (first_images compare_lists (compare_answers lexicon.rules) f P rise (IsAnswer (full lexicon phases) line []) lists more
-      (λ steps c. answer_from lexicon phases line steps rising thin is lexical same c)
-      (λ steps answer. answered_by lexicon phases line steps same lexical answer) first)
+      (λ steps c. answer_from lexicon phases line steps rising is lexical same c)
+      (λ steps answer. answered_by lexicon phases line steps rising same lexical answer) first)
       (omega arith) (λ e. count ∙ all_taken e)
 
   -- and so the page of each lexicon that has these forms

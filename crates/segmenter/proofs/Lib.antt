@@ -1,4 +1,3 @@
-pub mod GrammarWords
 pub mod CutLetters
 pub mod Answering
 pub mod Answered

@@ -6,7 +6,7 @@ use Rattle.segmenter.specs.Completions.{CanFollow, compare_steps}
 use Rattle.segmenter.specs.Pages.{answers_of, AppendsFirst}
 use Rattle.segmenter.proofs.Extensions.{Begins, begin_none, begin_all, begin_enough, popped, here_follows, step_ends, step_goes_on}
 use Rattle.segmenter.proofs.extend.+extend.Goals as goal
-use Rattle.segmenter.proofs.extend.+extend.Goals.{then-ends_line+in_ok-take_answer, else-ends_line+in_ok-following+in_ok-extend, After-pop}
+use Rattle.segmenter.proofs.extend.+extend.Goals.{then-ends_line+in_ok-take_if_accepted, else-ends_line+in_ok-following+in_ok-extend, After-pop}
 
 -- what an index past the end would give
 abbrev none : Step
@@ -39,7 +39,7 @@ following-requires-clause-follows t c =
 -- the path has one step more before the last is taken off
 one_more : (t : ℕ) (c : After-pop t) → c.if-ends_line.path.items ≡ c.loop-step.path.items ++ get_or c.deref-step-items.result.now c.loop-step.step-index none ∷ []
 one_more t c = elim c.if-ends_line.branch [
-  | then-ends_line+in_ok-take_answer w ↦ rw w.path-is c.in_ok-push.ensures.items
+  | then-ends_line+in_ok-take_if_accepted w ↦ rw w.path-is c.in_ok-push.ensures.items
   | else-ends_line+in_ok-following+in_ok-extend w ↦ rw w.path-is (w.in_ok-extend.ensures.path ∙ c.in_ok-push.ensures.items)
 ]
 
@@ -53,12 +53,12 @@ same_path t c =
 so_far : (t : ℕ) (c : After-pop t) → AppendsFirst (Begins c.args.lexicon.now c.args.line.now c.args.place (Contains (take (c.loop-step.step-index + 1) c.deref-step-items.result.now)))
     c.args.most c.args.path.now.items (answers_of c.args.found.now) (answers_of c.if-ends_line.found) c.if-ends_line.found.more
 so_far t c = elim c.if-ends_line.branch [
-  | then-ends_line+in_ok-take_answer w ↦
+  | then-ends_line+in_ok-take_if_accepted w ↦
       rw w.found-is
       (step_ends c.args.lexicon.now c.args.line.now c.args.place c.args.most c.deref-step-items.result.now c.loop-step.step-index c.args.path.now.items
       c.loop-step.path.items c.args.found.now c.loop-step.found c.loop-step.invariant none c.loop-step-test.true
-      c.push.new.self.items w.take_answer.new.self (c.ends_line.ensures.0 w.if-ends_line.true) c.in_ok-push.ensures.items
-      (rw w.as_slice.ensures.value at w.in_ok-take_answer.ensures.ok))
+      c.push.new.self.items w.take_if_accepted.new.found (c.ends_line.ensures.0 w.if-ends_line.true) c.in_ok-push.ensures.items
+      (rw w.as_slice.ensures.value at w.in_ok-take_if_accepted.ensures.accepted) w.in_ok-take_if_accepted.ensures.refused)
   | else-ends_line+in_ok-following+in_ok-extend w ↦
       rw w.found-is
       (step_goes_on c.args.lexicon.now c.args.line.now c.args.place c.args.most c.deref-step-items.result.now c.loop-step.step-index c.args.path.now.items

@@ -18,7 +18,7 @@ returns c =
     first_from_appends lexicon line c.args.most c.in_ok-path.path.items (map (λ steps. steps.items) c.new.result.items) answers more
     c.in_ok-path.ensures.items (ap (map (λ steps. steps.items)) c.new.ensures.items) appends in
     record {
-      page = page_from lexicon line c.args.most answers more c.requires.searchable c.requires.thin (subst IsLine c.line.view_is c.line.invariant)
+      page = page_from lexicon line c.args.most answers more c.requires.searchable (subst IsLine c.line.view_is c.line.invariant)
           first appends.at_most appends.full;
       stand = stand_all lexicon line answers more first;
       not_empty = some_all lexicon line answers more first;
