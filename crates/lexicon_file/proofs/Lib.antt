@@ -1,2 +1,3 @@
 pub mod CutLemmas
 pub mod ReadLemmas
+pub mod StageLemmas

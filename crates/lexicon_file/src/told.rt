@@ -1,12 +1,13 @@
-ghost use Rattle.std.specs.Prelude.{◌≡◌, ◌<◌, ◌≤◌, ◌^◌, length, IfOk, IfErr};
+ghost use Rattle.std.specs.Prelude.{◌≡◌, ◌<◌, ◌≤◌, ◌^◌, length, true, IfOk, IfErr};
 ghost use Rattle.lexicon_definitions.specs.Rules.{all_phases as all_phases_of};
 ghost use Rattle.lexicon_definitions.specs.Lexicons.{IsRuleSet, tree_of};
 ghost use Rattle.lexicon_definitions.specs.Limits.{IsRuleSetWithinLimits};
 ghost use Rattle.phase_automaton.specs.Automata.{Recognizes};
-ghost use Rattle.lexicon_text_definitions.specs.FileLines.{End};
+ghost use Rattle.lexicon_text_definitions.specs.FileLines.{Opening, End, may_follow};
 ghost use Rattle.lexicon_text_definitions.specs.FileContents.{nothing_told, rules_told, lexicon_told};
-ghost use Rattle.lexicon_text_definitions.specs.FileSteps.{take_line as take_line_of};
-ghost use Rattle.lexicon_file.specs.Told.{IsLineAnswer, IsNoEnd};
+ghost use Rattle.lexicon_text_definitions.specs.FileSteps.{take_line as take_line_of, take_head as take_head_of, take_end as take_end_of};
+ghost use Rattle.lexicon_file.specs.Told.{IsAnswer, IsLineAnswer, IsNoEnd};
+ghost use Rattle.lexicon_file.specs.Fields.{text_of_rest};
 ghost use Rattle.lexicon_file.specs.Contents.{lexicon_of};
 
 use crate::cutting::{four_fields, kind_and_rest, one_field, rule_parts, two_fields};
@@ -99,7 +100,10 @@ impl Told {
         })
     }
 
-    fn take_head(&mut self, line: &[u8]) -> Result<(), LineError> {
+    fn take_head(&mut self, line: &[u8]) -> Result<(), LineError>
+        requires { self.old.last ≡ Opening }
+        ensures { IsAnswer (take_head_of self.old line.now) result self.new }
+    {
         if line != b"slx 1".as_slice() {
             return Err(FileWhy::Head.into());
         }
@@ -242,7 +246,10 @@ impl Told {
         Ok(())
     }
 
-    fn take_end(&mut self, rest: Option<&[u8]>) -> Result<(), LineError> {
+    fn take_end(&mut self, rest: Option<&[u8]>) -> Result<(), LineError>
+        requires { may_follow self.old.last End ≡ true }
+        ensures { IsAnswer (take_end_of self.old (text_of_rest rest.entry)) result self.new }
+    {
         if rest.is_some() {
             return Err(FileWhy::Field.into());
         }
