@@ -1,3 +1,4 @@
 pub mod CutLemmas
 pub mod ReadLemmas
 pub mod StageLemmas
+pub mod AnswerLemmas
