@@ -1,10 +1,12 @@
 ghost use Rattle.std.specs.Prelude.{◌≡◌, ◌<◌, ◌≤◌, ◌^◌, length, true, IfOk, IfErr};
+ghost use Rattle.std.specs.List.{position};
+ghost use Rattle.std.specs.Str.{bytes_eq};
 ghost use Rattle.lexicon_definitions.specs.Rules.{all_phases as all_phases_of};
 ghost use Rattle.lexicon_definitions.specs.Lexicons.{IsRuleSet, tree_of};
 ghost use Rattle.lexicon_definitions.specs.Limits.{IsRuleSetWithinLimits};
 ghost use Rattle.phase_automaton.specs.Automata.{Recognizes};
 ghost use Rattle.lexicon_text_definitions.specs.FileLines.{Opening, End, may_follow};
-ghost use Rattle.lexicon_text_definitions.specs.FileContents.{nothing_told, rules_told, lexicon_told};
+ghost use Rattle.lexicon_text_definitions.specs.FileContents.{is_phase_name as is_phase_name_of, nothing_told, rules_told, lexicon_told};
 ghost use Rattle.lexicon_text_definitions.specs.FileSteps.{take_line as take_line_of, take_head as take_head_of, take_end as take_end_of};
 ghost use Rattle.lexicon_file.specs.Told.{IsAnswer, IsLineAnswer, IsNoEnd};
 ghost use Rattle.lexicon_file.specs.Fields.{text_of_rest};
@@ -56,15 +58,17 @@ impl Model for Told {
 }
 
 /// Whether a phase's name has 1 to 16 bytes, the first a small letter, the others small letters, digits or `_`.
-fn is_phase_name(name: &[u8]) -> bool {
+fn is_phase_name(name: &[u8]) -> bool
+    ensures { result ≡ is_phase_name_of name.now }
+{
     let Some(first) = name.first() else {
         return false;
     };
     first.is_ascii_lowercase()
         && name.len() <= MOST_NAME_BYTES
-        && name
-            .iter()
-            .all(|byte| byte.is_ascii_lowercase() || byte.is_ascii_digit() || *byte == b'_')
+        && name.iter().all(|byte| byte.is_ascii_lowercase()
+            || byte.is_ascii_digit()
+            || *byte == b'_')
 }
 
 /// The reason that comes from how a new one compares with the last before it.
@@ -111,7 +115,9 @@ impl Told {
         Ok(())
     }
 
-    fn phase_named(&self, name: &[u8]) -> Option<usize> {
+    fn phase_named(&self, name: &[u8]) -> Option<usize>
+        ensures { result ≡ position (bytes_eq name.now) self.now.names }
+    {
         self.names.iter().position(|other| other.as_bytes() == name)
     }
 
