@@ -2,6 +2,7 @@ ghost use Rattle.std.specs.Prelude.{◌≡◌, ◌<◌, ◌≤◌, ◌^◌, leng
 ghost use Rattle.std.specs.List.{position};
 ghost use Rattle.std.specs.Str.{bytes_eq};
 ghost use Rattle.lexicon_definitions.specs.Rules.{all_phases as all_phases_of};
+ghost use Rattle.lexicon_definitions.specs.GrammarTexts.{is_name_byte as is_name_byte_of};
 ghost use Rattle.lexicon_definitions.specs.Lexicons.{IsRuleSet, tree_of};
 ghost use Rattle.lexicon_definitions.specs.Limits.{IsRuleSetWithinLimits};
 ghost use Rattle.phase_automaton.specs.Automata.{Recognizes};
@@ -57,18 +58,24 @@ impl Model for Told {
     ghost invariant = { λ t. IsKept (record { last = kind_of t.last; names = map string_bytes t.names.items; grammar = t.grammar.items; plain = t.plain.items; rules = t.rules; forms = entries_from 0 t.lists }) t.automaton t.lists t.last_phase };
 }
 
+/// Whether the byte is a small letter, a digit or `_`.
+fn is_name_byte(byte: u8) -> bool
+    ensures { result ≡ is_name_byte_of byte }
+{
+    matches!(byte, b'a'..=b'z' | b'0'..=b'9' | b'_')
+}
+
 /// Whether a phase's name has 1 to 16 bytes, the first a small letter, the others small letters, digits or `_`.
 fn is_phase_name(name: &[u8]) -> bool
     ensures { result ≡ is_phase_name_of name.now }
 {
-    let Some(first) = name.first() else {
+    let [first, others @ ..] = name else {
         return false;
     };
-    first.is_ascii_lowercase()
-        && name.len() <= MOST_NAME_BYTES
-        && name.iter().all(|byte| byte.is_ascii_lowercase()
-            || byte.is_ascii_digit()
-            || *byte == b'_')
+    if !matches!(*first, b'a'..=b'z') || name.len() > MOST_NAME_BYTES {
+        return false;
+    }
+    others.iter().all(|byte| is_name_byte(*byte))
 }
 
 /// The reason that comes from how a new one compares with the last before it.
