@@ -1,2 +1,4 @@
 pub mod CutLemmas
 pub mod ReadLemmas
+pub mod StageLemmas
+pub mod AnswerLemmas

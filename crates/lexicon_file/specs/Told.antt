@@ -21,19 +21,19 @@ pub record IsLastPhase (lists : List (List Form)) (last : ℕ) : Type 0 where
   pub none_at_all : slice_index_or lists last [] ≡ [] → entries_from 0 lists ≡ []
 
 -- what is kept besides, once the grammar was told: its automaton, a list for each phase, and the last phase with a form
-pub record IsBody (told : Told) (automaton : Option StateMachine) (lists : List (List Form)) (last : ℕ) : Type 0 where
-  pub some : 0 < length told.names
-  pub as_many : length lists ≡ length told.names
+pub record IsBody (names : List (List ℕ)) (grammar : List ℕ) (automaton : Option StateMachine) (lists : List (List Form)) (last : ℕ) : Type 0 where
+  pub some : 0 < length names
+  pub as_many : length lists ≡ length names
   pub last_phase : IsLastPhase lists last
   pub has_automaton : IsSome automaton
-  pub recognizes : IfSome automaton (λ machine. Recognizes machine (grammar_of told.names told.grammar))
+  pub recognizes : IfSome automaton (λ machine. Recognizes machine (grammar_of names grammar))
 
 -- what is kept after a line of each kind
 abbrev pub IsStage : lines.Kind → Told → Option StateMachine → List (List Form) → ℕ → Type 0
 IsStage lines.Opening told automaton lists last = lists ≡ []
 IsStage lines.Head told automaton lists last = lists ≡ []
 IsStage lines.Phase told automaton lists last = (0 < length told.names) × (lists ≡ [])
-IsStage kind told automaton lists last = IsBody told automaton lists last
+IsStage kind told automaton lists last = IsBody told.names told.grammar automaton lists last
 
 pub record IsKept (told : Told) (automaton : Option StateMachine) (lists : List (List Form)) (last : ℕ) : Type 0 where
   pub few : length told.names ≤ MOST_PHASES

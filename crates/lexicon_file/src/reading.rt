@@ -4,7 +4,6 @@ ghost use Rattle.phase_automaton.specs.Automata.{Recognizes};
 ghost use Rattle.lexicon_text_definitions.specs.FileReadings.{IsReadAs};
 ghost use Rattle.lexicon_file.specs.Contents.{lexicon_of, error_of, IfFault};
 
-
 use crate::cutting::first_line;
 use crate::line_error::LineError;
 use crate::told::Told;

@@ -7,7 +7,8 @@ use std::test::Fail;
 const WORD: &[u8] =
     b"slx 1\nphase word\ngrammar word+\nrule a|i>e\nform word iti iti ind\nform word ca ca ind\nend\n";
 
-const PHASES: &[u8] = b"slx 1\nphase ind\nphase pre\nphase verb\ngrammar (ind | pre? verb)+\nplain a a\nplain A k\nplain A K\nrule a|A>A\nrule s|>H\nrule aH|a>o'\nform ind ca ca ind\nform ind ca ca m.sg.nom\nform ind ca cA iic\nform ind cA ca ind\nform pre A A pv\nform verb gacCati gam pr.ac.3.sg\nend\n";
+const PHASES: &[u8] =
+    b"slx 1\nphase ind\nphase pre\nphase verb\ngrammar (ind | pre? verb)+\nplain a a\nplain A k\nplain A K\nrule a|A>A\nrule s|>H\nrule aH|a>o'\nform ind ca ca ind\nform ind ca ca m.sg.nom\nform ind ca cA iic\nform ind cA ca ind\nform pre A A pv\nform verb gacCati gam pr.ac.3.sg\nend\n";
 
 /// Whether the bytes have this first fault.
 fn has_fault(rt: &HostRuntime, bytes: &[u8], line: u32, why: FileWhy) -> bool {
@@ -59,16 +60,56 @@ fn faults_are_told_with_their_lines(rt: HostRuntime) -> Result<(), Fail> {
         (b"slx 1\nphase Word\n", 2, FileWhy::Field),
         (b"slx 1\nphase abcdefghijklmnopq\n", 2, FileWhy::Field),
         (b"slx 1\nphase word\ngrammar\n", 3, FileWhy::Field),
-        (b"slx 1\nphase word\ngrammar \n", 3, FileWhy::Grammar(GrammarFault::Syntax { at: 0 })),
-        (b"slx 1\nphase w\ngrammar w\nplain a aa\n", 4, FileWhy::Spelling),
-        (b"slx 1\nphase w\ngrammar w\nplain a k\nplain a a\n", 5, FileWhy::Falling),
-        (b"slx 1\nphase w\ngrammar w\nrule a|i>\n", 4, FileWhy::Strict),
-        (b"slx 1\nphase w\ngrammar w\nrule a>i|e\n", 4, FileWhy::Field),
-        (b"slx 1\nphase w\ngrammar w\nrule a|i>aaaaaaaaa\n", 4, FileWhy::Limit),
-        (b"slx 1\nphase w\ngrammar w\nrule a|i>e\nrule a|i>e\n", 5, FileWhy::Twice),
-        (b"slx 1\nphase w\ngrammar w\nform w  a ind\n", 4, FileWhy::Spelling),
-        (b"slx 1\nphase w\ngrammar w\nform w a a m.sg\n", 4, FileWhy::Field),
-        (b"slx 1\nphase w\ngrammar w\nform w i i ind\nform w a a ind\n", 5, FileWhy::Falling),
+        (
+            b"slx 1\nphase word\ngrammar \n",
+            3,
+            FileWhy::Grammar(GrammarFault::Syntax { at: 0 }),
+        ),
+        (
+            b"slx 1\nphase w\ngrammar w\nplain a aa\n",
+            4,
+            FileWhy::Spelling,
+        ),
+        (
+            b"slx 1\nphase w\ngrammar w\nplain a k\nplain a a\n",
+            5,
+            FileWhy::Falling,
+        ),
+        (
+            b"slx 1\nphase w\ngrammar w\nrule a|i>\n",
+            4,
+            FileWhy::Strict,
+        ),
+        (
+            b"slx 1\nphase w\ngrammar w\nrule a>i|e\n",
+            4,
+            FileWhy::Field,
+        ),
+        (
+            b"slx 1\nphase w\ngrammar w\nrule a|i>aaaaaaaaa\n",
+            4,
+            FileWhy::Limit,
+        ),
+        (
+            b"slx 1\nphase w\ngrammar w\nrule a|i>e\nrule a|i>e\n",
+            5,
+            FileWhy::Twice,
+        ),
+        (
+            b"slx 1\nphase w\ngrammar w\nform w  a ind\n",
+            4,
+            FileWhy::Spelling,
+        ),
+        (
+            b"slx 1\nphase w\ngrammar w\nform w a a m.sg\n",
+            4,
+            FileWhy::Field,
+        ),
+        (
+            b"slx 1\nphase w\ngrammar w\nform w i i ind\nform w a a ind\n",
+            5,
+            FileWhy::Falling,
+        ),
         (b"slx 1\nphase w\ngrammar w\nend\n\n", 5, FileWhy::Trailing),
     ];
     for (bytes, line, why) in rows {
@@ -92,7 +133,11 @@ fn a_byte_ff_is_not_utf8(rt: HostRuntime) -> Result<(), Fail> {
     for (at, byte) in WORD.iter().enumerate() {
         let changed = with_byte(&rt, WORD, at, 0xff)?;
         let last = at + 1 == WORD.len();
-        let why = if last { FileWhy::NoEnd } else { FileWhy::NotUtf8 };
+        let why = if last {
+            FileWhy::NoEnd
+        } else {
+            FileWhy::NotUtf8
+        };
         assert!(rt; has_fault(&rt, changed.as_slice(), line, why));
         if *byte == b'\n' && line < 100 {
             line += 1;

@@ -1,12 +1,16 @@
-ghost use Rattle.std.specs.Prelude.{◌≡◌, ◌<◌, ◌≤◌, ◌^◌, length, IfOk, IfErr};
+ghost use Rattle.std.specs.Prelude.{◌≡◌, ◌<◌, ◌≤◌, ◌^◌, length, true, IfOk, IfErr};
+ghost use Rattle.std.specs.List.{position};
+ghost use Rattle.std.specs.Str.{bytes_eq};
 ghost use Rattle.lexicon_definitions.specs.Rules.{all_phases as all_phases_of};
+ghost use Rattle.lexicon_definitions.specs.GrammarTexts.{is_name_byte as is_name_byte_of};
 ghost use Rattle.lexicon_definitions.specs.Lexicons.{IsRuleSet, tree_of};
 ghost use Rattle.lexicon_definitions.specs.Limits.{IsRuleSetWithinLimits};
 ghost use Rattle.phase_automaton.specs.Automata.{Recognizes};
-ghost use Rattle.lexicon_text_definitions.specs.FileLines.{End};
-ghost use Rattle.lexicon_text_definitions.specs.FileContents.{nothing_told, rules_told, lexicon_told};
-ghost use Rattle.lexicon_text_definitions.specs.FileSteps.{take_line as take_line_of};
-ghost use Rattle.lexicon_file.specs.Told.{IsLineAnswer, IsNoEnd};
+ghost use Rattle.lexicon_text_definitions.specs.FileLines.{Opening, End, may_follow};
+ghost use Rattle.lexicon_text_definitions.specs.FileContents.{is_phase_name as is_phase_name_of, nothing_told, rules_told, lexicon_told};
+ghost use Rattle.lexicon_text_definitions.specs.FileSteps.{take_line as take_line_of, take_head as take_head_of, take_end as take_end_of};
+ghost use Rattle.lexicon_file.specs.Told.{IsAnswer, IsLineAnswer, IsNoEnd};
+ghost use Rattle.lexicon_file.specs.Fields.{text_of_rest};
 ghost use Rattle.lexicon_file.specs.Contents.{lexicon_of};
 
 use crate::cutting::{four_fields, kind_and_rest, one_field, rule_parts, two_fields};
@@ -54,16 +58,24 @@ impl Model for Told {
     ghost invariant = { λ t. IsKept (record { last = kind_of t.last; names = map string_bytes t.names.items; grammar = t.grammar.items; plain = t.plain.items; rules = t.rules; forms = entries_from 0 t.lists }) t.automaton t.lists t.last_phase };
 }
 
+/// Whether the byte is a small letter, a digit or `_`.
+fn is_name_byte(byte: u8) -> bool
+    ensures { result ≡ is_name_byte_of byte }
+{
+    matches!(byte, b'a'..=b'z' | b'0'..=b'9' | b'_')
+}
+
 /// Whether a phase's name has 1 to 16 bytes, the first a small letter, the others small letters, digits or `_`.
-fn is_phase_name(name: &[u8]) -> bool {
-    let Some(first) = name.first() else {
+fn is_phase_name(name: &[u8]) -> bool
+    ensures { result ≡ is_phase_name_of name.now }
+{
+    let [first, others @ ..] = name else {
         return false;
     };
-    first.is_ascii_lowercase()
-        && name.len() <= MOST_NAME_BYTES
-        && name
-            .iter()
-            .all(|byte| byte.is_ascii_lowercase() || byte.is_ascii_digit() || *byte == b'_')
+    if !matches!(*first, b'a'..=b'z') || name.len() > MOST_NAME_BYTES {
+        return false;
+    }
+    others.iter().all(|byte| is_name_byte(*byte))
 }
 
 /// The reason that comes from how a new one compares with the last before it.
@@ -99,7 +111,10 @@ impl Told {
         })
     }
 
-    fn take_head(&mut self, line: &[u8]) -> Result<(), LineError> {
+    fn take_head(&mut self, line: &[u8]) -> Result<(), LineError>
+        requires { self.old.last ≡ Opening }
+        ensures { IsAnswer (take_head_of self.old line.now) result self.new }
+    {
         if line != b"slx 1".as_slice() {
             return Err(FileWhy::Head.into());
         }
@@ -107,7 +122,9 @@ impl Told {
         Ok(())
     }
 
-    fn phase_named(&self, name: &[u8]) -> Option<usize> {
+    fn phase_named(&self, name: &[u8]) -> Option<usize>
+        ensures { result ≡ position (bytes_eq name.now) self.now.names }
+    {
         self.names.iter().position(|other| other.as_bytes() == name)
     }
 
@@ -242,7 +259,10 @@ impl Told {
         Ok(())
     }
 
-    fn take_end(&mut self, rest: Option<&[u8]>) -> Result<(), LineError> {
+    fn take_end(&mut self, rest: Option<&[u8]>) -> Result<(), LineError>
+        requires { may_follow self.old.last End ≡ true }
+        ensures { IsAnswer (take_end_of self.old (text_of_rest rest.entry)) result self.new }
+    {
         if rest.is_some() {
             return Err(FileWhy::Field.into());
         }

@@ -42,7 +42,16 @@ fn push_form(
     let tag = print_tag(alloc, &analysis.tag)?;
     push_line(
         out,
-        &["form ", name, " ", form.as_str(), " ", stem.as_str(), " ", tag.as_str()],
+        &[
+            "form ",
+            name,
+            " ",
+            form.as_str(),
+            " ",
+            stem.as_str(),
+            " ",
+            tag.as_str(),
+        ],
     )
 }
 

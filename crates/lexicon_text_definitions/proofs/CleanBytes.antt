@@ -1,6 +1,6 @@
 -- The bytes of a lexicon's lines are ASCII, and none is a line end: each part's bytes are, by the table of letters, by the
 -- words of tags, and by the walk over a grammar's text.
-use Rattle.std.proofs.Common.{◌≡◌, ℕ, zero, suc, ◌+◌, ◌-◌, ◌<◌, ◌≤◌, inl, inr, Bool, true, false, cond, not, ◌&&◌, ◌||◌, ltb, leb, nat_lt, nat_le, ◌==◌, Option, Some, None, List, [], ◌∷◌, ◌++◌, map, eqb, get_or, codes, refl, sym, ◌∙◌, ap, subst, arith}
+use Rattle.std.proofs.Common.{◌≡◌, ℕ, zero, suc, ◌+◌, ◌-◌, ◌<◌, ◌≤◌, inl, inr, Bool, true, false, cond, not, ◌&&◌, ◌||◌, nat_lt, nat_le, ◌==◌, Option, Some, None, List, [], ◌∷◌, ◌++◌, map, eqb, get_or, refl, ◌∙◌, ap, subst, arith}
 use Rattle.std.specs.List.{AllByRecursion, list_all}
 use Rattle.std.specs.Str.{is_utf8}
 use Rattle.std.proofs.lemmas.Bool.{and_parts, and_from, or_cases, or_left, ltb-true, leb-true, eqb-true, lt-ltb, ne_eqb, not_from_false, not-true}
@@ -12,7 +12,7 @@ use Rattle.text_definitions.specs.Words.{IsWord}
 use Rattle.text_definitions.specs.Spellings.{byte_of_letter}
 use Rattle.text_definitions.specs.Slp1.{slp1_table, slp1_of_word}
 use Rattle.text_definitions.proofs.Tables.{passes_below, passes_at}
-use Rattle.lexicon_definitions.specs.Tags.{IsOneOf, IsTagText, IsNominalText, IsVerbalText, genders, numbers, cases, tenses, voices, persons, lone_words}
+use Rattle.lexicon_definitions.specs.Tags.{IsOneOf, IsTagText, genders, numbers, cases, tenses, voices, persons, lone_words}
 use Rattle.lexicon_definitions.specs.GrammarTexts.{is_name_byte, is_blank}
 use Rattle.lexicon_definitions.specs.GrammarFaults.{Walk, walk_start, is_small_letter, may_follow_item, may_stand, after_byte, fault_from, syntax_fault}
 use Rattle.lexicon_definitions.specs.Lexicons.{IsPhaseName}

@@ -1,24 +1,20 @@
 -- Forms by phases, and their lines one after another: each determines the other. A line that comes after all others goes to the
 -- end of its phase, by recursion to its place; and the lines of a phase build it up, form by form.
-use Rattle.std.proofs.Common.{◌≡◌, ◌≢◌, ℕ, zero, suc, ◌+◌, ◌<◌, ◌≤◌, ◌⊎◌, inl, inr, Bool, true, false, cond, if◌then◌else◌, List, [], ◌∷◌, ◌++◌, length, map, replicate, All, refl, sym, ◌∙◌, ap, subst, arith}
-use Rattle.std.specs.List.{AllByRecursion, Contains}
+use Rattle.std.proofs.Common.{◌≡◌, ℕ, zero, suc, ◌+◌, ◌<◌, ◌≤◌, Bool, true, false, cond, if◌then◌else◌, List, [], ◌∷◌, ◌++◌, length, map, replicate, refl, sym, ◌∙◌, ap, subst, arith}
+use Rattle.std.specs.List.{AllByRecursion}
 use Rattle.std.specs.Str.{bytes_eq}
 use Rattle.std.specs.List.Sorted.{IsStrictlySortedBy}
-use Rattle.std.specs.Ordering.{nat_cmp, ordering_then, on}
+use Rattle.std.specs.Ordering.{nat_cmp, ordering_then}
 use Rattle.std.specs.declared.cmp.Ordering.{Ordering}
 use Rattle.std.specs.declared.cmp.Ordering.TheVariants.{Less, Equal, Greater}
-use Rattle.std.proofs.lemmas.Cmp.{tied_itself, nat_cmp_total, ranked}
-use Rattle.std.proofs.lemmas.List.{append_assoc, append-nil, map-append, length-append}
-use Rattle.std.proofs.lemmas.List.Elements.{All-from_recursion, recursion_from_All}
+use Rattle.std.proofs.lemmas.Cmp.{ranked}
+use Rattle.std.proofs.lemmas.List.{append_assoc, append-nil, map-append}
 use Rattle.std.proofs.lemmas.Map.Keys.{sorted_head, sorted_tail}
-use Rattle.text_definitions.specs.Words.{IsWord, compare_words}
-use Rattle.lexicon_definitions.specs.Analyses.{Analysis, compare_analyses}
-use Rattle.lexicon_definitions.specs.Lexicons.{Form, IsFormEntry, IsAnalysis, IsPhase}
-use Rattle.lexicon_text_definitions.specs.FileContents.{compare_entries, compare_last, entry_with, phase_entries, entries_from}
+use Rattle.lexicon_definitions.specs.Analyses.{Analysis}
+use Rattle.lexicon_definitions.specs.Lexicons.{Form}
+use Rattle.lexicon_text_definitions.specs.FileContents.{compare_entries, entry_with, phase_entries, entries_from}
 use Rattle.lexicon_definitions.specs.FormEntries.{Entry}
-use Rattle.lexicon_text_definitions.proofs.LineTests.{bytes_same, bytes_itself, bytes_apart}
-use Rattle.lexicon_text_definitions.proofs.RisingLines.{words_total, analyses_total, lines_total, sorted_nil, sorted_one, sorted_cons, sorted_with_last, last_by}
-use Rattle.std.proofs.lemmas.Map.Lookups.{exact_bytes}
+use Rattle.lexicon_text_definitions.proofs.LineTests.{bytes_same}
 
 -- ---- one entry more at the end
 

@@ -1,32 +1,32 @@
 -- What lines that rise build up are phases, and the lines of phases rise and build them up again. The last form of a phase
 -- compares with a new line as its letters do, since it has an analysis; so the new line goes to it or after it.
-use Rattle.std.proofs.Common.{◌≡◌, ◌≢◌, ℕ, zero, suc, ◌+◌, ◌<◌, ◌≤◌, ◌⊎◌, inl, inr, Bool, true, false, cond, List, [], ◌∷◌, ◌++◌, length, map, replicate, All, slice_set, slice_index_or, refl, sym, ◌∙◌, ap, subst, arith}
-use Rattle.std.specs.List.{AllByRecursion, Contains}
+use Rattle.std.proofs.Common.{◌≡◌, ◌≢◌, ℕ, zero, suc, ◌+◌, ◌<◌, ◌≤◌, ◌⊎◌, inl, inr, Bool, true, false, cond, List, [], ◌∷◌, ◌++◌, length, map, replicate, slice_set, slice_index_or, refl, sym, ◌∙◌, ap, subst, arith}
+use Rattle.std.specs.List.{AllByRecursion}
 use Rattle.std.specs.Str.{bytes_eq}
 use Rattle.std.specs.List.Sorted.{IsStrictlySortedBy}
 use Rattle.std.specs.Ordering.{nat_cmp, ordering_then, on}
 use Rattle.std.specs.declared.cmp.Ordering.{Ordering}
 use Rattle.std.specs.declared.cmp.Ordering.TheVariants.{Less, Equal, Greater}
 use Rattle.std.proofs.lemmas.Cmp.{tied_itself, nat_cmp_total, ranked}
-use Rattle.std.proofs.lemmas.List.{append_assoc, append-nil, map-append, length-append}
-use Rattle.std.proofs.lemmas.List.Elements.{All-from_recursion, recursion_from_All, All-cons, All-nil, All-push, All-head, All-tail}
+use Rattle.std.proofs.lemmas.List.{append_assoc, append-nil}
+use Rattle.std.proofs.lemmas.List.Elements.{All-from_recursion, recursion_from_All, All-cons, All-nil, All-push}
 use Rattle.std.proofs.lemmas.Map.Keys.{sorted_head, sorted_tail}
 use Rattle.text_definitions.specs.Words.{IsWord, compare_words}
 use Rattle.lexicon_definitions.specs.declared.limits.TheConstants.{MOST_FORM_LETTERS}
 use Rattle.lexicon_definitions.specs.Analyses.{Analysis, compare_analyses}
 use Rattle.lexicon_definitions.specs.Tags.{IsTagText}
-use Rattle.lexicon_definitions.specs.Lexicons.{Form, IsFormEntry, IsAnalysis, IsPhase}
+use Rattle.lexicon_definitions.specs.Lexicons.{Form, IsFormEntry, IsAnalysis}
 use Rattle.lexicon_definitions.specs.Limits.{IsShortForm}
 use Rattle.list_laws.proofs.Sorted.{following_front, sorted_later, Contains-first}
 use Rattle.lexicon_text_definitions.specs.TextsOf.{HasSpelledStems}
-use Rattle.lexicon_text_definitions.specs.FileContents.{compare_entries, with_entries, compare_last, entry_with, phase_entries, entries_from}
+use Rattle.lexicon_text_definitions.specs.FileContents.{compare_entries, with_entries, entry_with, phase_entries, entries_from}
 use Rattle.lexicon_definitions.specs.FormEntries as entries
 use Rattle.lexicon_definitions.specs.FormEntries.{Entry, placed_at, with_entry}
-use Rattle.lexicon_text_definitions.proofs.FormLines.{new_form, after_form, with_analysis, with_form, with_lines}
+use Rattle.lexicon_text_definitions.proofs.FormLines.{new_form, with_analysis, with_form, with_lines}
 use Rattle.lexicon_text_definitions.proofs.LineTests.{bytes_same, bytes_itself, bytes_apart}
 use Rattle.lexicon_text_definitions.proofs.RisingLines.{words_total, analyses_total, lines_total, sorted_nil, sorted_one, sorted_cons, sorted_with_last, last_by}
 use Rattle.std.proofs.lemmas.Map.Lookups.{exact_bytes}
-use Rattle.lexicon_text_definitions.proofs.FormLines.{EmptyAfter, empty_later, empty_kept, length-with, AreWithin, rest_within, lines_with, at_zero, no_lines_at_first}
+use Rattle.lexicon_text_definitions.proofs.FormLines.{EmptyAfter, empty_later, empty_kept, length-with, AreWithin, rest_within, lines_with, at_zero}
 
 -- ---- a line that is lawful by itself
 

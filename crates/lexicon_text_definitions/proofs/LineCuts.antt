@@ -1,15 +1,15 @@
 -- How a line is cut: each cut is undone by putting the mark back, and a text that is free of the mark is cut where the mark
 -- comes first.
 use Rattle.std.proofs.Common.{◌≡◌, ℕ, Bool, true, false, cond, ◌||◌, Option, Some, None, List, [], ◌∷◌, ◌++◌, map, eqb, codes, refl, sym, ◌∙◌, ap, subst, All}
-use Rattle.std.specs.List.{AllByRecursion, slice_split, onto_first, list_any, flat_map, join_with_byte}
+use Rattle.std.specs.List.{AllByRecursion, slice_split, flat_map, join_with_byte}
 use Rattle.std.specs.Str.{bytes_eq}
 use Rattle.std.proofs.lemmas.Bool.{or_parts, eqb-true, eq-eqb}
 use Rattle.std.proofs.lemmas.List.{append_assoc}
 use Rattle.std.proofs.lemmas.List.Elements.{All-from_recursion}
 use Rattle.std.proofs.lemmas.List.Splits.{slice_split_at, slice_split_none, join_with_byte-slice_split}
 use Rattle.lexicon_text_definitions.specs.LexiconTexts.{text_of_lines}
-use Rattle.lexicon_text_definitions.specs.FileLines.{Line, with_byte, lines_of_bytes, before_parts, cut, Parts, parts_or_all, parts_of, fields_of, Kind, Phase, Grammar, Plain, Rule, Form, End, kind_named, has_mark, Shape, shape_with, shape_after, shape_of}
-use Rattle.list_laws.proofs.Marks.{is_free, free_parts, free_append}
+use Rattle.lexicon_text_definitions.specs.FileLines.{Line, with_byte, lines_of_bytes, before_parts, cut, parts_or_all, parts_of, Kind, Phase, Grammar, Plain, Rule, Form, End, kind_named, has_mark, Shape, shape_with, shape_after, shape_of}
+use Rattle.list_laws.proofs.Marks.{is_free, free_parts}
 use Rattle.lexicon_text_definitions.proofs.LineTests.{bytes_same}
 
 -- ---- cutting once

@@ -1,12 +1,11 @@
 -- When a line of each kind is taken, and what is told after it: the tests one after another, by cases of each; and the other way
 -- round, by their answers.
-use Rattle.std.proofs.Common.{◌≡◌, ◌≢◌, ℕ, ◌+◌, ◌<◌, ◌≤◌, inl, inr, Bool, true, false, cond, ◌||◌, Option, Some, None, Result, Ok, Err, List, [], ◌∷◌, ◌++◌, length, get_or, ltb, All, AllPairs, refl, sym, ◌∙◌, ap, subst, arith}
+use Rattle.std.proofs.Common.{◌≡◌, ◌≢◌, ℕ, ◌<◌, ◌≤◌, false, cond, ◌||◌, Option, Some, None, Ok, Err, List, [], ◌∷◌, ◌++◌, length, get_or, ltb, All, AllPairs, refl, sym, ◌∙◌, ap, arith}
 use Rattle.std.specs.List.{list_any, position, position_or_len}
 use Rattle.std.specs.Str.{bytes_eq}
 use Rattle.std.specs.declared.cmp.Ordering.{Ordering}
 use Rattle.std.specs.declared.cmp.Ordering.TheVariants.{Less, Equal, Greater}
 use Rattle.std.proofs.lemmas.Bool.{or_parts, or_from, leb-false, lt-leb, ltb-false, le-ltb, lt-ltb}
-use Rattle.std.proofs.lemmas.List.{get_or_default}
 use Rattle.std.proofs.lemmas.List.Sums.{position_or_len_is}
 use Rattle.std.proofs.lemmas.List.Quantifiers.{position-Some}
 use Rattle.std.proofs.lemmas.List.Elements.{All-head, All-cons, All-nil}
@@ -16,14 +15,13 @@ use Rattle.text_definitions.specs.Spellings.{Reading}
 use Rattle.text_definitions.specs.Slp1.{word_of_slp1, slp1_of_word}
 use Rattle.text_definitions.proofs.SpelledWords.{spelled_from_read, word_from_read, read_from_spelled, free_of_bar, free_of_sign}
 use Rattle.lexicon_definitions.specs.declared.limits.TheConstants.{MOST_PHASES, MOST_RULES, MOST_RULE_LETTERS, MOST_LEADS, MOST_FORM_LETTERS, MOST_FORM_LINES}
-use Rattle.lexicon_definitions.specs.Tags.{IsTagText}
 use Rattle.lexicon_definitions.specs.Rules.{Rule as RuleValue}
 use Rattle.lexicon_definitions.specs.Lexicons.{IsPhaseName, compare_pairs}
-use Rattle.lexicon_text_definitions.specs.FileFaults.{Why, Field, Spelling, Strict, Limit, Twice}
+use Rattle.lexicon_text_definitions.specs.FileFaults.{Field, Strict, Limit, Twice}
 use Rattle.lexicon_text_definitions.specs.FileLines.{Phase, Grammar, Plain, Rule, Form, End, has_mark, Shape, shape_of}
 use Rattle.lexicon_text_definitions.specs.FileContents.{compare_entries, Told, is_empty, is_phase_name, is_tag_text, compare_last, rule_between, has_triple, with_lead, leads_of}
 use Rattle.lexicon_definitions.specs.FormEntries.{Entry}
-use Rattle.lexicon_text_definitions.specs.FileSteps.{Taken, if_rising, take_name, take_phase, take_grammar, one_letter, take_letters, take_plain, passes_rule_limits, take_triple, take_words, take_shape, take_rule, some_word, passes_form_limits, take_form_line, take_analysis, take_entry, take_form, take_end}
+use Rattle.lexicon_text_definitions.specs.FileSteps.{if_rising, take_name, take_phase, take_grammar, one_letter, take_letters, take_plain, passes_rule_limits, take_triple, take_words, take_shape, take_rule, some_word, passes_form_limits, take_form_line, take_analysis, take_entry, take_form, take_end}
 use Rattle.lexicon_text_definitions.proofs.LineTests.{if_passed, if_refused, when_true, when_false, bytes_same, bytes_itself, bytes_apart, none_same, any_false, name_from_test, test_from_name, IsOther, others_from_test, test_from_others}
 use Rattle.lexicon_text_definitions.proofs.LineCuts.{field_with, field_from_shape, shape_of_field, unmarked}
 use Rattle.lexicon_text_definitions.proofs.TagTests.{tag_from_test, test_from_tag}

@@ -1,6 +1,6 @@
 -- A file is read in one way: the lines decide all but the grammar's text, which has one first fault at most.
-use Rattle.std.proofs.Common.{◌≡◌, ℕ, inl, inr, Option, Some, None, Result, Ok, List, refl, sym, ◌∙◌, ap}
-use Rattle.lexicon_definitions.specs.GrammarFaults.{Fault, Long, Syntax, UnknownPhase, Places, States, IsFirstFault, IsGrammarTextWithinLimits, fault_before_states}
+use Rattle.std.proofs.Common.{◌≡◌, ℕ, inl, inr, Option, Some, None, List, refl, sym, ◌∙◌, ap}
+use Rattle.lexicon_definitions.specs.GrammarFaults.{Fault, States, IsFirstFault, fault_before_states}
 use Rattle.lexicon_text_definitions.specs.FileFaults as faults
 use Rattle.lexicon_text_definitions.specs.FileReadings.{Reading, Content, Fault as FaultAt, Asks, FileResult, fault_at, IsResult, IsReadAs}
 

@@ -1,10 +1,10 @@
 -- The test of a tag's text as a fact: it is cut at its dots, and no word of a tag has one.
-use Rattle.std.proofs.Common.{◌≡◌, ℕ, ◌⊎◌, inl, inr, Bool, true, false, ◌&&◌, List, [], ◌∷◌, ◌++◌, eqb, refl, sym, ◌∙◌, ap, subst}
+use Rattle.std.proofs.Common.{◌≡◌, ℕ, inl, inr, true, ◌&&◌, List, [], ◌∷◌, ◌++◌, eqb, refl, sym, ◌∙◌, ap, subst}
 use Rattle.std.specs.List.{list_any, list_all, slice_split}
 use Rattle.std.specs.Str.{bytes_eq}
 use Rattle.std.proofs.lemmas.Bool.{and_parts, and_from, or_cases, or_left, or_right}
 use Rattle.std.proofs.lemmas.Slice.Eq.{bytes_eq-Decides}
-use Rattle.lexicon_definitions.specs.Tags.{IsOneOf, IsTagText, IsNominalText, IsVerbalText, genders, numbers, cases, tenses, voices, persons, lone_words, before_dot}
+use Rattle.lexicon_definitions.specs.Tags.{IsOneOf, IsTagText, IsNominalText, IsVerbalText, genders, numbers, cases, tenses, voices, persons, lone_words}
 use Rattle.lexicon_text_definitions.specs.FileContents.{is_one_of, are_tag_words, is_tag_text}
 use Rattle.list_laws.proofs.Marks.{is_free, free_append}
 use Rattle.lexicon_text_definitions.proofs.LineTests.{bytes_same}

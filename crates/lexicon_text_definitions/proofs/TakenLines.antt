@@ -1,31 +1,28 @@
 -- A line that is taken is one of the format's lines, and says what it tells: its kind by its name, its fields by the blanks
 -- between them; and the other way round.
-use Rattle.std.proofs.Common.{◌≡◌, ◌≢◌, ℕ, Bool, true, false, cond, not, Option, Some, None, Result, Ok, Err, List, [], ◌∷◌, ◌++◌, length, eqb, get_or, codes, refl, sym, ◌∙◌, ap, subst}
-use Rattle.std.specs.List.{slice_split}
+use Rattle.std.proofs.Common.{◌≡◌, ℕ, true, false, cond, not, Option, Some, None, Ok, Err, List, [], ◌∷◌, ◌++◌, length, codes, refl, sym, ◌∙◌, ap}
 use Rattle.std.specs.Str.{bytes_eq, is_utf8}
-use Rattle.std.proofs.lemmas.Bool.{not-false, not-true}
+use Rattle.std.proofs.lemmas.Bool.{not-false}
 use Rattle.std.proofs.lemmas.List.{append_assoc}
 use Rattle.std.proofs.lemmas.List.Elements.{All-cons, All-nil}
 use Rattle.text_definitions.specs.Letters.{IsLetter}
 use Rattle.text_definitions.specs.Words.{IsWord}
 use Rattle.text_definitions.specs.Slp1.{slp1_of_word}
 use Rattle.text_definitions.proofs.SpelledWords.{free_of_blank}
-use Rattle.lexicon_definitions.specs.Rules.{Rule as RuleValue}
 use Rattle.lexicon_definitions.specs.Lexicons.{IsPhaseName}
 use Rattle.lexicon_text_definitions.specs.LexiconTexts.{head_line, phase_line, grammar_line, plain_line, rule_line, form_line, end_line}
 use Rattle.lexicon_text_definitions.specs.FileFaults as faults
 use Rattle.lexicon_text_definitions.specs.FileFaults.{Trailing, NoEnd, NotUtf8, Order}
-use Rattle.lexicon_text_definitions.specs.FileLines.{Line, Parts, parts_of, fields_of, Kind, Opening, Head, Phase, Grammar, Plain, Rule, Form, End, kind_named, may_follow, Shape}
+use Rattle.lexicon_text_definitions.specs.FileLines.{Line, parts_of, fields_of, Kind, Opening, Head, Phase, Grammar, Plain, Rule, Form, End, kind_named, may_follow}
 use Rattle.lexicon_text_definitions.specs.FileContents.{Told, rule_between}
 use Rattle.lexicon_definitions.specs.FormEntries.{Entry}
-use Rattle.lexicon_text_definitions.specs.FileSteps.{Taken, take_phase, take_grammar, take_plain, take_rule, take_form, take_end, take_kind, take_named, take_parts, take_head, take_bytes, is_last, take_line}
+use Rattle.lexicon_text_definitions.specs.FileSteps.{take_phase, take_plain, take_rule, take_form, take_kind, take_named, take_parts, take_head, take_bytes, is_last, take_line}
 use Rattle.list_laws.proofs.Marks.{is_free, free_append}
 use Rattle.lexicon_text_definitions.proofs.CleanBytes.{clean_utf8}
-use Rattle.lexicon_text_definitions.proofs.LineTests.{if_passed, if_refused, when_true, when_false, bytes_same, bytes_itself, free_name}
+use Rattle.lexicon_text_definitions.proofs.LineTests.{if_passed, if_refused, when_true, when_false, bytes_same, free_name}
 use Rattle.lexicon_text_definitions.proofs.LineCuts.{split_at, split_none, one_part, two_parts, four_parts, kind_name, named_kind, line_with, line_from_parts}
 use Rattle.lexicon_text_definitions.proofs.TagTests.{tag_free_of_blank}
-use Rattle.lexicon_text_definitions.proofs.FormPhases.{IsFormLine}
-use Rattle.lexicon_text_definitions.proofs.LineSteps.{with_name, with_grammar, with_pair, with_rule, with_line, with_end, MayName, MayPair, MayRule, MayLine, rule_field, name_at, took_phase, takes_phase, took_grammar, takes_grammar, took_plain, takes_plain, took_rule, takes_rule, took_form, takes_form, took_end, takes_end}
+use Rattle.lexicon_text_definitions.proofs.LineSteps.{with_name, with_grammar, with_pair, with_rule, with_line, with_end, MayName, MayPair, MayRule, MayLine, rule_field, took_phase, takes_phase, took_grammar, takes_grammar, took_plain, takes_plain, took_rule, takes_rule, took_form, takes_form, took_end, takes_end}
 
 -- the line with these bytes is taken, where these told what was told before it and after it
 pub data Took (told after : Told) (bytes : List ℕ) : Type 0 where

@@ -1,24 +1,23 @@
 -- What was told so far is lawful and spells the lines so far; so it is after each line that is taken, by the kind of the line.
-use Rattle.std.proofs.Common.{◌≡◌, ◌≢◌, ℕ, zero, suc, ◌+◌, ◌^◌, ◌<◌, ◌≤◌, ◌↔◌, inl, inr, Bool, true, false, cond, ◌||◌, ltb, nat_lt, Option, Some, None, Result, Ok, Err, List, [], ◌∷◌, ◌++◌, length, map, get_or, All, AllPairs, slice_index_or, refl, sym, ◌∙◌, ap, subst, arith}
-use Rattle.std.specs.List.{AllByRecursion, list_any, position, flat_map, sum_by}
-use Rattle.std.specs.Str.{bytes_eq}
+use Rattle.std.proofs.Common.{◌≡◌, ◌≢◌, ℕ, ◌^◌, ◌<◌, ◌≤◌, ◌↔◌, true, List, [], ◌∷◌, ◌++◌, length, map, All, AllPairs, slice_index_or, refl, sym, ◌∙◌, ap, subst, arith}
+use Rattle.std.specs.List.{AllByRecursion}
 use Rattle.std.specs.List.Sorted.{IsStrictlySortedBy}
-use Rattle.std.proofs.lemmas.List.{append_assoc, append-nil, map-append, length_push, length-replicate, get_or_push, get_or_append_left}
-use Rattle.std.proofs.lemmas.List.Elements.{All-from_recursion, recursion_from_All, All-push, All-nil, All-cons}
+use Rattle.std.proofs.lemmas.List.{append_assoc, append-nil, map-append, length_push}
+use Rattle.std.proofs.lemmas.List.Elements.{All-push, All-nil}
 use Rattle.std.proofs.Math.Pow.{pow-lt, ones_lt}
 use Rattle.std.proofs.lemmas.Nat.{pow_pos}
 use Rattle.text_definitions.specs.Letters.{IsLetter}
 use Rattle.lexicon_definitions.specs.declared.limits.TheConstants.{MOST_PHASES, MOST_RULES, MOST_LEADS, MOST_FORM_LINES}
-use Rattle.lexicon_definitions.specs.Rules.{Rule as RuleValue, IsRule, IsUnlimited, IsInner, IsFinal, all_phases}
+use Rattle.lexicon_definitions.specs.Rules.{Rule as RuleValue, IsRule, IsUnlimited, all_phases}
 use Rattle.lexicon_definitions.specs.Lexicons.{IsPhaseName, compare_pairs}
 use Rattle.lexicon_definitions.specs.GrammarFaults.{IsGrammarTextWithinLimits}
 use Rattle.lexicon_definitions.specs.Limits.{IsShortRule}
 use Rattle.lexicon_text_definitions.specs.LexiconTexts.{head_line, phase_line, grammar_line, plain_line, rule_line, form_line, end_line}
 use Rattle.lexicon_text_definitions.specs.FileLines.{Kind, Opening, Head, Phase, Grammar, Plain, Rule, Form, End, may_follow}
-use Rattle.lexicon_text_definitions.specs.FileContents.{compare_entries, Told, phases_after, rule_between, with_lead, leads_of}
+use Rattle.lexicon_text_definitions.specs.FileContents.{compare_entries, Told, phases_after, rule_between, leads_of}
 use Rattle.lexicon_definitions.specs.FormEntries.{Entry}
 use Rattle.lexicon_text_definitions.proofs.LineTests.{IsOther, pairs_push}
-use Rattle.lexicon_text_definitions.proofs.RisingLines.{pairs_total, lines_total, sorted_with_last, sorted_nil}
+use Rattle.lexicon_text_definitions.proofs.RisingLines.{pairs_total, lines_total, sorted_with_last}
 use Rattle.lexicon_text_definitions.proofs.FileLeads.{leads_with}
 use Rattle.lexicon_text_definitions.proofs.FormPhases.{IsFormLine, all_both}
 use Rattle.lexicon_text_definitions.proofs.LineSteps.{with_name, with_grammar, with_pair, with_rule, with_line, with_end, MayName, MayPair, MayRule, MayLine, name_at}

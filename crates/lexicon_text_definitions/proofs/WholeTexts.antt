@@ -1,34 +1,33 @@
 -- Bytes that are read as a lexicon are its text: line by line what was told spells the lines so far, and at the end that is the
 -- lexicon's text, which is lawful by what each line was tested for.
-use Rattle.std.proofs.Common.{◌≡◌, ◌≢◌, ℕ, zero, suc, ◌+◌, ◌<◌, ◌≤◌, inl, inr, Bool, true, false, nat_lt, Option, Some, None, Result, Ok, Err, List, [], ◌∷◌, ◌++◌, length, map, replicate, get_or, All, AllPairs, slice_index_or, refl, sym, ◌∙◌, ap, subst, arith}
-use Rattle.std.specs.List.{AllByRecursion, flat_map, sum_by}
+use Rattle.std.proofs.Common.{◌≡◌, ◌≢◌, ℕ, zero, suc, ◌+◌, ◌<◌, inl, inr, Bool, true, false, nat_lt, Option, Some, None, Ok, Err, List, [], ◌∷◌, ◌++◌, length, map, replicate, get_or, All, refl, sym, ◌∙◌, ap, subst, arith}
+use Rattle.std.specs.List.{AllByRecursion, sum_by}
 use Rattle.std.specs.List.Sorted.{IsStrictlySortedBy}
 use Rattle.lexicon_definitions.specs.Analyses.{Analysis}
 use Rattle.std.proofs.lemmas.List.{append_assoc, append-nil, map-append, length-append, length-map, length-replicate, length_push, get_or_at}
 use Rattle.std.proofs.lemmas.List.Sums.{sum_by-cons}
-use Rattle.std.proofs.lemmas.List.Elements.{All-from_recursion, recursion_from_All, All-nil, All-weaker}
-use Rattle.lexicon_definitions.specs.declared.limits.TheConstants.{MOST_GRAMMAR_BYTES, MOST_GRAMMAR_NAMES, MOST_LEADS, MOST_FORM_LINES}
-use Rattle.lexicon_definitions.specs.Rules.{Rule as RuleValue, IsRule, IsUnlimited}
+use Rattle.std.proofs.lemmas.List.Elements.{All-from_recursion, All-nil, All-weaker}
+use Rattle.lexicon_definitions.specs.declared.limits.TheConstants.{MOST_GRAMMAR_BYTES, MOST_GRAMMAR_NAMES}
+use Rattle.lexicon_definitions.specs.Rules.{IsRule, IsUnlimited}
 use Rattle.lexicon_definitions.specs.GrammarFaults as grammars
 use Rattle.lexicon_definitions.specs.GrammarFaults.{IsGrammarTextWithinLimits, IsFirstFault, first_fault_of, fault_before_states, syntax_fault, first_unknown, names_from}
 use Rattle.lexicon_definitions.specs.Lexicons.{Lexicon, Form, IsGrammarOver, IsPhase, IsFormEntry, IsLexicon}
 use Rattle.lexicon_definitions.specs.Limits.{IsShortRule, IsShortForm, count_lines, IsWithinLimits}
 use Rattle.lexicon_text_definitions.specs.LexiconTexts.{head_line, phase_line, grammar_line, plain_line, rule_line, form_line, end_line, phase_forms_lines, forms_lines, lines_of, text_of, text_of_lines}
-use Rattle.lexicon_text_definitions.specs.FileFaults.{Why, FileFault}
-use Rattle.lexicon_text_definitions.specs.FileLines.{Line, lines_of_bytes, Kind, Opening, Grammar, End}
+use Rattle.lexicon_text_definitions.specs.FileLines.{Line, lines_of_bytes, Kind, Grammar, End}
 use Rattle.lexicon_text_definitions.specs.FileContents.{compare_entries, Told, nothing_told, entry_with, phase_entries, entries_from, rules_told, lexicon_told}
 use Rattle.lexicon_definitions.specs.FormEntries.{Entry}
 use Rattle.lexicon_text_definitions.proofs.FormLines.{with_lines}
 use Rattle.lexicon_text_definitions.specs.FileSteps.{Taken, take_line}
-use Rattle.lexicon_text_definitions.specs.FileReadings.{Reading, asking, read_on, read_lines, at_end, reading_of, IsResult, IsReadAs, FileResult}
+use Rattle.lexicon_text_definitions.specs.FileReadings.{Reading, asking, read_on, read_lines, at_end, reading_of, IsResult, IsReadAs}
 use Rattle.lexicon_text_definitions.specs.TextsOf.{HasSpelledStems, HasText, IsTextOf}
 use Rattle.lexicon_text_definitions.proofs.LineCuts.{text_from_lines}
 use Rattle.lexicon_text_definitions.proofs.RisingLines.{sorted_nil}
 use Rattle.lexicon_text_definitions.proofs.FileLeads.{leads_counted}
-use Rattle.lexicon_text_definitions.proofs.FormLines.{AreEmpty, EmptyAfter, AreWithin, none_at_first, no_lines_at_first, lines_of_built}
-use Rattle.lexicon_text_definitions.proofs.FormPhases.{IsFormLine, IsLawfulForm, IsLawfulPhase, AreLawful, lawful_built, length-built, entries_placed}
-use Rattle.lexicon_text_definitions.proofs.TakenLines.{Took, took_line}
-use Rattle.lexicon_text_definitions.proofs.ToldLines.{IsTextRule, IsLawful, NothingLater, HasGrammar, text_of_form, lines_so_far, forms_so_far, GoesOn, goes_on}
+use Rattle.lexicon_text_definitions.proofs.FormLines.{EmptyAfter, AreWithin, none_at_first, no_lines_at_first, lines_of_built}
+use Rattle.lexicon_text_definitions.proofs.FormPhases.{IsFormLine, IsLawfulForm, AreLawful, lawful_built, length-built, entries_placed}
+use Rattle.lexicon_text_definitions.proofs.TakenLines.{took_line}
+use Rattle.lexicon_text_definitions.proofs.ToldLines.{IsTextRule, IsLawful, NothingLater, HasGrammar, text_of_form, lines_so_far, goes_on}
 
 -- ---- reading to the end
 

@@ -1,23 +1,20 @@
 -- The text of a lexicon is read as this lexicon: its lines are read one after another, kind by kind, and each may follow those
 -- before it, since the lexicon is lawful as a whole.
-use Rattle.std.proofs.Common.{◌≡◌, ◌≢◌, ℕ, zero, suc, ◌+◌, ◌<◌, ◌≤◌, inl, inr, Bool, true, false, Option, Some, None, Result, Ok, Err, List, [], ◌∷◌, ◌++◌, length, map, replicate, get_or, codes, All, AllPairs, slice_index_or, refl, sym, ◌∙◌, ap, subst, arith}
+use Rattle.std.proofs.Common.{◌≡◌, ◌≢◌, ℕ, ◌+◌, ◌<◌, ◌≤◌, inl, true, Ok, List, [], ◌∷◌, ◌++◌, length, map, replicate, get_or, codes, All, AllPairs, refl, sym, ◌∙◌, ap, subst, arith}
 use Rattle.std.specs.List.{AllByRecursion}
-use Rattle.std.specs.Str.{is_utf8}
 use Rattle.std.specs.List.Sorted.{IsStrictlySortedBy}
-use Rattle.std.specs.declared.cmp.Ordering.TheVariants.{Less}
-use Rattle.std.proofs.lemmas.List.{append_assoc, append-nil, map-append, length-append, length_push, length-replicate}
+use Rattle.std.proofs.lemmas.List.{append_assoc, append-nil, map-append, length-append, length-replicate}
 use Rattle.std.proofs.lemmas.List.Elements.{All-from_recursion, recursion_from_All, All-get_or, All-cons, All-nil}
 use Rattle.text_definitions.specs.Letters.{IsLetter}
 use Rattle.text_definitions.specs.Words.{IsWord}
 use Rattle.text_definitions.specs.Slp1.{slp1_of_word}
 use Rattle.lexicon_definitions.specs.declared.limits.TheConstants.{MOST_PHASES, MOST_RULES, MOST_LEADS, MOST_FORM_LINES}
-use Rattle.lexicon_definitions.specs.Rules.{Rule as RuleValue, IsRule, IsUnlimited, all_phases}
+use Rattle.lexicon_definitions.specs.Rules.{Rule as RuleValue}
 use Rattle.lexicon_definitions.specs.GrammarFaults.{IsGrammarTextWithinLimits}
 use Rattle.lexicon_definitions.specs.Lexicons.{Lexicon, Form as FormValue, IsPhaseName, IsPhase, IsFormEntry, compare_pairs}
 use Rattle.lexicon_definitions.specs.Limits.{IsShortForm}
 use Rattle.lexicon_text_definitions.specs.LexiconTexts.{head_line, phase_line, grammar_line, plain_line, rule_line, form_line, end_line, lines_of, text_of, text_of_lines}
-use Rattle.lexicon_text_definitions.specs.FileFaults.{Why}
-use Rattle.lexicon_text_definitions.specs.FileLines.{Line, lines_of_bytes, Kind, Opening, Head, Phase, Grammar, Plain, Rule, Form, End, may_follow}
+use Rattle.lexicon_text_definitions.specs.FileLines.{Line, lines_of_bytes, Kind, Head, Phase, Grammar, Plain, Rule, Form, End, may_follow}
 use Rattle.lexicon_text_definitions.specs.FileContents.{compare_entries, Told, nothing_told, phases_after, rule_between, leads_of, entries_from, lexicon_told}
 use Rattle.lexicon_definitions.specs.FormEntries.{Entry}
 use Rattle.lexicon_text_definitions.proofs.FormLines.{with_lines}
@@ -29,11 +26,11 @@ use Rattle.lexicon_text_definitions.proofs.LineTests.{IsOther, pairs_before}
 use Rattle.lexicon_text_definitions.proofs.LineCuts.{ended_line, lines_back}
 use Rattle.lexicon_text_definitions.proofs.RisingLines.{pairs_total, lines_total, last_below}
 use Rattle.lexicon_text_definitions.proofs.FileLeads.{leads_with, leads_front, leads_counted}
-use Rattle.lexicon_text_definitions.proofs.FormPhases.{IsFormLine, IsLawfulForm, IsLawfulPhase, AreLawful, all_right, all_both, lines_rise, lines_lawful, phases_built, entries_placed}
+use Rattle.lexicon_text_definitions.proofs.FormPhases.{IsFormLine, IsLawfulForm, AreLawful, all_right, all_both, lines_rise, lines_lawful, phases_built, entries_placed}
 use Rattle.lexicon_text_definitions.proofs.CleanBytes.{IsClean, clean_append, clean_utf8, clean_free, clean_name, clean_word, clean_tag, clean_grammar}
 use Rattle.lexicon_text_definitions.proofs.LineSteps.{MayName, MayPair, MayRule, MayLine, place_of_name}
 use Rattle.lexicon_text_definitions.proofs.TakenLines.{takes_head, takes_name_line, takes_grammar_line, takes_pair_line, takes_rule_line, takes_form_line, takes_end_line}
-use Rattle.lexicon_text_definitions.proofs.ToldLines.{IsTextRule, text_of_form, lines_so_far, NothingLater}
+use Rattle.lexicon_text_definitions.proofs.ToldLines.{IsTextRule, text_of_form, lines_so_far}
 use Rattle.lexicon_text_definitions.proofs.WholeTexts.{lines_are, counted, grammar_over, empty_at_first, lawful_at_first, all_within}
 use Rattle.lexicon_text_definitions.proofs.FormLines.{AreWithin, no_lines_at_first}
 

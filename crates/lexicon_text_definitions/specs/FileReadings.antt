@@ -1,5 +1,5 @@
 -- What a lexicon file tells: its lexicon, or its first fault (own).
-use Rattle.std.specs.Prelude.{◌≡◌, ℕ, ◌+◌, ◌⊎◌, Bool, true, false, Result, Ok, Err, List, [], ◌∷◌}
+use Rattle.std.specs.Prelude.{◌≡◌, ℕ, ◌+◌, ◌⊎◌, Result, Ok, Err, List, [], ◌∷◌}
 use Rattle.lexicon_definitions.specs.GrammarFaults as grammars
 use Rattle.lexicon_definitions.specs.GrammarFaults.{IsFirstFault, IsGrammarTextWithinLimits}
 use Rattle.lexicon_definitions.specs.Lexicons.{Lexicon}
