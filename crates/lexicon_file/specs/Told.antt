@@ -27,6 +27,7 @@ pub record IsBody (names : List (List ℕ)) (grammar : List ℕ) (automaton : Op
   pub last_phase : IsLastPhase lists last
   pub has_automaton : IsSome automaton
   pub recognizes : IfSome automaton (λ machine. Recognizes machine (grammar_of names grammar))
+  pub phases : IfSome automaton (λ machine. machine.phases ≡ length names)
 
 -- what is kept after a line of each kind
 abbrev pub IsStage : lines.Kind → Told → Option StateMachine → List (List Form) → ℕ → Type 0

@@ -26,6 +26,7 @@ pub fn read(alloc: Global, bytes: &[u8]) -> Result<Contents, FileError>
     requires { length bytes.now ≤ MOST_FILE_BYTES }
     ensures ok { IfOk result (λ contents. IsReadAs bytes.now (Ok (lexicon_of contents))) }
     ensures automaton { IfOk result (λ contents. Recognizes contents.automaton (tree_of contents.rules)) }
+    ensures phases { IfOk result (λ contents. contents.automaton.phases ≡ length contents.rules.names) }
     ensures fault { IfErr result (λ error. IfFault error (λ fault. IsReadAs bytes.now (Err fault))) }
 {
     let mut told = Told::new(alloc)?;

@@ -1,4 +1,4 @@
-ghost use Rattle.std.specs.Prelude.{◌≡◌, ◌<◌, ◌≤◌, ◌^◌, length, true, IfOk, IfErr};
+ghost use Rattle.std.specs.Prelude.{◌≡◌, ◌<◌, ◌≤◌, ◌^◌, length, true, IfOk, IfErr, Some, IfSome};
 ghost use Rattle.std.specs.List.{position};
 ghost use Rattle.std.specs.Str.{bytes_eq};
 ghost use Rattle.lexicon_definitions.specs.Rules.{all_phases as all_phases_of};
@@ -6,9 +6,9 @@ ghost use Rattle.lexicon_definitions.specs.GrammarTexts.{is_name_byte as is_name
 ghost use Rattle.lexicon_definitions.specs.Lexicons.{IsRuleSet, tree_of};
 ghost use Rattle.lexicon_definitions.specs.Limits.{IsRuleSetWithinLimits};
 ghost use Rattle.phase_automaton.specs.Automata.{Recognizes};
-ghost use Rattle.lexicon_text_definitions.specs.FileLines.{Opening, End, may_follow};
+ghost use Rattle.lexicon_text_definitions.specs.FileLines.{Opening, End, may_follow, Phase, Grammar, Plain, Rule as RuleLine, Form, fields_of};
 ghost use Rattle.lexicon_text_definitions.specs.FileContents.{is_phase_name as is_phase_name_of, nothing_told, rules_told, lexicon_told};
-ghost use Rattle.lexicon_text_definitions.specs.FileSteps.{take_line as take_line_of, take_head as take_head_of, take_end as take_end_of};
+ghost use Rattle.lexicon_text_definitions.specs.FileSteps.{take_line as take_line_of, take_head as take_head_of, take_end as take_end_of, take_phase as take_phase_of, take_grammar as take_grammar_of, take_plain as take_plain_of, take_rule as take_rule_of, take_form as take_form_of};
 ghost use Rattle.lexicon_file.specs.Told.{IsAnswer, IsLineAnswer, IsNoEnd};
 ghost use Rattle.lexicon_file.specs.Fields.{text_of_rest};
 ghost use Rattle.lexicon_file.specs.Contents.{lexicon_of};
@@ -123,12 +123,18 @@ impl Told {
     }
 
     fn phase_named(&self, name: &[u8]) -> Option<usize>
-        ensures { result ≡ position (bytes_eq name.now) self.now.names }
+        ensures named { result ≡ position (bytes_eq name.now) self.now.names }
+        ensures within { IfSome result (λ phase. phase < length self.now.names) }
+        ensures few { length self.now.names ≤ MOST_PHASES }
     {
         self.names.iter().position(|other| other.as_bytes() == name)
     }
 
-    fn take_phase(&mut self, alloc: Global, text: &[u8]) -> Result<(), LineError> {
+    fn take_phase(&mut self, alloc: Global, text: &[u8]) -> Result<(), LineError>
+        requires follows { may_follow self.old.last Phase ≡ true }
+        requires fits { length text.now < 2 ^ 32 }
+        ensures { IsAnswer (take_phase_of self.old (fields_of (Some text.now))) result self.new }
+    {
         let Some(name) = one_field(text) else {
             return Err(FileWhy::Field.into());
         };
@@ -149,7 +155,11 @@ impl Told {
         Ok(())
     }
 
-    fn take_grammar(&mut self, alloc: Global, text: &[u8]) -> Result<(), LineError> {
+    fn take_grammar(&mut self, alloc: Global, text: &[u8]) -> Result<(), LineError>
+        requires follows { may_follow self.old.last Grammar ≡ true }
+        requires fits { length text.now < 2 ^ 32 }
+        ensures { IsLineAnswer (take_grammar_of self.old (Some text.now)) result self.new }
+    {
         let automaton = match read_grammar(alloc, text, self.names.as_slice()) {
             Ok(automaton) => automaton,
             Err(GrammarError::Fault(fault)) => return Err(FileWhy::Grammar(fault).into()),
@@ -162,7 +172,11 @@ impl Told {
         Ok(())
     }
 
-    fn take_plain(&mut self, alloc: Global, text: &[u8]) -> Result<(), LineError> {
+    fn take_plain(&mut self, alloc: Global, text: &[u8]) -> Result<(), LineError>
+        requires follows { may_follow self.old.last Plain ≡ true }
+        requires fits { length text.now < 2 ^ 32 }
+        ensures { IsAnswer (take_plain_of self.old (fields_of (Some text.now))) result self.new }
+    {
         let Some((left, right)) = two_fields(text) else {
             return Err(FileWhy::Field.into());
         };
@@ -175,7 +189,11 @@ impl Told {
         Ok(())
     }
 
-    fn take_rule(&mut self, alloc: Global, text: &[u8]) -> Result<(), LineError> {
+    fn take_rule(&mut self, alloc: Global, text: &[u8]) -> Result<(), LineError>
+        requires follows { may_follow self.old.last RuleLine ≡ true }
+        requires fits { length text.now < 2 ^ 32 }
+        ensures { IsAnswer (take_rule_of self.old (fields_of (Some text.now))) result self.new }
+    {
         let Some(field) = one_field(text) else {
             return Err(FileWhy::Field.into());
         };
@@ -229,7 +247,11 @@ impl Told {
             .then(analysis.compare(&entry.analysis))
     }
 
-    fn take_form(&mut self, alloc: Global, text: &[u8]) -> Result<(), LineError> {
+    fn take_form(&mut self, alloc: Global, text: &[u8]) -> Result<(), LineError>
+        requires follows { may_follow self.old.last Form ≡ true }
+        requires fits { length text.now < 2 ^ 32 }
+        ensures { IsAnswer (take_form_of self.old (fields_of (Some text.now))) result self.new }
+    {
         let Some((phase, form, stem, tag)) = four_fields(text) else {
             return Err(FileWhy::Field.into());
         };
@@ -321,6 +343,7 @@ impl Told {
         requires limits { self.last ≡ End → IsRuleSetWithinLimits (rules_told self) }
         ensures ok { IfOk result (λ contents. (self.last ≡ End) × (lexicon_of contents ≡ lexicon_told self)) }
         ensures automaton { IfOk result (λ contents. Recognizes contents.automaton (tree_of (rules_told self))) }
+        ensures phases { IfOk result (λ contents. contents.automaton.phases ≡ length contents.rules.names) }
         ensures no_end { IfErr result (λ error. IsNoEnd error (self.last ≡ End)) }
     {
         let Told {
