@@ -1,6 +1,7 @@
-ghost use Rattle.std.specs.Prelude.{◌≡◌, ◌<◌, ◌≤◌, ◌^◌, length, true, IfOk, IfErr, Some, IfSome};
+ghost use Rattle.std.specs.Prelude.{◌≡◌, ◌<◌, ◌≤◌, ◌^◌, length, map, true, IfOk, IfErr, Some, IfSome};
 ghost use Rattle.std.specs.List.{position};
 ghost use Rattle.std.specs.Str.{bytes_eq};
+ghost use Rattle.std.specs.String.{string_bytes};
 ghost use Rattle.lexicon_definitions.specs.Rules.{all_phases as all_phases_of};
 ghost use Rattle.lexicon_definitions.specs.GrammarTexts.{is_name_byte as is_name_byte_of};
 ghost use Rattle.lexicon_definitions.specs.Lexicons.{IsRuleSet, tree_of};
@@ -78,6 +79,19 @@ fn is_phase_name(name: &[u8]) -> bool
     others.iter().all(|byte| is_name_byte(*byte))
 }
 
+/// The place of the first of the names that has these bytes, counted from 0.
+fn place_of(names: &[String], name: &[u8]) -> Option<usize>
+    ensures named { result ≡ position (bytes_eq name.now) (map string_bytes names.now) }
+    ensures within { IfSome result (λ place. place < length names.now) }
+{
+    for (place, known) in names.iter().enumerate() {
+        if name == known.as_bytes() {
+            return Some(place);
+        }
+    }
+    None
+}
+
 /// The reason that comes from how a new one compares with the last before it.
 fn rising(order: Ordering) -> Result<(), LineError> {
     match order {
@@ -127,7 +141,7 @@ impl Told {
         ensures within { IfSome result (λ phase. phase < length self.now.names) }
         ensures few { length self.now.names ≤ MOST_PHASES }
     {
-        self.names.iter().position(|other| other.as_bytes() == name)
+        place_of(self.names.as_slice(), name)
     }
 
     fn take_phase(&mut self, alloc: Global, text: &[u8]) -> Result<(), LineError>
