@@ -3,3 +3,4 @@ pub mod ReadLemmas
 pub mod StageLemmas
 pub mod AnswerLemmas
 pub mod GrammarLemmas
+pub mod NameLines
