@@ -2,3 +2,5 @@ pub mod CutLemmas
 pub mod ReadLemmas
 pub mod StageLemmas
 pub mod AnswerLemmas
+pub mod GrammarLemmas
+pub mod NameLines

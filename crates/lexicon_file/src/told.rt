@@ -1,8 +1,10 @@
-ghost use Rattle.std.specs.Prelude.{◌≡◌, ◌<◌, ◌≤◌, ◌^◌, length, true, IfOk, IfErr, Some, IfSome};
-ghost use Rattle.std.specs.List.{position};
+ghost use Rattle.std.specs.Prelude.{◌≡◌, ◌<◌, ◌≤◌, ◌^◌, length, map, true, IfOk, IfErr, Some, IfSome};
+ghost use Rattle.std.specs.List.{list_all, position};
 ghost use Rattle.std.specs.Str.{bytes_eq};
+ghost use Rattle.std.specs.String.{string_bytes};
 ghost use Rattle.lexicon_definitions.specs.Rules.{all_phases as all_phases_of};
 ghost use Rattle.lexicon_definitions.specs.GrammarTexts.{is_name_byte as is_name_byte_of};
+ghost use Rattle.lexicon_definitions.specs.GrammarFaults.{is_small_letter as is_small_letter_of};
 ghost use Rattle.lexicon_definitions.specs.Lexicons.{IsRuleSet, tree_of};
 ghost use Rattle.lexicon_definitions.specs.Limits.{IsRuleSetWithinLimits};
 ghost use Rattle.phase_automaton.specs.Automata.{Recognizes};
@@ -65,6 +67,20 @@ fn is_name_byte(byte: u8) -> bool
     matches!(byte, b'a'..=b'z' | b'0'..=b'9' | b'_')
 }
 
+/// Whether each of the bytes may stand in a phase's name.
+fn are_name_bytes(bytes: &[u8]) -> bool
+    ensures { result ≡ list_all is_name_byte_of bytes.now }
+{
+    bytes.iter().all(|byte| is_name_byte(*byte))
+}
+
+/// Whether the byte may begin a phase's name.
+fn is_small_letter(byte: u8) -> bool
+    ensures { result ≡ is_small_letter_of byte }
+{
+    matches!(byte, b'a'..=b'z')
+}
+
 /// Whether a phase's name has 1 to 16 bytes, the first a small letter, the others small letters, digits or `_`.
 fn is_phase_name(name: &[u8]) -> bool
     ensures { result ≡ is_phase_name_of name.now }
@@ -72,10 +88,26 @@ fn is_phase_name(name: &[u8]) -> bool
     let [first, others @ ..] = name else {
         return false;
     };
-    if !matches!(*first, b'a'..=b'z') || name.len() > MOST_NAME_BYTES {
+    if !is_small_letter(*first) {
         return false;
     }
-    others.iter().all(|byte| is_name_byte(*byte))
+    if name.len() > MOST_NAME_BYTES {
+        return false;
+    }
+    are_name_bytes(others)
+}
+
+/// The place of the first of the names that has these bytes, counted from 0.
+fn place_of(names: &[String], name: &[u8]) -> Option<usize>
+    ensures named { result ≡ position (bytes_eq name.now) (map string_bytes names.now) }
+    ensures within { IfSome result (λ place. place < length names.now) }
+{
+    for (place, known) in names.iter().enumerate() {
+        if name == known.as_bytes() {
+            return Some(place);
+        }
+    }
+    None
 }
 
 /// The reason that comes from how a new one compares with the last before it.
@@ -127,7 +159,7 @@ impl Told {
         ensures within { IfSome result (λ phase. phase < length self.now.names) }
         ensures few { length self.now.names ≤ MOST_PHASES }
     {
-        self.names.iter().position(|other| other.as_bytes() == name)
+        place_of(self.names.as_slice(), name)
     }
 
     fn take_phase(&mut self, alloc: Global, text: &[u8]) -> Result<(), LineError>
@@ -168,6 +200,7 @@ impl Told {
         self.grammar = Vec::from_slice(alloc, text)?;
         self.lists = FormLists::new(alloc, self.names.len() as u32)?;
         self.automaton = Some(automaton);
+        self.last_phase = 0;
         self.last = Kind::Grammar;
         Ok(())
     }
