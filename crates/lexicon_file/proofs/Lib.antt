@@ -3,3 +3,5 @@ pub mod ReadLemmas
 pub mod StageLemmas
 pub mod AnswerLemmas
 pub mod PairLemmas
+pub mod LeadLemmas
+pub mod RuleLemmas

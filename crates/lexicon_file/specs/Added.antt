@@ -1,12 +1,18 @@
--- What becomes of the rules that were read when one more comes.
-use Rattle.std.specs.Prelude.{◌≡◌, ℕ, ◌++◌, Bool, true, false, Result, Ok, Err, List, [], ◌∷◌}
+-- What is kept of the rules that were read, and what becomes of them when one more comes.
+use Rattle.std.specs.Prelude.{◌≡◌, ℕ, ◌≤◌, ◌++◌, Bool, true, false, Result, Ok, Err, List, [], ◌∷◌, length}
 use Rattle.std.specs.List.{list_any}
 use Rattle.std.specs.Str.{bytes_eq}
+use Rattle.lexicon_definitions.specs.declared.limits.TheConstants.{MOST_RULES}
 use Rattle.lexicon_definitions.specs.Rules.{Rule}
-use Rattle.lexicon_text_definitions.specs.FileContents.{has_triple}
+use Rattle.lexicon_text_definitions.specs.FileContents.{has_triple, leads_of}
 use Rattle.lexicon_file.specs.declared.error.FileWhy.TheVariants.{Twice}
 use Rattle.lexicon_file.specs.declared.line_error.LineError.{LineError}
 use Rattle.lexicon_file.specs.declared.line_error.LineError.TheVariants.{Why, Memory}
+
+-- this is the number of the leads of these rules, of which there are not too many
+pub record IsCounted (rules : List Rule) (leads : ℕ) : Type 0 where
+  pub count : leads ≡ length (leads_of rules)
+  pub few : length rules ≤ MOST_RULES
 
 -- the rule has this v
 abbrev pub has_v : List ℕ → Rule → Bool

@@ -1,4 +1,4 @@
-ghost use Rattle.std.specs.Prelude.{◌≡◌, ◌||◌, nat_le, nat_lt, [], length};
+ghost use Rattle.std.specs.Prelude.{◌≡◌, ◌<◌, ◌||◌, nat_le, nat_lt, [], length};
 ghost use Rattle.std.specs.List.{list_any};
 ghost use Rattle.lexicon_text_definitions.specs.FileContents.{has_triple as has_triple_of, with_lead, leads_of};
 ghost use Rattle.lexicon_file.specs.Added.{IsAdded, has_v};
@@ -19,15 +19,15 @@ pub(crate) struct RulesSoFar {
 }
 
 impl Model for RulesSoFar {
-    ghost use Rattle.std.specs.Prelude.{◌≡◌, List, length};
+    ghost use Rattle.std.specs.Prelude.{List};
     ghost use Rattle.lexicon_definitions.specs.Rules.{Rule as RuleValue};
-    ghost use Rattle.lexicon_text_definitions.specs.FileContents.{leads_of};
+    ghost use Rattle.lexicon_file.specs.Added.{IsCounted};
 
     ghost Value = { List RuleValue };
 
     ghost view = { λ r. r.rules.items };
 
-    ghost invariant = { λ r. r.leads ≡ length (leads_of r.rules.items) };
+    ghost invariant = { λ r. IsCounted r.rules.items r.leads };
 }
 
 /// Whether the rule has this `v`.
@@ -96,6 +96,7 @@ impl RulesSoFar {
 
     /// Appends the rule. `Twice` where one of the same triple is there. A refusal leaves the rules as they were.
     pub(crate) fn add(&mut self, rule: Rule) -> Result<(), LineError>
+        requires { length self.old < MOST_RULES }
         ensures { IsAdded self.old rule result self.new }
     {
         if self.has_twin(&rule) {
