@@ -4,7 +4,7 @@ use Rattle.std.proofs.Common.{◌≡◌, ℕ, ◌+◌, ◌<◌, ◌≤◌, Bool,
 use Rattle.std.specs.List.{list_any}
 use Rattle.std.specs.Str.{bytes_eq}
 use Rattle.std.proofs.Math.Bool.{or_assoc, or-false}
-use Rattle.std.proofs.lemmas.Bool.{or_parts, or_from}
+use Rattle.std.proofs.lemmas.Bool.{or_from}
 use Rattle.std.proofs.lemmas.List.{length_push}
 use Rattle.std.proofs.lemmas.List.Folds.{list_any-append}
 use Rattle.lexicon_definitions.specs.declared.limits.TheConstants.{MOST_RULES}
@@ -33,9 +33,9 @@ any_with : (v : List ℕ) (leads : List (List ℕ)) (x : List ℕ) → is_empty 
 any_with v leads x n =
     any_by v leads x (is_empty x || list_any (bytes_eq x) leads)
     (λ t e.
-        let same = bytes_same v x e in
-        subst (λ w. list_any (bytes_eq w) leads ≡ true) (sym same)
-        (second (is_empty x) (list_any (bytes_eq x) leads) (subst (λ w. is_empty w ≡ false) same n) t))
+    let same = bytes_same v x e in
+    subst (λ w. list_any (bytes_eq w) leads ≡ true) (sym same)
+    (second (is_empty x) (list_any (bytes_eq x) leads) (subst (λ w. is_empty w ≡ false) same n) t))
 
 any_from : (v : List ℕ) → is_empty v ≡ false → (rules : List Rule) (leads : List (List ℕ))
     → list_any (bytes_eq v) (leads_from leads rules) ≡ (list_any (bytes_eq v) leads || list_any (has_v v) rules)

@@ -1,5 +1,5 @@
 -- The answers to a line of a rule, by the field and the three words that its parts spell.
-use Rattle.std.proofs.Common.{◌≡◌, ℕ, ◌+◌, ◌≤◌, Option, Some, None, Result, Ok, Err, List, [], ◌∷◌, ◌++◌, length, refl, sym, ◌∙◌, ap, arith}
+use Rattle.std.proofs.Common.{◌≡◌, ℕ, ◌≤◌, Some, None, Ok, Err, List, [], ◌∷◌, ◌++◌, length, refl, sym, ◌∙◌, ap, arith}
 use Rattle.std.specs.List.{join_with_byte}
 use Rattle.std.proofs.lemmas.List.{length-append}
 use Rattle.std.proofs.lemmas.List.Splits.{join_with_byte-slice_split}
@@ -9,7 +9,7 @@ use Rattle.lexicon_text_definitions.specs.FileFaults as faults
 use Rattle.lexicon_text_definitions.specs.FileLines.{fields_of, Shape, shape_of}
 use Rattle.lexicon_text_definitions.specs.FileContents.{Told}
 use Rattle.lexicon_text_definitions.specs.FileSteps.{Taken, take_triple, take_words, take_shape, take_rule}
-use Rattle.lexicon_text_definitions.proofs.LineCuts.{field_with, field_from_shape}
+use Rattle.lexicon_text_definitions.proofs.LineCuts.{field_from_shape}
 use Rattle.lexicon_file.specs.declared.line_error.LineError.{LineError}
 use Rattle.lexicon_file.specs.declared.line_error.LineError.TheVariants.{Why, Memory}
 use Rattle.lexicon_file.specs.Fields.{one_of}

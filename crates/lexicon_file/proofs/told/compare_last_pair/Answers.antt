@@ -1,5 +1,5 @@
 -- The last element is the one at the last place.
-use Rattle.std.proofs.Common.{◌≡◌, ◌∙◌, sym, ap}
+use Rattle.std.proofs.Common.{◌∙◌, sym, ap}
 use Rattle.lexicon_definitions.specs.Lexicons.{compare_pairs}
 use Rattle.lexicon_file.proofs.PairLemmas.{last_decides}
 use Rattle.lexicon_file.proofs.told.compare_last_pair.Goals as goal

@@ -1,10 +1,8 @@
 -- The fields spell two letters, or the line is refused; the pair rises, or it is refused; then it is the last.
-use Rattle.std.proofs.Common.{◌≡◌, ◌<◌, ◌≤◌, ◌^◌, Some, Ok, length, arith, sym, ◌∙◌, ap}
+use Rattle.std.proofs.Common.{Some, Ok, arith, ◌∙◌, ap}
 use Rattle.std.proofs.lemmas.Result.{err_from_is_err_and}
 use Rattle.text_definitions.specs.Slp1.{word_of_slp1}
-use Rattle.lexicon_definitions.specs.Lexicons.{compare_pairs}
 use Rattle.lexicon_text_definitions.specs.FileLines.{fields_of}
-use Rattle.lexicon_text_definitions.specs.FileContents.{compare_last}
 use Rattle.lexicon_text_definitions.specs.FileSteps.{if_rising, one_letter, take_plain as take_plain_of}
 use Rattle.lexicon_text_definitions.proofs.LineSteps.{with_pair}
 use Rattle.lexicon_file.specs.declared.error.FileWhy.TheVariants.{Field}

@@ -1,5 +1,5 @@
 -- The field has three parts that spell words, or the line is refused; then the triple decides.
-use Rattle.std.proofs.Common.{◌≡◌, ◌<◌, ◌≤◌, ◌^◌, Some, length, arith, subst}
+use Rattle.std.proofs.Common.{Some, arith, subst}
 use Rattle.std.proofs.lemmas.Result.{err_from_is_err_and}
 use Rattle.lexicon_text_definitions.specs.FileLines.{fields_of}
 use Rattle.lexicon_text_definitions.specs.FileSteps.{Taken, take_rule as take_rule_of}
