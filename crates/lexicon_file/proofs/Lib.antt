@@ -2,3 +2,4 @@ pub mod CutLemmas
 pub mod ReadLemmas
 pub mod StageLemmas
 pub mod AnswerLemmas
+pub mod ListsTold
