@@ -13,8 +13,14 @@ ghost use Rattle.lexicon_definitions.specs.Lexicons.{IsRuleSet, tree_of, compare
 ghost use Rattle.lexicon_definitions.specs.Limits.{IsRuleSetWithinLimits};
 ghost use Rattle.phase_automaton.specs.Automata.{Recognizes};
 ghost use Rattle.lexicon_text_definitions.specs.FileLines.{Opening, End, may_follow, Phase, Grammar, Plain, Rule as RuleLine, Form, fields_of};
+<<<<<<< HEAD
 ghost use Rattle.lexicon_text_definitions.specs.FileContents.{Told as ToldValue, is_phase_name as is_phase_name_of, compare_last, rule_between as rule_between_of, nothing_told, rules_told, lexicon_told};
 ghost use Rattle.lexicon_text_definitions.specs.FileSteps.{if_rising, passes_rule_limits as passes_rule_limits_of, take_triple as take_triple_of, take_line as take_line_of, take_head as take_head_of, take_end as take_end_of, take_phase as take_phase_of, take_grammar as take_grammar_of, take_plain as take_plain_of, take_rule as take_rule_of, take_form as take_form_of};
+=======
+ghost use Rattle.lexicon_text_definitions.specs.FileContents.{Told as ToldValue, is_phase_name as is_phase_name_of, nothing_told, rules_told, lexicon_told, compare_entries, compare_last as compare_last_of};
+ghost use Rattle.form_lists.specs.Lists.{text_entry};
+ghost use Rattle.lexicon_text_definitions.specs.FileSteps.{if_rising, take_line as take_line_of, take_head as take_head_of, take_end as take_end_of, take_phase as take_phase_of, take_grammar as take_grammar_of, take_plain as take_plain_of, take_rule as take_rule_of, take_form as take_form_of};
+>>>>>>> 05ab330601f60d85411c59451885082565d98e42
 ghost use Rattle.lexicon_file.specs.Told.{IsAnswer, IsLineAnswer, IsNoEnd};
 ghost use Rattle.lexicon_file.specs.Fields.{text_of_rest};
 ghost use Rattle.lexicon_file.specs.Contents.{lexicon_of};
@@ -298,19 +304,20 @@ impl Told {
     }
 
     /// How the last entry compares with a new one; below it where there is none.
-    fn compare_last(&self, entry: &Entry) -> Ordering {
+    fn compare_last(&self, entry: &Entry) -> Ordering
+        requires { may_follow self.now.last Form ≡ true }
+        ensures { result ≡ compare_last_of compare_entries self.now.forms (text_entry entry.now) }
+    {
+        if self.lists.lines() == 0 {
+            return Ordering::Less;
+        }
         let forms = self.lists.forms(self.last_phase);
-        let Some(last) = forms.last() else {
-            return Ordering::Less;
-        };
-        let analyses = self.lists.analyses(self.last_phase, forms.len() as u32 - 1);
-        let Some(analysis) = analyses.last() else {
-            return Ordering::Less;
-        };
-        self.last_phase
-            .cmp(&entry.phase)
-            .then(last.compare(&entry.form))
-            .then(analysis.compare(&entry.analysis))
+        let place = forms.len() - 1;
+        let analyses = self.lists.analyses(self.last_phase, place as u32);
+        let within_phase = forms[place]
+            .compare(&entry.form)
+            .then(analyses[analyses.len() - 1].compare(&entry.analysis));
+        self.last_phase.cmp(&entry.phase).then(within_phase)
     }
 
     fn take_form(&mut self, alloc: Global, text: &[u8]) -> Result<(), LineError>
@@ -341,8 +348,9 @@ impl Told {
             analysis: Analysis { stem, tag },
         };
         rising(self.compare_last(&entry))?;
-        self.last_phase = entry.phase;
+        let phase = entry.phase;
         self.lists.insert(entry)?;
+        self.last_phase = phase;
         self.last = Kind::Form;
         Ok(())
     }
