@@ -3,3 +3,4 @@ pub mod ReadLemmas
 pub mod StageLemmas
 pub mod AnswerLemmas
 pub mod ListsTold
+pub mod LinesTaken

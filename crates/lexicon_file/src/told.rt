@@ -12,6 +12,9 @@ ghost use Rattle.lexicon_text_definitions.specs.FileSteps.{take_line as take_lin
 ghost use Rattle.lexicon_file.specs.Told.{IsAnswer, IsLineAnswer, IsNoEnd};
 ghost use Rattle.lexicon_file.specs.Fields.{text_of_rest};
 ghost use Rattle.lexicon_file.specs.Contents.{lexicon_of};
+ghost use Rattle.lexicon_text_definitions.specs.FileLines.{parts_of};
+ghost use Rattle.lexicon_text_definitions.specs.FileSteps.{take_kind as take_kind_of, take_parts as take_parts_of};
+ghost use Rattle.lexicon_file.specs.Kinds.{kind_of};
 
 use crate::cutting::{four_fields, kind_and_rest, one_field, rule_parts, two_fields};
 use crate::kind::Kind;
@@ -292,6 +295,43 @@ impl Told {
         Ok(())
     }
 
+    /// Takes a line of a kind that may come next, with what comes after its blank.
+    fn take_kind(&mut self, alloc: Global, kind: Kind, rest: Option<&[u8]>) -> Result<(), LineError>
+        requires follows { may_follow self.old.last (kind_of kind) ≡ true }
+        requires fits { IfSome rest (λ text. length text.now < 2 ^ 32) }
+        ensures { IsLineAnswer (take_kind_of self.old (kind_of kind) (text_of_rest rest.entry)) result self.new }
+    {
+        if kind == Kind::End {
+            return self.take_end(rest);
+        }
+        let Some(text) = rest else {
+            return Err(FileWhy::Field.into());
+        };
+        match kind {
+            Kind::Phase => self.take_phase(alloc, text),
+            Kind::Grammar => self.take_grammar(alloc, text),
+            Kind::Plain => self.take_plain(alloc, text),
+            Kind::Rule => self.take_rule(alloc, text),
+            Kind::Form => self.take_form(alloc, text),
+            Kind::Opening | Kind::Head | Kind::End => Err(FileWhy::Order.into()),
+        }
+    }
+
+    /// Takes a line after the first.
+    fn take_parts(&mut self, alloc: Global, line: &[u8]) -> Result<(), LineError>
+        requires { length line.now < 2 ^ 32 }
+        ensures { IsLineAnswer (take_parts_of self.old (parts_of line.now)) result self.new }
+    {
+        let (name, rest) = kind_and_rest(line);
+        let Some(kind) = Kind::named(name) else {
+            return Err(FileWhy::Order.into());
+        };
+        if !kind.may_come_after(self.last) {
+            return Err(FileWhy::Order.into());
+        }
+        self.take_kind(alloc, kind, rest)
+    }
+
     /// Takes the next line, whether ended by a line end or not.
     pub(crate) fn take_line(
         &mut self,
@@ -314,27 +354,7 @@ impl Told {
         if self.last == Kind::Opening {
             return self.take_head(line);
         }
-        let (name, rest) = kind_and_rest(line);
-        let Some(kind) = Kind::named(name) else {
-            return Err(FileWhy::Order.into());
-        };
-        if !kind.may_come_after(self.last) {
-            return Err(FileWhy::Order.into());
-        }
-        if kind == Kind::End {
-            return self.take_end(rest);
-        }
-        let Some(text) = rest else {
-            return Err(FileWhy::Field.into());
-        };
-        match kind {
-            Kind::Phase => self.take_phase(alloc, text),
-            Kind::Grammar => self.take_grammar(alloc, text),
-            Kind::Plain => self.take_plain(alloc, text),
-            Kind::Rule => self.take_rule(alloc, text),
-            Kind::Form => self.take_form(alloc, text),
-            Kind::Opening | Kind::Head | Kind::End => Err(FileWhy::Order.into()),
-        }
+        self.take_parts(alloc, line)
     }
 
     /// The contents of the file, where the last line was its end.
