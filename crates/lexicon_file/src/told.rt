@@ -4,26 +4,18 @@ ghost use Rattle.std.specs.Str.{bytes_eq};
 ghost use Rattle.std.specs.String.{string_bytes};
 ghost use Rattle.lexicon_definitions.specs.Rules.{all_phases as all_phases_of};
 ghost use Rattle.lexicon_definitions.specs.GrammarTexts.{is_name_byte as is_name_byte_of};
-<<<<<<< HEAD
 ghost use Rattle.lexicon_definitions.specs.GrammarFaults.{is_small_letter as is_small_letter_of};
-ghost use Rattle.lexicon_definitions.specs.Lexicons.{IsRuleSet, tree_of};
-=======
 ghost use Rattle.lexicon_definitions.specs.Lexicons.{IsRuleSet, tree_of, compare_pairs};
->>>>>>> 5f937163d8b34d92d5c68af9eb79c32bdce2c199
 ghost use Rattle.lexicon_definitions.specs.Limits.{IsRuleSetWithinLimits};
 ghost use Rattle.phase_automaton.specs.Automata.{Recognizes};
-ghost use Rattle.lexicon_text_definitions.specs.FileLines.{Opening, End, may_follow, Phase, Grammar, Plain, Rule as RuleLine, Form, fields_of};
-<<<<<<< HEAD
-ghost use Rattle.lexicon_text_definitions.specs.FileContents.{Told as ToldValue, is_phase_name as is_phase_name_of, compare_last, rule_between as rule_between_of, nothing_told, rules_told, lexicon_told};
-ghost use Rattle.lexicon_text_definitions.specs.FileSteps.{if_rising, passes_rule_limits as passes_rule_limits_of, take_triple as take_triple_of, take_line as take_line_of, take_head as take_head_of, take_end as take_end_of, take_phase as take_phase_of, take_grammar as take_grammar_of, take_plain as take_plain_of, take_rule as take_rule_of, take_form as take_form_of};
-=======
-ghost use Rattle.lexicon_text_definitions.specs.FileContents.{Told as ToldValue, is_phase_name as is_phase_name_of, nothing_told, rules_told, lexicon_told, compare_entries, compare_last as compare_last_of};
+ghost use Rattle.lexicon_text_definitions.specs.FileLines.{Opening, End, may_follow, Phase, Grammar, Plain, Rule as RuleLine, Form, fields_of, parts_of};
+ghost use Rattle.lexicon_text_definitions.specs.FileContents.{Told as ToldValue, is_phase_name as is_phase_name_of, compare_last, rule_between as rule_between_of, nothing_told, rules_told, lexicon_told, compare_entries, compare_last as compare_last_of};
+ghost use Rattle.lexicon_text_definitions.specs.FileSteps.{if_rising, passes_rule_limits as passes_rule_limits_of, take_triple as take_triple_of, take_line as take_line_of, take_head as take_head_of, take_end as take_end_of, take_phase as take_phase_of, take_grammar as take_grammar_of, take_plain as take_plain_of, take_rule as take_rule_of, take_form as take_form_of, take_kind as take_kind_of, take_parts as take_parts_of};
 ghost use Rattle.form_lists.specs.Lists.{text_entry};
-ghost use Rattle.lexicon_text_definitions.specs.FileSteps.{if_rising, take_line as take_line_of, take_head as take_head_of, take_end as take_end_of, take_phase as take_phase_of, take_grammar as take_grammar_of, take_plain as take_plain_of, take_rule as take_rule_of, take_form as take_form_of};
->>>>>>> 05ab330601f60d85411c59451885082565d98e42
 ghost use Rattle.lexicon_file.specs.Told.{IsAnswer, IsLineAnswer, IsNoEnd};
 ghost use Rattle.lexicon_file.specs.Fields.{text_of_rest};
 ghost use Rattle.lexicon_file.specs.Contents.{lexicon_of};
+ghost use Rattle.lexicon_file.specs.Kinds.{kind_of};
 
 use crate::cutting::{four_fields, kind_and_rest, one_field, rule_parts, two_fields};
 use crate::kind::Kind;
@@ -366,6 +358,43 @@ impl Told {
         Ok(())
     }
 
+    /// Takes a line of a kind that may come next, with what comes after its blank.
+    fn take_kind(&mut self, alloc: Global, kind: Kind, rest: Option<&[u8]>) -> Result<(), LineError>
+        requires follows { may_follow self.old.last (kind_of kind) ≡ true }
+        requires fits { IfSome rest (λ text. length text.now < 2 ^ 32) }
+        ensures { IsLineAnswer (take_kind_of self.old (kind_of kind) (text_of_rest rest.entry)) result self.new }
+    {
+        if kind == Kind::End {
+            return self.take_end(rest);
+        }
+        let Some(text) = rest else {
+            return Err(FileWhy::Field.into());
+        };
+        match kind {
+            Kind::Phase => self.take_phase(alloc, text),
+            Kind::Grammar => self.take_grammar(alloc, text),
+            Kind::Plain => self.take_plain(alloc, text),
+            Kind::Rule => self.take_rule(alloc, text),
+            Kind::Form => self.take_form(alloc, text),
+            Kind::Opening | Kind::Head | Kind::End => Err(FileWhy::Order.into()),
+        }
+    }
+
+    /// Takes a line after the first.
+    fn take_parts(&mut self, alloc: Global, line: &[u8]) -> Result<(), LineError>
+        requires { length line.now < 2 ^ 32 }
+        ensures { IsLineAnswer (take_parts_of self.old (parts_of line.now)) result self.new }
+    {
+        let (name, rest) = kind_and_rest(line);
+        let Some(kind) = Kind::named(name) else {
+            return Err(FileWhy::Order.into());
+        };
+        if !kind.may_come_after(self.last) {
+            return Err(FileWhy::Order.into());
+        }
+        self.take_kind(alloc, kind, rest)
+    }
+
     /// Takes the next line, whether ended by a line end or not.
     pub(crate) fn take_line(
         &mut self,
@@ -388,27 +417,7 @@ impl Told {
         if self.last == Kind::Opening {
             return self.take_head(line);
         }
-        let (name, rest) = kind_and_rest(line);
-        let Some(kind) = Kind::named(name) else {
-            return Err(FileWhy::Order.into());
-        };
-        if !kind.may_come_after(self.last) {
-            return Err(FileWhy::Order.into());
-        }
-        if kind == Kind::End {
-            return self.take_end(rest);
-        }
-        let Some(text) = rest else {
-            return Err(FileWhy::Field.into());
-        };
-        match kind {
-            Kind::Phase => self.take_phase(alloc, text),
-            Kind::Grammar => self.take_grammar(alloc, text),
-            Kind::Plain => self.take_plain(alloc, text),
-            Kind::Rule => self.take_rule(alloc, text),
-            Kind::Form => self.take_form(alloc, text),
-            Kind::Opening | Kind::Head | Kind::End => Err(FileWhy::Order.into()),
-        }
+        self.take_parts(alloc, line)
     }
 
     /// The contents of the file, where the last line was its end.
