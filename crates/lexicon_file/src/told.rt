@@ -1,15 +1,17 @@
-ghost use Rattle.std.specs.Prelude.{◌≡◌, ◌<◌, ◌≤◌, ◌^◌, length, true, IfOk, IfErr, Some, IfSome};
-ghost use Rattle.std.specs.List.{position};
+ghost use Rattle.std.specs.Prelude.{◌≡◌, ◌<◌, ◌||◌, nat_le, nat_lt, ◌≤◌, ◌^◌, length, map, true, IfOk, IfErr, Some, IfSome};
+ghost use Rattle.std.specs.List.{list_all, position};
 ghost use Rattle.std.specs.Str.{bytes_eq};
+ghost use Rattle.std.specs.String.{string_bytes};
 ghost use Rattle.lexicon_definitions.specs.Rules.{all_phases as all_phases_of};
 ghost use Rattle.lexicon_definitions.specs.GrammarTexts.{is_name_byte as is_name_byte_of};
+ghost use Rattle.lexicon_definitions.specs.GrammarFaults.{is_small_letter as is_small_letter_of};
 ghost use Rattle.lexicon_definitions.specs.Lexicons.{IsRuleSet, tree_of};
 ghost use Rattle.lexicon_definitions.specs.Limits.{IsRuleSetWithinLimits};
 ghost use Rattle.phase_automaton.specs.Automata.{Recognizes};
 ghost use Rattle.lexicon_text_definitions.specs.FileLines.{Opening, End, may_follow, Phase, Grammar, Plain, Rule as RuleLine, Form, fields_of};
 ghost use Rattle.lexicon_text_definitions.specs.FileContents.{Told as ToldValue, is_phase_name as is_phase_name_of, nothing_told, rules_told, lexicon_told, compare_entries, compare_last as compare_last_of};
 ghost use Rattle.form_lists.specs.Lists.{text_entry};
-ghost use Rattle.lexicon_text_definitions.specs.FileSteps.{if_rising, take_line as take_line_of, take_head as take_head_of, take_end as take_end_of, take_phase as take_phase_of, take_grammar as take_grammar_of, take_plain as take_plain_of, take_rule as take_rule_of, take_form as take_form_of};
+ghost use Rattle.lexicon_text_definitions.specs.FileSteps.{if_rising, take_form_line, take_line as take_line_of, take_head as take_head_of, take_end as take_end_of, take_phase as take_phase_of, take_grammar as take_grammar_of, take_plain as take_plain_of, take_rule as take_rule_of, take_form as take_form_of};
 ghost use Rattle.lexicon_file.specs.Told.{IsAnswer, IsLineAnswer, IsNoEnd};
 ghost use Rattle.lexicon_file.specs.Fields.{text_of_rest};
 ghost use Rattle.lexicon_file.specs.Contents.{lexicon_of};
@@ -66,6 +68,20 @@ fn is_name_byte(byte: u8) -> bool
     matches!(byte, b'a'..=b'z' | b'0'..=b'9' | b'_')
 }
 
+/// Whether each of the bytes may stand in a phase's name.
+fn are_name_bytes(bytes: &[u8]) -> bool
+    ensures { result ≡ list_all is_name_byte_of bytes.now }
+{
+    bytes.iter().all(|byte| is_name_byte(*byte))
+}
+
+/// Whether the byte may begin a phase's name.
+fn is_small_letter(byte: u8) -> bool
+    ensures { result ≡ is_small_letter_of byte }
+{
+    matches!(byte, b'a'..=b'z')
+}
+
 /// Whether a phase's name has 1 to 16 bytes, the first a small letter, the others small letters, digits or `_`.
 fn is_phase_name(name: &[u8]) -> bool
     ensures { result ≡ is_phase_name_of name.now }
@@ -73,10 +89,26 @@ fn is_phase_name(name: &[u8]) -> bool
     let [first, others @ ..] = name else {
         return false;
     };
-    if !matches!(*first, b'a'..=b'z') || name.len() > MOST_NAME_BYTES {
+    if !is_small_letter(*first) {
         return false;
     }
-    others.iter().all(|byte| is_name_byte(*byte))
+    if name.len() > MOST_NAME_BYTES {
+        return false;
+    }
+    are_name_bytes(others)
+}
+
+/// The place of the first of the names that has these bytes, counted from 0.
+fn place_of(names: &[String], name: &[u8]) -> Option<usize>
+    ensures named { result ≡ position (bytes_eq name.now) (map string_bytes names.now) }
+    ensures within { IfSome result (λ place. place < length names.now) }
+{
+    for (place, known) in names.iter().enumerate() {
+        if name == known.as_bytes() {
+            return Some(place);
+        }
+    }
+    None
 }
 
 /// The reason that comes from how a new one compares with the last before it.
@@ -96,6 +128,15 @@ fn all_phases(count: usize) -> u16
     ensures { result ≡ all_phases_of count }
 {
     ((1u32 << count) - 1) as u16
+}
+
+/// Whether after so many entries there is none more, or the entry's form or its stem is too long.
+fn passes_form_limits(lines: usize, entry: &Entry) -> bool
+    ensures { result ≡ (nat_le MOST_FORM_LINES lines || nat_lt MOST_FORM_LETTERS (length entry.now.form) || nat_lt MOST_FORM_LETTERS (length entry.now.analysis.stem)) }
+{
+    lines >= MOST_FORM_LINES
+        || entry.form.len() > MOST_FORM_LETTERS
+        || entry.analysis.stem.len() > MOST_FORM_LETTERS
 }
 
 impl Told {
@@ -130,7 +171,7 @@ impl Told {
         ensures within { IfSome result (λ phase. phase < length self.now.names) }
         ensures few { length self.now.names ≤ MOST_PHASES }
     {
-        self.names.iter().position(|other| other.as_bytes() == name)
+        place_of(self.names.as_slice(), name)
     }
 
     fn take_phase(&mut self, alloc: Global, text: &[u8]) -> Result<(), LineError>
@@ -171,6 +212,7 @@ impl Told {
         self.grammar = Vec::from_slice(alloc, text)?;
         self.lists = FormLists::new(alloc, self.names.len() as u32)?;
         self.automaton = Some(automaton);
+        self.last_phase = 0;
         self.last = Kind::Grammar;
         Ok(())
     }
@@ -251,6 +293,24 @@ impl Told {
         self.last_phase.cmp(&entry.phase).then(within_phase)
     }
 
+    fn take_entry(&mut self, entry: Entry) -> Result<(), LineError>
+        requires follows { may_follow self.old.last Form ≡ true }
+        requires phase { entry.phase < length self.old.names }
+        requires form { 0 < length entry.form }
+        requires stem { 0 < length entry.analysis.stem }
+        ensures { IsAnswer (take_form_line self.old (text_entry entry)) result self.new }
+    {
+        if passes_form_limits(self.lists.lines() as usize, &entry) {
+            return Err(FileWhy::Limit.into());
+        }
+        rising(self.compare_last(&entry))?;
+        let phase = entry.phase;
+        self.lists.insert(entry)?;
+        self.last_phase = phase;
+        self.last = Kind::Form;
+        Ok(())
+    }
+
     fn take_form(&mut self, alloc: Global, text: &[u8]) -> Result<(), LineError>
         requires follows { may_follow self.old.last Form ≡ true }
         requires fits { length text.now < 2 ^ 32 }
@@ -267,23 +327,11 @@ impl Told {
         };
         let form = read_some_word(alloc, form)?;
         let stem = read_some_word(alloc, stem)?;
-        if self.lists.lines() as usize >= MOST_FORM_LINES
-            || form.len() > MOST_FORM_LETTERS
-            || stem.len() > MOST_FORM_LETTERS
-        {
-            return Err(FileWhy::Limit.into());
-        }
-        let entry = Entry {
+        self.take_entry(Entry {
             phase: phase as u32,
             form,
             analysis: Analysis { stem, tag },
-        };
-        rising(self.compare_last(&entry))?;
-        let phase = entry.phase;
-        self.lists.insert(entry)?;
-        self.last_phase = phase;
-        self.last = Kind::Form;
-        Ok(())
+        })
     }
 
     fn take_end(&mut self, rest: Option<&[u8]>) -> Result<(), LineError>
