@@ -4,3 +4,4 @@ pub mod StageLemmas
 pub mod AnswerLemmas
 pub mod ListsTold
 pub mod LinesTaken
+pub mod FaultsRead
