@@ -1,5 +1,5 @@
 -- Line by line, what is read from the next line on is what is read in the file; at the end what is read as a lexicon is one.
-use Rattle.std.proofs.Common.{rules, arith, ◌≡◌, ◌<◌, ◌≤◌, ◌^◌, length}
+use Rattle.std.proofs.Common.{arith}
 use Rattle.lexicon_file.proofs.ReadLemmas.{first_reading, reads_on, text_at_end}
 use Rattle.lexicon_file.proofs.FaultsRead.{line_fault}
 use Rattle.lexicon_file.proofs.reading.read.Goals as goal
