@@ -10,3 +10,4 @@ pub mod RuleLemmas
 pub mod ListsTold
 pub mod FormLemmas
 pub mod LinesTaken
+pub mod WriteLemmas
