@@ -1,5 +1,4 @@
 ghost use Rattle.std.specs.Prelude.{◌≡◌, ◌<◌, ◌≤◌, ◌++◌, [], ◌∷◌, length, map, slice_index_or, string_bytes, IfOk, OnOk};
-ghost use Rattle.lexicon_definitions.specs.Lexicons.{Form};
 ghost use Rattle.text_definitions.specs.Slp1.{slp1_of_word};
 ghost use Rattle.form_tags.specs.Analyses.{text_analysis};
 ghost use Rattle.lexicon_text_definitions.specs.LexiconTexts.{text_of, text_of_lines, phase_line, grammar_line, plain_line, rule_line, form_line, phase_forms_lines, forms_lines};
@@ -76,11 +75,7 @@ fn push_pair(alloc: Global, out: &mut Vec<u8>, pair: (Letter, Letter)) -> Result
 }
 
 /// Appends the line of each plain pair.
-fn push_pairs(
-    alloc: Global,
-    out: &mut Vec<u8>,
-    pairs: &[(Letter, Letter)],
-) -> Result<(), Memory>
+fn push_pairs(alloc: Global, out: &mut Vec<u8>, pairs: &[(Letter, Letter)]) -> Result<(), Memory>
     ensures ok { OnOk result (out.new.items ≡ out.old.items ++ text_of_lines (map plain_line pairs.now)) }
 {
     for pair in pairs {
