@@ -1,21 +1,25 @@
 -- What a run of `segment` writes is the output of an outcome: the file as read is the whole file, where it is within the
 -- limit.
-use Rattle.std.proofs.Common.{◌≡◌, ℕ, ◌+◌, ◌≤◌, List, [], ◌++◌, length, take, min, Option, Some, None, refl, sym, ap, subst, ◌∙◌, inl, inr, arith, append-nil, length-take}
+use Rattle.std.proofs.Common.{◌≡◌, ℕ, ◌+◌, ◌<◌, ◌≤◌, List, [], ◌++◌, length, take, min, Option, Some, None, Ok, Err, refl, sym, ap, subst, ◌∙◌, inl, inr, arith, append-nil, length-take}
 use Rattle.std.specs.Option.{option_map}
 use Rattle.std.proofs.lemmas.List.{take_all}
 use Rattle.outside.specs.Files.{Files, contents_of, first_bytes}
 use Rattle.outside.specs.Told.{bytes_after, GrowsByPrefix}
-use Rattle.thin_text_definitions.specs.ThinTexts.{IsThinTextOf}
-use Rattle.run_definitions.specs.Commands.{Command, Segment, AreWordsOf, AreOfNoCommand}
+use Rattle.run_definitions.specs.Commands.{Command, Segment, FileWord, AreWordsOf, AreOfNoCommand}
 use Rattle.run_definitions.specs.Ends as ends
 use Rattle.run_definitions.specs.Ends.{Outcome, outcome_over}
-use Rattle.run_definitions.specs.SegmentOutcomes.{IsSegmentOutcome, Missing, Unbuilt, OfPage}
+use Rattle.run_definitions.specs.SegmentOutcomes as outcomes
+use Rattle.run_definitions.specs.SegmentOutcomes.{IsSegmentOutcome, DoesTell, NotThere, Refused, Holds, IsMissing, IsLarge, IsFaulty, IsLexicon}
 use Rattle.run_definitions.specs.Outcomes.{IsOutcome, OfNoCommand, OfCommand, usage_outcome}
+use Rattle.lexicon_text_definitions.specs.FileReadings.{IsReadAs}
+use Rattle.lexicon_file.specs.Contents.{fault_of}
 use Rattle.lexicon_text_definitions.specs.declared.limits.TheConstants.{MOST_FILE_BYTES}
 use Rattle.sandhi_program.specs.declared.status.Status.{Status}
-use Rattle.sandhi_program.specs.declared.status.Status.TheVariants.{Done, Memory, Usage, ReadFault, WriteFault, NotBuilt}
-use Rattle.sandhi_program.specs.Ends.{Tells, WroteAll, WrotePrefix, IsNoFault, MayEndNoCommand, Finishes}
-use Rattle.sandhi_program.specs.Segments.{IsSegmentOutput, IsUnbuilt, Writes, WroteSegment, Nothing, Something}
+use Rattle.sandhi_program.specs.declared.status.Status.TheVariants.{Done, Memory, Usage, ReadFault, WriteFault, BadFile, BadText}
+use Rattle.sandhi_program.specs.declared.status.AnyFault.{AnyFault}
+use Rattle.sandhi_program.specs.declared.status.AnyFault.TheVariants.{Large, Lexicon as OfLexicon}
+use Rattle.sandhi_program.specs.Ends.{Tells, WroteAll, WrotePrefix, IsNoFault, MayEndNoCommand, Finishes, file_fault, text_fault}
+use Rattle.sandhi_program.specs.Segments.{IsRefusedFile, Writes, WroteSegment, Nothing, Something}
 use Rattle.sandhi_program.specs.Segments as segments
 
 -- the told file has these first bytes
@@ -38,45 +42,66 @@ pub within : (content bytes : List ℕ) → take (MOST_FILE_BYTES + 1) content �
 within content bytes e low =
     let len : min (MOST_FILE_BYTES + 1) (length content) ≡ length bytes = sym (length-take (MOST_FILE_BYTES + 1) content) ∙ ap length e in omega arith
 
+-- what is read of a file that is too large is longer than the limit, and so is the file
+pub longer : (content bytes : List ℕ) → take (MOST_FILE_BYTES + 1) content ≡ bytes → MOST_FILE_BYTES < length bytes → MOST_FILE_BYTES < length content
+longer content bytes e high =
+    let len : min (MOST_FILE_BYTES + 1) (length content) ≡ length bytes = sym (length-take (MOST_FILE_BYTES + 1) content) ∙ ap length e in omega arith
+
+-- what a refused file tells
+refused_file : (files : Files) (name content bytes : List ℕ) (fault : AnyFault) → contents_of files name ≡ Some content
+    → take (MOST_FILE_BYTES + 1) content ≡ bytes → IsRefusedFile bytes fault → DoesTell files name (Refused (file_fault fault))
+refused_file files name content bytes Large there e high = IsLarge content there (longer content bytes e high) refl
+refused_file files name content bytes (OfLexicon fault) there e why =
+    let low = within content bytes e why.0 in
+    let same = whole content bytes e low in
+    IsFaulty content there low (fault_of fault) (subst (λ b. IsReadAs b (Err (fault_of fault))) (sym same) why.1) refl
+
 -- the outcome whose output `segment` writes
-pub outcome_of : (lex text : List ℕ) (files : Files) (content bytes : List ℕ) (status : Status) (output : List ℕ)
-    → contents_of files lex ≡ Some content → take (MOST_FILE_BYTES + 1) content ≡ bytes → Writes bytes text status output
+pub outcome_of : (lex : FileWord) (text : List ℕ) (files : Files) (content bytes : List ℕ) (status : Status) (output : List ℕ)
+    → contents_of files lex.name ≡ Some content → take (MOST_FILE_BYTES + 1) content ≡ bytes → Writes lex bytes text status output
     → (outcome : Outcome) × IsSegmentOutcome lex text files outcome × (outcome.output ≡ output) × (outcome.files ≡ files) × Tells status outcome.end
 outcome_of lex text files content bytes status output there e (segments.Page st p) =
-    let low = within content bytes e p.thin.limit in
+    let low = within content bytes e p.within in
     let same = whole content bytes e low in (
       outcome_over files output ends.Done,
-      OfPage (record {
-        bytes = content;
-        there = there;
-        lexicon = p.lexicon;
-        thin = subst (IsThinTextOf p.lexicon) (sym same) p.thin;
-        word = p.word;
-        spelled = p.spelled;
-        answers = p.answers;
-        more = p.more;
-        page = p.page;
-        is = ap (λ out. outcome_over files out ends.Done) p.printed;
-      }),
+      record {
+        tells = Holds p.lexicon;
+        does_tell = IsLexicon content there low p.lexicon (subst (λ b. IsReadAs b (Ok p.lexicon)) (sym same) p.read) refl;
+        is_outcome = outcomes.OfPage p.line p.spelled (record {
+          answers = p.page.answers;
+          more = p.page.more;
+          page = p.page.page;
+          is = ap (λ out. outcome_over files out ends.Done) p.page.printed;
+        });
+      },
       refl,
       refl,
       subst (λ (x : Status). Tells x ends.Done) (sym st) refl,
     )
-outcome_of lex text files content bytes status output there e (segments.Unbuilt st u o) = (
-  outcome_over files output ends.NotBuilt,
-  Unbuilt (record {
-    bytes = content;
-    there = there;
-    why = elim u [
-      | inl n ↦ inl (λ (lexicon, thin). n (lexicon, subst (IsThinTextOf lexicon) (whole content bytes e thin.limit) thin))
-      | inr n ↦ inr n
-    ];
-    is = ap (λ out. outcome_over files out ends.NotBuilt) o;
-  }),
+outcome_of lex text files content bytes status output there e (segments.OfFile fault st why o) = (
+  outcome_over files output (ends.BadFile lex.place (file_fault fault)),
+  record {
+    tells = Refused (file_fault fault);
+    does_tell = refused_file files lex.name content bytes fault there e why;
+    is_outcome = ap (λ out. outcome_over files out (ends.BadFile lex.place (file_fault fault))) o;
+  },
   refl,
   refl,
-  subst (λ (x : Status). Tells x ends.NotBuilt) (sym st) refl,
+  subst (λ (x : Status). Tells x (ends.BadFile lex.place (file_fault fault))) (sym st) refl,
 )
+outcome_of lex text files content bytes status output there e (segments.OfText fault st why o) =
+    let low = within content bytes e why.within in
+    let same = whole content bytes e low in (
+      outcome_over files output (ends.BadText (text_fault fault)),
+      record {
+        tells = Holds why.lexicon;
+        does_tell = IsLexicon content there low why.lexicon (subst (λ b. IsReadAs b (Ok why.lexicon)) (sym same) why.read) refl;
+        is_outcome = outcomes.OfText (text_fault fault) why.misspelled (ap (λ out. outcome_over files out (ends.BadText (text_fault fault))) o);
+      },
+      refl,
+      refl,
+      subst (λ (x : Status). Tells x (ends.BadText (text_fault fault))) (sym st) refl,
+    )
 
 -- a status that tells no fault is not one of these
 no_fault_is_not_memory : (status : Status) → IsNoFault status → status ≡ Memory → ⊥
@@ -89,10 +114,10 @@ pub no_fault_is_not_read_fault : (status : Status) → IsNoFault status → stat
 no_fault_is_not_read_fault status own e = subst IsNoFault e own
 
 -- where no device failed and memory was found, all the output was written
-pub wrote_all : (lex text : List ℕ) (files : Files) (content bytes : List ℕ) (result : Status)
+pub wrote_all : (lex : FileWord) (text : List ℕ) (files : Files) (content bytes : List ℕ) (result : Status)
     (old new : Option (List ℕ)) (faults now : ℕ) (told : List ℕ)
-    → contents_of files lex ≡ Some content → take (MOST_FILE_BYTES + 1) content ≡ bytes
-    → WroteSegment bytes text result old new faults now → old ≡ Some told → IsNoFault result
+    → contents_of files lex.name ≡ Some content → take (MOST_FILE_BYTES + 1) content ≡ bytes
+    → WroteSegment lex bytes text result old new faults now → old ≡ Some told → IsNoFault result
     → WroteAll (IsSegmentOutcome lex text files) files told new result
 wrote_all lex text files content bytes result old new faults now told there e (Nothing m same) o own = absurd (no_fault_is_not_memory result own m)
 wrote_all lex text files content bytes result old new faults now told there e (Something status output w f) o own =
@@ -106,21 +131,21 @@ wrote_all lex text files content bytes result old new faults now told there e (S
     }
 
 -- whatever was written is a prefix of the output
-pub wrote_prefix : (lex text : List ℕ) (files : Files) (content bytes : List ℕ) (result : Status)
+pub wrote_prefix : (lex : FileWord) (text : List ℕ) (files : Files) (content bytes : List ℕ) (result : Status)
     (old new : Option (List ℕ)) (faults now : ℕ)
-    → contents_of files lex ≡ Some content → take (MOST_FILE_BYTES + 1) content ≡ bytes
-    → WroteSegment bytes text result old new faults now → WrotePrefix (IsSegmentOutcome lex text files) old new
+    → contents_of files lex.name ≡ Some content → take (MOST_FILE_BYTES + 1) content ≡ bytes
+    → WroteSegment lex bytes text result old new faults now → WrotePrefix (IsSegmentOutcome lex text files) old new
 wrote_prefix lex text files content bytes result old new faults now there e (Nothing m same) = inl same
 wrote_prefix lex text files content bytes result old new faults now there e (Something status output w f) =
     let (outcome, is, out, stay, tells) = outcome_of lex text files content bytes status output there e w in
     inr (outcome, is, subst (GrowsByPrefix old new) (sym out) f.prefix)
 
 -- a missing file has its outcome
-pub missing_wrote : (lex text : List ℕ) (files : Files) (told : List ℕ) (old new : Option (List ℕ))
-    → contents_of files lex ≡ None → old ≡ Some told → new ≡ old → WroteAll (IsSegmentOutcome lex text files) files told new ReadFault
+pub missing_wrote : (lex : FileWord) (text : List ℕ) (files : Files) (told : List ℕ) (old new : Option (List ℕ))
+    → contents_of files lex.name ≡ None → old ≡ Some told → new ≡ old → WroteAll (IsSegmentOutcome lex text files) files told new ReadFault
 missing_wrote lex text files told old new missing o same = record {
   outcome = outcome_over files [] ends.ReadFault;
-  is_it = Missing (record { missing = missing; is = refl });
+  is_it = record { tells = NotThere; does_tell = IsMissing missing refl; is_outcome = refl };
   output = same ∙ o ∙ ap Some (sym (append-nil told));
   files = refl;
   told = refl;
@@ -128,7 +153,7 @@ missing_wrote lex text files told old new missing o same = record {
 
 -- ---- the command's outcome is that of the run
 
-module _ (words : List (List ℕ)) (lex text : List ℕ) (are : AreWordsOf (Segment lex text) words) (files : Files) (input : Option (List ℕ)) where
+module _ (words : List (List ℕ)) (lex : FileWord) (text : List ℕ) (are : AreWordsOf (Segment lex text) words) (files : Files) (input : Option (List ℕ)) where
   of_segment : (outcome : Outcome) → IsSegmentOutcome lex text files outcome → IsOutcome words files input outcome
   of_segment outcome is = OfCommand (Segment lex text) are is
 
@@ -153,7 +178,8 @@ module _ (words : List (List ℕ)) (lex text : List ℕ) (are : AreWordsOf (Segm
 pub may_end : (result : Status) (old new : Option (List ℕ)) (faults now : ℕ) (output : List ℕ)
     → Finishes Usage result old new faults now output → MayEndNoCommand result
 may_end Done old new faults now output f = absurd (cc ((f.all tt).0))
-may_end NotBuilt old new faults now output f = absurd (cc ((f.all tt).0))
+may_end (BadFile word fault) old new faults now output f = absurd (cc ((f.all tt).0))
+may_end (BadText fault) old new faults now output f = absurd (cc ((f.all tt).0))
 may_end ReadFault old new faults now output f = absurd (f.read_fault refl)
 may_end Usage old new faults now output f = tt
 may_end WriteFault old new faults now output f = tt

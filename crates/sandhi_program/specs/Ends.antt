@@ -5,8 +5,16 @@ use Rattle.outside.specs.Files.{Files}
 use Rattle.outside.specs.Told.{bytes_after, GrowsByPrefix}
 use Rattle.run_definitions.specs.Ends as ends
 use Rattle.run_definitions.specs.Ends.{End, Outcome}
+use Rattle.text_definitions.specs.LineTexts as texts
+use Rattle.text_definitions.specs.LineTexts.{LineFault}
+use Rattle.latin_schemes.specs.Faults as spelling
+use Rattle.lexicon_file.specs.Contents as files
 use Rattle.sandhi_program.specs.declared.status.Status.{Status}
-use Rattle.sandhi_program.specs.declared.status.Status.TheVariants.{Done, Memory, Usage, ReadFault, WriteFault, NotBuilt}
+use Rattle.sandhi_program.specs.declared.status.Status.TheVariants.{Done, Memory, Usage, ReadFault, WriteFault, BadFile, BadText}
+use Rattle.sandhi_program.specs.declared.status.AnyFault.{AnyFault}
+use Rattle.sandhi_program.specs.declared.status.AnyFault.TheVariants.{Large, Lexicon}
+use Rattle.sandhi_program.specs.declared.status.TextFault.{TextFault}
+use Rattle.sandhi_program.specs.declared.status.TextFault.TheVariants.{Spell, NoLetters, TooLong}
 
 -- the exit status of the process
 abbrev pub exit_status : Status → ℕ
@@ -15,14 +23,26 @@ exit_status Memory = 1
 exit_status Usage = 2
 exit_status ReadFault = 3
 exit_status WriteFault = 4
-exit_status NotBuilt = 8
+exit_status (BadFile word fault) = 5
+exit_status (BadText fault) = 6
+
+-- the fault of a file, and that of a text, as the definitions name them
+abbrev pub file_fault : AnyFault → ends.AnyFault
+file_fault Large = ends.Large
+file_fault (Lexicon fault) = ends.Lexicon (files.fault_of fault)
+
+abbrev pub text_fault : TextFault → LineFault
+text_fault (Spell fault) = texts.Misspelled (spelling.fault_of fault)
+text_fault NoLetters = texts.NoLetters
+text_fault TooLong = texts.TooLong
 
 -- the status tells this end of a run; want of memory and a fault of the sink are no ends
 abbrev pub Tells : Status → End → Type 0
 Tells Done end = end ≡ ends.Done
 Tells Usage end = end ≡ ends.Usage
 Tells ReadFault end = end ≡ ends.ReadFault
-Tells NotBuilt end = end ≡ ends.NotBuilt
+Tells (BadFile word fault) end = end ≡ ends.BadFile word (file_fault fault)
+Tells (BadText fault) end = end ≡ ends.BadText (text_fault fault)
 Tells Memory end = ⊥
 Tells WriteFault end = ⊥
 
@@ -42,7 +62,8 @@ WrotePrefix IsIt old new = (new ≡ old) ⊎ ((outcome : Outcome) × IsIt outcom
 abbrev pub IsNoFault : Status → Type 0
 IsNoFault Done = Unit {0}
 IsNoFault Usage = Unit {0}
-IsNoFault NotBuilt = Unit {0}
+IsNoFault (BadFile word fault) = Unit {0}
+IsNoFault (BadText fault) = Unit {0}
 IsNoFault ReadFault = ⊥
 IsNoFault WriteFault = ⊥
 IsNoFault Memory = ⊥
@@ -54,7 +75,8 @@ MayEndNoCommand WriteFault = Unit {0}
 MayEndNoCommand Memory = Unit {0}
 MayEndNoCommand Done = ⊥
 MayEndNoCommand ReadFault = ⊥
-MayEndNoCommand NotBuilt = ⊥
+MayEndNoCommand (BadFile word fault) = ⊥
+MayEndNoCommand (BadText fault) = ⊥
 
 -- what writing all of an output before a status leaves: all of it, where the status is given; else a prefix of it, and the
 -- status is that of the sink's fault, which it counted, or of want of memory
@@ -63,3 +85,8 @@ pub record Finishes (status result : Status) (old new : Option (List ℕ)) (faul
   pub prefix : GrowsByPrefix old new output
   pub write_fault : result ≡ WriteFault → Rose faults now
   pub read_fault : result ≡ ReadFault → ⊥
+
+-- a refusal was written, or nothing for want of memory
+pub data Refuses (status result : Status) (old new : Option (List ℕ)) (faults now : ℕ) (output : List ℕ) : Type 0 where
+  Silently : result ≡ Memory → new ≡ old → Refuses status result old new faults now output
+  InWords : Finishes status result old new faults now output → Refuses status result old new faults now output

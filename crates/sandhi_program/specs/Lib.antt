@@ -1,4 +1,4 @@
 pub mod Ends
-pub mod Segments
-pub mod ThinReader
 pub mod Refusals
+pub mod SegmentErrors
+pub mod Segments

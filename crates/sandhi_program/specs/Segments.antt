@@ -1,45 +1,64 @@
--- What `segment` writes for the bytes of a lexicon and a text.
-use Rattle.std.specs.Prelude.{◌≡◌, ℕ, ◌⊎◌, ◌<◌, List, [], length, Bool, Option, codes}
-use Rattle.lexicon_definitions.specs.Lexicons.{Lexicon, RuleSet}
-use Rattle.derivation.specs.Steps.{StandIn}
-use Rattle.derivation.specs.declared.step.Step.{Step as ProgramStep}
-use Rattle.thin_text_definitions.specs.ThinTexts.{IsThinText, IsThinTextOf}
+-- What `segment` writes for the bytes of a lexicon file and a text.
+use Rattle.std.specs.Prelude.{◌≡◌, ℕ, ◌<◌, ◌≤◌, List, [], length, Bool, Option, Ok, Err}
+use Rattle.text_definitions.specs.Lines.{Line}
+use Rattle.text_definitions.specs.Schemes.{Slp1}
+use Rattle.text_definitions.specs.LineTexts.{line_of_text}
+use Rattle.lexicon_definitions.specs.Lexicons.{Lexicon}
+use Rattle.lexicon_text_definitions.specs.declared.limits.TheConstants.{MOST_FILE_BYTES}
+use Rattle.lexicon_text_definitions.specs.FileReadings.{IsReadAs}
+use Rattle.lexicon_file.specs.declared.error.FileFault.{FileFault}
+use Rattle.lexicon_file.specs.Contents.{fault_of}
 use Rattle.segmentation_definitions.specs.Derivations.{Step}
 use Rattle.segmentation_definitions.specs.Listings.{BeforeFirst, IsPage}
-use Rattle.segmentation_definitions.specs.PrintedAnswers.{output_line, printed_page}
+use Rattle.segmentation_definitions.specs.PrintedAnswers.{printed_page}
 use Rattle.run_definitions.specs.declared.limits.TheConstants.{SEGMENT_PAGE}
-use Rattle.run_definitions.specs.SegmentOutcomes.{IsUnbrokenText, unbroken_line}
+use Rattle.run_definitions.specs.Commands.{FileWord}
+use Rattle.run_definitions.specs.Refusals.{file_refusal, text_refusal}
 use Rattle.sandhi_program.specs.declared.status.Status.{Status}
-use Rattle.sandhi_program.specs.declared.status.Status.TheVariants.{Done, Memory, NotBuilt}
-use Rattle.sandhi_program.specs.Ends.{Finishes}
+use Rattle.sandhi_program.specs.declared.status.Status.TheVariants.{Done, Memory, BadFile, BadText}
+use Rattle.sandhi_program.specs.declared.status.AnyFault.{AnyFault}
+use Rattle.sandhi_program.specs.declared.status.AnyFault.TheVariants.{Large, Lexicon as OfLexicon}
+use Rattle.sandhi_program.specs.declared.status.TextFault.{TextFault}
+use Rattle.sandhi_program.specs.Ends.{file_fault, text_fault, Finishes}
 
--- the steps stand in the line one after another, and there is at least one
-pub record ArePrintable (rules : RuleSet) (letters : List ℕ) (steps : List ProgramStep) : Type 0 where
-  pub stand : StandIn rules letters steps
-  pub some : 0 < length steps
-
--- the output is the printed page of the text's line, over the lexicon whose thin text the bytes are
-pub record IsSegmentOutput (bytes text output : List ℕ) : Type 0 where
-  pub lexicon : Lexicon
-  pub thin : IsThinTextOf lexicon bytes
-  pub word : List ℕ
-  pub spelled : IsUnbrokenText text word
+-- the output is the printed page of the line before the first answer
+pub record IsPrintedPage (lexicon : Lexicon) (line : Line) (output : List ℕ) : Type 0 where
   pub answers : List (List Step)
   pub more : Bool
-  pub page : IsPage lexicon (unbroken_line word) [] BeforeFirst SEGMENT_PAGE answers more
+  pub page : IsPage lexicon line [] BeforeFirst SEGMENT_PAGE answers more
   pub printed : output ≡ printed_page lexicon.rules 1 answers more
 
--- the bytes are no thin text, or the text is not letters in SLP1 within the limit
-abbrev pub IsUnbuilt : List ℕ → List ℕ → Type 0
-IsUnbuilt bytes text = (IsThinText bytes → ⊥) ⊎ ((word : List ℕ) → IsUnbrokenText text word → ⊥)
+-- the bytes are those of the lexicon's file, the text has a line, and the output is its page
+pub record IsSegmented (bytes text output : List ℕ) : Type 0 where
+  pub within : length bytes ≤ MOST_FILE_BYTES
+  pub lexicon : Lexicon
+  pub read : IsReadAs bytes (Ok lexicon)
+  pub line : Line
+  pub spelled : line_of_text Slp1 text ≡ Ok line
+  pub page : IsPrintedPage lexicon line output
 
--- what `segment` writes is its page, or `not built`
-pub data Writes (bytes text : List ℕ) (status : Status) (output : List ℕ) : Type 0 where
-  Page : status ≡ Done → IsSegmentOutput bytes text output → Writes bytes text status output
-  Unbuilt : status ≡ NotBuilt → IsUnbuilt bytes text → output ≡ output_line (codes "not built") → Writes bytes text status output
+-- the bytes are those of no lexicon file, for this reason
+abbrev pub IsRefusedFile : List ℕ → AnyFault → Type 0
+IsRefusedFile bytes Large = MOST_FILE_BYTES < length bytes
+IsRefusedFile bytes (OfLexicon fault) = (length bytes ≤ MOST_FILE_BYTES) × IsReadAs bytes (Err (fault_of fault))
+
+-- the bytes are those of a lexicon's file, and the text has this fault
+pub record IsRefusedText (bytes text : List ℕ) (fault : TextFault) : Type 0 where
+  pub within : length bytes ≤ MOST_FILE_BYTES
+  pub lexicon : Lexicon
+  pub read : IsReadAs bytes (Ok lexicon)
+  pub misspelled : line_of_text Slp1 text ≡ Err (text_fault fault)
+
+-- what `segment` writes before the status: its page, or the refusal of the file or of the text
+pub data Writes (lex : FileWord) (bytes text : List ℕ) (status : Status) (output : List ℕ) : Type 0 where
+  Page : status ≡ Done → IsSegmented bytes text output → Writes lex bytes text status output
+  OfFile : (fault : AnyFault) → status ≡ BadFile lex.place fault → IsRefusedFile bytes fault
+      → output ≡ file_refusal lex.name (file_fault fault) → Writes lex bytes text status output
+  OfText : (fault : TextFault) → status ≡ BadText fault → IsRefusedText bytes text fault
+      → output ≡ text_refusal (text_fault fault) → Writes lex bytes text status output
 
 -- nothing was written for want of memory, or what `segment` writes, before its status
-pub data WroteSegment (bytes text : List ℕ) (result : Status) (old new : Option (List ℕ)) (faults now : ℕ) : Type 0 where
-  Nothing : result ≡ Memory → new ≡ old → WroteSegment bytes text result old new faults now
-  Something : (status : Status) (output : List ℕ) → Writes bytes text status output → Finishes status result old new faults now output
-      → WroteSegment bytes text result old new faults now
+pub data WroteSegment (lex : FileWord) (bytes text : List ℕ) (result : Status) (old new : Option (List ℕ)) (faults now : ℕ) : Type 0 where
+  Nothing : result ≡ Memory → new ≡ old → WroteSegment lex bytes text result old new faults now
+  Something : (status : Status) (output : List ℕ) → Writes lex bytes text status output
+      → Finishes status result old new faults now output → WroteSegment lex bytes text result old new faults now

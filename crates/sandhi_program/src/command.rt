@@ -26,7 +26,7 @@ fn is_named(word: &str, name: &str) -> bool
 
 /// The command that the words are, if they are one.
 pub(crate) fn command_of(words: &[String]) -> Option<Segment<'_>>
-    ensures some { IfSome result (λ segment. AreWordsOf (SegmentWords segment.lex.now segment.text.now) (map string_bytes words.now)) }
+    ensures some { IfSome result (λ segment. AreWordsOf (SegmentWords (record { place = 1; name = segment.lex.now }) segment.text.now) (map string_bytes words.now)) }
     ensures none { IfNone result (AreOfNoCommand (map string_bytes words.now)) }
 {
     let [command, lex, text] = words else {

@@ -2,12 +2,13 @@
 #![tactic(auto)]
 
 mod command;
+mod page;
+mod refusal;
 mod run;
 mod segment;
 mod status;
 #[cfg(test)]
 mod tests;
-mod thin_text;
 
 use outside::{DiskShelf, InputSource, NoGate, OutputSink};
 use phoneme::Memory;

@@ -1,17 +1,20 @@
 ghost use Rattle.std.specs.Prelude.{◌≡◌, ◌^◌, ◌<◌, ◌⊎◌, ℕ, List, length, map, string_bytes, Some};
 ghost use Rattle.outside.specs.Counts.{Rose};
 ghost use Rattle.outside.specs.Files.{Files, Lacks};
-ghost use Rattle.run_definitions.specs.Commands.{Segment as SegmentWords, AreWordsOf, AreOfNoCommand};
+ghost use Rattle.run_definitions.specs.Commands.{FileWord, Segment as SegmentWords, AreWordsOf, AreOfNoCommand};
 ghost use Rattle.run_definitions.specs.SegmentOutcomes.{IsSegmentOutcome};
 ghost use Rattle.run_definitions.specs.Outcomes.{IsOutcome};
-ghost use Rattle.sandhi_program.specs.Ends.{WroteAll, WrotePrefix, IsNoFault, MayEndNoCommand, Finishes};
+ghost use Rattle.sandhi_program.specs.Ends.{WroteAll, WrotePrefix, IsNoFault, MayEndNoCommand, Finishes, Refuses, file_fault, text_fault};
+ghost use Rattle.run_definitions.specs.Refusals.{file_refusal, text_refusal};
 ghost use Rattle.sandhi_program.specs.Segments.{WroteSegment};
 
 use super::command::{Segment, command_of};
+use super::refusal::{print_file_refusal, print_text_refusal};
 use super::segment::{SegmentError, segment};
-use super::status::Status;
+use super::status::{AnyFault, Status, TextFault};
 use lexicon_text_definitions::MOST_FILE_BYTES;
 use outside::{Gate, Shelf, ShelfError, Sink, Source, WriteError, write_all};
+use phoneme::Memory;
 use std::alloc::Global;
 use std::thread::Threads;
 
@@ -27,19 +30,46 @@ fn finish<O: Sink>(out: &mut O, output: &str, status: Status) -> Status
     }
 }
 
-/// Writes what `segment` answers for the bytes of the lexicon.
-fn write_segment<O: Sink>(alloc: Global, bytes: &[u8], text: &str, out: &mut O) -> Status
+/// Writes what `segment` answers for the bytes of the lexicon file.
+fn write_segment<O: Sink>(
+    alloc: Global,
+    lex: &str,
+    bytes: &[u8],
+    text: &str,
+    out: &mut O,
+) -> Status
     requires { length text.now < 2 ^ 32 }
-    ensures { WroteSegment bytes.now text.now result (O.written out.old) (O.written out.new) (O.faults out.old) (O.faults out.new) }
+    ensures { WroteSegment (record { place = 1; name = lex.now }) bytes.now text.now result (O.written out.old) (O.written out.new) (O.faults out.old) (O.faults out.new) }
 {
     match segment(alloc, bytes, text) {
         Ok(output) => finish(out, output.as_str(), Status::Done),
-        Err(SegmentError::NotBuilt) => finish(out, "not built\n", Status::NotBuilt),
+        Err(SegmentError::BadFile(fault)) => refuse_file(alloc, lex, fault, out),
+        Err(SegmentError::BadText(fault)) => refuse_text(alloc, fault, out),
         Err(SegmentError::Memory) => Status::Memory,
     }
 }
 
-/// `segment LEX TEXT`: reads the lexicon, lists the answers of the text, and writes one page of them. Of a file one byte
+/// Writes the refusal of the lexicon file.
+fn refuse_file<O: Sink>(alloc: Global, lex: &str, fault: AnyFault, out: &mut O) -> Status
+    ensures { Refuses (Status.BadFile 1 fault) result (O.written out.old) (O.written out.new) (O.faults out.old) (O.faults out.new) (file_refusal lex.now (file_fault fault)) }
+{
+    match print_file_refusal(alloc, lex, fault) {
+        Ok(output) => finish(out, output.as_str(), Status::BadFile { word: 1, fault }),
+        Err(Memory) => Status::Memory,
+    }
+}
+
+/// Writes the refusal of the text.
+fn refuse_text<O: Sink>(alloc: Global, fault: TextFault, out: &mut O) -> Status
+    ensures { Refuses (Status.BadText fault) result (O.written out.old) (O.written out.new) (O.faults out.old) (O.faults out.new) (text_refusal (text_fault fault)) }
+{
+    match print_text_refusal(alloc, fault) {
+        Ok(output) => finish(out, output.as_str(), Status::BadText { fault }),
+        Err(Memory) => Status::Memory,
+    }
+}
+
+/// `segment LEX TEXT`: reads the lexicon and the text, lists the answers, and writes one page of them. Of a file one byte
 /// more is read than it may have, so that a longer one is told from one that ends there.
 fn run_segment<H: Shelf, O: Sink>(
     alloc: Global,
@@ -50,26 +80,26 @@ fn run_segment<H: Shelf, O: Sink>(
 ) -> Status
     requires { length text.now < 2 ^ 32 }
     ensures outcome { IsNoFault result → (files : Files) (old : List ℕ) → H.files shelf.old ≡ Some files → O.written out.old ≡ Some old
-        → WroteAll (IsSegmentOutcome lex.now text.now files) files old (O.written out.new) result }
+        → WroteAll (IsSegmentOutcome (record { place = 1; name = lex.now }) text.now files) files old (O.written out.new) result }
     ensures missing { result ≡ Status.ReadFault → Rose (H.failed_reads shelf.old) (H.failed_reads shelf.new) ⊎ Lacks (H.files shelf.old) lex.now }
     ensures nothing { result ≡ Status.ReadFault → O.written out.new ≡ O.written out.old }
     ensures prefix { (files : Files) → H.files shelf.old ≡ Some files
-        → WrotePrefix (IsSegmentOutcome lex.now text.now files) (O.written out.old) (O.written out.new) }
+        → WrotePrefix (IsSegmentOutcome (record { place = 1; name = lex.now }) text.now files) (O.written out.old) (O.written out.new) }
     ensures write_fault { result ≡ Status.WriteFault → Rose (O.faults out.old) (O.faults out.new) }
     ensures usage { result ≡ Status.Usage → ⊥ }
     ensures files { H.files shelf.new ≡ H.files shelf.old }
     ensures failed_writes { H.failed_writes shelf.new ≡ H.failed_writes shelf.old }
 {
     match shelf.read(alloc, lex, MOST_FILE_BYTES + 1) {
-        Ok(bytes) => write_segment(alloc, bytes.as_slice(), text, out),
+        Ok(bytes) => write_segment(alloc, lex, bytes.as_slice(), text, out),
         Err(ShelfError::Missing | ShelfError::Failed) => Status::ReadFault,
         Err(ShelfError::Memory) => Status::Memory,
     }
 }
 
 /// Does what the words of the command line say, over the devices, and answers how the run ended. `words` are the
-/// program's words without its name. `usage` and `not built` are written to `out`, a line each; where a file is not read
-/// nothing is written.
+/// program's words without its name. `usage` and the refusals of files and texts are written to `out`, a line each; where a
+/// file is not read nothing is written.
 pub fn run<R: Threads + Sync, H: Shelf, I: Source, O: Sink, G: Gate + Sync>(
     _rt: &R,
     alloc: Global,
@@ -95,7 +125,7 @@ pub fn run<R: Threads + Sync, H: Shelf, I: Source, O: Sink, G: Gate + Sync>(
     ensures usage { result ≡ Status.Usage → AreOfNoCommand (map string_bytes words.now.items) }
     ensures no_command { AreOfNoCommand (map string_bytes words.now.items) → MayEndNoCommand result }
     ensures read_fault { result ≡ Status.ReadFault → Rose (H.failed_reads shelf.old) (H.failed_reads shelf.new)
-        ⊎ ((lex text : List ℕ) × AreWordsOf (SegmentWords lex text) (map string_bytes words.now.items) × Lacks (H.files shelf.old) lex) }
+        ⊎ ((lex : FileWord) × (text : List ℕ) × AreWordsOf (SegmentWords lex text) (map string_bytes words.now.items) × Lacks (H.files shelf.old) lex.name) }
     ensures write_fault { result ≡ Status.WriteFault → Rose (O.faults out.old) (O.faults out.new) }
 
     // What stays: the files, and whatever the words do not use.

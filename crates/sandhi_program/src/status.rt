@@ -1,8 +1,10 @@
 ghost use Rattle.std.specs.Prelude.{◌≡◌};
 ghost use Rattle.sandhi_program.specs.Ends.{exit_status};
 
-/// How a run ended. The exit statuses are 0 for `Done`, 1 for `Memory`, 2 for `Usage`, 3 for `ReadFault`, 4 for
-/// `WriteFault` and 8 for `NotBuilt`.
+use latin_schemes::SpellFault;
+use lexicon_file::FileFault;
+
+/// How a run ended, and with which fault.
 #[derive(Clone, Copy, Debug, PartialEq, Eq)]
 pub enum Status {
     /// All input of the command was read and all output written.
@@ -15,12 +17,30 @@ pub enum Status {
     ReadFault,
     /// The output could not be written.
     WriteFault,
-    /// The lexicon is no thin text, or the text is not letters in SLP1 within the limit.
-    NotBuilt,
+    /// The file whose name is the word at this place, counted from 0, is refused.
+    BadFile { word: u32, fault: AnyFault },
+    /// The text is refused.
+    BadText { fault: TextFault },
+}
+
+/// Why a file is refused: it has more than `MOST_FILE_BYTES` bytes, or a fault of its format.
+#[derive(Clone, Copy, Debug, PartialEq, Eq)]
+pub enum AnyFault {
+    Large,
+    Lexicon(FileFault),
+}
+
+/// Why a text is refused: its first fault of spelling, or else that it has no letter or too many.
+#[derive(Clone, Copy, Debug, PartialEq, Eq)]
+pub enum TextFault {
+    Spell(SpellFault),
+    NoLetters,
+    TooLong,
 }
 
 impl Status {
-    /// The exit status of the process.
+    /// The exit status of the process: 0 for `Done`, 1 `Memory`, 2 `Usage`, 3 `ReadFault`, 4 `WriteFault`, 5 `BadFile` and
+    /// 6 `BadText`.
     pub fn exit_code(self) -> u8
         ensures { result ≡ exit_status self }
     {
@@ -30,7 +50,8 @@ impl Status {
             Status::Usage => 2,
             Status::ReadFault => 3,
             Status::WriteFault => 4,
-            Status::NotBuilt => 8,
+            Status::BadFile { .. } => 5,
+            Status::BadText { .. } => 6,
         }
     }
 }

@@ -1,0 +1,61 @@
+ghost use Rattle.std.specs.Prelude.{◌≡◌, IfOk, string_bytes};
+ghost use Rattle.lexicon_file.specs.Faults.{why_of};
+ghost use Rattle.run_definitions.specs.Refusals.{name_of_why, file_refusal, text_refusal};
+ghost use Rattle.sandhi_program.specs.Ends.{file_fault, text_fault};
+
+use super::status::{AnyFault, TextFault};
+use lexicon_file::FileWhy;
+use phoneme::Memory;
+use std::alloc::Global;
+
+/// The name of a reason, without what it carries.
+fn name_of(why: FileWhy) -> &'static str
+    ensures { result.now ≡ name_of_why (why_of why) }
+{
+    match why {
+        FileWhy::Trailing => "Trailing",
+        FileWhy::NoEnd => "NoEnd",
+        FileWhy::NotUtf8 => "NotUtf8",
+        FileWhy::Head => "Head",
+        FileWhy::Order => "Order",
+        FileWhy::Field => "Field",
+        FileWhy::Spelling => "Spelling",
+        FileWhy::Strict => "Strict",
+        FileWhy::Grammar(_) => "Grammar",
+        FileWhy::Limit => "Limit",
+        FileWhy::Twice => "Twice",
+        FileWhy::Falling => "Falling",
+    }
+}
+
+/// `bad file NAME: Large`, or `bad file NAME line N: WHY`.
+pub(crate) fn print_file_refusal(
+    alloc: Global,
+    name: &str,
+    fault: AnyFault,
+) -> Result<String, Memory>
+    ensures ok { IfOk result (λ text. string_bytes text ≡ file_refusal name.now (file_fault fault)) }
+{
+    match fault {
+        AnyFault::Large => Ok(format!(in alloc; "bad file {name}: Large\n")?),
+        AnyFault::Lexicon(fault) => {
+            let why = name_of(fault.why);
+            let line = fault.line;
+            Ok(format!(in alloc; "bad file {name} line {line}: {why}\n")?)
+        }
+    }
+}
+
+/// `bad text spelling AT`, `bad text no letters` or `bad text too long`.
+pub(crate) fn print_text_refusal(alloc: Global, fault: TextFault) -> Result<String, Memory>
+    ensures ok { IfOk result (λ text. string_bytes text ≡ text_refusal (text_fault fault)) }
+{
+    match fault {
+        TextFault::Spell(fault) => {
+            let at = fault.place();
+            Ok(format!(in alloc; "bad text spelling {at}\n")?)
+        }
+        TextFault::NoLetters => Ok(String::from_str(alloc, "bad text no letters\n")?),
+        TextFault::TooLong => Ok(String::from_str(alloc, "bad text too long\n")?),
+    }
+}

@@ -1,2 +1,0 @@
-pub mod ThinEntries
-pub mod ThinShape

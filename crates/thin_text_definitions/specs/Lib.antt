@@ -1,2 +1,0 @@
-pub mod ThinLines
-pub mod ThinTexts
