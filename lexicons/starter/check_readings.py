@@ -8,9 +8,9 @@ this script is taken. Each of its lines has four fields, separated by tabs: a nu
 Devanagari, and the reading as FORM[PHASE] parts in SLP1, separated by blanks.
 
 The script builds the lexicon into a temporary folder and opens one session on it. For each line it keeps the
-segments of the reading one after another, as a reader would do by hand, and then looks whether the session's
-first answer is the reading. A form may stand at several places of a line; then each is tried in turn. The
-answers of the line are counted page by page, up to 10,000.
+segments of the reading one after another, as a reader would do by hand, and then looks whether the reading is among
+the answers that are left. (There may be others, with one more segment between two kept ones.) A form may stand at
+several places of a line; then each is tried in turn. The answers of the line are counted page by page, up to 10,000.
 
 The script prints a row for each line and the totals, and ends with status 1 where a reading is missing.
 """
@@ -54,25 +54,18 @@ class Session:
             if line == "more":
                 return lines
 
-    def count(self):
-        """The number of answers, counted to MOST."""
-        total = 0
-        while total < MOST:
+    def answers(self):
+        """The answers that are left, page by page, up to MOST."""
+        for _ in range(MOST // 1000):
             page = self.ask("page 1000")
-            total += len(page) - (page[-1:] == ["more"])
+            yield from (line for line in page if line != "more")
             if page[-1:] != ["more"]:
-                break
-        return total
-
-    def first_answer(self):
-        """The parts of the first answer, or None where there is no answer."""
-        page = self.ask("page 1")
-        return PART.findall(page[0].split(": ", 1)[1]) if page and page[0] != "more" else None
+                return
 
     def has(self, reading, done=0, place=-1):
         """Whether the reading is found by keeping its parts from number `done` on, each after the place before."""
         if done == len(reading):
-            return self.first_answer() == reading
+            return any(PART.findall(line.split(": ", 1)[1]) == reading for line in self.answers())
         for line in self.ask("summary"):
             number, at, lead, item = re.fullmatch(r"(\d+): (\d+) (\d+) (.+)", line).groups()
             here = 2 * int(at) + (lead == "0")
@@ -109,7 +102,7 @@ def main():
             number, source, text, chain = row.split("\t")
             start = time.monotonic()
             session.ask(f"text devanagari {text}")
-            counts.append(session.count())
+            counts.append(sum(1 for _ in session.answers()))
             seconds = time.monotonic() - start
             session.ask(f"text devanagari {text}")
             found = session.has(PART.findall(chain))
