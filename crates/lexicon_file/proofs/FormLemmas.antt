@@ -85,7 +85,7 @@ entries_end start (forms ∷ lists) (suc place) front form analyses analysis h e
     let at : start + 1 + place ≡ start + suc place = omega arith in (
       phase_entries start forms ++ before,
       ap (λ more. phase_entries start forms ++ more) is ∙ sym (append_assoc (phase_entries start forms) before (entry_with (start + 1 + place) form.letters analysis ∷ []))
-      ∙ ap (λ phase. (phase_entries start forms ++ before) ++ entry_with phase form.letters analysis ∷ []) at,
+          ∙ ap (λ phase. (phase_entries start forms ++ before) ++ entry_with phase form.letters analysis ∷ []) at,
     )
 
 -- ---- the last phase

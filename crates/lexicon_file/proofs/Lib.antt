@@ -10,3 +10,5 @@ pub mod RuleLemmas
 pub mod ListsTold
 pub mod FormLemmas
 pub mod LinesTaken
+pub mod EntryLemmas
+pub mod FaultsRead

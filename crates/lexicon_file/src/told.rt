@@ -1,4 +1,4 @@
-ghost use Rattle.std.specs.Prelude.{◌≡◌, ◌<◌, ◌≤◌, ◌^◌, length, map, true, IfOk, IfErr, Some, IfSome};
+ghost use Rattle.std.specs.Prelude.{◌≡◌, ◌<◌, ◌||◌, nat_le, nat_lt, ◌≤◌, ◌^◌, length, map, true, IfOk, IfErr, Some, IfSome};
 ghost use Rattle.std.specs.List.{list_all, position};
 ghost use Rattle.std.specs.Str.{bytes_eq};
 ghost use Rattle.std.specs.String.{string_bytes};
@@ -10,7 +10,7 @@ ghost use Rattle.lexicon_definitions.specs.Limits.{IsRuleSetWithinLimits};
 ghost use Rattle.phase_automaton.specs.Automata.{Recognizes};
 ghost use Rattle.lexicon_text_definitions.specs.FileLines.{Opening, End, may_follow, Phase, Grammar, Plain, Rule as RuleLine, Form, fields_of, parts_of};
 ghost use Rattle.lexicon_text_definitions.specs.FileContents.{Told as ToldValue, is_phase_name as is_phase_name_of, compare_last, rule_between as rule_between_of, nothing_told, rules_told, lexicon_told, compare_entries, compare_last as compare_last_of};
-ghost use Rattle.lexicon_text_definitions.specs.FileSteps.{if_rising, passes_rule_limits as passes_rule_limits_of, take_triple as take_triple_of, take_line as take_line_of, take_head as take_head_of, take_end as take_end_of, take_phase as take_phase_of, take_grammar as take_grammar_of, take_plain as take_plain_of, take_rule as take_rule_of, take_form as take_form_of, take_kind as take_kind_of, take_parts as take_parts_of};
+ghost use Rattle.lexicon_text_definitions.specs.FileSteps.{if_rising, passes_rule_limits as passes_rule_limits_of, take_triple as take_triple_of, take_line as take_line_of, take_head as take_head_of, take_end as take_end_of, take_phase as take_phase_of, take_grammar as take_grammar_of, take_plain as take_plain_of, take_rule as take_rule_of, take_form as take_form_of, take_kind as take_kind_of, take_parts as take_parts_of, take_form_line};
 ghost use Rattle.form_lists.specs.Lists.{text_entry};
 ghost use Rattle.lexicon_file.specs.Told.{IsAnswer, IsLineAnswer, IsNoEnd};
 ghost use Rattle.lexicon_file.specs.Fields.{text_of_rest};
@@ -155,6 +155,15 @@ fn all_phases(count: usize) -> u16
     ensures { result ≡ all_phases_of count }
 {
     ((1u32 << count) - 1) as u16
+}
+
+/// Whether after so many entries there is none more, or the entry's form or its stem is too long.
+fn passes_form_limits(lines: usize, entry: &Entry) -> bool
+    ensures { result ≡ (nat_le MOST_FORM_LINES lines || nat_lt MOST_FORM_LETTERS (length entry.now.form) || nat_lt MOST_FORM_LETTERS (length entry.now.analysis.stem)) }
+{
+    lines >= MOST_FORM_LINES
+        || entry.form.len() > MOST_FORM_LETTERS
+        || entry.analysis.stem.len() > MOST_FORM_LETTERS
 }
 
 impl Told {
@@ -312,6 +321,24 @@ impl Told {
         self.last_phase.cmp(&entry.phase).then(within_phase)
     }
 
+    fn take_entry(&mut self, entry: Entry) -> Result<(), LineError>
+        requires follows { may_follow self.old.last Form ≡ true }
+        requires phase { entry.phase < length self.old.names }
+        requires form { 0 < length entry.form }
+        requires stem { 0 < length entry.analysis.stem }
+        ensures { IsAnswer (take_form_line self.old (text_entry entry)) result self.new }
+    {
+        if passes_form_limits(self.lists.lines() as usize, &entry) {
+            return Err(FileWhy::Limit.into());
+        }
+        rising(self.compare_last(&entry))?;
+        let phase = entry.phase;
+        self.lists.insert(entry)?;
+        self.last_phase = phase;
+        self.last = Kind::Form;
+        Ok(())
+    }
+
     fn take_form(&mut self, alloc: Global, text: &[u8]) -> Result<(), LineError>
         requires follows { may_follow self.old.last Form ≡ true }
         requires fits { length text.now < 2 ^ 32 }
@@ -328,23 +355,11 @@ impl Told {
         };
         let form = read_some_word(alloc, form)?;
         let stem = read_some_word(alloc, stem)?;
-        if self.lists.lines() as usize >= MOST_FORM_LINES
-            || form.len() > MOST_FORM_LETTERS
-            || stem.len() > MOST_FORM_LETTERS
-        {
-            return Err(FileWhy::Limit.into());
-        }
-        let entry = Entry {
+        self.take_entry(Entry {
             phase: phase as u32,
             form,
             analysis: Analysis { stem, tag },
-        };
-        rising(self.compare_last(&entry))?;
-        let phase = entry.phase;
-        self.lists.insert(entry)?;
-        self.last_phase = phase;
-        self.last = Kind::Form;
-        Ok(())
+        })
     }
 
     fn take_end(&mut self, rest: Option<&[u8]>) -> Result<(), LineError>

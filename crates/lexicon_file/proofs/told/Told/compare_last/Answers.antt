@@ -55,6 +55,6 @@ returns c =
     let one = some_analysis c.self.inside.lists c.self.inside.last_phase (length c.forms-forms.result.now - 1) c.analyses-analyses.result.now c.lines.ensures.lists.each body.last_phase.within (omega arith) c.analyses-analyses.ensures.value in
     let entry = text_entry c.args.entry.now in
     let compared = last_compared c.self.inside.lists c.self.inside.last_phase (length c.forms-forms.result.now - 1) (length c.analyses-analyses.result.now - 1) c.forms-forms.result.now c.index-forms-place.result
-        c.analyses-analyses.result.now c.index-analyses-analyses.result entry body.last_phase c.forms-forms.ensures.value (omega arith) c.index-forms-place.is c.analyses-analyses.ensures.value (omega arith) c.index-analyses-analyses.is in
+    c.analyses-analyses.result.now c.index-analyses-analyses.result entry body.last_phase c.forms-forms.ensures.value (omega arith) c.index-forms-place.is c.analyses-analyses.ensures.value (omega arith) c.index-analyses-analyses.is in
     c.then.ensures ∙ (λ i. ordering_then (c.cmp.ensures i) (c.then-within_phase.ensures i)) ∙ (λ i. ordering_then (nat_cmp c.self.inside.last_phase entry.phase) (ordering_then (c.compare.ensures i) (c.compare-2.ensures i)))
     ∙ compared ∙ ap (λ (told : Told). compare_last_of compare_entries told.forms entry) c.self.view_is
