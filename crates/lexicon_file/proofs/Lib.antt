@@ -12,3 +12,4 @@ pub mod FormLemmas
 pub mod LinesTaken
 pub mod EntryLemmas
 pub mod FaultsRead
+pub mod WriteLemmas

@@ -2,7 +2,8 @@
 //!
 //! Proved of `read`: its answer is the one that `IsReadAs` of `lexicon_text_definitions` gives the bytes, the lexicon (`ok`)
 //! or the first fault (`fault`), unless memory is wanting; the automaton is that of the grammar (`automaton`) and has the
-//! lexicon's phases (`phases`). That a lawful file is read where memory suffices is tested.
+//! lexicon's phases (`phases`). Proved of `write`: for contents whose lexicon has a text it answers this text (`ok`); so what
+//! was read is written as the same bytes. That a lawful file is read and written where memory suffices is tested.
 #![tactic(auto)]
 
 mod contents;
