@@ -2,7 +2,12 @@ pub mod CutLemmas
 pub mod ReadLemmas
 pub mod StageLemmas
 pub mod AnswerLemmas
-pub mod ListsTold
 pub mod GrammarLemmas
+pub mod NameLines
+pub mod PairLemmas
+pub mod LeadLemmas
+pub mod RuleLemmas
+pub mod ListsTold
 pub mod FormLemmas
+pub mod LinesTaken
 pub mod EntryLemmas

@@ -4,3 +4,4 @@ pub mod Faults
 pub mod Words
 pub mod Told
 pub mod Contents
+pub mod Added

@@ -1,4 +1,8 @@
-//! Lexicon files of version 1: `read` and `write`.
+//! Lexicon files of version 1 (own format): what such a file holds, or its first fault with its line.
+//!
+//! Proved of `read`: its answer is the one that `IsReadAs` of `lexicon_text_definitions` gives the bytes, the lexicon (`ok`)
+//! or the first fault (`fault`), unless memory is wanting; the automaton is that of the grammar (`automaton`) and has the
+//! lexicon's phases (`phases`). That a lawful file is read where memory suffices is tested.
 #![tactic(auto)]
 
 mod contents;

@@ -1,4 +1,7 @@
-ghost use Rattle.std.specs.Prelude.{◌≡◌, []};
+ghost use Rattle.std.specs.Prelude.{◌≡◌, ◌<◌, ◌||◌, nat_le, nat_lt, [], length};
+ghost use Rattle.std.specs.List.{list_any};
+ghost use Rattle.lexicon_text_definitions.specs.FileContents.{has_triple as has_triple_of, with_lead, leads_of};
+ghost use Rattle.lexicon_file.specs.Added.{IsAdded, has_v};
 
 use crate::FileWhy;
 use crate::line_error::LineError;
@@ -6,24 +9,39 @@ use lexicon_definitions::{MOST_LEADS, MOST_RULES};
 use phoneme::Word;
 use sandhi_rules::Rule;
 use std::alloc::Global;
-use std::collections::BTreeSet;
 use std::marker::Model;
 
-/// The rules that were read, in their order; and what finds twins among them, and counts their different `v`.
+/// The rules that were read, in their order, and the number of their different `v` that are not empty.
 #[derive(Debug, Drop)]
 pub(crate) struct RulesSoFar {
     rules: Vec<Rule>,
-    triples: BTreeSet<(Word, Word, Word)>,
-    leads: BTreeSet<Word>,
+    leads: usize,
 }
 
 impl Model for RulesSoFar {
     ghost use Rattle.std.specs.Prelude.{List};
     ghost use Rattle.lexicon_definitions.specs.Rules.{Rule as RuleValue};
+    ghost use Rattle.lexicon_file.specs.Added.{IsCounted};
 
     ghost Value = { List RuleValue };
 
     ghost view = { λ r. r.rules.items };
+
+    ghost invariant = { λ r. IsCounted r.rules.items r.leads };
+}
+
+/// Whether the rule has this `v`.
+fn is_with(rule: &Rule, v: &Word) -> bool
+    ensures { result ≡ has_v v.now rule.now }
+{
+    *v == rule.v
+}
+
+/// Whether both rules have the same triple.
+fn are_twins(rule: &Rule, new: &Rule) -> bool
+    ensures { result ≡ has_triple_of new.now.u new.now.v new.now.w rule.now }
+{
+    rule.u == new.u && rule.v == new.v && rule.w == new.w
 }
 
 impl RulesSoFar {
@@ -32,8 +50,7 @@ impl RulesSoFar {
     {
         RulesSoFar {
             rules: Vec::new(alloc),
-            triples: BTreeSet::new(alloc),
-            leads: BTreeSet::new(alloc),
+            leads: 0,
         }
     }
 
@@ -41,36 +58,53 @@ impl RulesSoFar {
     pub(crate) fn into_rules(self) -> Vec<Rule>
         ensures { result.items ≡ self }
     {
-        let RulesSoFar {
-            rules,
-            triples: _,
-            leads: _,
-        } = self;
+        let RulesSoFar { rules, leads: _ } = self;
         rules
     }
 
-    /// Whether with a rule that has this `v` there are too many rules or leads.
-    pub(crate) fn is_full(&self, v: &Word) -> bool {
-        if self.rules.len() >= MOST_RULES {
-            return true;
-        }
-        !v.is_empty() && self.leads.len() >= MOST_LEADS && !self.leads.contains(v)
+    /// Whether one of the rules has this `v`.
+    fn has_v(&self, v: &Word) -> bool
+        ensures { result ≡ list_any (has_v v.now) self.now }
+    {
+        self.rules.iter().any(|rule| is_with(rule, v))
     }
 
-    /// Appends the rule. `Twice` where one of the same triple is there.
-    pub(crate) fn add(&mut self, alloc: Global, rule: Rule) -> Result<(), LineError> {
-        let triple = (
-            rule.u.copy(alloc)?,
-            rule.v.copy(alloc)?,
-            rule.w.copy(alloc)?,
-        );
-        if !self.triples.insert(triple)? {
+    /// Whether one of the rules has the triple of this one.
+    fn has_twin(&self, new: &Rule) -> bool
+        ensures { result ≡ list_any (has_triple_of new.now.u new.now.v new.now.w) self.now }
+    {
+        self.rules.iter().any(|rule| are_twins(rule, new))
+    }
+
+    /// How many different `v` that are not empty the rules have with one of this `v`.
+    fn leads_with(&self, v: &Word) -> usize
+        ensures { result ≡ length (with_lead (leads_of self.now) v.now) }
+    {
+        if v.is_empty() || self.has_v(v) {
+            self.leads
+        } else {
+            self.leads + 1
+        }
+    }
+
+    /// Whether with a rule that has this `v` there are too many rules or leads.
+    pub(crate) fn is_full(&self, v: &Word) -> bool
+        ensures { result ≡ (nat_le MOST_RULES (length self.now) || nat_lt MOST_LEADS (length (with_lead (leads_of self.now) v.now))) }
+    {
+        self.rules.len() >= MOST_RULES || self.leads_with(v) > MOST_LEADS
+    }
+
+    /// Appends the rule. `Twice` where one of the same triple is there. A refusal leaves the rules as they were.
+    pub(crate) fn add(&mut self, rule: Rule) -> Result<(), LineError>
+        requires { length self.old < MOST_RULES }
+        ensures { IsAdded self.old rule result self.new }
+    {
+        if self.has_twin(&rule) {
             return Err(FileWhy::Twice.into());
         }
-        if !rule.v.is_empty() {
-            self.leads.insert(rule.v.copy(alloc)?)?;
-        }
+        let leads = self.leads_with(&rule.v);
         self.rules.push(rule)?;
+        self.leads = leads;
         Ok(())
     }
 }

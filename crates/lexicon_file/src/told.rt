@@ -5,16 +5,17 @@ ghost use Rattle.std.specs.String.{string_bytes};
 ghost use Rattle.lexicon_definitions.specs.Rules.{all_phases as all_phases_of};
 ghost use Rattle.lexicon_definitions.specs.GrammarTexts.{is_name_byte as is_name_byte_of};
 ghost use Rattle.lexicon_definitions.specs.GrammarFaults.{is_small_letter as is_small_letter_of};
-ghost use Rattle.lexicon_definitions.specs.Lexicons.{IsRuleSet, tree_of};
+ghost use Rattle.lexicon_definitions.specs.Lexicons.{IsRuleSet, tree_of, compare_pairs};
 ghost use Rattle.lexicon_definitions.specs.Limits.{IsRuleSetWithinLimits};
 ghost use Rattle.phase_automaton.specs.Automata.{Recognizes};
-ghost use Rattle.lexicon_text_definitions.specs.FileLines.{Opening, End, may_follow, Phase, Grammar, Plain, Rule as RuleLine, Form, fields_of};
-ghost use Rattle.lexicon_text_definitions.specs.FileContents.{Told as ToldValue, is_phase_name as is_phase_name_of, nothing_told, rules_told, lexicon_told, compare_entries, compare_last as compare_last_of};
+ghost use Rattle.lexicon_text_definitions.specs.FileLines.{Opening, End, may_follow, Phase, Grammar, Plain, Rule as RuleLine, Form, fields_of, parts_of};
+ghost use Rattle.lexicon_text_definitions.specs.FileContents.{Told as ToldValue, is_phase_name as is_phase_name_of, compare_last, rule_between as rule_between_of, nothing_told, rules_told, lexicon_told, compare_entries, compare_last as compare_last_of};
+ghost use Rattle.lexicon_text_definitions.specs.FileSteps.{if_rising, take_form_line, passes_rule_limits as passes_rule_limits_of, take_triple as take_triple_of, take_line as take_line_of, take_head as take_head_of, take_end as take_end_of, take_phase as take_phase_of, take_grammar as take_grammar_of, take_plain as take_plain_of, take_rule as take_rule_of, take_form as take_form_of, take_kind as take_kind_of, take_parts as take_parts_of};
 ghost use Rattle.form_lists.specs.Lists.{text_entry};
-ghost use Rattle.lexicon_text_definitions.specs.FileSteps.{if_rising, take_form_line, take_line as take_line_of, take_head as take_head_of, take_end as take_end_of, take_phase as take_phase_of, take_grammar as take_grammar_of, take_plain as take_plain_of, take_rule as take_rule_of, take_form as take_form_of};
 ghost use Rattle.lexicon_file.specs.Told.{IsAnswer, IsLineAnswer, IsNoEnd};
 ghost use Rattle.lexicon_file.specs.Fields.{text_of_rest};
 ghost use Rattle.lexicon_file.specs.Contents.{lexicon_of};
+ghost use Rattle.lexicon_file.specs.Kinds.{kind_of};
 
 use crate::cutting::{four_fields, kind_and_rest, one_field, rule_parts, two_fields};
 use crate::kind::Kind;
@@ -28,7 +29,7 @@ use lexicon_definitions::{
     MOST_FORM_LETTERS, MOST_FORM_LINES, MOST_NAME_BYTES, MOST_PHASES, MOST_RULE_LETTERS,
 };
 use phase_automaton::{Automaton, GrammarError, read_grammar};
-use phoneme::{Letter, Memory};
+use phoneme::{Letter, Memory, Word};
 use sandhi_rules::{Rule, RuleSet};
 use std::alloc::Global;
 use std::cmp::Ordering;
@@ -119,6 +120,32 @@ fn rising(order: Ordering) -> Result<(), LineError>
         Ordering::Less => Ok(()),
         Ordering::Equal => Err(FileWhy::Twice.into()),
         Ordering::Greater => Err(FileWhy::Falling.into()),
+    }
+}
+
+/// How the last pair compares with a new one; below it where there is none.
+fn compare_last_pair(pairs: &[(Letter, Letter)], pair: &(Letter, Letter)) -> Ordering
+    ensures { result ≡ compare_last compare_pairs pairs.now pair.now }
+{
+    match pairs {
+        [] => Ordering::Less,
+        [.., last] => last.cmp(pair),
+    }
+}
+
+/// The rule with this triple, over this many phases: all phases before it, and all after it unless it is final.
+fn rule_between(count: usize, u: Word, v: Word, w: Word) -> Rule
+    requires { count ≤ MOST_PHASES }
+    ensures { result ≡ rule_between_of count u v w }
+{
+    let before = all_phases(count);
+    let after = if v.is_empty() { 0 } else { before };
+    Rule {
+        u,
+        v,
+        w,
+        before,
+        after,
     }
 }
 
@@ -225,12 +252,38 @@ impl Told {
         let Some((left, right)) = two_fields(text) else {
             return Err(FileWhy::Field.into());
         };
-        let pair = (read_letter(alloc, left)?, read_letter(alloc, right)?);
-        if let Some(last) = self.plain.last() {
-            rising(last.cmp(&pair))?;
-        }
+        let left = read_letter(alloc, left)?;
+        let right = read_letter(alloc, right)?;
+        let pair = (left, right);
+        rising(compare_last_pair(self.plain.as_slice(), &pair))?;
         self.plain.push(pair)?;
         self.last = Kind::Plain;
+        Ok(())
+    }
+
+    /// Whether with this rule there are too many rules or leads, or a part of it is too long.
+    fn passes_rule_limits(&self, u: &Word, v: &Word, w: &Word) -> bool
+        ensures { result ≡ passes_rule_limits_of self.now u.now v.now w.now }
+    {
+        self.rules.is_full(v)
+            || u.len() > MOST_RULE_LETTERS
+            || v.len() > MOST_RULE_LETTERS
+            || w.len() > MOST_RULE_LETTERS
+    }
+
+    fn take_triple(&mut self, u: Word, v: Word, w: Word) -> Result<(), LineError>
+        requires { may_follow self.old.last RuleLine ≡ true }
+        ensures { IsAnswer (take_triple_of self.old u v w) result self.new }
+    {
+        if u.is_empty() || w.is_empty() {
+            return Err(FileWhy::Strict.into());
+        }
+        if self.passes_rule_limits(&u, &v, &w) {
+            return Err(FileWhy::Limit.into());
+        }
+        let rule = rule_between(self.names.len(), u, v, w);
+        self.rules.add(rule)?;
+        self.last = Kind::Rule;
         Ok(())
     }
 
@@ -245,35 +298,10 @@ impl Told {
         let Some((u, v, w)) = rule_parts(field) else {
             return Err(FileWhy::Field.into());
         };
-        let (u, v, w) = (
-            read_word(alloc, u)?,
-            read_word(alloc, v)?,
-            read_word(alloc, w)?,
-        );
-        if u.is_empty() || w.is_empty() {
-            return Err(FileWhy::Strict.into());
-        }
-        if self.rules.is_full(&v)
-            || u.len() > MOST_RULE_LETTERS
-            || v.len() > MOST_RULE_LETTERS
-            || w.len() > MOST_RULE_LETTERS
-        {
-            return Err(FileWhy::Limit.into());
-        }
-        let before = all_phases(self.names.len());
-        let after = if v.is_empty() { 0 } else { before };
-        self.rules.add(
-            alloc,
-            Rule {
-                u,
-                v,
-                w,
-                before,
-                after,
-            },
-        )?;
-        self.last = Kind::Rule;
-        Ok(())
+        let u = read_word(alloc, u)?;
+        let v = read_word(alloc, v)?;
+        let w = read_word(alloc, w)?;
+        self.take_triple(u, v, w)
     }
 
     /// How the last entry compares with a new one; below it where there is none.
@@ -345,6 +373,43 @@ impl Told {
         Ok(())
     }
 
+    /// Takes a line of a kind that may come next, with what comes after its blank.
+    fn take_kind(&mut self, alloc: Global, kind: Kind, rest: Option<&[u8]>) -> Result<(), LineError>
+        requires follows { may_follow self.old.last (kind_of kind) ≡ true }
+        requires fits { IfSome rest (λ text. length text.now < 2 ^ 32) }
+        ensures { IsLineAnswer (take_kind_of self.old (kind_of kind) (text_of_rest rest.entry)) result self.new }
+    {
+        if kind == Kind::End {
+            return self.take_end(rest);
+        }
+        let Some(text) = rest else {
+            return Err(FileWhy::Field.into());
+        };
+        match kind {
+            Kind::Phase => self.take_phase(alloc, text),
+            Kind::Grammar => self.take_grammar(alloc, text),
+            Kind::Plain => self.take_plain(alloc, text),
+            Kind::Rule => self.take_rule(alloc, text),
+            Kind::Form => self.take_form(alloc, text),
+            Kind::Opening | Kind::Head | Kind::End => Err(FileWhy::Order.into()),
+        }
+    }
+
+    /// Takes a line after the first.
+    fn take_parts(&mut self, alloc: Global, line: &[u8]) -> Result<(), LineError>
+        requires { length line.now < 2 ^ 32 }
+        ensures { IsLineAnswer (take_parts_of self.old (parts_of line.now)) result self.new }
+    {
+        let (name, rest) = kind_and_rest(line);
+        let Some(kind) = Kind::named(name) else {
+            return Err(FileWhy::Order.into());
+        };
+        if !kind.may_come_after(self.last) {
+            return Err(FileWhy::Order.into());
+        }
+        self.take_kind(alloc, kind, rest)
+    }
+
     /// Takes the next line, whether ended by a line end or not.
     pub(crate) fn take_line(
         &mut self,
@@ -367,27 +432,7 @@ impl Told {
         if self.last == Kind::Opening {
             return self.take_head(line);
         }
-        let (name, rest) = kind_and_rest(line);
-        let Some(kind) = Kind::named(name) else {
-            return Err(FileWhy::Order.into());
-        };
-        if !kind.may_come_after(self.last) {
-            return Err(FileWhy::Order.into());
-        }
-        if kind == Kind::End {
-            return self.take_end(rest);
-        }
-        let Some(text) = rest else {
-            return Err(FileWhy::Field.into());
-        };
-        match kind {
-            Kind::Phase => self.take_phase(alloc, text),
-            Kind::Grammar => self.take_grammar(alloc, text),
-            Kind::Plain => self.take_plain(alloc, text),
-            Kind::Rule => self.take_rule(alloc, text),
-            Kind::Form => self.take_form(alloc, text),
-            Kind::Opening | Kind::Head | Kind::End => Err(FileWhy::Order.into()),
-        }
+        self.take_parts(alloc, line)
     }
 
     /// The contents of the file, where the last line was its end.

@@ -1,4 +1,9 @@
 //! Yuzudeck's program: makes the devices, runs the words of the command line, and ends with the exit status.
+//!
+//! Proved of `run`, over any devices: all the output of the outcome that the definitions give the words and files was written
+//! and the status tells its end, unless memory ran out or a device failed (`outcome`); otherwise a prefix of that output
+//! (`prefix`); when each refusal comes (`usage`, `no_command`, `read_fault`, `write_fault`); and what stays (`files`,
+//! `failed_writes`, `input`).
 #![tactic(auto)]
 
 mod command;

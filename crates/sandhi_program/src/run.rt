@@ -31,13 +31,7 @@ fn finish<O: Sink>(out: &mut O, output: &str, status: Status) -> Status
 }
 
 /// Writes what `segment` answers for the bytes of the lexicon file.
-fn write_segment<O: Sink>(
-    alloc: Global,
-    lex: &str,
-    bytes: &[u8],
-    text: &str,
-    out: &mut O,
-) -> Status
+fn write_segment<O: Sink>(alloc: Global, lex: &str, bytes: &[u8], text: &str, out: &mut O) -> Status
     requires { length text.now < 2 ^ 32 }
     ensures { WroteSegment (record { place = 1; name = lex.now }) bytes.now text.now result (O.written out.old) (O.written out.new) (O.faults out.old) (O.faults out.new) }
 {

@@ -1,7 +1,8 @@
 ghost use Rattle.std.specs.Prelude.{◌≡◌, ◌<◌, ◌≤◌, ◌^◌, length, IfOk, IfErr, Ok, string_bytes};
 ghost use Rattle.lexicon_text_definitions.specs.FileReadings.{IsReadAs};
 ghost use Rattle.lexicon_file.specs.Contents.{lexicon_of};
-ghost use Rattle.sandhi_program.specs.Segments.{IsSegmented};
+ghost use Rattle.segmenter.specs.Forms.{IsSearchable};
+ghost use Rattle.sandhi_program.specs.Segments.{searched, IsSegmented};
 ghost use Rattle.sandhi_program.specs.SegmentErrors.{IsFileError, IsRefusal};
 
 use super::page::print_page;

@@ -1,10 +1,12 @@
 use super::run::run;
-use super::status::Status;
+use super::status::{AnyFault, Status, TextFault};
+use latin_schemes::SpellFault;
+use lexicon_file::{FileFault, FileWhy};
 use outside::{MemoryShelf, MemorySink, MemorySource, NoGate};
 use std::test::Fail;
 use std::thread::Threads;
 
-/// Lexicon texts, the first of which is the stored one.
+/// Lexicon files, the first of which is the stored one.
 const CETI: &str =
     "slx 1\nphase word\ngrammar word+\nrule a|i>e\nform word iti iti ind\nform word ca ca ind\nend\n";
 
@@ -19,6 +21,9 @@ const NASTI: &str =
 
 const DATTA: &str =
     "slx 1\nphase word\ngrammar word+\nplain a d\nform word datta datta ind\nform word deva deva ind\nform word devadatta devadatta ind\nend\n";
+
+const RAJAPUTRA: &str =
+    "slx 1\nphase word\nphase first\ngrammar first* word\nplain a p\nform word putra putra m.sg.voc\nform word rAja rAjan ind\nform first rAja rAjan iic\nend\n";
 
 const DEVAS: &str = "slx 1\nphase word\ngrammar word+\nrule s|>H\nform word devas deva ind\nend\n";
 
@@ -65,6 +70,11 @@ fn a_line_has_all_its_answers_in_order(rt: HostRuntime) -> Result<(), Fail> {
             "devadatta",
             "1: devadatta[word]\n2: deva[word] + datta[word]\nend\n",
         ),
+        (
+            RAJAPUTRA,
+            "rAjaputra",
+            "1: rAja[first] + putra[word]\nend\n",
+        ),
         (DEVAS, "devaH", "1: devas[word] (s|>H)\nend\n"),
         (DEVAS, "devas", "1: devas[word]\nend\n"),
     ] {
@@ -82,10 +92,16 @@ fn a_line_has_all_its_answers_in_order(rt: HostRuntime) -> Result<(), Fail> {
     Ok(())
 }
 
+/// The status of a lexicon file that is refused at a line.
+fn bad_line(line: u32, why: FileWhy) -> Status {
+    let fault = AnyFault::Lexicon(FileFault { line, why });
+    Status::BadFile { word: 1, fault }
+}
+
 #[test]
-fn refusals_have_their_lines_and_statuses(rt: HostRuntime) -> Result<(), Fail> {
+fn words_files_and_texts_are_refused_in_their_lines(rt: HostRuntime) -> Result<(), Fail> {
     let usage = ("usage\n", Status::Usage);
-    let not_built = ("not built\n", Status::NotBuilt);
+    let spelling = TextFault::Spell(SpellFault::NotLetter { at: 1 });
     for (words, lexicon, (output, expected)) in [
         ([].as_slice(), CETI, usage),
         (["segment", "l"].as_slice(), CETI, usage),
@@ -98,11 +114,34 @@ fn refusals_have_their_lines_and_statuses(rt: HostRuntime) -> Result<(), Fail> {
             CETI,
             ("", Status::ReadFault),
         ),
-        (["segment", "l", ""].as_slice(), CETI, not_built),
-        (["segment", "l", "-"].as_slice(), CETI, not_built),
-        (["segment", "l", "c?"].as_slice(), CETI, not_built),
-        (["segment", "l", "ceti"].as_slice(), "", not_built),
-        (["segment", "l", "ceti"].as_slice(), "slx 1\n", not_built),
+        (
+            ["segment", "l", ""].as_slice(),
+            CETI,
+            (
+                "bad text no letters\n",
+                Status::BadText {
+                    fault: TextFault::NoLetters,
+                },
+            ),
+        ),
+        (
+            ["segment", "l", "c?"].as_slice(),
+            CETI,
+            ("bad text spelling 1\n", Status::BadText { fault: spelling }),
+        ),
+        (
+            ["segment", "l", "ceti"].as_slice(),
+            "",
+            ("bad file l line 1: NoEnd\n", bad_line(1, FileWhy::NoEnd)),
+        ),
+        (
+            ["segment", "l", "c?"].as_slice(),
+            "slx 1\nphase word\ngrammar word+\nform word ca ca ind\nform word iti iti ind\nend\n",
+            (
+                "bad file l line 5: Falling\n",
+                bad_line(5, FileWhy::Falling),
+            ),
+        ),
     ] {
         let alloc = rt.alloc();
         let (status, sink) = run_over(&rt, words, lexicon, Vec::new(alloc), Vec::new(alloc))?;

@@ -1,6 +1,6 @@
 -- The lists that complete the line from a place, by their first step: those that begin with a smaller step come before those
 -- that begin with a larger, and those that begin with one step are that step before what completes the line after it.
-use Rattle.std.proofs.Common.{◌≡◌, ℕ, zero, suc, ◌+◌, ◌*◌, ◌-◌, ◌<◌, ◌≤◌, ◌⊎◌, inl, inr, Bool, true, false, IsTrue, Option, None, List, [], ◌∷◌, ◌++◌, length, take, drop, map, get_or, min, refl, sym, ap, ap₂, ◌∙◌, subst, arith, length-append, length-take, length-drop}
+use Rattle.std.proofs.Common.{◌≡◌, ℕ, zero, suc, ◌+◌, ◌*◌, ◌-◌, ◌<◌, ◌≤◌, ◌⊎◌, inl, inr, Bool, true, false, IsTrue, Option, Some, None, is_some, List, [], ◌∷◌, ◌++◌, length, take, drop, map, get_or, min, refl, sym, ap, ap₂, ◌∙◌, subst, arith, length-append, length-take, length-drop}
 use Rattle.std.specs.List.{Contains}
 use Rattle.std.specs.List.Sorted.{IsStrictlySortedBy}
 use Rattle.std.specs.Ordering.{ordering_then}
@@ -356,18 +356,32 @@ pub rank_within : (place : Place) (letters : ℕ) → place.at ≤ letters → r
 rank_within place letters within = let here = rank_cases place.rule in omega arith
 
 is_true_or_not : (b : Bool) → IsTrue b ⊎ (IsTrue b → ⊥)
-is_true_or_not true = inl tt
-is_true_or_not false = inr (λ t. t)
+is_true_or_not true = inl refl
+is_true_or_not false = inr (λ t. absurd (cc (t)))
 
 -- from the dead state nothing completes the line
 pub none_from_dead : (lexicon : Lexicon) (line : Line) (place : Place) → place.state ≡ None → (steps : List Step)
     → Completes lexicon line place steps → ⊥
 none_from_dead lexicon line place dead [] c = c
 none_from_dead lexicon line place dead (step ∷ []) c =
-    subst (λ (state : Option ℕ). IsTrue (is_accepting lexicon.automaton (next_state lexicon.automaton state step.phase))) dead c.2
+    let accepted : IsTrue (is_accepting lexicon.automaton (next_state lexicon.automaton None step.phase)) =
+    subst (λ (state : Option ℕ). IsTrue (is_accepting lexicon.automaton (next_state lexicon.automaton state step.phase))) dead c.2 in
+    absurd (cc (accepted))
 none_from_dead lexicon line place dead (step ∷ next ∷ steps) c =
     none_from_dead lexicon line (place_after lexicon line place step)
     (ap (λ state. next_state lexicon.automaton state step.phase) dead) (next ∷ steps) c.2
+
+is_dead : (state : Option ℕ) → is_some state ≡ false → state ≡ None
+is_dead None h = refl
+is_dead (Some number) h = absurd (cc (h))
+
+-- and so nothing is appended
+pub dead_end : (lexicon : Lexicon) (line : Line) (place : Place) (most : ℕ) (path : List Step) (before : List (List Step)) (more : Bool)
+    → is_some place.state ≡ false → more ≡ false → length before ≤ most
+    → AppendsFirst (Completes lexicon line place) most path before before more
+dead_end lexicon line place most path before more dead none room =
+    subst (λ (m : Bool). AppendsFirst (Completes lexicon line place) most path before before m) (sym none)
+    (appends_none most path (Completes lexicon line place) before (none_from_dead lexicon line place (is_dead place.state dead)) room)
 
 -- ---- the loop over the steps that may follow
 

@@ -1,4 +1,7 @@
-//! Lists the answers of a line, in order.
+//! Lists the answers of a line over any lexicon, in order.
+//!
+//! Proved of `first_page`: the answers are the page before the first one that the definitions give, in order, each once, and
+//! `more` says whether one is left (`page`); its steps stand in the line one after another (`stand`, `not_empty`).
 #![tactic(auto)]
 
 mod candidate;

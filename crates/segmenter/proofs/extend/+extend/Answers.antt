@@ -4,7 +4,7 @@ use Rattle.derivation.specs.declared.step.Step.{Step}
 use Rattle.list_laws.specs.Firsts.{AreAll}
 use Rattle.segmenter.specs.Completions.{CanFollow, compare_steps}
 use Rattle.segmenter.specs.Pages.{answers_of, AppendsFirst}
-use Rattle.segmenter.proofs.Extensions.{Begins, begin_none, begin_all, begin_enough, popped, here_follows, step_ends, step_goes_on}
+use Rattle.segmenter.proofs.Extensions.{dead_end, Begins, begin_none, begin_all, begin_enough, popped, here_follows, step_ends, step_goes_on}
 use Rattle.segmenter.proofs.extend.+extend.Goals as goal
 use Rattle.segmenter.proofs.extend.+extend.Goals.{then-ends_line+in_ok-take_if_accepted, else-ends_line+in_ok-following+in_ok-extend, After-pop}
 
@@ -67,6 +67,11 @@ so_far t c = elim c.if-ends_line.branch [
       (λ ends. let yes = c.ends_line.ensures.1 ends in let no = w.if-ends_line.false in absurd (cc)) c.in_ok-push.ensures.items
       w.in_ok-following.ensures.ok w.in_ok-extend.ensures.found)
 ]
+
+pub returns-then-not-live-clause-found : goal.returns-then-not-live-clause-found
+returns-then-not-live-clause-found t c =
+    dead_end c.args.lexicon.now c.args.line.now c.args.place c.args.most c.args.path.now.items (answers_of c.args.found.now) c.args.found.now.more
+    (cc (c.live.ensures, c.if-not-live.true)) c.requires.no_more c.requires.room
 
 pub returns-then-found-clause-path : goal.returns-then-found-clause-path
 returns-then-found-clause-path t c = same_path t (goal.at.returns-then-found-clause-path t c).After-pop

@@ -15,8 +15,7 @@ loop-phase-preserved c =
 
 pub returns : goal.returns
 returns c =
-    let count : length (lists_of c.args.lexicon.now) ≡ length c.args.lexicon.now.lists.items = simp length-map in
-    let all : c.loop-phase.phase ≡ length c.args.lexicon.now.rules.names = omega (arith, count, c.requires.searchable.count) in
+    let all : c.loop-phase.phase ≡ length c.args.lexicon.now.rules.names = omega (arith, c.requires.searchable.count) in
     record {
       ok = all_phases c.args.lexicon.now c.args.line.now c.args.place.now c.loop-phase.steps.items
           (subst (λ phase. Appends c.args.lexicon.now c.args.line.now c.args.place.now

@@ -13,7 +13,7 @@ returns c =
     let line = c.args.line.now in
     let answers = answers_of c.extend.new.found in
     let more = c.extend.new.found.more in
-    let appends = c.in_ok-extend.ensures.found in
+    let appends = rw c.opening.ensures.place at c.in_ok-extend.ensures.found in
     let first : AreFirst compare_lists (Completes lexicon line opening) answers more =
     first_from_appends lexicon line c.args.most c.in_ok-path.path.items (map (λ steps. steps.items) c.new.result.items) answers more
     c.in_ok-path.ensures.items (ap (map (λ steps. steps.items)) c.new.ensures.items) appends in

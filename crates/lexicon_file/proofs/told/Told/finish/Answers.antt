@@ -13,8 +13,7 @@ new-requires-clause-limits c =
 
 pub returns-clause-ok : goal.returns-clause-ok
 returns-clause-ok c =
-    let last : kind_of c.self.inside.last ≡ End = search rules in
-    (
+    let last : kind_of c.self.inside.last ≡ End = search rules in (
       sym (ap (λ (told : Told). told.last) c.self.view_is) ∙ last,
       lexicon_kept _ c.args.self c.self.inside.automaton c.self.inside.lists c.lists.inside.phases.items c.self.inside.last_phase c.into_rules.result.items c.in_ok-rules.rules c.self.view_is
           (cc) c.in_ok-rules.ensures.ok last c.self.invariant refl c.lists.view_is c.lists.invariant.1.each,

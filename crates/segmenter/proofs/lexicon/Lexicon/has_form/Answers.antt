@@ -1,5 +1,5 @@
 -- The forms of the phase are those of the program's list.
-use Rattle.std.proofs.Common.{◌≡◌, ◌↔◌, IsTrue, Contains, List, ℕ, subst}
+use Rattle.std.proofs.Common.{◌≡◌, ◌<◌, ◌↔◌, sym, IsTrue, Contains, List, ℕ, subst}
 use Rattle.lexicon_definitions.specs.Lexicons.{Form}
 use Rattle.segmenter.proofs.CutLetters.{get_or-map_nil}
 use Rattle.segmenter.proofs.lexicon.Lexicon.has_form.Goals as goal

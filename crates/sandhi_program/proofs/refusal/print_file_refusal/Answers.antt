@@ -1,0 +1,22 @@
+-- The line is printed part by part.
+use Rattle.std.proofs.Common.{◌≡◌, string_bytes, ◌++◌, ◌∙◌, ap, codes}
+use Rattle.std.specs.Fmt.{decimal}
+use Rattle.lexicon_file.specs.Faults.{why_of}
+use Rattle.run_definitions.specs.Refusals.{name_of_why}
+use Rattle.sandhi_program.proofs.RefusalLines.{large_line, fault_line}
+use Rattle.sandhi_program.proofs.refusal.print_file_refusal.Goals as goal
+
+pub returns-in_ok-format-in-Large : goal.returns-in_ok-format-in-Large
+returns-in_ok-format-in-Large c = record { ok = rw c.in-Large.is (c.in_ok-format-in-Large.ensures.ok ∙ large_line c.args.name.now) }
+
+pub returns-in_ok-format-in-Lexicon : goal.returns-in_ok-format-in-Lexicon
+returns-in_ok-format-in-Lexicon c =
+    let name = c.args.name.now in
+    let number = decimal c.in-Lexicon.fault.line in
+    let told : string_bytes c.in_ok-format-in-Lexicon.field-0 ≡ codes "bad file " ++ (name ++ (codes " line " ++ (number ++ (codes ": " ++ (c.name_of-why.result.now ++ codes "\n"))))) =
+    c.in_ok-format-in-Lexicon.ensures.ok in
+    record {
+      ok = rw c.in-Lexicon.is
+          (told ∙ ap (λ why. codes "bad file " ++ (name ++ (codes " line " ++ (number ++ (codes ": " ++ (why ++ codes "\n")))))) c.name_of-why.ensures
+          ∙ fault_line name number (name_of_why (why_of c.in-Lexicon.fault.why)));
+    }
