@@ -11,3 +11,4 @@ pub mod ListsTold
 pub mod FormLemmas
 pub mod LinesTaken
 pub mod EntryLemmas
+pub mod FormFields
