@@ -3,13 +3,12 @@ use Rattle.std.proofs.Common.{arith, Some, None, refl, ◌∙◌}
 use Rattle.std.proofs.lemmas.Bool.{false≢true}
 use Rattle.std.proofs.lemmas.Result.{err_from_is_err_and}
 use Rattle.text_definitions.specs.Slp1.{word_of_slp1}
-use Rattle.form_lists.specs.Lists.{text_entry}
 use Rattle.lexicon_text_definitions.specs.FileLines.{fields_of}
-use Rattle.lexicon_text_definitions.specs.FileSteps.{some_word, take_form_line, take_entry as take_entry_of, take_form as take_form_of}
+use Rattle.lexicon_text_definitions.specs.FileSteps.{some_word, take_form as take_form_of}
 use Rattle.lexicon_file.specs.declared.error.FileWhy.TheVariants.{Field}
 use Rattle.lexicon_file.proofs.AnswerLemmas.{refused_for}
 use Rattle.lexicon_file.proofs.PairLemmas.{not_spelled}
-use Rattle.lexicon_file.proofs.FormFields.{four_fit, not_four, by_phase, no_tag, by_words, no_letters, no_stem, both_words, some_letter, answer_moved}
+use Rattle.lexicon_file.proofs.FormFields.{four_fit, not_four, by_phase, no_tag, by_words, no_letters, no_stem, both_words, answer_moved}
 use Rattle.lexicon_file.proofs.told.Told.take_form.Goals as goal
 
 pub returns-in_default : goal.returns-in_default
