@@ -16,16 +16,16 @@ pub Contains-child_among : (letter child : ℕ) (children : List (ℕ × ℕ)) �
 Contains-child_among letter child [] found = absurd cc
 Contains-child_among letter child (first ∷ children) found =
     let go : (b : Bool) → first.0 == letter ≡ b
-        → option_map (λ (c : ℕ × ℕ). c.1) (cond b (Some first) (find (λ (c : ℕ × ℕ). c.0 == letter) children)) ≡ Some child
-        → Contains (first ∷ children) (letter, child) =
-        elim [
-          | true ↦ λ e f.
-              let same : first.0 ≡ letter = eqb-true first.0 letter e in
-              let leads : first.1 ≡ child = cc in
-              let pair : first ≡ (letter, child) = λ i. (same i, leads i) in
-              subst (λ (c : ℕ × ℕ). Contains (first ∷ children) c) pair (Contains-first first children)
-          | false ↦ λ e f. Contains-later first children (letter, child) (Contains-child_among letter child children f)
-        ]
+    → option_map (λ (c : ℕ × ℕ). c.1) (cond b (Some first) (find (λ (c : ℕ × ℕ). c.0 == letter) children)) ≡ Some child
+    → Contains (first ∷ children) (letter, child) =
+    elim [
+      | true ↦ λ e f.
+          let same : first.0 ≡ letter = eqb-true first.0 letter e in
+          let leads : first.1 ≡ child = cc in
+          let pair : first ≡ (letter, child) = λ i. (same i, leads i) in
+          subst (λ (c : ℕ × ℕ). Contains (first ∷ children) c) pair (Contains-first first children)
+      | false ↦ λ e f. Contains-later first children (letter, child) (Contains-child_among letter child children f)
+    ]
     in go (first.0 == letter) refl found
 
 -- a letter of a node leads to a child of the node's row

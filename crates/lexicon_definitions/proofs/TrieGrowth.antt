@@ -2,7 +2,8 @@
 -- rows that were there.
 use Rattle.std.proofs.Common.{◌≡◌, ◌≢◌, ℕ, zero, suc, ◌+◌, ◌<◌, ◌≤◌, ◌⊎◌, ◌↔◌, inl, inr, Option, Some, None, List, [], ◌∷◌, ◌++◌, length, get_or, refl, sym, ◌∙◌, ap, subst, arith, length-append}
 use Rattle.std.specs.Prelude.{option_and_then, All, AllPairs, Contains, IsSome}
-use Rattle.std.proofs.lemmas.List.{get_or_append_left}
+use Rattle.std.proofs.lemmas.Bool.{cases_lt}
+use Rattle.std.proofs.lemmas.List.{get_or_append_left, get_or_push, length_push}
 use Rattle.std.proofs.lemmas.List.Elements.{All-weaker, All-contains}
 use Rattle.lexicon_definitions.specs.Deltas.{Delta}
 use Rattle.lexicon_definitions.specs.Lexicons.{Form}
@@ -35,12 +36,12 @@ walk-append rows more are [] node low = refl
 walk-append rows more are (letter ∷ word) node low =
     let same = child_in-append rows more node letter low in
     let go : (o : Option ℕ) → child_in rows node letter ≡ o → walk (rows ++ more) node (letter ∷ word) ≡ walk rows node (letter ∷ word) =
-        elim [
-          | None ↦ λ e. walk-none (rows ++ more) node letter word (same ∙ e) ∙ sym (walk-none rows node letter word e)
-          | Some child ↦ λ e.
-              let before = (IsChild-child_in rows node letter child are low e).before in
-              walk-child (rows ++ more) node letter child word (same ∙ e) ∙ walk-append rows more are word child (omega (arith, before)) ∙ sym (walk-child rows node letter child word e)
-        ]
+    elim [
+      | None ↦ λ e. walk-none (rows ++ more) node letter word (same ∙ e) ∙ sym (walk-none rows node letter word e)
+      | Some child ↦ λ e.
+          let before = (IsChild-child_in rows node letter child are low e).before in
+          walk-child (rows ++ more) node letter child word (same ∙ e) ∙ walk-append rows more are word child (omega (arith, before)) ∙ sym (walk-child rows node letter child word e)
+    ]
     in go (child_in rows node letter) refl
 
 -- a walk leads to a node with no greater number
@@ -49,13 +50,13 @@ pub walk-within : (rows : List Row) → AreRows rows → (word : List ℕ) (node
 walk-within rows are [] node reached low walked = let same : node ≡ reached = cc in omega (arith, same)
 walk-within rows are (letter ∷ word) node reached low walked =
     let go : (o : Option ℕ) → child_in rows node letter ≡ o → reached + length (letter ∷ word) ≤ node =
-        elim [
-          | None ↦ λ e. let none = walk-none rows node letter word e in absurd cc
-          | Some child ↦ λ e.
-              let before = (IsChild-child_in rows node letter child are low e).before in
-              let rest = walk-within rows are word child reached (omega (arith, before)) (sym (walk-child rows node letter child word e) ∙ walked) in
-              omega (arith, rest, before)
-        ]
+    elim [
+      | None ↦ λ e. let none = walk-none rows node letter word e in absurd cc
+      | Some child ↦ λ e.
+          let before = (IsChild-child_in rows node letter child are low e).before in
+          let rest = walk-within rows are word child reached (omega (arith, before)) (sym (walk-child rows node letter child word e) ∙ walked) in
+          omega (arith, rest, before)
+    ]
     in go (child_in rows node letter) refl
 
 -- a node stands for what it stood for
@@ -86,9 +87,33 @@ IsHeight-append rows more node height are low is =
 pub IsRow-append : (rows more : List Row) (node : ℕ) (row : Row) → node ≤ length rows → IsRow rows node row → IsRow (rows ++ more) node row
 IsRow-append rows more node row low is =
     let keep : (child : ℕ × ℕ) → IsChild rows node child → IsChild (rows ++ more) node child =
-        λ child c. record {
-          letter = c.letter;
-          before = c.before;
-          not_empty = λ e. c.not_empty (sym (row_of-append rows more child.1 (let b = c.before in omega (arith, b, low))) ∙ e);
-        }
+    λ child c. record {
+      letter = c.letter;
+      before = c.before;
+      not_empty = λ e. c.not_empty (sym (row_of-append rows more child.1 (let b = c.before in omega (arith, b, low))) ∙ e);
+    }
     in record { deltas = is.deltas; children = All-weaker (IsChild rows node) (IsChild (rows ++ more) node) keep row.children is.children; letters = is.letters }
+
+-- a row at the end
+pub row_of-push : (rows : List Row) (row : Row) → row_of (rows ++ row ∷ []) (length rows) ≡ row
+row_of-push rows row = get_or_push rows row empty_row (length rows) refl
+
+-- rows with one more, which is another
+pub AreRows-push : (rows : List Row) (row : Row) → AreRows rows → IsRow rows (length rows) row
+    → AllPairs (λ left right. left ≢ right) (rows ++ row ∷ []) → AreRows (rows ++ row ∷ [])
+AreRows-push rows row are is apart =
+    record {
+      each = λ node low.
+          let long = length_push rows row in
+          elim (cases_lt node (length rows)) [
+            | inl l ↦
+                subst (IsRow (rows ++ row ∷ []) node) (sym (row_of-append rows (row ∷ []) node l))
+                (IsRow-append rows (row ∷ []) node (row_of rows node) (omega (arith, l)) (are.each node l))
+            | inr g ↦
+                let last : length rows ≡ node = omega (arith, g, low, long) in
+                subst (λ (n : ℕ). IsRow (rows ++ row ∷ []) n (row_of (rows ++ row ∷ []) n)) last
+                (subst (IsRow (rows ++ row ∷ []) (length rows)) (sym (row_of-push rows row))
+                (IsRow-append rows (row ∷ []) (length rows) row (omega arith) is))
+          ];
+      distinct = apart;
+    }

@@ -44,10 +44,10 @@ child_among-Contains letter child (first ∷ children) rising among =
       | inr later ↦
           let above = All-contains (λ (c : ℕ × ℕ). nat_cmp first.0 c.0 ≡ Less) children (letter, child) (All-from_recursion (λ (c : ℕ × ℕ). nat_cmp first.0 c.0 ≡ Less) children (sorted_head (on (λ (c : ℕ × ℕ). c.0) nat_cmp) first children rising)) later in
           let go : (b : Bool) → first.0 == letter ≡ b → child_among (first ∷ children) letter ≡ Some child =
-              elim [
-                | true ↦ λ e. absurd (not_Less-itself nat_cmp_total letter (subst (λ (n : ℕ). nat_cmp n letter ≡ Less) (eqb-true first.0 letter e) above))
-                | false ↦ λ e. child_among-there first children letter e ∙ child_among-Contains letter child children (sorted_tail (on (λ (c : ℕ × ℕ). c.0) nat_cmp) first children rising) later
-              ]
+          elim [
+            | true ↦ λ e. absurd (not_Less-itself nat_cmp_total letter (subst (λ (n : ℕ). nat_cmp n letter ≡ Less) (eqb-true first.0 letter e) above))
+            | false ↦ λ e. child_among-there first children letter e ∙ child_among-Contains letter child children (sorted_tail (on (λ (c : ℕ × ℕ). c.0) nat_cmp) first children rising) later
+          ]
           in go (first.0 == letter) refl
     ]
 
@@ -78,16 +78,16 @@ module _ (rows : List Row) (forms : List Form) (front : List ℕ) (node : ℕ) (
   begins_from_walk [] walks = inl refl
   begins_from_walk (letter ∷ word) walks =
       let go : (o : Option ℕ) → child_in rows node letter ≡ o → BeginsForm forms (front ++ letter ∷ word) =
-          elim [
-            | None ↦ λ e. let none = walk-none rows node letter word e in absurd (true≢false (sym walks ∙ ap is_some none))
-            | Some child ↦ λ e.
-                let (child_is, begins) = known letter child e in
-                let rest : IsSome (walk rows child word) = subst IsSome (walk-child rows node letter child word e) walks in
-                elim ((child_is.walks word).0 rest) [
-                  | inl empty ↦ subst (λ (w : List ℕ). BeginsForm forms (front ++ letter ∷ w)) (sym empty) begins
-                  | inr longer ↦ subst (BeginsForm forms) (front_letter front letter word) longer
-                ]
-          ]
+      elim [
+        | None ↦ λ e. let none = walk-none rows node letter word e in absurd (true≢false (sym walks ∙ ap is_some none))
+        | Some child ↦ λ e.
+            let (child_is, begins) = known letter child e in
+            let rest : IsSome (walk rows child word) = subst IsSome (walk-child rows node letter child word e) walks in
+            elim ((child_is.walks word).0 rest) [
+              | inl empty ↦ subst (λ (w : List ℕ). BeginsForm forms (front ++ letter ∷ w)) (sym empty) begins
+              | inr longer ↦ subst (BeginsForm forms) (front_letter front letter word) longer
+            ]
+      ]
       in inr (go (child_in rows node letter) refl)
 
   -- a word that begins a form after the front can be walked
@@ -108,17 +108,17 @@ module _ (rows : List Row) (forms : List Form) (front : List ℕ) (node : ℕ) (
       (subst (λ (w : List ℕ). Contains (row_of rows node).deltas delta ↔ HasDelta forms w delta) (sym (append-nil front)) (is.deltas delta))
   deltas_from_walk (letter ∷ word) reached walked delta =
       let go : (o : Option ℕ) → child_in rows node letter ≡ o → Contains (row_of rows reached).deltas delta ↔ HasDelta forms (front ++ letter ∷ word) delta =
-          elim [
-            | None ↦ λ e. let none = walk-none rows node letter word e in absurd cc
-            | Some child ↦ λ e.
-                subst (λ (w : List ℕ). Contains (row_of rows reached).deltas delta ↔ HasDelta forms w delta) (front_letter front letter word)
-                ((known letter child e).0.deltas word reached (sym (walk-child rows node letter child word e) ∙ walked) delta)
-          ]
+      elim [
+        | None ↦ λ e. let none = walk-none rows node letter word e in absurd cc
+        | Some child ↦ λ e.
+            subst (λ (w : List ℕ). Contains (row_of rows reached).deltas delta ↔ HasDelta forms w delta) (front_letter front letter word)
+            ((known letter child e).0.deltas word reached (sym (walk-child rows node letter child word e) ∙ walked) delta)
+      ]
       in go (child_in rows node letter) refl
 
   pub IsNodeAfter-row : IsNodeAfter rows forms front node
   IsNodeAfter-row =
       record {
-        walks = λ word. (begins_from_walk word, elim [ | inl empty ↦ subst (λ (w : List ℕ). IsSome (walk rows node w)) (sym empty) refl | inr begins ↦ walk_from_begins word begins ]);
+        walks = λ word. (begins_from_walk word, elim [ inl empty ↦ subst (λ (w : List ℕ). IsSome (walk rows node w)) (sym empty) refl | inr begins ↦ walk_from_begins word begins ]);
         deltas = deltas_from_walk;
       }

@@ -32,10 +32,10 @@ HasSuffix-rest : (rows : List Row) (node letter : ℕ) (word : List ℕ) (delta 
     → (child : ℕ) × (child_in rows node letter ≡ Some child) × HasSuffix rows child word delta
 HasSuffix-rest rows node letter word delta has =
     let go : (o : Option ℕ) → child_in rows node letter ≡ o → (child : ℕ) × (child_in rows node letter ≡ Some child) × HasSuffix rows child word delta =
-        elim [
-          | None ↦ λ e. let none = walk-none rows node letter word e in let walked = has.walked in absurd cc
-          | Some child ↦ λ e. (child, e, record { reached = has.reached; walked = sym (walk-child rows node letter child word e) ∙ has.walked; has_delta = has.has_delta })
-        ]
+    elim [
+      | None ↦ λ e. let none = walk-none rows node letter word e in let walked = has.walked in absurd cc
+      | Some child ↦ λ e. (child, e, record { reached = has.reached; walked = sym (walk-child rows node letter child word e) ∙ has.walked; has_delta = has.has_delta })
+    ]
     in go (child_in rows node letter) refl
 
 -- the empty word is a suffix with just the node's own deltas
@@ -88,16 +88,16 @@ module _ (rows : List Row) (are : AreRows rows) where
       let found = IsChild-child_in rows right child.0 other are low_right f in
       let found_before = found.before in
       let to_other : (w : List ℕ) (d : Delta) → HasSuffix rows child.1 w d → HasSuffix rows other w d =
-          λ w d h.
-              let (third, g, r) = HasSuffix-rest rows right child.0 w d ((same (child.0 ∷ w) d).0 (HasSuffix-child rows left child.0 child.1 w d e h)) in
-              let one : third ≡ other = cc in
-              subst (λ (n : ℕ). HasSuffix rows n w d) one r
+      λ w d h.
+      let (third, g, r) = HasSuffix-rest rows right child.0 w d ((same (child.0 ∷ w) d).0 (HasSuffix-child rows left child.0 child.1 w d e h)) in
+      let one : third ≡ other = cc in
+      subst (λ (n : ℕ). HasSuffix rows n w d) one r
       in
       let from_other : (w : List ℕ) (d : Delta) → HasSuffix rows other w d → HasSuffix rows child.1 w d =
-          λ w d h.
-              let (third, g, r) = HasSuffix-rest rows left child.0 w d ((same (child.0 ∷ w) d).1 (HasSuffix-child rows right child.0 other w d f h)) in
-              let one : third ≡ child.1 = cc in
-              subst (λ (n : ℕ). HasSuffix rows n w d) one r
+      λ w d h.
+      let (third, g, r) = HasSuffix-rest rows left child.0 w d ((same (child.0 ∷ w) d).1 (HasSuffix-child rows right child.0 other w d f h)) in
+      let one : third ≡ child.1 = cc in
+      subst (λ (n : ℕ). HasSuffix rows n w d) one r
       in
       let one : child.1 ≡ other = once child.1 other (omega (arith, before, below_left)) (omega (arith, found_before, below_right)) (omega (arith, before, low_left)) (omega (arith, found_before, low_right)) (λ w d. (to_other w d, from_other w d)) in
       subst (λ (n : ℕ). Contains (row_of rows right).children (child.0, n)) (sym one) (Contains-child_among child.0 other (row_of rows right).children f)
@@ -109,14 +109,14 @@ module _ (rows : List Row) (are : AreRows rows) where
   one_below (suc bound) left right below_left below_right low_left low_right same =
       let back : HaveSameSuffixes rows right left = λ w d. ((same w d).1, (same w d).0) in
       let deltas : (row_of rows left).deltas ≡ (row_of rows right).deltas =
-          same_sorted compare_deltas-total (row_of rows left).deltas (row_of rows right).deltas (are.each left low_left).deltas (are.each right low_right).deltas
-          (λ d m. HasSuffix-empty rows right d ((same [] d).0 (record { reached = left; walked = refl; has_delta = m })))
-          (λ d m. HasSuffix-empty rows left d ((same [] d).1 (record { reached = right; walked = refl; has_delta = m })))
+      same_sorted compare_deltas-total (row_of rows left).deltas (row_of rows right).deltas (are.each left low_left).deltas (are.each right low_right).deltas
+      (λ d m. HasSuffix-empty rows right d ((same [] d).0 (record { reached = left; walked = refl; has_delta = m })))
+      (λ d m. HasSuffix-empty rows left d ((same [] d).1 (record { reached = right; walked = refl; has_delta = m })))
       in
       let children : (row_of rows left).children ≡ (row_of rows right).children =
-          same_sorted (on_total (λ (c : ℕ × ℕ). c.0) nat_cmp_total) (row_of rows left).children (row_of rows right).children (are.each left low_left).letters (are.each right low_right).letters
-          (shared_child bound left right (omega (arith, below_left)) (omega (arith, below_right)) low_left low_right same (one_below bound))
-          (shared_child bound right left (omega (arith, below_right)) (omega (arith, below_left)) low_right low_left back (one_below bound))
+      same_sorted (on_total (λ (c : ℕ × ℕ). c.0) nat_cmp_total) (row_of rows left).children (row_of rows right).children (are.each left low_left).letters (are.each right low_right).letters
+      (shared_child bound left right (omega (arith, below_left)) (omega (arith, below_right)) low_left low_right same (one_below bound))
+      (shared_child bound right left (omega (arith, below_right)) (omega (arith, below_left)) low_right low_left back (one_below bound))
       in
       let row : row_of rows left ≡ row_of rows right = λ i. record { deltas = deltas i; children = children i } in
       elim (cases_order left right) [

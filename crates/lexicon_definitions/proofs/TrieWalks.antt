@@ -17,11 +17,11 @@ pub walk-two : (rows : List Row) (word rest : List ℕ) (node reached : ℕ) →
 walk-two rows [] rest node reached walked = let here : node ≡ reached = cc in ap (λ (n : ℕ). walk rows n rest) here
 walk-two rows (letter ∷ word) rest node reached walked =
     let go : (o : Option ℕ) → child_in rows node letter ≡ o → walk rows node (letter ∷ word ++ rest) ≡ walk rows reached rest =
-        elim [
-          | None ↦ λ e. let none = walk-none rows node letter word e in absurd cc
-          | Some child ↦ λ e.
-              walk-child rows node letter child (word ++ rest) e ∙ walk-two rows word rest child reached (sym (walk-child rows node letter child word e) ∙ walked)
-        ]
+    elim [
+      | None ↦ λ e. let none = walk-none rows node letter word e in absurd cc
+      | Some child ↦ λ e.
+          walk-child rows node letter child (word ++ rest) e ∙ walk-two rows word rest child reached (sym (walk-child rows node letter child word e) ∙ walked)
+    ]
     in go (child_in rows node letter) refl
 
 -- the second of two words that are empty together
@@ -35,15 +35,16 @@ pub IsNodeAfter-walk : (rows : List Row) (forms : List Form) (front word : List 
 IsNodeAfter-walk rows forms front word node reached is walked =
     let along = λ (rest : List ℕ). walk-two rows word rest node reached walked in
     record {
-      walks = λ rest.
-          (λ (walks : IsSome (walk rows reached rest)). elim ((is.walks (word ++ rest)).0 (subst IsSome (sym (along rest)) walks)) [
-              | inl e ↦ inl (rest_empty word rest e)
-              | inr begins ↦ inr (subst (BeginsForm forms) (sym (append_assoc front word rest)) begins)
-            ],
-            elim [
-              | inl e ↦ subst (λ (w : List ℕ). IsSome (walk rows reached w)) (sym e) refl
-              | inr begins ↦ subst IsSome (along rest) ((is.walks (word ++ rest)).1 (inr (subst (BeginsForm forms) (append_assoc front word rest) begins)))
-            ]);
+      walks = λ rest. (
+        λ (walks : IsSome (walk rows reached rest)). elim ((is.walks (word ++ rest)).0 (subst IsSome (sym (along rest)) walks)) [
+          | inl e ↦ inl (rest_empty word rest e)
+          | inr begins ↦ inr (subst (BeginsForm forms) (sym (append_assoc front word rest)) begins)
+        ],
+        elim [
+          | inl e ↦ subst (λ (w : List ℕ). IsSome (walk rows reached w)) (sym e) refl
+          | inr begins ↦ subst IsSome (along rest) ((is.walks (word ++ rest)).1 (inr (subst (BeginsForm forms) (append_assoc front word rest) begins)))
+        ],
+      );
       deltas = λ rest last e delta.
           subst (λ (w : List ℕ). Contains (row_of rows last).deltas delta ↔ HasDelta forms w delta) (sym (append_assoc front word rest))
           (is.deltas (word ++ rest) last (along rest ∙ e) delta);
@@ -72,10 +73,10 @@ module _ (rows : List Row) (node height : ℕ) (is : IsHeight rows node height) 
   children_less_high are low =
       All-from_Contains (λ (child : ℕ × ℕ). (k : ℕ) → IsHeight rows child.1 k → k + 1 ≤ height) (row_of rows node).children
       (λ child among k h.
-          let e = child_among-Contains child.0 child.1 (row_of rows node).children (are.each node low).letters among in
-          let long = longer child.0 child.1 h.word e h.walks in
-          let same = h.has_length in
-          omega (arith, long, same))
+      let e = child_among-Contains child.0 child.1 (row_of rows node).children (are.each node low).letters among in
+      let long = longer child.0 child.1 h.word e h.walks in
+      let same = h.has_length in
+      omega (arith, long, same))
 
   -- some child is one less high, or there are no children and the height is 0
   pub child_one_less_high : (height ≡ 0) ⊎ ((child : ℕ × ℕ) × Contains (row_of rows node).children child × IsHeight rows child.1 (height - 1))
@@ -86,16 +87,18 @@ module _ (rows : List Row) (node height : ℕ) (is : IsHeight rows node height) 
       by [] has_length walks = inl (sym has_length)
       by (letter ∷ word) has_length walks =
           let go : (o : Option ℕ) → child_in rows node letter ≡ o
-              → (child : ℕ × ℕ) × Contains (row_of rows node).children child × IsHeight rows child.1 (height - 1) =
-              elim [
-                | None ↦ λ e. absurd (true≢false (sym walks ∙ ap is_some (walk-none rows node letter word e)))
-                | Some child ↦ λ e.
-                    ((letter, child), Contains-child_among letter child (row_of rows node).children e,
-                    record {
-                      word = word;
-                      has_length = omega (arith, has_length);
-                      walks = subst IsSome (walk-child rows node letter child word e) walks;
-                      longest = λ other w. let l = longer letter child other e w in omega (arith, l);
-                    })
-              ]
+          → (child : ℕ × ℕ) × Contains (row_of rows node).children child × IsHeight rows child.1 (height - 1) =
+          elim [
+            | None ↦ λ e. absurd (true≢false (sym walks ∙ ap is_some (walk-none rows node letter word e)))
+            | Some child ↦ λ e. (
+              (letter, child),
+              Contains-child_among letter child (row_of rows node).children e,
+              record {
+                word = word;
+                has_length = omega (arith, has_length);
+                walks = subst IsSome (walk-child rows node letter child word e) walks;
+                longest = λ other w. let l = longer letter child other e w in omega (arith, l);
+              },
+            )
+          ]
           in inr (go (child_in rows node letter) refl)

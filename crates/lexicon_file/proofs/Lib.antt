@@ -11,4 +11,5 @@ pub mod ListsTold
 pub mod FormLemmas
 pub mod LinesTaken
 pub mod EntryLemmas
+pub mod FaultsRead
 pub mod FormFields

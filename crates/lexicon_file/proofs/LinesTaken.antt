@@ -1,5 +1,5 @@
 -- What a line is taken as, by its tests one after another; and an answer to a line that is no grammar's.
-use Rattle.std.proofs.Common.{◌≡◌, ◌≢◌, ℕ, ◌<◌, ◌^◌, ◌⊎◌, inl, Bool, true, false, not, cond, Option, Some, None, IfSome, Result, Ok, Err, List, [], ◌∷◌, length, refl, sym, ◌∙◌, ap, subst, arith, Bor}
+use Rattle.std.proofs.Common.{◌≡◌, ◌≢◌, ℕ, ◌<◌, ◌^◌, inl, true, false, not, Option, Some, None, IfSome, Result, Ok, Err, List, [], length, refl, sym, ◌∙◌, ap, subst, arith, Bor}
 use Rattle.std.specs.Result.{is_err, MatchResult}
 use Rattle.std.specs.Str.{is_utf8, IsUtf8}
 use Rattle.std.proofs.lemmas.Bool.{false_from_ne_true}

@@ -1,10 +1,9 @@
 -- Form lists are built up again by their entries, since their phases are lawful; and what the end of the lines gives.
-use Rattle.std.proofs.Common.{◌≡◌, ◌≢◌, ℕ, ◌+◌, ◌<◌, ◌≤◌, Option, List, [], ◌∷◌, ◌++◌, length, replicate, All, refl, sym, ◌∙◌, ap, subst, arith}
+use Rattle.std.proofs.Common.{◌≡◌, ◌≢◌, ℕ, ◌<◌, Option, List, [], ◌∷◌, ◌++◌, length, replicate, All, sym, ◌∙◌, ap, subst, arith}
 use Rattle.std.specs.List.{AllByRecursion}
 use Rattle.std.specs.List.Sorted.{IsStrictlySortedBy}
 use Rattle.std.proofs.lemmas.List.{length-replicate}
-use Rattle.std.proofs.lemmas.List.Elements.{recursion_from_All, All-from_recursion, All-head, All-tail}
-use Rattle.lexicon_definitions.specs.Analyses.{Analysis}
+use Rattle.std.proofs.lemmas.List.Elements.{All-head, All-tail}
 use Rattle.lexicon_definitions.specs.Lexicons.{RuleSet, Form, IsFormEntry}
 use Rattle.lexicon_definitions.specs.Limits.{IsRuleSetWithinLimits}
 use Rattle.lexicon_definitions.specs.Rules.{Rule}

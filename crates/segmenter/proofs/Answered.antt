@@ -84,11 +84,11 @@ entered_if_met : (lexicon : Lexicon) (line : Line) (place : Place) (step next : 
     → form_at lexicon.rules line place (program_step_of lexicon.rules place.at (lead_at lexicon.rules place) step) ≡ step.form
     → MayEnter lexicon.rules (place_after lexicon line place (program_step_of lexicon.rules place.at (lead_at lexicon.rules place) step)) next.phase next.form
 entered_if_met lexicon line place step next meets same =
-  let rules = lexicon.rules in record {
-  plain = if_last step.rule (form_at rules line place (program_step_of rules place.at (lead_at rules place) step)) (λ last. IsPlain rules last (get_or next.form 0 0))
-      (λ none. subst (λ form. IsPlain rules (get_or form (length form - 1) 0) (get_or next.form 0 0)) (sym same) (plain_if_met rules step next meets none));
-  precedes = after_if_met rules step next meets;
-}
+    let rules = lexicon.rules in record {
+      plain = if_last step.rule (form_at rules line place (program_step_of rules place.at (lead_at rules place) step)) (λ last. IsPlain rules last (get_or next.form 0 0))
+          (λ none. subst (λ form. IsPlain rules (get_or form (length form - 1) 0) (get_or next.form 0 0)) (sym same) (plain_if_met rules step next meets none));
+      precedes = after_if_met rules step next meets;
+    }
 
 -- ---- how the first of the steps stands in its place
 

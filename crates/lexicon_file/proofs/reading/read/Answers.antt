@@ -1,6 +1,7 @@
 -- Line by line, what is read from the next line on is what is read in the file; at the end what is read as a lexicon is one.
-use Rattle.std.proofs.Common.{rules, arith, ◌≡◌, ◌<◌, ◌≤◌, ◌^◌, length}
+use Rattle.std.proofs.Common.{arith}
 use Rattle.lexicon_file.proofs.ReadLemmas.{first_reading, reads_on, text_at_end}
+use Rattle.lexicon_file.proofs.FaultsRead.{line_fault}
 use Rattle.lexicon_file.proofs.reading.read.Goals as goal
 
 pub loop-line-init : goal.loop-line-init
@@ -36,3 +37,8 @@ loop-line-preserved c =
       within = omega arith;
       number = omega arith;
     }
+
+pub returns-in-Err-clause-fault : goal.returns-in-Err-clause-fault
+returns-in-Err-clause-fault c =
+    line_fault (Unit {0}) c.args.bytes.now c.loop-line.told c.take_line.new.self c.loop-line.number c.loop-line.rest.now c.in-Some.following.now _ c.in-Err.error c.error_at.result
+    c.loop-line.invariant.reads c.in-Some.ensures.line c.in-Err.ensures c.error_at.ensures

@@ -1,5 +1,5 @@
 -- What is read from the next line on is what is read in the file.
-use Rattle.std.proofs.Common.{ℕ, ◌+◌, ◌≤◌, length}
+use Rattle.std.proofs.Common.{◌+◌, ◌≤◌, length}
 use Rattle.lexicon_text_definitions.specs.FileLines.{lines_of_bytes}
 use Rattle.lexicon_text_definitions.specs.FileReadings.{FileResult, read_lines, IsResult, IsReadAs}
 use Rattle.lexicon_file.proofs.reading.read.Given as goal

@@ -16,5 +16,5 @@ returns c =
     let inner = λ (e : c.args.rule.now.v ≡ []). absurd (cc (c.is_final.ensures.1 e)) in (
       inner,
       found_place c.args.leads.now c.args.rule.now c.in-Ok.place c.in-Ok.ensures.bound
-      (c.in-Ok.ensures.position (λ lead. compare_leads lead (lead_of c.args.rule.now)) (always_returns_same _ _ _ (λ a r f' k. search rules))),
+          (c.in-Ok.ensures.position (λ lead. compare_leads lead (lead_of c.args.rule.now)) (always_returns_same _ _ _ (λ a r f' k. search rules))),
     )

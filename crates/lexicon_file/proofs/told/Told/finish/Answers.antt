@@ -1,5 +1,5 @@
 -- After the end the lists that were kept are built up again by their entries.
-use Rattle.std.proofs.Common.{rules, arith, ◌≡◌, sym, ◌∙◌, ap, refl}
+use Rattle.std.proofs.Common.{rules, ◌≡◌, sym, ◌∙◌, ap, refl}
 use Rattle.lexicon_text_definitions.specs.FileLines.{End}
 use Rattle.lexicon_text_definitions.specs.FileContents.{Told}
 use Rattle.lexicon_file.specs.Kinds.{kind_of}

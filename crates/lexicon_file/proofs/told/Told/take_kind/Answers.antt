@@ -1,10 +1,7 @@
 -- Each kind of line is taken by its function, and only after a grammar's the last line is one.
-use Rattle.std.proofs.Common.{rules, arith, ◌≡◌, ◌≢◌, refl}
-use Rattle.lexicon_text_definitions.specs.FileSteps.{take_kind as take_kind_of}
+use Rattle.std.proofs.Common.{rules, ◌≡◌, ◌≢◌}
 use Rattle.lexicon_file.specs.declared.kind.Kind.TheVariants.{End}
 use Rattle.lexicon_file.specs.declared.error.FileWhy.TheVariants.{Field}
-use Rattle.lexicon_file.specs.Fields.{text_of_rest}
-use Rattle.lexicon_file.specs.Kinds.{kind_of}
 use Rattle.lexicon_file.proofs.LinesTaken.{line_refused, phase_answer, plain_answer, rule_answer, form_answer, end_answer, no_text}
 use Rattle.lexicon_file.proofs.told.Told.take_kind.Goals as goal
 

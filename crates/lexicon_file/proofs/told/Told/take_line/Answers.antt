@@ -1,5 +1,5 @@
 -- The tests of a line one after another.
-use Rattle.std.proofs.Common.{rules, arith, ◌≡◌, ◌≢◌, true, false, sym, ◌∙◌, refl}
+use Rattle.std.proofs.Common.{rules, ◌≡◌, ◌≢◌, true, sym, ◌∙◌, refl}
 use Rattle.lexicon_file.specs.declared.kind.Kind.TheVariants.{Opening, End}
 use Rattle.lexicon_file.specs.declared.error.FileWhy.TheVariants.{Trailing, NoEnd, NotUtf8}
 use Rattle.lexicon_file.proofs.LinesTaken.{line_refused, answer_as, head_answer, trailing, no_end, not_utf8, head_line, later_line, last_is, last_not_end, last_not_opening, utf8_bad, utf8_good}
