@@ -1,6 +1,6 @@
 -- An entry above the last goes to the end of the entries: all entries are below it, so no phase after its own has a form, and it
 -- goes to the end of its phase. Its phase is the last one afterwards.
-use Rattle.std.proofs.Common.{◌≡◌, ◌≢◌, ℕ, zero, suc, ◌+◌, ◌<◌, ◌≤◌, Bool, true, false, ◌||◌, nat_le, nat_lt, Option, Result, Ok, Err, List, [], ◌∷◌, ◌++◌, length, map, get_or, set, refl, sym, ◌∙◌, ap, subst, arith}
+use Rattle.std.proofs.Common.{◌≡◌, ◌≢◌, ℕ, zero, suc, ◌+◌, ◌<◌, ◌≤◌, Bool, true, false, ◌||◌, nat_le, nat_lt, Option, Ok, Err, List, [], ◌∷◌, ◌++◌, length, map, get_or, refl, sym, ◌∙◌, ap, subst, arith}
 use Rattle.std.specs.List.{AllByRecursion}
 use Rattle.std.specs.Ordering.{nat_cmp, ordering_then}
 use Rattle.std.specs.declared.cmp.Ordering.{Ordering}
@@ -25,7 +25,7 @@ use Rattle.lexicon_text_definitions.specs.FileSteps.{Taken, if_rising, passes_fo
 use Rattle.lexicon_text_definitions.proofs.LineTests.{when_true, when_false}
 use Rattle.lexicon_text_definitions.proofs.LineSteps.{with_line}
 use Rattle.lexicon_text_definitions.proofs.RisingLines.{lines_total, sorted_with_last}
-use Rattle.lexicon_text_definitions.proofs.FormLines.{with_form, lines_with, at_zero}
+use Rattle.lexicon_text_definitions.proofs.FormLines.{lines_with, at_zero}
 use Rattle.lexicon_text_definitions.proofs.FormPhases.{IsLawfulForm, AreLawful, lines_rise, entry_placed, all_left, all_right}
 use Rattle.lexicon_text_definitions.proofs.WholeTexts.{counted}
 use Rattle.lexicon_file.specs.declared.line_error.LineError.{LineError}

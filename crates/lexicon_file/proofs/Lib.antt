@@ -13,3 +13,4 @@ pub mod LinesTaken
 pub mod EntryLemmas
 pub mod FaultsRead
 pub mod WriteLemmas
+pub mod FormFields
