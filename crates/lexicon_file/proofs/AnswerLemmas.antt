@@ -1,12 +1,12 @@
 -- Answers to a line: a refusal for one reason, and what is told after the end.
-use Rattle.std.proofs.Common.{◌≡◌, ℕ, Bool, true, false, Option, Some, None, is_some, Result, Ok, Err, List, refl, sym, ◌∙◌, ap, subst, Bor}
+use Rattle.std.proofs.Common.{◌≡◌, ℕ, true, false, Option, Some, None, is_some, Ok, Err, List, refl, sym, ◌∙◌, ap, subst, Bor}
 use Rattle.lexicon_text_definitions.specs.FileFaults as faults
 use Rattle.lexicon_text_definitions.specs.FileContents.{Told}
 use Rattle.lexicon_text_definitions.specs.FileSteps.{Taken, take_end}
 use Rattle.lexicon_text_definitions.proofs.LineSteps.{with_end, takes_end}
 use Rattle.lexicon_file.specs.declared.error.FileWhy.{FileWhy}
 use Rattle.lexicon_file.specs.declared.line_error.LineError.{LineError}
-use Rattle.lexicon_file.specs.declared.line_error.LineError.TheVariants.{Why, Memory}
+use Rattle.lexicon_file.specs.declared.line_error.LineError.TheVariants.{Why}
 use Rattle.lexicon_file.specs.Fields.{text_of_rest}
 use Rattle.lexicon_file.specs.Faults.{why_of}
 use Rattle.lexicon_file.specs.Told.{IsAnswer}

@@ -1,9 +1,9 @@
 -- What a search for a mark says of the text before it and after it.
-use Rattle.std.proofs.Common.{◌≡◌, ◌≢◌, ℕ, ◌+◌, ◌<◌, ◌≤◌, Bool, true, false, cond, Option, Some, None, List, [], ◌∷◌, ◌++◌, length, take, drop, get_or, eqb, refl, sym, ◌∙◌, ap, subst, arith, All}
+use Rattle.std.proofs.Common.{◌≡◌, ◌≢◌, ℕ, ◌<◌, Bool, true, false, cond, Some, None, List, [], ◌∷◌, ◌++◌, length, eqb, refl, ◌∙◌, ap, arith, All}
 use Rattle.std.specs.List.{slice_split, onto_first}
 use Rattle.std.proofs.lemmas.List.{length-append}
-use Rattle.lexicon_text_definitions.specs.FileLines.{Line, cut, before_parts, lines_of_bytes, with_byte, fields_of, Shape, shape_of, shape_after, shape_with, has_mark}
-use Rattle.lexicon_text_definitions.proofs.LineCuts.{cut_free, cut_at, cut_as, IsCut, line_at, split_at, split_none, ended_line}
+use Rattle.lexicon_text_definitions.specs.FileLines.{cut, lines_of_bytes, with_byte, fields_of, shape_of, shape_after, shape_with}
+use Rattle.lexicon_text_definitions.proofs.LineCuts.{cut_free, cut_at, cut_as, line_at, split_at, split_none, ended_line}
 use Rattle.list_laws.proofs.Marks.{is_free, free_parts, free_from_All}
 use Rattle.lexicon_file.specs.Fields.{one_of, two_of, four_of}
 

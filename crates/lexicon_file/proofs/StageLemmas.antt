@@ -1,5 +1,5 @@
 -- What is kept before a line of each kind, by the kinds that it may follow.
-use Rattle.std.proofs.Common.{◌≡◌, ℕ, true, Option, List, sym, subst}
+use Rattle.std.proofs.Common.{◌≡◌, ℕ, true, Option, List}
 use Rattle.lexicon_definitions.specs.Lexicons.{Form}
 use Rattle.phase_automaton.specs.Automata.{StateMachine}
 use Rattle.lexicon_text_definitions.specs.FileLines as lines

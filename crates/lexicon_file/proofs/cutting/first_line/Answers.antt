@@ -1,5 +1,5 @@
 -- The bytes are cut at the first line end; without one they are all one line.
-use Rattle.std.proofs.Common.{◌≡◌, ◌<◌, ◌==◌, length, arith}
+use Rattle.std.proofs.Common.{◌<◌, length, arith}
 use Rattle.std.proofs.lemmas.Bool.Decides.{nat_tests}
 use Rattle.lexicon_file.proofs.CutLemmas.{missed, found, line_cut, whole_line}
 use Rattle.lexicon_file.proofs.cutting.first_line.Goals as goal

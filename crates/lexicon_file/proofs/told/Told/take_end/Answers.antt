@@ -1,5 +1,5 @@
 -- A line with a blank is refused; after the end everything else is kept.
-use Rattle.std.proofs.Common.{◌≡◌, true, sym, ◌∙◌, subst}
+use Rattle.std.proofs.Common.{◌≡◌, true, sym, subst}
 use Rattle.lexicon_text_definitions.specs.FileLines.{End, may_follow}
 use Rattle.lexicon_text_definitions.specs.FileContents.{Told}
 use Rattle.lexicon_text_definitions.specs.FileSteps.{take_end as take_end_of}

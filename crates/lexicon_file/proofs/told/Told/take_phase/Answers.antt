@@ -1,5 +1,5 @@
 -- The tests of the name one after another; a name that passes is text, and is told last.
-use Rattle.std.proofs.Common.{◌≡◌, true, Some, [], ◌∷◌, ◌++◌, sym, ◌∙◌, ap, Global, arith}
+use Rattle.std.proofs.Common.{◌≡◌, Some, [], ◌∷◌, ◌++◌, sym, ◌∙◌, ap, Global, arith}
 use Rattle.std.specs.String.{string_bytes}
 use Rattle.lexicon_text_definitions.specs.FileLines.{fields_of}
 use Rattle.lexicon_text_definitions.specs.FileContents.{Told}
