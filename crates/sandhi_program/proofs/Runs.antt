@@ -5,7 +5,7 @@ use Rattle.std.specs.Option.{option_map}
 use Rattle.std.proofs.lemmas.List.{take_all}
 use Rattle.outside.specs.Files.{Files, contents_of, first_bytes}
 use Rattle.outside.specs.Told.{bytes_after, GrowsByPrefix}
-use Rattle.run_definitions.specs.Commands.{Command, Segment, FileWord, AreWordsOf, AreOfNoCommand}
+use Rattle.run_definitions.specs.Commands.{Segment, FileWord, AreWordsOf, AreOfNoCommand}
 use Rattle.run_definitions.specs.Ends as ends
 use Rattle.run_definitions.specs.Ends.{Outcome, outcome_over}
 use Rattle.run_definitions.specs.SegmentOutcomes as outcomes

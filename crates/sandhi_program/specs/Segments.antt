@@ -6,7 +6,6 @@ use Rattle.text_definitions.specs.LineTexts.{line_of_text}
 use Rattle.lexicon_definitions.specs.Lexicons.{Lexicon, RuleSet}
 use Rattle.lexicon_text_definitions.specs.declared.limits.TheConstants.{MOST_FILE_BYTES}
 use Rattle.lexicon_text_definitions.specs.FileReadings.{IsReadAs}
-use Rattle.lexicon_file.specs.declared.error.FileFault.{FileFault}
 use Rattle.lexicon_file.specs.declared.contents.Contents.{Contents}
 use Rattle.lexicon_file.specs.Contents.{fault_of}
 use Rattle.segmenter.specs.declared.lexicon.Lexicon.{Lexicon as SearchedLexicon}

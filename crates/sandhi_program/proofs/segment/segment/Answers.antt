@@ -1,9 +1,6 @@
 -- What is read of a lexicon can be searched; what was found is its page.
-use Rattle.std.proofs.Common.{◌≡◌, ◌<◌, List, [], length, map, refl, ap, sym, subst, ◌∙◌}
-use Rattle.lexicon_definitions.specs.Lexicons.{RuleSet}
-use Rattle.segmentation_definitions.specs.Listings.{BeforeFirst, IsPage}
+use Rattle.std.proofs.Common.{◌<◌, List, length, map, refl, ap, sym, ◌∙◌}
 use Rattle.segmentation_definitions.specs.PrintedAnswers.{printed_page}
-use Rattle.run_definitions.specs.declared.limits.TheConstants.{SEGMENT_PAGE}
 use Rattle.derivation.specs.Steps.{StandIn, steps_of}
 use Rattle.derivation.specs.declared.step.Step.{Step as ProgramStep}
 use Rattle.lexicon_file.specs.Contents.{lexicon_of}
