@@ -19,6 +19,7 @@ fn has_fault(rt: &HostRuntime, bytes: &[u8], line: u32, why: FileWhy) -> bool {
 }
 
 #[test]
+#[tactic(auto, using(crate::proofs::WriteLemmas::read_has_text))]
 fn what_is_read_is_written_back(rt: HostRuntime) -> Result<(), Fail> {
     for text in [WORD, PHASES] {
         let written = match read(rt.alloc(), text) {
