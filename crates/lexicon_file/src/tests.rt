@@ -1,6 +1,7 @@
 ghost use Rattle.std.specs.Prelude.{◌<◌, length};
 
 use super::{FileError, FileFault, FileWhy, read, write};
+use lexicon_text_definitions::MOST_FILE_BYTES;
 use phase_automaton::GrammarFault;
 use std::test::Fail;
 
@@ -12,6 +13,9 @@ const PHASES: &[u8] =
 
 /// Whether the bytes have this first fault.
 fn has_fault(rt: &HostRuntime, bytes: &[u8], line: u32, why: FileWhy) -> bool {
+    if bytes.len() > MOST_FILE_BYTES {
+        return false;
+    }
     match read(rt.alloc(), bytes) {
         Err(FileError::Fault(fault)) => fault == FileFault { line, why },
         _ => false,
