@@ -1,0 +1,10 @@
+pub mod HeightLemmas
+pub mod RowEquality
+pub mod Interning
+pub mod FrontOrder
+pub mod DeltaLists
+pub mod FormFacts
+pub mod Partial
+pub mod NextLetters
+pub mod RunSteps
+pub mod Roots

@@ -1,0 +1,98 @@
+-- The root of a phase: of all its forms, which begin with the empty front; or of no form, with the empty row.
+use Rattle.std.proofs.Common.{◌≡◌, ◌≢◌, ℕ, ◌<◌, ◌≤◌, List, [], ◌∷◌, ◌++◌, length, refl, sym, ap, subst, arith}
+use Rattle.std.specs.Prelude.{All, Contains}
+use Rattle.std.specs.Ordering.{nat_cmp, on}
+use Rattle.std.specs.List.Sorted.{IsStrictlySortedBy}
+use Rattle.std.specs.Prelude.{sum_by}
+use Rattle.std.proofs.lemmas.List.{length-append}
+use Rattle.std.proofs.lemmas.List.Sums.{sum_by-cons}
+use Rattle.std.proofs.lemmas.List.Elements.{All-nil, All-head, All-tail}
+use Rattle.list_laws.proofs.Sorted.{not_Contains-nil}
+use Rattle.lexicon_definitions.specs.Deltas.{Delta, compare_deltas}
+use Rattle.lexicon_definitions.specs.Lexicons.{Form, IsFormEntry}
+use Rattle.lexicon_definitions.specs.FormEntries.{IsListedPhase}
+use Rattle.lexicon_definitions.specs.Limits.{count_lines}
+use Rattle.lexicon_definitions.specs.Tries.{Row, AreRows, IsChild, IsRow, IsNodeAfter, HasDelta, BeginsForm, row_of}
+use Rattle.lexicon_definitions.proofs.TrieSteps.{IsRowAfter, IsNodeAfter-row}
+use Rattle.lexicon_definitions.proofs.TrieGrowth.{IsNodeAfter-append}
+use Rattle.shared_trie.specs.Growth.{Grows}
+use Rattle.shared_trie.specs.Runs.{word_at, IsRootFor, IsRun}
+
+-- the empty row may stand anywhere
+pub IsRow-empty : (rows : List Row) (node : ℕ) (row : Row) → row.deltas ≡ [] → row.children ≡ [] → IsRow rows node row
+unfolding IsStrictlySortedBy
+IsRow-empty rows node row no_deltas no_children =
+    record {
+      deltas = subst (IsStrictlySortedBy compare_deltas) (sym no_deltas) tt;
+      children = subst (All (IsChild rows node)) (sym no_children) (All-nil (IsChild rows node));
+      letters = subst (IsStrictlySortedBy (on (λ (c : ℕ × ℕ). c.0) nat_cmp)) (sym no_children) tt;
+    }
+
+-- a node with the empty row stands for no form
+pub IsNodeAfter-none : (rows : List Row) (forms : List Form) (node : ℕ) (row : Row) → forms ≡ [] → row_of rows node ≡ row
+    → row.deltas ≡ [] → row.children ≡ [] → IsNodeAfter rows forms [] node
+unfolding IsStrictlySortedBy
+IsNodeAfter-none rows forms node row none here no_deltas no_children =
+    let Known : ℕ × ℕ → Type 0 = λ c. IsNodeAfter rows forms ([] ++ c.0 ∷ []) c.1 × BeginsForm forms ([] ++ c.0 ∷ []) in
+    let after : IsRowAfter rows forms [] row =
+    record {
+      rising = subst (IsStrictlySortedBy (on (λ (c : ℕ × ℕ). c.0) nat_cmp)) (sym no_children) tt;
+      deltas = λ delta. (
+        λ (among : Contains row.deltas delta). absurd (not_Contains-nil delta (subst (λ (ds : List Delta). Contains ds delta) no_deltas among)),
+        λ (has : HasDelta forms [] delta). absurd (not_Contains-nil has.form (subst (λ (fs : List Form). Contains fs has.form) none has.is_among)),
+      );
+      children = subst (All Known) (sym no_children) (All-nil Known);
+      letters = λ letter word begins. absurd (not_Contains-nil begins.form (subst (λ (fs : List Form). Contains fs begins.form) none begins.is_among));
+    } in
+    IsNodeAfter-row rows forms [] node (subst (IsRowAfter rows forms []) (sym here) after)
+
+-- a list without elements
+pub none_from_length : {X : Type 0} (xs : List X) → length xs ≡ 0 → xs ≡ []
+none_from_length [] e = refl
+none_from_length (x ∷ xs) e = absurd (omega (arith, e))
+
+-- all forms of a phase are a run
+pub whole_run : (words : List (List ℕ)) (stop : ℕ) → stop ≡ length words → 0 < stop → IsRun words [] 0 stop
+whole_run words stop whole some =
+    record {
+      some = some;
+      within = omega (arith, whole);
+      begins = λ k low high. (word_at words k, refl);
+      only = λ k low has. (omega arith, omega (arith, low, whole));
+    }
+
+-- a list that is not empty
+some_length : {X : Type 0} (xs : List X) → xs ≢ [] → 1 ≤ length xs
+some_length [] not_empty = absurd (not_empty refl)
+some_length (x ∷ xs) not_empty = omega arith
+
+-- a phase has no more forms than lines
+forms_below_lines : (forms : List Form) → All IsFormEntry forms → length forms ≤ sum_by (λ (form : Form). length form.analyses) forms
+forms_below_lines [] each = omega arith
+forms_below_lines (form ∷ forms) each =
+    let rest = forms_below_lines forms (All-tail IsFormEntry form forms each) in
+    let some = some_length form.analyses (All-head IsFormEntry form forms each).analyzed in
+    let sum = sum_by-cons (λ (f : Form). length f.analyses) form forms in
+    omega (arith, rest, some, sum)
+
+-- nor have all phases together
+pub all_below_lines : (lists : List (List Form)) → All IsListedPhase lists → sum_by length lists ≤ count_lines lists
+all_below_lines [] each = omega arith
+all_below_lines (forms ∷ lists) each =
+    let rest = all_below_lines lists (All-tail IsListedPhase forms lists each) in
+    let here = forms_below_lines forms (All-head IsListedPhase forms lists each).phase.each in
+    let sum = sum_by-cons (λ (fs : List Form). sum_by (λ (f : Form). length f.analyses) fs) forms lists in
+    let count = sum_by-cons (λ (fs : List Form). length fs) forms lists in
+    omega (arith, rest, here, sum, count)
+
+-- a root stays
+pub IsRootFor-grown : (most : ℕ) (rows new : List Row) (forms : List Form) (root : ℕ) → AreRows rows → Grows most rows new
+    → IsRootFor rows forms root → IsRootFor new forms root
+IsRootFor-grown most rows new forms root are grown is =
+    let there = is.there in
+    let long = length-append rows grown.more in
+    let same = ap length grown.is in
+    record {
+      there = omega (arith, there, long, same);
+      after = subst (λ (rs : List Row). IsNodeAfter rs forms [] root) (sym grown.is) (IsNodeAfter-append rows grown.more forms [] root are there is.after);
+    }

@@ -1,0 +1,4 @@
+pub mod Growth
+pub mod Heights
+pub mod Runs
+pub mod Views

@@ -1,0 +1,26 @@
+//! All phases of a lexicon as one trie with shared subtrees (Huet 2005): a node stands for a set of suffixes with the deltas
+//! of each, and equal sets are one node, over all phases.
+//!
+//! Proved: contracts see a `Store` as the rows of its nodes and a root for each phase. `build` holds exactly the forms of its
+//! lists, with their deltas (`ok`). Children have smaller numbers than their parents, and no two rows are the same (`trie` of
+//! `len`), so no two nodes stand for the same suffixes (`nodes_are_told_by_suffixes` of `lexicon_definitions`). `root`, `child`,
+//! `accepts`, `deltas`, `children` and `len` read the rows (`value`); `height` is the length of the longest suffix. `child`
+//! takes one step, and `children` one for each child and one more (`steps`). That each row is hashed once is only measured.
+#![tactic(auto)]
+
+mod building;
+mod deltas;
+mod grow;
+mod heights;
+mod node;
+mod row;
+mod rows;
+mod sharing;
+mod store;
+#[cfg(test)]
+mod tests;
+
+pub use building::build;
+pub use node::Node;
+pub use sharing::stores_are_shared;
+pub use store::Store;
