@@ -1,6 +1,7 @@
-ghost use Rattle.std.specs.Prelude.{◌≡◌, ◌↔◌, ◌<◌, [], ◌∷◌, ◌++◌, ◌≤◌, All, Bool, true, false, length, IsTrue, IsNone, IfSome, IfNone, OnOk, OnErr, Err};
+ghost use Rattle.std.specs.Prelude.{◌≡◌, ◌↔◌, ◌+◌, ◌<◌, [], ◌∷◌, ◌++◌, ◌≤◌, All, Bool, true, false, length, IsTrue, IsNone, IfSome, IfNone, OnOk, OnErr, Err};
 ghost use Rattle.segmentation_definitions.specs.Items.{Choice as ChoiceValue};
-ghost use Rattle.derivation.specs.Steps.{StandIn};
+ghost use Rattle.segmentation_definitions.specs.LocalTests.{Allows};
+ghost use Rattle.derivation.specs.Steps.{StandIn, placed_with};
 ghost use Rattle.reader_choices.specs.Allowing.{AllowsStep, lead_after, is_first_after};
 
 use super::allowing::allows_each;
@@ -96,14 +97,24 @@ impl Choices {
         ensures { IsTrue result ↔ AllowsStep rules.now line.now.letters self.now before.now step.now }
     {
         let lead = lead_after(rules, before);
-        allows_each(
-            rules,
-            line,
-            lead,
-            before.is_empty(),
-            step,
-            self.list.as_slice(),
-        )
+        self.allows_entered(rules, line, lead, before.is_empty(), step)
+    }
+
+    /// Whether the step, entered with these letters and the first of all or not, passes the local test of each choice. It
+    /// asks for no step before it.
+    pub fn allows_entered(
+        &self,
+        rules: &RuleSet,
+        line: &Line,
+        lead: &[Letter],
+        is_first: bool,
+        step: &Step,
+    ) -> bool
+        requires rule { step.now.rule ≤ length rules.now.rules }
+        requires within { step.now.at + step.now.taken ≤ length line.now.letters }
+        ensures exact { IsTrue result ↔ Allows rules.now (length line.now.letters) self.now is_first (placed_with rules.now line.now.letters lead.now step.now) }
+    {
+        allows_each(rules, line, lead, is_first, step, self.list.as_slice())
     }
 }
 

@@ -3,7 +3,7 @@
 //!
 //! Proved: `Choices::keep`, `reject`, `undo` and `list` are those of a list of at most `MOST_CHOICES` choices, and a refusal
 //! leaves it as it was; `Choices::allows` is the local test, which holds of every step exactly where the choices are kept
-//! (`allowed_steps_keep_the_choices`).
+//! (`allowed_steps_keep_the_choices`), and `Choices::allows_entered` the same of a step whose lead is given.
 #![tactic(auto)]
 
 mod allowing;

@@ -1,9 +1,10 @@
-ghost use Rattle.std.specs.Prelude.{◌≡◌, ◌≤◌, length, Contains, OnOk};
+ghost use Rattle.std.specs.Prelude.{◌≡◌, ◌≤◌, ◌↔◌, length, Contains, IsTrue, OnOk};
 ghost use Rattle.std.specs.List.Sorted.{IsStrictlySortedBy};
 ghost use Rattle.lexicon_definitions.specs.Leads.{compare_leads, lead_of, with_lead, IsLeadPlace};
-ghost use Rattle.lexicon_definitions.specs.Rules.{IsInner};
+ghost use Rattle.lexicon_definitions.specs.Rules.{IsInner, HasPhase};
 
 use super::Rule;
+use super::rule::has_phase;
 use lexicon_definitions::MOST_LEADS;
 use phoneme::{Memory, Word};
 use std::alloc::Global;
@@ -32,6 +33,13 @@ impl Lead {
         ensures { result ≡ compare_leads self.now (lead_of rule.now) }
     {
         self.v.compare(&rule.v).then(self.after.cmp(&rule.after))
+    }
+
+    /// Whether a form of this phase, counted from 0, may come after the rule.
+    pub fn may_precede(&self, phase: u32) -> bool
+        ensures { IsTrue result ↔ HasPhase self.now.after phase }
+    {
+        has_phase(self.after, phase)
     }
 }
 

@@ -4,8 +4,8 @@
 //! Proved: a `RuleSet` holds what it was given (`RuleSet::new`, `phases`, `grammar`, `plain`, `rules`, `rule`), always within
 //! the limits and with different rules, which is the type's invariant; `is_plain` is membership in the plain pairs;
 //! `leads` are the different pairs of `v` and `after` of the inner rules, rising, and `lead_of` is a rule's place there;
-//! `Rule::is_strict`, `is_inner`, `is_final`, `may_follow` and `may_precede` are their definitions, and `print_rule` is the
-//! rule's notation.
+//! `Rule::is_strict`, `is_inner`, `is_final`, `may_follow` and `may_precede` are their definitions, as is
+//! `Lead::may_precede`, and `print_rule` is the rule's notation.
 #![tactic(auto)]
 
 mod lead;

@@ -27,7 +27,7 @@ impl Model for Rule {
 }
 
 /// Whether the phase, counted from 0, is in the set of phases.
-fn has_phase(phases: u16, phase: u32) -> bool
+pub(crate) fn has_phase(phases: u16, phase: u32) -> bool
     ensures { IsTrue result ↔ HasPhase phases phase }
 {
     phase < MOST_PHASES as u32 && (phases >> phase) & 1 == 1
