@@ -1,0 +1,19 @@
+-- what the parts give is put together
+use Rattle.std.proofs.Common.{ℕ, List, subst}
+use Rattle.lexicon_definitions.specs.Rules.{Rule}
+use Rattle.annotated_trie.specs.Suffixes.{AreGroups, AreListsFrom, AreNumbers}
+use Rattle.annotated_trie.proofs.ChoiceLaws.{AreChosen-lists}
+use Rattle.annotated_trie.proofs.annotating.choose.Goals as goal
+
+pub returns-clause-ok : goal.returns-clause-ok
+returns-clause-ok c =
+    let rules = c.args.rules.now in
+    let suffixes = c.number_rules.new.suffixes.keys in
+    let numbers = c.in_ok-numbers.numbers.items in
+    let groups = c.in_ok-groups.groups.items in
+    let sets = c.in_ok-nodes.nodes.sets.keys in
+    let lists = c.in_ok-lists.lists.items in
+    let numbered : AreNumbers suffixes rules.rules numbers = subst (λ (rs : List Rule). AreNumbers suffixes rs numbers) c.rules.ensures.value c.in_ok-numbers.ensures.ok in
+    let grouped : AreGroups numbers groups = subst (λ (ns : List ℕ). AreGroups ns groups) c.as_slice.ensures.value c.in_ok-groups.ensures.ok in
+    let from : AreListsFrom groups sets lists = subst (λ gs. AreListsFrom gs sets lists) c.as_slice-2.ensures.value (subst (λ ss. AreListsFrom c.as_slice-2.result.now ss lists) c.as_slice-3.ensures.keys c.in_ok-lists.ensures.ok) in
+    AreChosen-lists suffixes rules c.args.store.now.rows numbers groups sets lists c.in_ok-nodes.nodes.places.items numbered grouped c.in_ok-nodes.ensures.ok from

@@ -1,0 +1,4 @@
+pub mod Choices
+pub mod Searched
+pub mod Suffixes
+pub mod Views

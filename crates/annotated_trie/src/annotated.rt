@@ -1,0 +1,89 @@
+ghost use Rattle.std.specs.Prelude.{◌≡◌, ◌+◌, ◌≤◌, ◌<◌, ◌^◌, ◌⊎◌, ℕ, length, slice_get};
+ghost use Rattle.annotated_trie.specs.Choices.{choices_of};
+ghost use Rattle.annotated_trie.specs.Views.{annotated_with, ArePlaces};
+
+use outside::Steps;
+use shared_trie::{Node, Store};
+use std::marker::Model;
+
+/// A trie with the choices of each node: the rules whose `u` leads from the node to a form's end (Huet 2005), by their numbers,
+/// which are counted from 1, rising. Nodes from which the same suffixes of `u`s lead to an end share one list.
+#[derive(Drop)]
+pub struct Annotated {
+    store: Store,
+    lists: Vec<Vec<u32>>,
+    /// For each node, by its number, the place of its list.
+    places: Vec<u32>,
+    most: u32,
+}
+
+impl Model for Annotated {
+    ghost use Rattle.std.specs.Prelude.{length};
+    ghost use Rattle.annotated_trie.specs.Choices.{AnnotatedTrie};
+    ghost use Rattle.annotated_trie.specs.Views.{annotated_with, ArePlaces};
+
+    ghost Value = { AnnotatedTrie };
+
+    ghost view = { λ a. annotated_with a.store a.lists.items a.places.items };
+
+    ghost invariant = { λ a. ArePlaces a.lists.items (length a.store.rows) a.places.items a.most };
+}
+
+impl Annotated {
+    /// The trie whose nodes have the lists at these places; `most` is the greatest length of their lists.
+    pub(crate) fn new(store: Store, lists: Vec<Vec<u32>>, places: Vec<u32>, most: u32) -> Annotated
+        requires { ArePlaces lists.items (length store.rows) places.items most }
+        ensures { result ≡ annotated_with store lists.items places.items }
+    {
+        Annotated {
+            store,
+            lists,
+            places,
+            most,
+        }
+    }
+
+    /// The trie.
+    pub fn store(&self) -> &Store
+        ensures { result.now ≡ self.now.trie }
+    {
+        &self.store
+    }
+
+    /// The number of the node's choices.
+    pub fn choice_count(&self, node: Node) -> u32
+        requires { node < length self.now.trie.rows }
+        ensures value { result ≡ length (choices_of self.now node) }
+    {
+        self.choices(node).len() as u32
+    }
+
+    /// The choice of the node at this place, counted from 0: a rule's number, counted from 1. `None` exactly from
+    /// `choice_count` on. Takes one step.
+    pub fn choice<L>(&self, node: Node, i: u32, steps: &mut Steps<L>) -> Option<u32>
+        requires { node < length self.now.trie.rows }
+        ensures value { result ≡ slice_get (choices_of self.now node) i }
+        ensures steps { steps.new ≡ steps.old + 1 }
+    {
+        steps.tick();
+        self.choices(node).get(i as usize).copied()
+    }
+
+    /// The greatest number of choices that a node has: 0 where there are no nodes.
+    pub fn most_choices(&self) -> u32
+        ensures above { (node : ℕ) → node < length self.now.trie.rows → length (choices_of self.now node) ≤ result }
+        ensures greatest { (result ≡ 0) ⊎ ((node : ℕ) × (node < length self.now.trie.rows) × (length (choices_of self.now node) ≡ result)) }
+    {
+        self.most
+    }
+
+    /// The choices of the node, rising.
+    fn choices(&self, node: Node) -> &[u32]
+        requires { node < length self.now.trie.rows }
+        ensures value { result.now ≡ choices_of self.now node }
+        ensures few { length result.now < 2 ^ 32 }
+    {
+        let place = self.places[node.number() as usize];
+        self.lists[place as usize].as_slice()
+    }
+}

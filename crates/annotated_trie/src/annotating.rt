@@ -1,0 +1,45 @@
+ghost use Rattle.std.specs.Prelude.{◌≡◌, ◌<◌, ◌≤◌, ◌^◌, length, IfOk};
+ghost use Rattle.lexicon_definitions.specs.Tries.{IsTrie};
+ghost use Rattle.annotated_trie.specs.Choices.{IsAnnotatedTrie};
+ghost use Rattle.annotated_trie.specs.Views.{AreChosen};
+
+use super::Annotated;
+use super::groups::group_places;
+use super::node_choices::{join_each, longest_at};
+use super::node_suffixes::number_nodes;
+use super::suffixes::number_rules;
+use indexmap::IndexSet;
+use lexicon_definitions::MOST_RULES;
+use phoneme::Memory;
+use sandhi_rules::RuleSet;
+use shared_trie::Store;
+use std::alloc::Global;
+
+/// The trie with the choices of each node (Huet 2005). It goes once over the nodes, by the suffixes of the rules' `u` that lead
+/// from their children to an end, and puts a list of choices together once for all nodes with the same such suffixes.
+pub fn annotate(alloc: Global, store: Store, rules: &RuleSet) -> Result<Annotated, Memory>
+    ensures ok { IfOk result (λ annotated. (annotated.trie ≡ store) × IsAnnotatedTrie rules.now annotated) }
+{
+    let (lists, places) = choose(alloc, &store, rules)?;
+    let most = longest_at(lists.as_slice(), places.as_slice());
+    Ok(Annotated::new(store, lists, places, most))
+}
+
+/// Lists of choices, and for each node the place of its list.
+fn choose(
+    alloc: Global,
+    store: &Store,
+    rules: &RuleSet,
+) -> Result<(Vec<Vec<u32>>, Vec<u32>), Memory>
+    ensures trie { IfOk result (λ _. IsTrie store.now) }
+    ensures size { IfOk result (λ _. length store.now.rows < 2 ^ 32) }
+    ensures rules { IfOk result (λ _. length rules.now.rules ≤ MOST_RULES) }
+    ensures ok { IfOk result (λ chosen. AreChosen rules.now store.now.rows chosen.0.items chosen.1.items) }
+{
+    let mut suffixes = IndexSet::new(alloc);
+    let numbers = number_rules(alloc, &mut suffixes, rules.rules())?;
+    let groups = group_places(alloc, suffixes.len() + 1, numbers.as_slice())?;
+    let nodes = number_nodes(alloc, store, &suffixes)?;
+    let lists = join_each(alloc, groups.as_slice(), nodes.sets.as_slice())?;
+    Ok((lists, nodes.places))
+}

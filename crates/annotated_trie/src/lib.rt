@@ -1,0 +1,21 @@
+//! Each node of a trie with its choices, the rules whose `u` leads from the node to a form's end (the choice points of Huet
+//! 2005); and a lexicon as it is searched, with the automaton of its grammar and the tries of its forms.
+//!
+//! Proved: contracts see an `Annotated` as the trie and the choices of each node. `annotate` gives each node just the rules that
+//! are its choices, rising (`ok`); `choice_count`, `choice` and `most_choices` read them. `choice` takes one step (`steps`). A
+//! `Lexicon` is always that of its rules, forms and automaton, which is its invariant (`searched` of `rules`).
+#![tactic(auto)]
+
+mod annotated;
+mod annotating;
+mod groups;
+mod lexicon;
+mod node_choices;
+mod node_suffixes;
+mod suffixes;
+#[cfg(test)]
+mod tests;
+
+pub use annotated::Annotated;
+pub use annotating::annotate;
+pub use lexicon::Lexicon;
