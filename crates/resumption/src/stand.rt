@@ -1,0 +1,7 @@
+/// Where a search stands among its answers: before the first, at one, or past the last.
+#[derive(Clone, Copy, Debug, PartialEq, Eq)]
+pub enum Stand {
+    Before,
+    At,
+    Past,
+}
