@@ -1,0 +1,8 @@
+pub mod OverlapOrder
+pub mod AppendedFirsts
+pub mod KeyLoops
+pub mod NumberLists
+pub mod RuleMatches
+pub mod FormOverlaps
+pub mod PhaseOverlaps
+pub mod SmallRuleSets

@@ -1,0 +1,42 @@
+ghost use Rattle.std.specs.Prelude.{◌≡◌, ◌↔◌, [], IsTrue, OnOk};
+
+use super::Overlap;
+use phoneme::Memory;
+use std::alloc::Global;
+
+/// The overlaps found so far, of which at most so many are wanted.
+#[derive(Debug, Drop)]
+pub(crate) struct Found {
+    pub overlaps: Vec<Overlap>,
+    pub most: usize,
+}
+
+impl Found {
+    ghost use Rattle.strictness.specs.Appending.{IsFull, Takes};
+
+    pub fn new(alloc: Global, most: usize) -> Found
+        ensures overlaps { result.overlaps.items ≡ [] }
+        ensures most { result.most ≡ most }
+    {
+        Found {
+            overlaps: Vec::new(alloc),
+            most,
+        }
+    }
+
+    pub fn is_full(&self) -> bool
+        ensures { IsTrue result ↔ IsFull self.now }
+    {
+        self.overlaps.len() == self.most
+    }
+
+    /// Takes the overlap where more are wanted.
+    pub fn take(&mut self, overlap: Overlap) -> Result<(), Memory>
+        ensures ok { OnOk result (Takes overlap self.old self.new) }
+    {
+        if !self.is_full() {
+            self.overlaps.push(overlap)?;
+        }
+        Ok(())
+    }
+}

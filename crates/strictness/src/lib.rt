@@ -1,0 +1,21 @@
+//! Whether the rules of a lexicon may overlap in a form: an inner rule's `v` begins the form, a rule's `u` ends it, and both
+//! together are longer than the form.
+//!
+//! Proved: `overlaps` gives the first overlaps in the order of phase, form, rule before and rule after, as many as were asked
+//! for, and all where there are fewer (`ok`); this says which list it is (`the_first_overlaps_are_one_list`). How fast it is
+//! is only measured: a form's first and last letter lead to the few rules that are tried on it.
+#![tactic(auto)]
+
+mod found;
+mod laws;
+mod letters;
+mod listing;
+mod matching;
+mod overlap;
+mod pairs;
+#[cfg(test)]
+mod tests;
+
+pub use laws::the_first_overlaps_are_one_list;
+pub use listing::overlaps;
+pub use overlap::Overlap;
