@@ -1,0 +1,15 @@
+pub mod PossibleKeys
+pub mod WalkDeltas
+pub mod WalkLemmas
+pub mod WalkFrames
+pub mod WalkLeads
+pub mod TestBlanks
+pub mod TestWords
+pub mod TestPlaces
+pub mod StepChanges
+pub mod StepChoices
+pub mod StepFrames
+pub mod StepKeys
+pub mod StepLeaves
+pub mod StepLoops
+pub mod StepMoves

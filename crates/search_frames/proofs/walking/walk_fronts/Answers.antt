@@ -1,0 +1,24 @@
+-- A walk along the lead and then letters of the line is one along the letters from where the lead leads.
+use Rattle.std.proofs.Common.{take, IsSome, sym, ◌∙◌, subst}
+use Rattle.lexicon_definitions.proofs.TrieWalks.{walk-two}
+use Rattle.resumption.specs.declared.frame.TheConstants.{NODES_OF_FRAME}
+use Rattle.search_frames.proofs.WalkLemmas.{nowhere_after, short_after}
+use Rattle.search_frames.proofs.walking.walk_fronts.Goals as goal
+
+pub walk_letters-requires-clause-short : goal.walk_letters-requires-clause-short
+walk_letters-requires-clause-short g c =
+    short_after c.args.store.now.rows c.args.lead.now c.args.root c.in-Some.node NODES_OF_FRAME (sym c.in-Some.ensures.value) c.requires.short
+
+pub returns-in-None-clause-all : goal.returns-in-None-clause-all
+returns-in-None-clause-all g c taken low walks =
+    absurd (nowhere_after c.args.store.now.rows c.args.lead.now (take taken c.args.letters.now) c.args.root (sym c.in-None.ensures.value) walks)
+
+pub returns-in-Some-clause-walked : goal.returns-in-Some-clause-walked
+returns-in-Some-clause-walked g c taken low =
+    walk-two c.args.store.now.rows c.args.lead.now (take taken c.args.letters.now) c.args.root c.in-Some.node (sym c.in-Some.ensures.value)
+    ∙ c.walk_letters.ensures.walked taken low
+
+pub returns-in-Some-clause-all : goal.returns-in-Some-clause-all
+returns-in-Some-clause-all g c taken low walks =
+    c.walk_letters.ensures.all taken low
+    (subst IsSome (walk-two c.args.store.now.rows c.args.lead.now (take taken c.args.letters.now) c.args.root c.in-Some.node (sym c.in-Some.ensures.value)) walks)

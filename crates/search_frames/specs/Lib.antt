@@ -1,0 +1,4 @@
+pub mod Standings
+pub mod Frames
+pub mod Tests
+pub mod Changes

@@ -1,0 +1,43 @@
+ghost use Rattle.std.specs.Prelude.{◌≡◌, ◌<◌, length};
+ghost use Rattle.search_frames.specs.Frames.{IsStack, IsFrame, IsPlaceIn, HasAllToTry, ChangesFrom, place_of};
+
+use super::Place;
+use super::walking::{supplied_letters, walk_phase};
+use annotated_trie::Lexicon;
+use derivation::Step;
+use outside::Steps;
+use phoneme::Line;
+use resumption::{Frame, Resumption};
+
+/// Makes the frame at the level, counted from 0, one that stands at the place and has still to try every key.
+pub fn open_frame<L>(
+    lexicon: &Lexicon,
+    line: &Line,
+    stack: &mut Resumption,
+    level: usize,
+    place: Place,
+    steps: &mut Steps<L>,
+)
+    requires stack { IsStack stack.old }
+    requires there { level < length stack.old.frames.items }
+    requires place { IsPlaceIn lexicon.now line.now place }
+    ensures frame { IsFrame lexicon.now line.now stack.new level }
+    ensures place { place_of stack.new level ≡ place }
+    ensures all { HasAllToTry lexicon.now line.now stack.new level }
+    ensures changes { ChangesFrom level stack.old stack.new }
+{
+    stack.steps[level] = Step {
+        phase: 0,
+        rule: 0,
+        at: place.at,
+        lead: supplied_letters(lexicon.rules(), place.entrance).len() as u32,
+        taken: 0,
+    };
+    stack.frames[level] = Frame {
+        entrance: place.entrance,
+        state: place.state,
+        walked: 0,
+        next: 0,
+    };
+    walk_phase(lexicon, line, stack, level, 0, steps);
+}

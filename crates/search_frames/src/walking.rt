@@ -1,0 +1,138 @@
+ghost use Rattle.std.specs.Prelude.{◌≡◌, ◌+◌, ◌++◌, ◌<◌, ◌≤◌, ℕ, List, length, take, slice_index_or, Some, IfSome, IsSome};
+ghost use Rattle.lexicon_definitions.specs.Leads.{leads_of};
+ghost use Rattle.lexicon_definitions.specs.Tries.{walk};
+ghost use Rattle.derivation.specs.Guides.{IsEntranceOver, entrance_of};
+ghost use Rattle.answer_paths.specs.Fronts.{supplied};
+ghost use Rattle.search_frames.specs.Frames.{IsPlaced, IsFrame, HasPhasesFrom, ChangesFrom, place_of, step_of};
+
+use annotated_trie::Lexicon;
+use derivation::Entrance;
+use outside::Steps;
+use phoneme::{Letter, Line};
+use resumption::{NODES_OF_FRAME, Resumption};
+use sandhi_rules::RuleSet;
+use shared_trie::{Node, Store};
+
+/// The letters that the rule before supplies to a form that is entered so.
+pub(crate) fn supplied_letters(rules: &RuleSet, entrance: Entrance) -> &[Letter]
+    requires { IsEntranceOver (leads_of rules.now.rules) entrance }
+    ensures { result.now ≡ supplied (entrance_of (leads_of rules.now.rules) entrance) }
+{
+    match entrance {
+        Entrance::Start | Entrance::Plain(_) => &[],
+        Entrance::Lead(place) => {
+            let lead = &rules.leads()[usize::from(place)];
+            lead.v.as_slice()
+        }
+    }
+}
+
+/// Where the word leads from the node.
+fn walk_word<L>(store: &Store, node: Node, word: &[Letter], steps: &mut Steps<L>) -> Option<Node>
+    requires { node < length store.now.rows }
+    ensures value { result ≡ walk store.now.rows node word.now }
+    ensures there { IfSome result (λ reached. reached < length store.now.rows) }
+{
+    let mut reached = node;
+    for letter in word {
+        reached = store.child(reached, *letter, steps)?;
+    }
+    Some(reached)
+}
+
+/// Puts the nodes to which the first letters lead from the node, none of them, one, two and so on as far as they lead, at the
+/// places from `base` on. Answers how many nodes these are.
+fn walk_letters<L>(
+    store: &Store,
+    node: Node,
+    letters: &[Letter],
+    nodes: &mut Vec<Node>,
+    base: usize,
+    steps: &mut Steps<L>,
+) -> u32
+    requires there { node < length store.now.rows }
+    requires room { base + NODES_OF_FRAME ≤ length nodes.old.items }
+    requires short { (word : List ℕ) → IsSome (walk store.now.rows node word) → length word < NODES_OF_FRAME }
+    ensures count { length nodes.new.items ≡ length nodes.old.items }
+    ensures before { take base nodes.new.items ≡ take base nodes.old.items }
+    ensures few { result ≤ NODES_OF_FRAME }
+    ensures within { result ≤ length letters.now + 1 }
+    ensures walked { (taken : ℕ) → taken < result → walk store.now.rows node (take taken letters.now) ≡ Some (slice_index_or nodes.new.items (base + taken) 0) }
+    ensures all { (taken : ℕ) → taken ≤ length letters.now → IsSome (walk store.now.rows node (take taken letters.now)) → taken < result }
+{
+    nodes[base] = node;
+    let mut walked = 1;
+    let mut reached = node;
+    for letter in letters {
+        let Some(child) = store.child(reached, *letter, steps) else {
+            break;
+        };
+        nodes[base + walked] = child;
+        walked += 1;
+        reached = child;
+    }
+    walked as u32
+}
+
+/// Puts the nodes to which the lead and then the first letters lead from the root, none of them, one, two and so on as far as
+/// they lead, at the places from `base` on. Answers how many nodes these are.
+fn walk_fronts<L>(
+    store: &Store,
+    root: Node,
+    lead: &[Letter],
+    letters: &[Letter],
+    nodes: &mut Vec<Node>,
+    base: usize,
+    steps: &mut Steps<L>,
+) -> u32
+    requires there { root < length store.now.rows }
+    requires room { base + NODES_OF_FRAME ≤ length nodes.old.items }
+    requires short { (word : List ℕ) → IsSome (walk store.now.rows root word) → length word < NODES_OF_FRAME }
+    ensures count { length nodes.new.items ≡ length nodes.old.items }
+    ensures before { take base nodes.new.items ≡ take base nodes.old.items }
+    ensures few { result ≤ NODES_OF_FRAME }
+    ensures within { result ≤ length letters.now + 1 }
+    ensures walked { (taken : ℕ) → taken < result → walk store.now.rows root (lead.now ++ take taken letters.now) ≡ Some (slice_index_or nodes.new.items (base + taken) 0) }
+    ensures all { (taken : ℕ) → taken ≤ length letters.now → IsSome (walk store.now.rows root (lead.now ++ take taken letters.now)) → taken < result }
+{
+    match walk_word(store, root, lead, steps) {
+        None => 0,
+        Some(node) => walk_letters(store, node, letters, nodes, base, steps),
+    }
+}
+
+/// Begins the phase, counted from 0, at the frame: walks to the nodes to which the letters that the rule before supplies and
+/// then those of the line lead from its root.
+pub(crate) fn walk_phase<L>(
+    lexicon: &Lexicon,
+    line: &Line,
+    stack: &mut Resumption,
+    level: usize,
+    phase: u32,
+    steps: &mut Steps<L>,
+)
+    requires placed { IsPlaced lexicon.now line.now stack.old level }
+    requires phase { phase < length lexicon.now.lexicon.rules.names }
+    ensures frame { IsFrame lexicon.now line.now stack.new level }
+    ensures place { place_of stack.new level ≡ place_of stack.old level }
+    ensures begun { (step_of stack.new level).phase ≡ phase }
+    ensures phases { HasPhasesFrom lexicon.now line.now phase stack.new level }
+    ensures changes { ChangesFrom level stack.old stack.new }
+{
+    let store = lexicon.tries().store();
+    let lead = supplied_letters(lexicon.rules(), stack.frames[level].entrance);
+    let at = stack.steps[level].at as usize;
+    let walked = walk_fronts(
+        store,
+        store.root(phase),
+        lead,
+        &line.letters.as_slice()[at..],
+        &mut stack.nodes,
+        level * NODES_OF_FRAME,
+        steps,
+    );
+    stack.steps[level].phase = phase;
+    let frame = &mut stack.frames[level];
+    frame.walked = walked;
+    frame.next = 0;
+}
