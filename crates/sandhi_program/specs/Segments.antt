@@ -3,14 +3,14 @@ use Rattle.std.specs.Prelude.{◌≡◌, ℕ, ◌<◌, ◌≤◌, List, [], leng
 use Rattle.text_definitions.specs.Lines.{Line}
 use Rattle.text_definitions.specs.Schemes.{Slp1}
 use Rattle.text_definitions.specs.LineTexts.{line_of_text}
-use Rattle.lexicon_definitions.specs.Lexicons.{Lexicon, RuleSet}
+use Rattle.lexicon_definitions.specs.declared.limits.TheConstants.{MOST_FORM_LINES}
+use Rattle.lexicon_definitions.specs.Lexicons.{Lexicon, tree_of}
+use Rattle.lexicon_definitions.specs.Limits.{count_lines}
 use Rattle.lexicon_text_definitions.specs.declared.limits.TheConstants.{MOST_FILE_BYTES}
 use Rattle.lexicon_text_definitions.specs.FileReadings.{IsReadAs}
 use Rattle.lexicon_file.specs.declared.contents.Contents.{Contents}
 use Rattle.lexicon_file.specs.Contents.{fault_of}
-use Rattle.segmenter.specs.declared.lexicon.Lexicon.{Lexicon as SearchedLexicon}
-use Rattle.derivation.specs.declared.step.Step.{Step as ProgramStep}
-use Rattle.derivation.specs.Steps.{StandIn}
+use Rattle.phase_automaton.specs.Automata.{Recognizes}
 use Rattle.segmentation_definitions.specs.Derivations.{Step}
 use Rattle.segmentation_definitions.specs.Listings.{BeforeFirst, IsPage}
 use Rattle.segmentation_definitions.specs.PrintedAnswers.{printed_page}
@@ -24,14 +24,13 @@ use Rattle.sandhi_program.specs.declared.status.AnyFault.TheVariants.{Large, Lex
 use Rattle.sandhi_program.specs.declared.status.TextFault.{TextFault}
 use Rattle.sandhi_program.specs.Ends.{file_fault, text_fault, Finishes}
 
--- the lexicon that is searched, of what was read of a file
-abbrev pub searched : Contents → SearchedLexicon
-searched contents = record { rules = contents.rules; automaton = contents.automaton; lists = contents.lists }
-
--- the steps stand in the line one after another, and there is at least one
-pub record ArePrintable (rules : RuleSet) (letters : List ℕ) (steps : List ProgramStep) : Type 0 where
-  pub stand : StandIn rules letters steps
-  pub some : 0 < length steps
+-- a lexicon can be built of what was read of a file: there are forms for each phase, not too many, and the automaton is that of
+-- the grammar
+pub record IsBuildable (contents : Contents) : Type 0 where
+  pub count : length contents.lists ≡ length contents.rules.names
+  pub lines : count_lines contents.lists ≤ MOST_FORM_LINES
+  pub recognizes : Recognizes contents.automaton (tree_of contents.rules)
+  pub phases : contents.automaton.phases ≡ length contents.rules.names
 
 -- the output is the printed page of the line before the first answer
 pub record IsPrintedPage (lexicon : Lexicon) (line : Line) (output : List ℕ) : Type 0 where

@@ -1,13 +1,18 @@
-ghost use Rattle.std.specs.Prelude.{◌≡◌, ◌<◌, ◌++◌, length, map, All, IfOk, OnOk, string_bytes};
+ghost use Rattle.std.specs.Prelude.{◌≡◌, ◌<◌, ◌++◌, List, [], length, IfOk, OnOk, string_bytes};
 ghost use Rattle.derivation.specs.Steps.{StandIn, steps_of};
-ghost use Rattle.segmentation_definitions.specs.PrintedAnswers.{printed_answer, output_line, printed_answers, printed_rest, printed_page};
-ghost use Rattle.sandhi_program.specs.Segments.{ArePrintable};
+ghost use Rattle.segmentation_definitions.specs.Derivations.{Step as AnswerStep};
+ghost use Rattle.segmentation_definitions.specs.Listings.{AtAnswer, BeforeFirst};
+ghost use Rattle.segmentation_definitions.specs.PrintedAnswers.{printed_answer, output_line, printed_rest};
+ghost use Rattle.sandhi_program.specs.Segments.{IsPrintedPage};
 
-use derivation::{Step, print_derivation};
+use annotated_trie::Lexicon;
+use derivation::{Guide, Step, print_derivation};
+use outside::Steps;
 use phoneme::{Line, Memory};
+use run_definitions::SEGMENT_PAGE;
 use sandhi_rules::RuleSet;
 use segmentation_definitions::LAST_ANSWER_NUMBER;
-use segmenter::Found;
+use segmenter::Search;
 use std::alloc::Global;
 
 /// Appends the line of an answer.
@@ -30,24 +35,24 @@ fn push_answer(
     Ok(())
 }
 
-/// Appends the lines of the answers, numbered from 1.
-fn push_answers(
+/// Appends the line of the answer at which the search stands.
+fn push_current<D: Guide>(
     alloc: Global,
     output: &mut String,
-    rules: &RuleSet,
+    lexicon: &Lexicon,
     line: &Line,
-    answers: &[Vec<Step>],
+    search: &Search<D>,
+    number: u64,
 ) -> Result<(), Memory>
-    requires { All (λ steps. ArePrintable rules.now line.now.letters steps.items) answers.now }
-    ensures ok { OnOk result (string_bytes output.new ≡ string_bytes output.old
-        ++ printed_answers rules.now 1 (map (λ steps. steps_of rules.now line.now.letters steps.items) answers.now)) }
+    requires lexicon { search.now.searched ≡ lexicon.now }
+    requires line { search.now.line ≡ line.now }
+    ensures ok { OnOk result ((answer : List AnswerStep) → search.now.position ≡ AtAnswer answer
+        → string_bytes output.new ≡ string_bytes output.old ++ output_line (printed_answer lexicon.now.lexicon.rules number answer)) }
 {
-    let mut number = 1u64;
-    for steps in answers {
-        push_answer(alloc, output, rules, line, steps.as_slice(), number)?;
-        number = LAST_ANSWER_NUMBER.min(number + 1);
+    match search.current() {
+        None => Ok(()),
+        Some(steps) => push_answer(alloc, output, lexicon.rules(), line, steps, number),
     }
-    Ok(())
 }
 
 /// The last line of a page.
@@ -57,19 +62,28 @@ fn rest_line(more: bool) -> &'static str
     if more { "more\n" } else { "end\n" }
 }
 
-/// The lines of the page: an answer a line, then `more` or `end`.
-pub(crate) fn print_page(
+/// The page of the first answers of the line: an answer a line, numbered from 1, then `more` or `end`. The search stands before
+/// the first.
+pub(crate) fn print_page<D: Guide>(
     alloc: Global,
-    rules: &RuleSet,
+    lexicon: &Lexicon,
     line: &Line,
-    found: &Found,
+    search: &mut Search<D>,
 ) -> Result<String, Memory>
-    requires { All (λ steps. ArePrintable rules.now line.now.letters steps.items) found.now.answers.items }
-    ensures ok { IfOk result (λ output. string_bytes output ≡ printed_page rules.now 1
-        (map (λ steps. steps_of rules.now line.now.letters steps.items) found.now.answers.items) found.now.more) }
+    requires { search.old ≡ record { searched = lexicon.now; line = line.now; choices = []; position = BeforeFirst } }
+    ensures ok { IfOk result (λ output. IsPrintedPage lexicon.now.lexicon line.now (string_bytes output)) }
 {
     let mut output = String::new(alloc);
-    push_answers(alloc, &mut output, rules, line, found.answers.as_slice())?;
-    output.push_str(rest_line(found.more))?;
+    let mut number = 1u64;
+    let mut steps = Steps::<()>::new();
+    for _ in 0..SEGMENT_PAGE {
+        if !search.advance(&mut steps) {
+            output.push_str(rest_line(false))?;
+            return Ok(output);
+        }
+        push_current(alloc, &mut output, lexicon, line, search, number)?;
+        number = LAST_ANSWER_NUMBER.min(number + 1);
+    }
+    output.push_str(rest_line(search.advance(&mut steps)))?;
     Ok(output)
 }

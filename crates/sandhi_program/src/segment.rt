@@ -1,17 +1,18 @@
 ghost use Rattle.std.specs.Prelude.{◌≡◌, ◌<◌, ◌≤◌, ◌^◌, length, IfOk, IfErr, Ok, string_bytes};
 ghost use Rattle.lexicon_text_definitions.specs.FileReadings.{IsReadAs};
 ghost use Rattle.lexicon_file.specs.Contents.{lexicon_of};
-ghost use Rattle.segmenter.specs.Forms.{IsSearchable};
-ghost use Rattle.sandhi_program.specs.Segments.{searched, IsSegmented};
+ghost use Rattle.sandhi_program.specs.Segments.{IsBuildable, IsSegmented};
 ghost use Rattle.sandhi_program.specs.SegmentErrors.{IsFileError, IsRefusal};
 
 use super::page::print_page;
 use super::status::{AnyFault, TextFault};
+use annotated_trie::Lexicon;
+use derivation::OpenGuide;
 use lexicon_file::{Contents, FileError, read};
 use lexicon_text_definitions::MOST_FILE_BYTES;
 use phoneme::Memory;
-use run_definitions::SEGMENT_PAGE;
-use segmenter::{Lexicon, first_page};
+use reader_choices::Choices;
+use segmenter::Search;
 use std::alloc::Global;
 use text_line::{LineError, Scheme, read_line};
 
@@ -65,7 +66,7 @@ impl From<LineError> for SegmentError {
 fn read_contents(alloc: Global, bytes: &[u8]) -> Result<Contents, SegmentError>
     ensures within { IfOk result (λ contents. length bytes.now ≤ MOST_FILE_BYTES) }
     ensures ok { IfOk result (λ contents. IsReadAs bytes.now (Ok (lexicon_of contents))) }
-    ensures searchable { IfOk result (λ contents. IsSearchable (searched contents)) }
+    ensures buildable { IfOk result IsBuildable }
     ensures refused { IfErr result (IsFileError bytes.now) }
 {
     if bytes.len() > MOST_FILE_BYTES {
@@ -74,23 +75,29 @@ fn read_contents(alloc: Global, bytes: &[u8]) -> Result<Contents, SegmentError>
     Ok(read(alloc, bytes)?)
 }
 
+/// The lexicon of a file's contents, as it is searched. The lists of forms are not kept beside it.
+fn build_lexicon(alloc: Global, contents: Contents) -> Result<Lexicon, Memory>
+    requires { IsBuildable contents }
+    ensures ok { IfOk result (λ lexicon. lexicon.lexicon ≡ lexicon_of contents) }
+{
+    let Contents {
+        rules,
+        automaton,
+        lists,
+    } = contents;
+    Lexicon::build(alloc, &lists, rules, automaton)
+}
+
 /// What `segment` writes for the bytes of a lexicon file and a text.
 pub(crate) fn segment(alloc: Global, bytes: &[u8], text: &str) -> Result<String, SegmentError>
     requires { length text.now < 2 ^ 32 }
     ensures ok { IfOk result (λ output. IsSegmented bytes.now text.now (string_bytes output)) }
     ensures refused { IfErr result (IsRefusal bytes.now text.now) }
 {
-    let Contents {
-        rules,
-        automaton,
-        lists,
-    } = read_contents(alloc, bytes)?;
+    let contents = read_contents(alloc, bytes)?;
     let line = read_line(alloc, Scheme::Slp1, text.as_bytes())?;
-    let lexicon = Lexicon {
-        rules,
-        automaton,
-        lists,
-    };
-    let found = first_page(alloc, &lexicon, &line, SEGMENT_PAGE)?;
-    Ok(print_page(alloc, &lexicon.rules, &line, &found)?)
+    let lexicon = build_lexicon(alloc, contents)?;
+    let choices = Choices::new(alloc);
+    let mut search = Search::new(alloc, &lexicon, &line, &choices, &OpenGuide)?;
+    Ok(print_page(alloc, &lexicon, &line, &mut search)?)
 }

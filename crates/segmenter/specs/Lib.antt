@@ -1,3 +1,6 @@
-pub mod Forms
-pub mod Completions
-pub mod Pages
+pub mod Chains
+pub mod Guided
+pub mod Searches
+pub mod GivenKeys
+pub mod Moves
+pub mod Skips

@@ -1,17 +1,19 @@
-//! Lists the answers of a line over any lexicon, in order.
+//! The search for the answers of a line: it lists them one after another in their order, from any of them on (a backtracking
+//! search whose stack is a value that can be kept, after Huet 2005).
 //!
-//! Proved of `first_page`: the answers are the page before the first one that the definitions give, in order, each once, and
-//! `more` says whether one is left (`page`); its steps stand in the line one after another (`stand`, `not_empty`).
+//! Proved: contracts see a `Search` as its lexicon, line and choices and its position in the listing. `new` stands before the
+//! first answer (`ok`). `advance` moves to the next one (`moved`), or past the last exactly where none is left (`ended`), under
+//! any guide that never says false of what stands in an answer; it takes no memory. `current` gives the steps of the answer at the
+//! position (`answer`). `save` and `into_resumption` keep the position, and `go_on` stands there again (`ok`). `resume` stands at
+//! the answer with the given keys (`ok`), and answers `NotAnAnswer` exactly where there is none (`not_an_answer`). `skip` moves to
+//! the least later answer whose first keys are others (`skipped`), or past the last exactly where there is none (`ended`). How many
+//! steps a move takes is not proved.
 #![tactic(auto)]
 
-mod candidate;
-mod extend;
-mod following;
-mod found;
-mod lexicon;
-mod page;
-mod place;
+mod finding;
+mod keyed;
+mod resuming;
+mod search;
 
-pub use found::Found;
-pub use lexicon::Lexicon;
-pub use page::first_page;
+pub use resuming::ResumeError;
+pub use search::Search;

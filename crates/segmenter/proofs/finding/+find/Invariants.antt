@@ -1,0 +1,18 @@
+-- A search goes deeper to places of higher rank, and at one place from key to key.
+use Rattle.std.proofs.Common.{◌+◌, ◌-◌, ◌*◌, length}
+use Rattle.search_frames.specs.Frames.{standing_of, here_of, still_to_try}
+use Rattle.segmenter.specs.Chains.{rank}
+use Rattle.segmenter.proofs.PathsFound.{IsUnderWay}
+use Rattle.segmenter.proofs.finding.+find.Given as goal
+
+abbrev pub decreases-find_first : goal.decreases-find_first
+decreases-find_first g l = 2 * (2 * length l.line.now.letters + 2 - rank (standing_of l.lexicon.now l.place)) + 1
+
+abbrev pub decreases-find_next : goal.decreases-find_next
+decreases-find_next g l = 2 * (2 * length l.line.now.letters + 2 - rank (here_of l.lexicon.now l.stack.now l.level))
+
+abbrev pub invariant-find_next-loop-stack : goal.invariant-find_next-loop-stack
+invariant-find_next-loop-stack g l = IsUnderWay l.lexicon l.line l.choices l.level l.initial.stack l.stack
+
+abbrev pub decreases-find_next-loop-stack : goal.decreases-find_next-loop-stack
+decreases-find_next-loop-stack g l = still_to_try l.lexicon l.stack l.level

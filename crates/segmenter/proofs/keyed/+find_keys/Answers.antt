@@ -1,0 +1,54 @@
+-- The first key is gone to, and the rest from where it leads.
+use Rattle.std.proofs.Common.{◌≡◌, ℕ, ◌-◌, ◌<◌, ◌≤◌, List, length, take, drop, arith, length-take, length-drop}
+use Rattle.derivation.specs.declared.step.Key.{Key}
+use Rattle.segmenter.proofs.KeptFrames.{keeps_then, keeps_less}
+use Rattle.segmenter.proofs.LeadingTo.{leads_from}
+use Rattle.segmenter.proofs.PathsFound.{on_true}
+use Rattle.segmenter.proofs.KeyedFrames.{stand_along}
+use Rattle.search_frames.specs.Frames.{standing_of}
+use Rattle.segmenter.proofs.keyed.+find_keys.Goals as goal
+
+-- the rest is shorter
+shorter : (keys : List Key) (n : ℕ) → 1 ≤ length keys → length keys ≡ n → length (take (length keys - 1) (drop 1 keys)) < n
+shorter keys n some is = omega (arith, is, some, length-take (length keys - 1) (drop 1 keys), length-drop 1 keys)
+
+pub find_keys-requires : goal.find_keys-requires
+find_keys-requires t c =
+    let leads = leads_from c.args.lexicon.now c.args.line.now c.args.choices.now (standing_of c.args.lexicon.now c.args.place) _ c.in-LeadsOn.next
+    c.in-LeadsOn.ensures.exact c.requires.searched c.requires.reached in
+    let rises = leads.rises in
+    let within = leads.within in
+    let below = c.requires.room.below in
+    let room = c.requires.room.room in
+    let frames = c.stand_at_key.ensures.changes.room in (
+      shorter c.args.keys.now t c.in-len1-up.len_at_least c.decreases,
+      (
+        c.requires.searched,
+        (
+          c.requires.line,
+          (
+            c.stand_at_key.ensures.changes.is_stack,
+            (
+              leads.place,
+              (
+                leads.reached,
+                record { below = omega (arith, below, rises); within = within; room = omega (arith, room, frames) },
+              ),
+            ),
+          ),
+        ),
+      ),
+    )
+
+pub returns-in-LeadsOn-clause-found : goal.returns-in-LeadsOn-clause-found
+returns-in-LeadsOn-clause-found t c =
+    on_true c.find_keys.result
+    (stand_along c.args.lexicon.now c.args.line.now c.args.choices.now c.args.level (standing_of c.args.lexicon.now c.args.place)
+    c.stand_at_key.new.stack c.find_keys.new.stack c.args.keys.now _ c.in-LeadsOn.next c.in-len1-up.len_at_least c.in-LeadsOn.ensures.stands
+    c.in-LeadsOn.ensures.exact c.find_keys.ensures.changes)
+    c.find_keys.ensures.found
+
+pub returns-in-LeadsOn-clause-changes : goal.returns-in-LeadsOn-clause-changes
+returns-in-LeadsOn-clause-changes t c =
+    keeps_then c.args.level c.args.stack.now c.stand_at_key.new.stack c.find_keys.new.stack c.stand_at_key.ensures.changes
+    (keeps_less c.args.level c.stand_at_key.new.stack c.find_keys.new.stack c.find_keys.ensures.changes)

@@ -1,0 +1,20 @@
+-- The view is told by the stack.
+use Rattle.std.proofs.Common.{subst}
+use Rattle.segmenter.specs.Searches.{SearchValue, Skipped, position_of}
+use Rattle.segmenter.proofs.PathsFound.{on_true}
+use Rattle.segmenter.proofs.SkippedAnswers.{skipped}
+use Rattle.segmenter.proofs.search.Search.skip.Goals as goal
+
+pub returns-clause-moved : goal.returns-clause-moved
+returns-clause-moved g c =
+    let s = c.self.inside in
+    let now : SearchValue = record {
+      searched = s.lexicon.now;
+      line = s.line.now;
+      choices = s.choices.now;
+      position = position_of s.lexicon.now s.line.now c.skip_on.new.stack;
+    } in
+    on_true c.skip_on.result
+    (λ moved. subst (λ old. Skipped c.args.depth old now) c.self.view_is
+    (skipped s.lexicon.now s.line.now s.choices.now c.args.depth s.stack c.skip_on.new.stack moved))
+    c.skip_on.ensures.moved

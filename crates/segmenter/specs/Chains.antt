@@ -1,0 +1,91 @@
+-- Frames of a search one after another, and what a search finds with them (own; after Huet 2005).
+use Rattle.std.specs.Prelude.{◌≡◌, ℕ, ◌+◌, ◌*◌, ◌<◌, ◌≤◌, ◌⊎◌, List, [], ◌∷◌, length, take}
+use Rattle.std.specs.declared.cmp.Ordering.TheVariants.{Less}
+use Rattle.text_definitions.specs.Lines.{Line}
+use Rattle.segmentation_definitions.specs.Items.{Choice, covered_from, after_lead}
+use Rattle.segmentation_definitions.specs.Derivations.{Step, phases_of}
+use Rattle.segmentation_definitions.specs.Configurations.{Start, entrance_after}
+use Rattle.segmentation_definitions.specs.Listings.{Key, compare_keys}
+use Rattle.listing_laws.specs.Ways.{IsPath}
+use Rattle.listing_laws.specs.Positions.{IsFirst}
+use Rattle.answer_paths.specs.Fronts.{supplied, IsLedTo}
+use Rattle.phase_automaton.specs.Automata.{state_after}
+use Rattle.annotated_trie.specs.Searched.{SearchedLexicon}
+use Rattle.resumption.specs.declared.frame.TheConstants.{NODES_OF_FRAME}
+use Rattle.resumption.specs.declared.state.Resumption.{Resumption}
+use Rattle.search_frames.specs.Standings.{Standing, LeadsOn, rules_in, after, ways_in}
+use Rattle.search_frames.specs.Frames.{IsStack, IsFrame, IsUntried, HasLaterToTry, here_of, key_at}
+
+-- the front of an answer ends where the search stands
+pub record IsReached (searched : SearchedLexicon) (line : Line) (choices : List Choice) (here : Standing) : Type 0 where
+  pub front : List Step
+  pub led : IsLedTo searched.lexicon line choices front
+  pub at : here.at ≡ covered_from (rules_in searched) 0 [] front
+  pub entrance : here.entrance ≡ entrance_after (rules_in searched) Start front
+  pub state : here.state ≡ state_after searched.machine (phases_of front)
+
+-- twice the letters that are derived, and one more where no rule supplies letters to the next form
+abbrev pub rank : Standing → ℕ
+rank here = 2 * here.at + after_lead (length (supplied here.entrance))
+
+-- the frames from the level on up to the last in use stand one after another along the keys, each at its key, and have just
+-- the later keys still to try
+abbrev pub AreFrames : SearchedLexicon → Line → Resumption → ℕ → Standing → List Key → Type 0
+AreFrames searched line stack level here [] = level ≡ stack.depth
+AreFrames searched line stack level here (key ∷ keys) =
+    IsFrame searched line stack level × (here_of searched stack level ≡ here) × HasLaterToTry searched line stack level
+    × (key_at stack level ≡ key) × AreFrames searched line stack (level + 1) (after searched line here key) keys
+
+-- the frames from the level on stand along the first path from here that is wanted
+pub record HasFound (searched : SearchedLexicon) (line : Line) (choices : List Choice) (IsWanted : List Key → Type 0) (stack : Resumption) (level : ℕ)
+    (here : Standing) : Type 0 where
+  pub keys : List Key
+  pub frames : AreFrames searched line stack level here keys
+  pub first : IsFirst (ways_in searched line choices) here IsWanted keys
+
+-- no path from here is wanted
+abbrev pub HasNone : SearchedLexicon → Line → List Choice → (List Key → Type 0) → Standing → Type 0
+HasNone searched line choices IsWanted here =
+    (keys : List Key) → IsPath (ways_in searched line choices) here keys → IsWanted keys → ⊥
+
+-- every path is wanted
+abbrev pub Every : List Key → Type 0
+Every keys = Unit {0}
+
+-- the path begins with a key that the frame at the level has still to try
+abbrev pub BeginsUntried : SearchedLexicon → Resumption → ℕ → List Key → Type 0
+BeginsUntried searched stack level [] = ⊥
+BeginsUntried searched stack level (key ∷ keys) = IsUntried searched stack level key
+
+-- each key but the last leads on from where those before it lead, so that each frame stands where a search may come to
+abbrev pub LeadAlong : SearchedLexicon → Line → List Choice → Standing → List Key → Type 0
+LeadAlong searched line choices here [] = ⊥
+LeadAlong searched line choices here (key ∷ []) = Unit {0}
+LeadAlong searched line choices here (key ∷ later ∷ keys) =
+    LeadsOn searched line choices here key × LeadAlong searched line choices (after searched line here key) (later ∷ keys)
+
+-- the keys come after the earlier ones, and do not begin with all of them: the first that differs is a later one
+abbrev pub ComesAfter : List Key → List Key → Type 0
+ComesAfter [] keys = ⊥
+ComesAfter (first ∷ earlier) [] = ⊥
+ComesAfter (first ∷ earlier) (key ∷ keys) = (compare_keys first key ≡ Less) ⊎ ((first ≡ key) × ComesAfter earlier keys)
+
+-- no path that begins with the key and comes after the rest there
+abbrev pub HasNoneBelow : SearchedLexicon → Line → List Choice → Standing → Key → List Key → Type 0
+HasNoneBelow searched line choices here key rest =
+    (keys : List Key) → IsPath (ways_in searched line choices) here (key ∷ keys) → ComesAfter rest keys → ⊥
+
+-- nothing changes before the level but how many frames are in use, and the room stays
+pub record KeepsBefore (level : ℕ) (old new : Resumption) : Type 0 where
+  pub stand : new.stand ≡ old.stand
+  pub room : length new.frames.items ≡ length old.frames.items
+  pub is_stack : IsStack new
+  pub steps : take level new.steps.items ≡ take level old.steps.items
+  pub frames : take level new.frames.items ≡ take level old.frames.items
+  pub nodes : take (level * NODES_OF_FRAME) new.nodes.items ≡ take (level * NODES_OF_FRAME) old.nodes.items
+
+-- there is room for each frame that may stand from the level on: each rises in rank, up to twice the number of letters
+pub record HasRoom (line : Line) (stack : Resumption) (level : ℕ) (here : Standing) : Type 0 where
+  pub below : level < rank here
+  pub within : rank here ≤ 2 * length line.letters
+  pub room : 2 * length line.letters ≤ length stack.frames.items

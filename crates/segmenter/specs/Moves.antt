@@ -1,0 +1,38 @@
+-- How the stack of a search moves from answer to answer (own).
+use Rattle.std.specs.Prelude.{◌≡◌, List}
+use Rattle.text_definitions.specs.Lines.{Line}
+use Rattle.segmentation_definitions.specs.Derivations.{Step}
+use Rattle.segmentation_definitions.specs.Items.{Choice}
+use Rattle.segmentation_definitions.specs.Listings.{IsAbove, IsNext}
+use Rattle.segmentation_definitions.specs.Answers.{IsAnswer}
+use Rattle.derivation.specs.Steps.{steps_of}
+use Rattle.annotated_trie.specs.Searched.{SearchedLexicon}
+use Rattle.resumption.specs.declared.stand.Stand.TheVariants as stand
+use Rattle.resumption.specs.declared.state.Resumption.{Resumption}
+use Rattle.search_frames.specs.Standings.{rules_in}
+use Rattle.segmenter.specs.Searches.{StandsAtAnswer, position_of, steps_in}
+
+-- the steps in use are those of the next answer after where the old stack stands
+abbrev pub HasNext : SearchedLexicon → Line → List Choice → Resumption → Resumption → Type 0
+HasNext searched line choices old new =
+    IsNext searched.lexicon line choices (position_of searched line old) (steps_of (rules_in searched) line.letters (steps_in new))
+
+-- no answer comes after where the stack stands
+abbrev pub HasNoNext : SearchedLexicon → Line → List Choice → Resumption → Type 0
+HasNoNext searched line choices stack = (answer : List Step) → IsAnswer searched.lexicon line choices answer
+    → IsAbove (rules_in searched) (position_of searched line stack) answer → ⊥
+
+-- the frames stand at the next answer after where the old stack stands
+pub record StandsAtNext (searched : SearchedLexicon) (line : Line) (choices : List Choice) (old new : Resumption) : Type 0 where
+  pub answer : StandsAtAnswer searched line choices new
+  pub next : HasNext searched line choices old new
+
+-- the stack has moved to the next answer
+pub record HasMoved (searched : SearchedLexicon) (line : Line) (choices : List Choice) (old new : Resumption) : Type 0 where
+  pub stand : new.stand ≡ stand.At
+  pub next : HasNext searched line choices old new
+
+-- the stack has come past the last answer
+pub record HasRunOut (searched : SearchedLexicon) (line : Line) (choices : List Choice) (old new : Resumption) : Type 0 where
+  pub stand : new.stand ≡ stand.Past
+  pub none : HasNoNext searched line choices old

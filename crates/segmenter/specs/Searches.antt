@@ -1,0 +1,108 @@
+-- What contracts see of a search: what it searches, and where it stands in the listing (own).
+use Rattle.std.specs.Prelude.{◌≡◌, ◌≢◌, ℕ, ◌*◌, ◌<◌, ◌≤◌, Option, Some, None, List, [], ◌∷◌, length, take}
+use Rattle.std.specs.declared.cmp.Ordering.TheVariants.{Greater}
+use Rattle.text_definitions.specs.Lines.{Line, IsLine}
+use Rattle.segmentation_definitions.specs.Derivations.{Step}
+use Rattle.segmentation_definitions.specs.Items.{Choice}
+use Rattle.segmentation_definitions.specs.Listings.{Key, keys_of, compare_answers, Position, BeforeFirst, AtAnswer, PastLast, IsAbove, IsNext}
+use Rattle.segmentation_definitions.specs.Answers.{IsAnswer}
+use Rattle.listing_laws.specs.Ways.{IsPath}
+use Rattle.derivation.specs.Steps.{steps_of, StandIn}
+use Rattle.derivation.specs.declared.step.Step.{Step as ProgramStep}
+use Rattle.annotated_trie.specs.Searched.{SearchedLexicon}
+use Rattle.resumption.specs.declared.stand.Stand.{Stand}
+use Rattle.resumption.specs.declared.stand.Stand.TheVariants as stand
+use Rattle.resumption.specs.declared.state.Resumption.{Resumption}
+use Rattle.search_frames.specs.Frames.{IsStack}
+use Rattle.search_frames.specs.Standings.{rules_in, opening, ways_in}
+use Rattle.segmenter.specs.Chains.{AreFrames}
+
+-- the lexicon, the line, the choices, and the position in the listing of the line's answers
+pub record SearchValue : Type 0 where
+  pub searched : SearchedLexicon
+  pub line : Line
+  pub choices : List Choice
+  pub position : Position
+
+-- the steps in use
+abbrev pub steps_in : Resumption → List ProgramStep
+steps_in stack = take stack.depth stack.steps.items
+
+-- where the stack stands in the listing
+abbrev pub position_at : SearchedLexicon → Line → Resumption → Stand → Position
+position_at searched line stack stand.Before = BeforeFirst
+position_at searched line stack stand.At = AtAnswer (steps_of (rules_in searched) line.letters (steps_in stack))
+position_at searched line stack stand.Past = PastLast
+
+abbrev pub position_of : SearchedLexicon → Line → Resumption → Position
+position_of searched line stack = position_at searched line stack stack.stand
+
+-- the stack stands at an answer: its frames stand along the keys of a path
+pub record StandsAtAnswer (searched : SearchedLexicon) (line : Line) (choices : List Choice) (stack : Resumption) : Type 0 where
+  pub keys : List Key
+  pub frames : AreFrames searched line stack 0 opening keys
+  pub path : IsPath (ways_in searched line choices) opening keys
+
+-- the stack is one of a search over the lexicon, the line and the choices
+pub record IsStackOf (searched : SearchedLexicon) (line : Line) (choices : List Choice) (stack : Resumption) : Type 0 where
+  pub is_line : IsLine line
+  pub is_stack : IsStack stack
+  pub room : 2 * length line.letters ≤ length stack.frames.items
+  pub answer : stack.stand ≡ stand.At → StandsAtAnswer searched line choices stack
+
+-- the search has moved to the next answer after where it stood
+pub record MovedOn (old new : SearchValue) : Type 0 where
+  pub answer : List Step
+  pub is : new ≡ record { searched = old.searched; line = old.line; choices = old.choices; position = AtAnswer answer }
+  pub next : IsNext old.searched.lexicon old.line old.choices old.position answer
+
+-- the search has come past the last answer: none was left
+pub record HasEnded (old new : SearchValue) : Type 0 where
+  pub is : new ≡ record { searched = old.searched; line = old.line; choices = old.choices; position = PastLast }
+  pub none : (answer : List Step) → IsAnswer old.searched.lexicon old.line old.choices answer
+      → IsAbove old.searched.lexicon.rules old.position answer → ⊥
+
+-- these are the program's steps of the answer at which the search stands, or it stands at none
+abbrev pub IsCurrent : SearchValue → Option (List ProgramStep) → Type 0
+IsCurrent search None = (answer : List Step) → search.position ≡ AtAnswer answer → ⊥
+IsCurrent search (Some steps) =
+    (search.position ≡ AtAnswer (steps_of search.searched.lexicon.rules search.line.letters steps))
+    × StandIn search.searched.lexicon.rules search.line.letters steps × (0 < length steps)
+
+-- the stack is one of the search's lexicon, line and choices, and stands where the search stands
+pub record StandsWhere (search : SearchValue) (stack : Resumption) : Type 0 where
+  pub is_stack : IsStackOf search.searched search.line search.choices stack
+  pub position : position_of search.searched search.line stack ≡ search.position
+
+-- the answer comes after the one at which the search stands, and has other first keys, as many as depth
+abbrev pub IsPastKeys : SearchValue → ℕ → List Step → Type 0
+IsPastKeys search depth answer =
+    IsAbove search.searched.lexicon.rules search.position answer
+    × ((here : List Step) → search.position ≡ AtAnswer here
+    → take depth (keys_of search.searched.lexicon.rules answer) ≢ take depth (keys_of search.searched.lexicon.rules here))
+
+-- the search has moved to the least answer that comes after it and has other first keys
+pub record Skipped (depth : ℕ) (old new : SearchValue) : Type 0 where
+  pub answer : List Step
+  pub is : new ≡ record { searched = old.searched; line = old.line; choices = old.choices; position = AtAnswer answer }
+  pub is_answer : IsAnswer old.searched.lexicon old.line old.choices answer
+  pub past : IsPastKeys old depth answer
+  pub least : (other : List Step) → IsAnswer old.searched.lexicon old.line old.choices other → IsPastKeys old depth other
+      → compare_answers old.searched.lexicon.rules answer other ≢ Greater
+
+-- the search has come past the last answer: none that comes after it has other first keys
+pub record HasSkippedAll (depth : ℕ) (old new : SearchValue) : Type 0 where
+  pub is : new ≡ record { searched = old.searched; line = old.line; choices = old.choices; position = PastLast }
+  pub none : (answer : List Step) → IsAnswer old.searched.lexicon old.line old.choices answer → IsPastKeys old depth answer → ⊥
+
+-- the keys are those of no answer
+abbrev pub AreNoKeys : SearchedLexicon → Line → List Choice → List Key → Type 0
+AreNoKeys searched line choices keys =
+    (answer : List Step) → IsAnswer searched.lexicon line choices answer → keys_of searched.lexicon.rules answer ≡ keys → ⊥
+
+-- the search stands at the answer with these keys, or before the first where there are none
+abbrev pub StandsAtKeys : SearchValue → List Key → Type 0
+StandsAtKeys search [] = search.position ≡ BeforeFirst
+StandsAtKeys search (key ∷ keys) =
+    (answer : List Step) × (search.position ≡ AtAnswer answer) × IsAnswer search.searched.lexicon search.line search.choices answer
+    × (keys_of search.searched.lexicon.rules answer ≡ key ∷ keys)

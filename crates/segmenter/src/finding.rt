@@ -1,0 +1,152 @@
+ghost use Rattle.std.specs.Prelude.{◌<◌, ◌+◌, ◌∷◌, List};
+ghost use Rattle.std.specs.Bool.{OnTrue, OnFalse};
+ghost use Rattle.text_definitions.specs.Lines.{IsLine};
+ghost use Rattle.segmentation_definitions.specs.Listings.{Key};
+ghost use Rattle.annotated_trie.specs.Searched.{IsSearchedLexicon};
+ghost use Rattle.search_frames.specs.Frames.{IsStack, IsFrame, IsPlaceIn, standing_of, here_of};
+ghost use Rattle.segmenter.specs.Guided.{IsGuideOf};
+ghost use Rattle.segmenter.specs.Chains.{IsReached, AreFrames, HasFound, HasNone, Every, BeginsUntried, ComesAfter, LeadAlong, HasNoneBelow, HasRoom, KeepsBefore};
+
+use annotated_trie::Lexicon;
+use derivation::Guide;
+use outside::Steps;
+use phoneme::Line;
+use reader_choices::Choices;
+use resumption::Resumption;
+use search_frames::{Place, Test, go_on, open_frame, test_key};
+
+/// Finds the first path from the place, with the frames from the level on. False where there is none.
+#[cycle(find)]
+pub(crate) fn find_first<D: Guide, L>(
+    lexicon: &Lexicon,
+    line: &Line,
+    choices: &Choices,
+    guide: &D,
+    stack: &mut Resumption,
+    level: usize,
+    place: Place,
+    steps: &mut Steps<L>,
+) -> bool
+    requires searched { IsSearchedLexicon lexicon.now }
+    requires line { IsLine line.now }
+    requires guide { IsGuideOf lexicon.now line.now choices.now (D.covers guide.now) (D.says guide.now) }
+    requires stack { IsStack stack.old }
+    requires place { IsPlaceIn lexicon.now line.now place }
+    requires reached { IsReached lexicon.now line.now choices.now (standing_of lexicon.now place) }
+    requires room { HasRoom line.now stack.old level (standing_of lexicon.now place) }
+    ensures found { OnTrue result (HasFound lexicon.now line.now choices.now Every stack.new level (standing_of lexicon.now place)) }
+    ensures none { OnFalse result (HasNone lexicon.now line.now choices.now Every (standing_of lexicon.now place)) }
+    ensures changes { KeepsBefore level stack.old stack.new }
+{
+    if !guide.live(place.at, place.entrance, place.state, steps) {
+        return false;
+    }
+    open_frame(lexicon, line, stack, level, place, steps);
+    find_next(lexicon, line, choices, guide, stack, level, steps)
+}
+
+/// Finds the first path from where the frame at the level stands that begins with a key that the frame has still to try. False
+/// where there is none.
+#[cycle(find)]
+pub(crate) fn find_next<D: Guide, L>(
+    lexicon: &Lexicon,
+    line: &Line,
+    choices: &Choices,
+    guide: &D,
+    stack: &mut Resumption,
+    level: usize,
+    steps: &mut Steps<L>,
+) -> bool
+    requires searched { IsSearchedLexicon lexicon.now }
+    requires line { IsLine line.now }
+    requires guide { IsGuideOf lexicon.now line.now choices.now (D.covers guide.now) (D.says guide.now) }
+    requires frame { IsFrame lexicon.now line.now stack.old level }
+    requires reached { IsReached lexicon.now line.now choices.now (here_of lexicon.now stack.old level) }
+    requires room { HasRoom line.now stack.old level (here_of lexicon.now stack.old level) }
+    ensures found { OnTrue result (HasFound lexicon.now line.now choices.now (BeginsUntried lexicon.now stack.old level) stack.new level (here_of lexicon.now stack.old level)) }
+    ensures none { OnFalse result (HasNone lexicon.now line.now choices.now (BeginsUntried lexicon.now stack.old level) (here_of lexicon.now stack.old level)) }
+    ensures changes { KeepsBefore level stack.old stack.new }
+{
+    while go_on(lexicon, line, stack, level, steps) {
+        let place = Place::of_frame(stack, level);
+        match test_key(lexicon, line, choices, &place, &stack.steps[level]) {
+            Test::Refused => {}
+            Test::Ends => {
+                stack.depth = level as u32 + 1;
+                return true;
+            }
+            Test::LeadsOn(next) => {
+                if find_first(lexicon, line, choices, guide, stack, level + 1, next, steps) {
+                    return true;
+                }
+            }
+        }
+    }
+    false
+}
+
+/// Finds the first path that comes after the keys along which the frames from the level on stand, and does not begin with all of
+/// them. False where there is none.
+#[cycle(later)]
+pub(crate) fn find_later<D: Guide, L>(
+    lexicon: &Lexicon,
+    line: &Line,
+    choices: &Choices,
+    guide: &D,
+    stack: &mut Resumption,
+    level: usize,
+    steps: &mut Steps<L>,
+) -> bool
+    requires searched { IsSearchedLexicon lexicon.now }
+    requires line { IsLine line.now }
+    requires guide { IsGuideOf lexicon.now line.now choices.now (D.covers guide.now) (D.says guide.now) }
+    requires stack { IsStack stack.old }
+    requires below { level < stack.old.depth }
+    requires reached { IsReached lexicon.now line.now choices.now (here_of lexicon.now stack.old level) }
+    requires room { HasRoom line.now stack.old level (here_of lexicon.now stack.old level) }
+    requires frames { (keys : List Key) × AreFrames lexicon.now line.now stack.old level (here_of lexicon.now stack.old level) keys × LeadAlong lexicon.now line.now choices.now (here_of lexicon.now stack.old level) keys }
+    ensures found { (keys : List Key) → AreFrames lexicon.now line.now stack.old level (here_of lexicon.now stack.old level) keys
+        → LeadAlong lexicon.now line.now choices.now (here_of lexicon.now stack.old level) keys
+        → OnTrue result (HasFound lexicon.now line.now choices.now (ComesAfter keys) stack.new level (here_of lexicon.now stack.old level)) }
+    ensures none { (keys : List Key) → AreFrames lexicon.now line.now stack.old level (here_of lexicon.now stack.old level) keys
+        → LeadAlong lexicon.now line.now choices.now (here_of lexicon.now stack.old level) keys
+        → OnFalse result (HasNone lexicon.now line.now choices.now (ComesAfter keys) (here_of lexicon.now stack.old level)) }
+    ensures changes { KeepsBefore level stack.old stack.new }
+{
+    if find_deeper(lexicon, line, choices, guide, stack, level, steps) {
+        return true;
+    }
+    find_next(lexicon, line, choices, guide, stack, level, steps)
+}
+
+/// The same among those that share the first key with these, where there is another frame in use after this one.
+#[cycle(later)]
+fn find_deeper<D: Guide, L>(
+    lexicon: &Lexicon,
+    line: &Line,
+    choices: &Choices,
+    guide: &D,
+    stack: &mut Resumption,
+    level: usize,
+    steps: &mut Steps<L>,
+) -> bool
+    requires searched { IsSearchedLexicon lexicon.now }
+    requires line { IsLine line.now }
+    requires guide { IsGuideOf lexicon.now line.now choices.now (D.covers guide.now) (D.says guide.now) }
+    requires stack { IsStack stack.old }
+    requires below { level < stack.old.depth }
+    requires reached { IsReached lexicon.now line.now choices.now (here_of lexicon.now stack.old level) }
+    requires room { HasRoom line.now stack.old level (here_of lexicon.now stack.old level) }
+    requires frames { (keys : List Key) × AreFrames lexicon.now line.now stack.old level (here_of lexicon.now stack.old level) keys × LeadAlong lexicon.now line.now choices.now (here_of lexicon.now stack.old level) keys }
+    ensures found { (keys : List Key) → AreFrames lexicon.now line.now stack.old level (here_of lexicon.now stack.old level) keys
+        → LeadAlong lexicon.now line.now choices.now (here_of lexicon.now stack.old level) keys
+        → OnTrue result (HasFound lexicon.now line.now choices.now (ComesAfter keys) stack.new level (here_of lexicon.now stack.old level)) }
+    ensures none { (key : Key) (rest : List Key) → AreFrames lexicon.now line.now stack.old level (here_of lexicon.now stack.old level) (key ∷ rest)
+        → LeadAlong lexicon.now line.now choices.now (here_of lexicon.now stack.old level) (key ∷ rest)
+        → OnFalse result (HasNoneBelow lexicon.now line.now choices.now (here_of lexicon.now stack.old level) key rest) }
+    ensures changes { KeepsBefore level stack.old stack.new }
+    ensures kept { OnFalse result (KeepsBefore (level + 1) stack.old stack.new) }
+{
+    level + 1 < stack.depth as usize
+        && find_later(lexicon, line, choices, guide, stack, level + 1, steps)
+}

@@ -1,0 +1,79 @@
+ghost use Rattle.std.specs.Prelude.{◌<◌, length};
+ghost use Rattle.std.specs.Bool.{OnTrue, OnFalse};
+ghost use Rattle.text_definitions.specs.Lines.{IsLine};
+ghost use Rattle.listing_laws.specs.Ways.{IsPath};
+ghost use Rattle.annotated_trie.specs.Searched.{IsSearchedLexicon};
+ghost use Rattle.search_frames.specs.Standings.{ways_in};
+ghost use Rattle.search_frames.specs.Frames.{IsStack, IsPlaceIn, standing_of};
+ghost use Rattle.search_frames.specs.Tests.{IsTestOf};
+ghost use Rattle.segmenter.specs.Chains.{IsReached, AreFrames, HasRoom, KeepsBefore};
+ghost use Rattle.segmenter.specs.GivenKeys.{StandsUnlessRefused, key_of_given, keys_of_given};
+
+use annotated_trie::Lexicon;
+use derivation::Key;
+use outside::Steps;
+use phoneme::Line;
+use reader_choices::Choices;
+use resumption::Resumption;
+use search_frames::{Place, Test, open_frame, seek, test_key};
+
+/// Makes the frame at the level, counted from 0, one that stands at the place and at the key, and tells what the key does there.
+fn stand_at_key(
+    lexicon: &Lexicon,
+    line: &Line,
+    choices: &Choices,
+    stack: &mut Resumption,
+    level: usize,
+    place: Place,
+    key: Key,
+) -> Test
+    requires searched { IsSearchedLexicon lexicon.now }
+    requires line { IsLine line.now }
+    requires stack { IsStack stack.old }
+    requires there { level < length stack.old.frames.items }
+    requires place { IsPlaceIn lexicon.now line.now place }
+    ensures exact { IsTestOf lexicon.now line.now choices.now (standing_of lexicon.now place) (key_of_given key) result }
+    ensures stands { StandsUnlessRefused lexicon.now line.now stack.new level (standing_of lexicon.now place) (key_of_given key) result }
+    ensures changes { KeepsBefore level stack.old stack.new }
+{
+    let mut steps = Steps::<()>::new();
+    open_frame(lexicon, line, stack, level, place, &mut steps);
+    if !seek(lexicon, line, stack, level, key) {
+        return Test::Refused;
+    }
+    test_key(lexicon, line, choices, &place, &stack.steps[level])
+}
+
+/// Goes from the place along the keys, with the frames from the level on. False where they are no path from there.
+pub(crate) fn find_keys(
+    lexicon: &Lexicon,
+    line: &Line,
+    choices: &Choices,
+    stack: &mut Resumption,
+    level: usize,
+    place: Place,
+    keys: &[Key],
+) -> bool
+    requires searched { IsSearchedLexicon lexicon.now }
+    requires line { IsLine line.now }
+    requires stack { IsStack stack.old }
+    requires place { IsPlaceIn lexicon.now line.now place }
+    requires reached { IsReached lexicon.now line.now choices.now (standing_of lexicon.now place) }
+    requires room { HasRoom line.now stack.old level (standing_of lexicon.now place) }
+    ensures found { OnTrue result (AreFrames lexicon.now line.now stack.new level (standing_of lexicon.now place) (keys_of_given keys.now)
+        × IsPath (ways_in lexicon.now line.now choices.now) (standing_of lexicon.now place) (keys_of_given keys.now)) }
+    ensures not_there { OnFalse result (IsPath (ways_in lexicon.now line.now choices.now) (standing_of lexicon.now place) (keys_of_given keys.now) → ⊥) }
+    ensures changes { KeepsBefore level stack.old stack.new }
+{
+    let [key, rest @ ..] = keys else {
+        return false;
+    };
+    match stand_at_key(lexicon, line, choices, stack, level, place, *key) {
+        Test::Refused => false,
+        Test::Ends => {
+            stack.depth = level as u32 + 1;
+            rest.is_empty()
+        }
+        Test::LeadsOn(next) => find_keys(lexicon, line, choices, stack, level + 1, next, rest),
+    }
+}

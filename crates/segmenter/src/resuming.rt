@@ -1,0 +1,160 @@
+ghost use Rattle.std.specs.Prelude.{◌≡◌, ◌≢◌, ◌≤◌, [], List, IfOk, IfErr};
+ghost use Rattle.std.specs.Bool.{OnTrue, OnFalse};
+ghost use Rattle.segmentation_definitions.specs.Derivations.{Step};
+ghost use Rattle.segmentation_definitions.specs.Listings.{AtAnswer};
+ghost use Rattle.annotated_trie.specs.Searched.{IsSearchedLexicon};
+ghost use Rattle.resumption.specs.declared.stand.Stand.TheVariants as stand;
+ghost use Rattle.segmenter.specs.declared.resuming.ResumeError.TheVariants.{NotAnAnswer as ErrorNotAnAnswer, Memory as ErrorMemory};
+ghost use Rattle.segmenter.specs.Chains.{KeepsBefore};
+ghost use Rattle.segmenter.specs.GivenKeys.{keys_of_given};
+ghost use Rattle.segmenter.specs.Guided.{IsGuideOf};
+ghost use Rattle.segmenter.specs.Searches.{IsStackOf, AreNoKeys, StandsAtKeys, Skipped, HasSkippedAll};
+ghost use Rattle.segmenter.specs.Skips.{HasNonePast, StandsPast, HasSkipped, HasSkippedOut, value_of};
+
+use super::finding::find_later;
+use super::keyed::find_keys;
+use super::search::{Search, empty_stack, opening};
+use annotated_trie::Lexicon;
+use derivation::{Guide, Key};
+use outside::Steps;
+use phoneme::{Line, Memory};
+use reader_choices::Choices;
+use resumption::{Resumption, Stand};
+use std::alloc::Global;
+use thiserror::Error;
+
+/// Why a search was not resumed at the keys: they are those of no answer, or want of memory.
+#[derive(Clone, Copy, Debug, PartialEq, Eq, Error)]
+pub enum ResumeError {
+    #[error("the keys are those of no answer")]
+    NotAnAnswer,
+    #[error("out of memory")]
+    Memory,
+}
+
+impl From<Memory> for ResumeError {
+    ghost from_gives = { λ _ e. e ≡ ErrorMemory };
+
+    fn from(_refused: Memory) -> ResumeError {
+        ResumeError::Memory
+    }
+}
+
+impl<'a, D: Guide> Search<'a, D> {
+    /// A search that stands at the answer with these keys, or before the first answer where there are none. It is made from the
+    /// keys alone, and asks no guide.
+    pub fn resume(
+        alloc: Global,
+        lexicon: &'a Lexicon,
+        line: &'a Line,
+        choices: &'a Choices,
+        guide: &'a D,
+        keys: &[Key],
+    ) -> Result<Search<'a, D>, ResumeError>
+        requires guide { IsGuideOf lexicon.now line.now choices.now (D.covers guide.now) (D.says guide.now) }
+        ensures over { IfOk result (λ search. search ≡ record { searched = lexicon.now; line = line.now; choices = choices.now; position = search.position }) }
+        ensures at { IfOk result (λ search. StandsAtKeys search (keys_of_given keys.now)) }
+        ensures not_an_answer { IfErr result (λ error. error ≡ ErrorNotAnAnswer → (keys.now ≢ []) × AreNoKeys lexicon.now line.now choices.now (keys_of_given keys.now)) }
+    {
+        // The proof knows what a lexicon is only of one whose rules are read.
+        let _rules = lexicon.rules();
+        let mut stack = empty_stack(alloc, lexicon, line)?;
+        if !go_to_keys(lexicon, line, choices, &mut stack, keys) {
+            return Err(ResumeError::NotAnAnswer);
+        }
+        Ok(Search::go_on(lexicon, line, choices, guide, stack))
+    }
+
+    /// Moves past the first keys of the answer at which the search stands, as many as depth, all where it has fewer: to the first
+    /// later answer that has others. False where there is none; then the search stands past the last. Takes no memory.
+    pub fn skip<L>(&mut self, depth: u32, steps: &mut Steps<L>) -> bool
+        requires at { (answer : List Step) × (self.old.position ≡ AtAnswer answer) }
+        requires depth { 1 ≤ depth }
+        ensures moved { OnTrue result (Skipped depth self.old self.new) }
+        ensures ended { OnFalse result (HasSkippedAll depth self.old self.new) }
+    {
+        skip_on(
+            self.lexicon,
+            self.line,
+            self.choices,
+            self.guide,
+            &mut self.stack,
+            depth,
+            steps,
+        )
+    }
+}
+
+/// Brings a stack that stands before the first answer to the one with these keys, and leaves it where there are none. False where
+/// they are those of no answer.
+fn go_to_keys(
+    lexicon: &Lexicon,
+    line: &Line,
+    choices: &Choices,
+    stack: &mut Resumption,
+    keys: &[Key],
+) -> bool
+    requires searched { IsSearchedLexicon lexicon.now }
+    requires stack { IsStackOf lexicon.now line.now choices.now stack.old }
+    requires before { stack.old.stand ≡ stand.Before }
+    ensures stack { OnTrue result (IsStackOf lexicon.now line.now choices.now stack.new) }
+    ensures at { OnTrue result (StandsAtKeys (value_of lexicon.now line.now choices.now stack.new) (keys_of_given keys.now)) }
+    ensures none { OnFalse result ((keys.now ≢ []) × AreNoKeys lexicon.now line.now choices.now (keys_of_given keys.now)) }
+{
+    if keys.is_empty() {
+        return true;
+    }
+    if !find_keys(lexicon, line, choices, stack, 0, opening(lexicon), keys) {
+        return false;
+    }
+    stack.stand = Stand::At;
+    true
+}
+
+/// Finds the least answer past the first keys of the one at which the stack stands. False where there is none.
+fn find_past<D: Guide, L>(
+    lexicon: &Lexicon,
+    line: &Line,
+    choices: &Choices,
+    guide: &D,
+    stack: &mut Resumption,
+    depth: u32,
+    steps: &mut Steps<L>,
+) -> bool
+    requires searched { IsSearchedLexicon lexicon.now }
+    requires guide { IsGuideOf lexicon.now line.now choices.now (D.covers guide.now) (D.says guide.now) }
+    requires stack { IsStackOf lexicon.now line.now choices.now stack.old }
+    requires at { stack.old.stand ≡ stand.At }
+    requires depth { 1 ≤ depth }
+    ensures found { OnTrue result (StandsPast lexicon.now line.now choices.now depth stack.old stack.new) }
+    ensures none { OnFalse result (HasNonePast depth (value_of lexicon.now line.now choices.now stack.old)) }
+    ensures changes { KeepsBefore 0 stack.old stack.new }
+{
+    stack.depth = depth.min(stack.depth);
+    find_later(lexicon, line, choices, guide, stack, 0, steps)
+}
+
+/// Moves the stack to the least answer past the first keys of the one at which it stands. False where there is none; then it
+/// stands past the last.
+fn skip_on<D: Guide, L>(
+    lexicon: &Lexicon,
+    line: &Line,
+    choices: &Choices,
+    guide: &D,
+    stack: &mut Resumption,
+    depth: u32,
+    steps: &mut Steps<L>,
+) -> bool
+    requires searched { IsSearchedLexicon lexicon.now }
+    requires guide { IsGuideOf lexicon.now line.now choices.now (D.covers guide.now) (D.says guide.now) }
+    requires stack { IsStackOf lexicon.now line.now choices.now stack.old }
+    requires at { stack.old.stand ≡ stand.At }
+    requires depth { 1 ≤ depth }
+    ensures stack { IsStackOf lexicon.now line.now choices.now stack.new }
+    ensures moved { OnTrue result (HasSkipped lexicon.now line.now choices.now depth stack.old stack.new) }
+    ensures ended { OnFalse result (HasSkippedOut lexicon.now line.now choices.now depth stack.old stack.new) }
+{
+    let found = find_past(lexicon, line, choices, guide, stack, depth, steps);
+    stack.stand = if found { Stand::At } else { Stand::Past };
+    found
+}

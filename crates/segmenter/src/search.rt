@@ -1,0 +1,231 @@
+ghost use Rattle.std.specs.Prelude.{◌≡◌, ◌<◌, ◌≤◌, IfOk, MatchOption, Some, None, List};
+ghost use Rattle.std.specs.Bool.{OnTrue, OnFalse};
+ghost use Rattle.text_definitions.specs.Lines.{Line as LineValue};
+ghost use Rattle.segmentation_definitions.specs.Items.{Choice};
+ghost use Rattle.segmentation_definitions.specs.Listings.{BeforeFirst};
+ghost use Rattle.annotated_trie.specs.Searched.{IsSearchedLexicon};
+ghost use Rattle.resumption.specs.declared.stand.Stand.TheVariants as stand;
+ghost use Rattle.search_frames.specs.Frames.{IsPlaceIn, standing_of};
+ghost use Rattle.search_frames.specs.Standings.{opening};
+ghost use Rattle.segmenter.specs.Chains.{KeepsBefore};
+ghost use Rattle.segmenter.specs.Guided.{IsGuideOf};
+ghost use Rattle.segmenter.specs.Moves.{StandsAtNext, HasNoNext, HasMoved, HasRunOut};
+ghost use Rattle.segmenter.specs.Searches.{IsStackOf, position_of, MovedOn, HasEnded, IsCurrent, StandsWhere};
+
+use super::finding::{find_first, find_later};
+use annotated_trie::Lexicon;
+use derivation::{Entrance, Guide, Step};
+use outside::Steps;
+use phoneme::{Line, Memory};
+use reader_choices::Choices;
+use resumption::{Frame, NODES_OF_FRAME, Resumption, Stand};
+use search_frames::Place;
+use std::alloc::Global;
+use std::marker::Model;
+
+/// A search for the answers of a line, which stands before the first of them, at one, or past the last (a backtracking search
+/// whose stack can be kept, after Huet 2005). The guide says where it need not go on.
+#[derive(Drop)]
+pub struct Search<'a, D: Guide> {
+    pub(crate) lexicon: &'a Lexicon,
+    pub(crate) line: &'a Line,
+    pub(crate) choices: &'a Choices,
+    pub(crate) guide: &'a D,
+    pub(crate) stack: Resumption,
+}
+
+impl<'a, D: Guide> Model for Search<'a, D> {
+    ghost use Rattle.annotated_trie.specs.Searched.{IsSearchedLexicon};
+    ghost use Rattle.segmenter.specs.Guided.{IsGuideOf};
+    ghost use Rattle.segmenter.specs.Searches.{SearchValue, IsStackOf, position_of};
+
+    ghost Value = { SearchValue };
+
+    ghost view = { λ s. record { searched = s.lexicon.now; line = s.line.now; choices = s.choices.now; position = position_of s.lexicon.now s.line.now s.stack } };
+
+    ghost invariant = { λ s. IsSearchedLexicon s.lexicon.now
+        × IsGuideOf s.lexicon.now s.line.now s.choices.now (D.covers s.guide.now) (D.says s.guide.now)
+        × IsStackOf s.lexicon.now s.line.now s.choices.now s.stack };
+}
+
+impl<'a, D: Guide> Search<'a, D> {
+    /// A search that stands before the first answer, with room for the longest. Refused only for want of memory.
+    pub fn new(
+        alloc: Global,
+        lexicon: &'a Lexicon,
+        line: &'a Line,
+        choices: &'a Choices,
+        guide: &'a D,
+    ) -> Result<Search<'a, D>, Memory>
+        requires guide { IsGuideOf lexicon.now line.now choices.now (D.covers guide.now) (D.says guide.now) }
+        ensures ok { IfOk result (λ search. search ≡ record { searched = lexicon.now; line = line.now; choices = choices.now; position = BeforeFirst }) }
+    {
+        let stack = empty_stack(alloc, lexicon, line)?;
+        Ok(Search::go_on(lexicon, line, choices, guide, stack))
+    }
+
+    /// A search that stands where the resumption does, which came from one over the same lexicon, line and choices. Takes no
+    /// memory.
+    pub fn go_on(
+        lexicon: &'a Lexicon,
+        line: &'a Line,
+        choices: &'a Choices,
+        guide: &'a D,
+        from: Resumption,
+    ) -> Search<'a, D>
+        requires guide { IsGuideOf lexicon.now line.now choices.now (D.covers guide.now) (D.says guide.now) }
+        requires stack { IsStackOf lexicon.now line.now choices.now from }
+        ensures ok { result ≡ record { searched = lexicon.now; line = line.now; choices = choices.now; position = position_of lexicon.now line.now from } }
+    {
+        let _rules = lexicon.rules();
+        Search {
+            lexicon,
+            line,
+            choices,
+            guide,
+            stack: from,
+        }
+    }
+
+    /// Moves to the next answer. False where none is left; then the search stands past the last. Takes no memory.
+    pub fn advance<L>(&mut self, steps: &mut Steps<L>) -> bool
+        ensures moved { OnTrue result (MovedOn self.old self.new) }
+        ensures ended { OnFalse result (HasEnded self.old self.new) }
+    {
+        move_on(
+            self.lexicon,
+            self.line,
+            self.choices,
+            self.guide,
+            &mut self.stack,
+            steps,
+        )
+    }
+
+    /// The steps of the answer at which the search stands. None before the first answer and past the last.
+    pub fn current(&self) -> Option<&[Step]>
+        ensures answer { MatchOption result (IsCurrent self.now None) (λ steps. IsCurrent self.now (Some steps.now)) }
+    {
+        match self.stack.stand {
+            Stand::At => Some(&self.stack.steps[..self.stack.depth as usize]),
+            Stand::Before | Stand::Past => None,
+        }
+    }
+
+    /// A copy of where the search stands, to go on from later. Refused only for want of memory.
+    pub fn save(&self, alloc: Global) -> Result<Resumption, Memory>
+        ensures ok { IfOk result (StandsWhere self.now) }
+    {
+        self.stack.copy(alloc)
+    }
+
+    /// Where the search stands, to go on from later. Takes no memory.
+    pub fn into_resumption(self) -> Resumption
+        ensures { StandsWhere self.entry result }
+    {
+        self.stack
+    }
+}
+
+/// Finds the next answer after where the stack stands, and brings its frames there. False where none is left.
+fn find_next_answer<D: Guide, L>(
+    lexicon: &Lexicon,
+    line: &Line,
+    choices: &Choices,
+    guide: &D,
+    stack: &mut Resumption,
+    steps: &mut Steps<L>,
+) -> bool
+    requires searched { IsSearchedLexicon lexicon.now }
+    requires guide { IsGuideOf lexicon.now line.now choices.now (D.covers guide.now) (D.says guide.now) }
+    requires stack { IsStackOf lexicon.now line.now choices.now stack.old }
+    ensures found { OnTrue result (StandsAtNext lexicon.now line.now choices.now stack.old stack.new) }
+    ensures none { OnFalse result (HasNoNext lexicon.now line.now choices.now stack.old) }
+    ensures changes { KeepsBefore 0 stack.old stack.new }
+{
+    match stack.stand {
+        Stand::Before => find_first(
+            lexicon,
+            line,
+            choices,
+            guide,
+            stack,
+            0,
+            opening(lexicon),
+            steps,
+        ),
+        Stand::At => find_later(lexicon, line, choices, guide, stack, 0, steps),
+        Stand::Past => false,
+    }
+}
+
+/// Moves the stack to the next answer. False where none is left; then it stands past the last.
+fn move_on<D: Guide, L>(
+    lexicon: &Lexicon,
+    line: &Line,
+    choices: &Choices,
+    guide: &D,
+    stack: &mut Resumption,
+    steps: &mut Steps<L>,
+) -> bool
+    requires searched { IsSearchedLexicon lexicon.now }
+    requires guide { IsGuideOf lexicon.now line.now choices.now (D.covers guide.now) (D.says guide.now) }
+    requires stack { IsStackOf lexicon.now line.now choices.now stack.old }
+    ensures stack { IsStackOf lexicon.now line.now choices.now stack.new }
+    ensures moved { OnTrue result (HasMoved lexicon.now line.now choices.now stack.old stack.new) }
+    ensures ended { OnFalse result (HasRunOut lexicon.now line.now choices.now stack.old stack.new) }
+{
+    let found = find_next_answer(lexicon, line, choices, guide, stack, steps);
+    stack.stand = if found { Stand::At } else { Stand::Past };
+    found
+}
+
+/// Where a search stands before all steps.
+pub(crate) fn opening(lexicon: &Lexicon) -> Place
+    ensures standing { standing_of lexicon.now result ≡ opening }
+    ensures within { (line : LineValue) → IsPlaceIn lexicon.now line result }
+{
+    Place {
+        at: 0,
+        entrance: Entrance::Start,
+        state: lexicon.automaton().start(),
+    }
+}
+
+/// A stack before the first answer, with room for the most steps that an answer can have, twice the number of letters.
+pub(crate) fn empty_stack(
+    alloc: Global,
+    lexicon: &Lexicon,
+    line: &Line,
+) -> Result<Resumption, Memory>
+    ensures stand { IfOk result (λ stack. stack.stand ≡ stand.Before) }
+    ensures ok { IfOk result (λ stack. (choices : List Choice) → IsStackOf lexicon.now line.now choices stack) }
+{
+    // The proof knows that there is a phase only of a lexicon whose rules are read.
+    let _rules = lexicon.rules();
+    let room = 2 * line.letters.as_slice().len();
+    let step = Step {
+        phase: 0,
+        rule: 0,
+        at: 0,
+        lead: 0,
+        taken: 0,
+    };
+    let frame = Frame {
+        entrance: Entrance::Start,
+        state: lexicon.automaton().start(),
+        walked: 0,
+        next: 0,
+    };
+    Ok(Resumption {
+        stand: Stand::Before,
+        depth: 0,
+        steps: Vec::from_elem(alloc, step, room)?,
+        frames: Vec::from_elem(alloc, frame, room)?,
+        nodes: Vec::from_elem(
+            alloc,
+            lexicon.tries().store().root(0),
+            room * NODES_OF_FRAME,
+        )?,
+    })
+}
