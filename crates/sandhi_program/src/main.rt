@@ -10,6 +10,8 @@ mod command;
 mod page;
 mod refusal;
 mod run;
+#[cfg(test)]
+mod search_tests;
 mod segment;
 mod status;
 #[cfg(test)]

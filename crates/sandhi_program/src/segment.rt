@@ -63,7 +63,7 @@ impl From<LineError> for SegmentError {
 }
 
 /// The contents of a lexicon file, whose length is judged before its bytes are looked at.
-fn read_contents(alloc: Global, bytes: &[u8]) -> Result<Contents, SegmentError>
+pub(crate) fn read_contents(alloc: Global, bytes: &[u8]) -> Result<Contents, SegmentError>
     ensures within { IfOk result (λ contents. length bytes.now ≤ MOST_FILE_BYTES) }
     ensures ok { IfOk result (λ contents. IsReadAs bytes.now (Ok (lexicon_of contents))) }
     ensures buildable { IfOk result IsBuildable }
@@ -76,7 +76,7 @@ fn read_contents(alloc: Global, bytes: &[u8]) -> Result<Contents, SegmentError>
 }
 
 /// The lexicon of a file's contents, as it is searched. The lists of forms are not kept beside it.
-fn build_lexicon(alloc: Global, contents: Contents) -> Result<Lexicon, Memory>
+pub(crate) fn build_lexicon(alloc: Global, contents: Contents) -> Result<Lexicon, Memory>
     requires { IsBuildable contents }
     ensures ok { IfOk result (λ lexicon. lexicon.lexicon ≡ lexicon_of contents) }
 {
