@@ -12,6 +12,11 @@ pub data Command : Type 0 where
   Segment : (lex : FileWord) → (text : List ℕ) → Command
   Check : (lex : FileWord) → Command
 
+-- the lexicon file that the command reads
+abbrev pub file_of : Command → FileWord
+file_of (Segment lex text) = lex
+file_of (Check lex) = lex
+
 -- the word is an option: it begins with `-`, and that is not all of it
 pub record IsOption (word : List ℕ) : Type 0 where
   pub longer : 1 < length word

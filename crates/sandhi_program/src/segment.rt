@@ -62,7 +62,7 @@ impl From<LineError> for SegmentError {
 }
 
 /// The contents of a lexicon file, whose length is judged before its bytes are looked at.
-fn read_contents(alloc: Global, bytes: &[u8]) -> Result<Contents, SegmentError>
+pub(crate) fn read_contents(alloc: Global, bytes: &[u8]) -> Result<Contents, SegmentError>
     ensures within { IfOk result (λ contents. length bytes.now ≤ MOST_FILE_BYTES) }
     ensures ok { IfOk result (λ contents. IsReadAs bytes.now (Ok (lexicon_of contents))) }
     ensures searchable { IfOk result (λ contents. IsSearchable (searched contents)) }
