@@ -1,1 +1,2 @@
+pub mod OneOverlapList
 pub mod OneOutcome

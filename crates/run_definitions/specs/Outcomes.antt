@@ -3,10 +3,11 @@
 use Rattle.std.specs.Prelude.{◌≡◌, ℕ, List, Option, codes}
 use Rattle.outside.specs.Files.{Files}
 use Rattle.segmentation_definitions.specs.PrintedAnswers.{output_line}
-use Rattle.run_definitions.specs.Commands.{Command, Segment, AreWordsOf, AreOfNoCommand}
+use Rattle.run_definitions.specs.Commands.{Command, Segment, Check, AreWordsOf, AreOfNoCommand}
 use Rattle.run_definitions.specs.Ends as ends
 use Rattle.run_definitions.specs.Ends.{outcome_over}
 use Rattle.run_definitions.specs.SegmentOutcomes.{IsSegmentOutcome}
+use Rattle.run_definitions.specs.CheckOutcomes.{IsCheckOutcome}
 
 abbrev pub Outcome : Type 0
 Outcome = ends.Outcome
@@ -18,6 +19,7 @@ usage_outcome files = outcome_over files (output_line (codes "usage")) ends.Usag
 -- the outcome of the command over these files and this input, which is None where the source does not tell it
 abbrev pub IsOutcomeOf : Command → Files → Option (List ℕ) → Outcome → Type 0
 IsOutcomeOf (Segment lex text) files input outcome = IsSegmentOutcome lex text files outcome
+IsOutcomeOf (Check lex) files input outcome = IsCheckOutcome lex files outcome
 
 -- the outcome of a run with these words over these files and this input
 pub data IsOutcome (words : List (List ℕ)) (files : Files) (input : Option (List ℕ)) (outcome : Outcome) : Type 0 where

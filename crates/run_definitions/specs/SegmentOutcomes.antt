@@ -1,5 +1,5 @@
 -- What `segment` does with the name of a lexicon file and a text (own).
-use Rattle.std.specs.Prelude.{◌≡◌, ℕ, ◌<◌, ◌≤◌, Bool, List, [], length, Option, Some, None, Ok, Err}
+use Rattle.std.specs.Prelude.{◌≡◌, ℕ, ◌<◌, ◌≤◌, Bool, List, [], length, Some, None, Ok, Err}
 use Rattle.outside.specs.Files.{Files, contents_of}
 use Rattle.text_definitions.specs.Lines.{Line}
 use Rattle.text_definitions.specs.Schemes.{Slp1}

@@ -1,6 +1,7 @@
 ghost use Rattle.std.specs.Prelude.{◌≡◌, ℕ, List, Option};
 ghost use Rattle.outside.specs.Files.{Files};
 ghost use Rattle.run_definitions.specs.Commands.{Command, FileWord, AreWordsOf};
+ghost use Rattle.run_definitions.specs.CheckOutcomes.{IsCheckOutcome};
 ghost use Rattle.run_definitions.specs.Outcomes.{Outcome, IsOutcome};
 ghost use Rattle.run_definitions.specs.SegmentOutcomes.{IsSegmentOutcome};
 
@@ -13,6 +14,12 @@ pub fn words_are_of_one_command()
 pub fn segment_has_one_outcome()
     ensures { (lex : FileWord) (text : List ℕ) (files : Files) (left right : Outcome)
         → IsSegmentOutcome lex text files left → IsSegmentOutcome lex text files right → left ≡ right }
+{}
+
+/// With one file, `check` has one outcome at most over the same files.
+pub fn check_has_one_outcome()
+    ensures { (lex : FileWord) (files : Files) (left right : Outcome)
+        → IsCheckOutcome lex files left → IsCheckOutcome lex files right → left ≡ right }
 {}
 
 /// A run has one outcome at most: these words over these files and this input write one output, leave one set of files,

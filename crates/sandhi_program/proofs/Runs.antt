@@ -5,12 +5,12 @@ use Rattle.std.specs.Option.{option_map}
 use Rattle.std.proofs.lemmas.List.{take_all}
 use Rattle.outside.specs.Files.{Files, contents_of, first_bytes}
 use Rattle.outside.specs.Told.{bytes_after, GrowsByPrefix}
-use Rattle.run_definitions.specs.Commands.{Segment, FileWord, AreWordsOf, AreOfNoCommand}
+use Rattle.run_definitions.specs.Commands.{Command, FileWord, AreWordsOf, AreOfNoCommand}
 use Rattle.run_definitions.specs.Ends as ends
 use Rattle.run_definitions.specs.Ends.{Outcome, outcome_over}
 use Rattle.run_definitions.specs.SegmentOutcomes as outcomes
 use Rattle.run_definitions.specs.SegmentOutcomes.{IsSegmentOutcome, DoesTell, NotThere, Refused, Holds, IsMissing, IsLarge, IsFaulty, IsLexicon}
-use Rattle.run_definitions.specs.Outcomes.{IsOutcome, OfNoCommand, OfCommand, usage_outcome}
+use Rattle.run_definitions.specs.Outcomes.{IsOutcome, IsOutcomeOf, OfNoCommand, OfCommand, usage_outcome}
 use Rattle.lexicon_text_definitions.specs.FileReadings.{IsReadAs}
 use Rattle.lexicon_file.specs.Contents.{fault_of}
 use Rattle.lexicon_text_definitions.specs.declared.limits.TheConstants.{MOST_FILE_BYTES}
@@ -18,8 +18,8 @@ use Rattle.sandhi_program.specs.declared.status.Status.{Status}
 use Rattle.sandhi_program.specs.declared.status.Status.TheVariants.{Done, Memory, Usage, ReadFault, WriteFault, BadFile, BadText}
 use Rattle.sandhi_program.specs.declared.status.AnyFault.{AnyFault}
 use Rattle.sandhi_program.specs.declared.status.AnyFault.TheVariants.{Large, Lexicon as OfLexicon}
-use Rattle.sandhi_program.specs.Ends.{Tells, WroteAll, WrotePrefix, IsNoFault, MayEndNoCommand, Finishes, file_fault, text_fault}
-use Rattle.sandhi_program.specs.Segments.{IsRefusedFile, Writes, WroteSegment, Nothing, Something}
+use Rattle.sandhi_program.specs.Ends.{Tells, WroteAll, WrotePrefix, IsNoFault, MayEndNoCommand, Finishes, Wrote, Nothing, Something, file_fault, text_fault}
+use Rattle.sandhi_program.specs.Segments.{IsRefusedFile, Writes}
 use Rattle.sandhi_program.specs.Segments as segments
 
 -- the told file has these first bytes
@@ -48,7 +48,7 @@ longer content bytes e high =
     let len : min (MOST_FILE_BYTES + 1) (length content) ≡ length bytes = sym (length-take (MOST_FILE_BYTES + 1) content) ∙ ap length e in omega arith
 
 -- what a refused file tells
-refused_file : (files : Files) (name content bytes : List ℕ) (fault : AnyFault) → contents_of files name ≡ Some content
+pub refused_file : (files : Files) (name content bytes : List ℕ) (fault : AnyFault) → contents_of files name ≡ Some content
     → take (MOST_FILE_BYTES + 1) content ≡ bytes → IsRefusedFile bytes fault → DoesTell files name (Refused (file_fault fault))
 refused_file files name content bytes Large there e high = IsLarge content there (longer content bytes e high) refl
 refused_file files name content bytes (OfLexicon fault) there e why =
@@ -113,15 +113,19 @@ no_fault_is_not_write_fault status own e = subst IsNoFault e own
 pub no_fault_is_not_read_fault : (status : Status) → IsNoFault status → status ≡ ReadFault → ⊥
 no_fault_is_not_read_fault status own e = subst IsNoFault e own
 
+-- what may be written before a status is the output of an outcome
+abbrev HasOutcome : (May : Status → List ℕ → Type 0) (IsIt : Outcome → Type 0) (files : Files) → Type 0
+HasOutcome May IsIt files =
+    (status : Status) (output : List ℕ) → May status output
+    → (outcome : Outcome) × IsIt outcome × (outcome.output ≡ output) × (outcome.files ≡ files) × Tells status outcome.end
+
 -- where no device failed and memory was found, all the output was written
-pub wrote_all : (lex : FileWord) (text : List ℕ) (files : Files) (content bytes : List ℕ) (result : Status)
-    (old new : Option (List ℕ)) (faults now : ℕ) (told : List ℕ)
-    → contents_of files lex.name ≡ Some content → take (MOST_FILE_BYTES + 1) content ≡ bytes
-    → WroteSegment lex bytes text result old new faults now → old ≡ Some told → IsNoFault result
-    → WroteAll (IsSegmentOutcome lex text files) files told new result
-wrote_all lex text files content bytes result old new faults now told there e (Nothing m same) o own = absurd (no_fault_is_not_memory result own m)
-wrote_all lex text files content bytes result old new faults now told there e (Something status output w f) o own =
-    let (outcome, is, out, stay, tells) = outcome_of lex text files content bytes status output there e w in
+pub wrote_all_of : (May : Status → List ℕ → Type 0) (IsIt : Outcome → Type 0) (files : Files) → HasOutcome May IsIt files
+    → (result : Status) (old new : Option (List ℕ)) (faults now : ℕ) (told : List ℕ)
+    → Wrote May result old new faults now → old ≡ Some told → IsNoFault result → WroteAll IsIt files told new result
+wrote_all_of May IsIt files has result old new faults now told (Nothing m same) o own = absurd (no_fault_is_not_memory result own m)
+wrote_all_of May IsIt files has result old new faults now told (Something status output w f) o own =
+    let (outcome, is, out, stay, tells) = has status output w in
     let (same, all) = f.all own in record {
       outcome = outcome;
       is_it = is;
@@ -131,14 +135,29 @@ wrote_all lex text files content bytes result old new faults now told there e (S
     }
 
 -- whatever was written is a prefix of the output
+pub wrote_prefix_of : (May : Status → List ℕ → Type 0) (IsIt : Outcome → Type 0) (files : Files) → HasOutcome May IsIt files
+    → (result : Status) (old new : Option (List ℕ)) (faults now : ℕ) → Wrote May result old new faults now → WrotePrefix IsIt old new
+wrote_prefix_of May IsIt files has result old new faults now (Nothing m same) = inl same
+wrote_prefix_of May IsIt files has result old new faults now (Something status output w f) =
+    let (outcome, is, out, stay, tells) = has status output w in inr (outcome, is, subst (GrowsByPrefix old new) (sym out) f.prefix)
+
+-- and so it is of `segment`
+pub wrote_all : (lex : FileWord) (text : List ℕ) (files : Files) (content bytes : List ℕ) (result : Status)
+    (old new : Option (List ℕ)) (faults now : ℕ) (told : List ℕ)
+    → contents_of files lex.name ≡ Some content → take (MOST_FILE_BYTES + 1) content ≡ bytes
+    → Wrote (Writes lex bytes text) result old new faults now → old ≡ Some told → IsNoFault result
+    → WroteAll (IsSegmentOutcome lex text files) files told new result
+wrote_all lex text files content bytes result old new faults now told there e =
+    wrote_all_of (Writes lex bytes text) (IsSegmentOutcome lex text files) files
+    (λ status output w. outcome_of lex text files content bytes status output there e w) result old new faults now told
+
 pub wrote_prefix : (lex : FileWord) (text : List ℕ) (files : Files) (content bytes : List ℕ) (result : Status)
     (old new : Option (List ℕ)) (faults now : ℕ)
     → contents_of files lex.name ≡ Some content → take (MOST_FILE_BYTES + 1) content ≡ bytes
-    → WroteSegment lex bytes text result old new faults now → WrotePrefix (IsSegmentOutcome lex text files) old new
-wrote_prefix lex text files content bytes result old new faults now there e (Nothing m same) = inl same
-wrote_prefix lex text files content bytes result old new faults now there e (Something status output w f) =
-    let (outcome, is, out, stay, tells) = outcome_of lex text files content bytes status output there e w in
-    inr (outcome, is, subst (GrowsByPrefix old new) (sym out) f.prefix)
+    → Wrote (Writes lex bytes text) result old new faults now → WrotePrefix (IsSegmentOutcome lex text files) old new
+wrote_prefix lex text files content bytes result old new faults now there e =
+    wrote_prefix_of (Writes lex bytes text) (IsSegmentOutcome lex text files) files
+    (λ status output w. outcome_of lex text files content bytes status output there e w) result old new faults now
 
 -- a missing file has its outcome
 pub missing_wrote : (lex : FileWord) (text : List ℕ) (files : Files) (told : List ℕ) (old new : Option (List ℕ))
@@ -153,25 +172,22 @@ missing_wrote lex text files told old new missing o same = record {
 
 -- ---- the command's outcome is that of the run
 
-module _ (words : List (List ℕ)) (lex : FileWord) (text : List ℕ) (are : AreWordsOf (Segment lex text) words) (files : Files) (input : Option (List ℕ)) where
-  of_segment : (outcome : Outcome) → IsSegmentOutcome lex text files outcome → IsOutcome words files input outcome
-  of_segment outcome is = OfCommand (Segment lex text) are is
-
+module _ (words : List (List ℕ)) (command : Command) (are : AreWordsOf command words) (files : Files) (input : Option (List ℕ)) where
   pub run_wrote_all : (after : Files) (old : List ℕ) (written : Option (List ℕ)) (status : Status)
-      → WroteAll (IsSegmentOutcome lex text files) after old written status → WroteAll (IsOutcome words files input) after old written status
+      → WroteAll (IsOutcomeOf command files input) after old written status → WroteAll (IsOutcome words files input) after old written status
   run_wrote_all after old written status w = record {
     outcome = w.outcome;
-    is_it = of_segment w.outcome w.is_it;
+    is_it = OfCommand command are w.is_it;
     output = w.output;
     files = w.files;
     told = w.told;
   }
 
-  pub run_wrote_prefix : (old new : Option (List ℕ)) → WrotePrefix (IsSegmentOutcome lex text files) old new
+  pub run_wrote_prefix : (old new : Option (List ℕ)) → WrotePrefix (IsOutcomeOf command files input) old new
       → WrotePrefix (IsOutcome words files input) old new
   run_wrote_prefix old new w = elim w [
     | inl same ↦ inl same
-    | inr (outcome, is, grown) ↦ inr (outcome, of_segment outcome is, grown)
+    | inr (outcome, is, grown) ↦ inr (outcome, OfCommand command are is, grown)
   ]
 
 -- words of no command are refused, where their refusal is written

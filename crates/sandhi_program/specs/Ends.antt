@@ -90,3 +90,9 @@ pub record Finishes (status result : Status) (old new : Option (List ℕ)) (faul
 pub data Refuses (status result : Status) (old new : Option (List ℕ)) (faults now : ℕ) (output : List ℕ) : Type 0 where
   Silently : result ≡ Memory → new ≡ old → Refuses status result old new faults now output
   InWords : Finishes status result old new faults now output → Refuses status result old new faults now output
+
+-- nothing was written for want of memory, or an output that may be written before a status, and then its status
+pub data Wrote (May : Status → List ℕ → Type 0) (result : Status) (old new : Option (List ℕ)) (faults now : ℕ) : Type 0 where
+  Nothing : result ≡ Memory → new ≡ old → Wrote May result old new faults now
+  Something : (status : Status) (output : List ℕ) → May status output → Finishes status result old new faults now output
+      → Wrote May result old new faults now

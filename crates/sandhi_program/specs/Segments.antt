@@ -1,5 +1,5 @@
 -- What `segment` writes for the bytes of a lexicon file and a text.
-use Rattle.std.specs.Prelude.{◌≡◌, ℕ, ◌<◌, ◌≤◌, List, [], length, Bool, Option, Ok, Err}
+use Rattle.std.specs.Prelude.{◌≡◌, ℕ, ◌<◌, ◌≤◌, List, [], length, Bool, Ok, Err}
 use Rattle.text_definitions.specs.Lines.{Line}
 use Rattle.text_definitions.specs.Schemes.{Slp1}
 use Rattle.text_definitions.specs.LineTexts.{line_of_text}
@@ -18,11 +18,11 @@ use Rattle.run_definitions.specs.declared.limits.TheConstants.{SEGMENT_PAGE}
 use Rattle.run_definitions.specs.Commands.{FileWord}
 use Rattle.run_definitions.specs.Refusals.{file_refusal, text_refusal}
 use Rattle.sandhi_program.specs.declared.status.Status.{Status}
-use Rattle.sandhi_program.specs.declared.status.Status.TheVariants.{Done, Memory, BadFile, BadText}
+use Rattle.sandhi_program.specs.declared.status.Status.TheVariants.{Done, BadFile, BadText}
 use Rattle.sandhi_program.specs.declared.status.AnyFault.{AnyFault}
 use Rattle.sandhi_program.specs.declared.status.AnyFault.TheVariants.{Large, Lexicon as OfLexicon}
 use Rattle.sandhi_program.specs.declared.status.TextFault.{TextFault}
-use Rattle.sandhi_program.specs.Ends.{file_fault, text_fault, Finishes}
+use Rattle.sandhi_program.specs.Ends.{file_fault, text_fault}
 
 -- a lexicon can be built of what was read of a file: there are forms for each phase, not too many, and the automaton is that of
 -- the grammar
@@ -67,9 +67,3 @@ pub data Writes (lex : FileWord) (bytes text : List ℕ) (status : Status) (outp
       → output ≡ file_refusal lex.name (file_fault fault) → Writes lex bytes text status output
   OfText : (fault : TextFault) → status ≡ BadText fault → IsRefusedText bytes text fault
       → output ≡ text_refusal (text_fault fault) → Writes lex bytes text status output
-
--- nothing was written for want of memory, or what `segment` writes, before its status
-pub data WroteSegment (lex : FileWord) (bytes text : List ℕ) (result : Status) (old new : Option (List ℕ)) (faults now : ℕ) : Type 0 where
-  Nothing : result ≡ Memory → new ≡ old → WroteSegment lex bytes text result old new faults now
-  Something : (status : Status) (output : List ℕ) → Writes lex bytes text status output
-      → Finishes status result old new faults now output → WroteSegment lex bytes text result old new faults now

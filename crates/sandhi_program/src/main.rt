@@ -6,6 +6,9 @@
 //! `failed_writes`, `input`).
 #![tactic(auto)]
 
+mod check;
+#[cfg(test)]
+mod check_tests;
 mod command;
 mod page;
 mod refusal;

@@ -56,7 +56,7 @@ fn push_current<D: Guide>(
 }
 
 /// The last line of a page.
-fn rest_line(more: bool) -> &'static str
+pub(crate) fn rest_line(more: bool) -> &'static str
     ensures { result.now ≡ printed_rest more }
 {
     if more { "more\n" } else { "end\n" }

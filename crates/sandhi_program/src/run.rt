@@ -1,14 +1,17 @@
 ghost use Rattle.std.specs.Prelude.{◌≡◌, ◌^◌, ◌<◌, ◌⊎◌, ℕ, List, length, map, string_bytes, Some};
 ghost use Rattle.outside.specs.Counts.{Rose};
 ghost use Rattle.outside.specs.Files.{Files, Lacks};
-ghost use Rattle.run_definitions.specs.Commands.{FileWord, Segment as SegmentWords, AreWordsOf, AreOfNoCommand};
+ghost use Rattle.run_definitions.specs.Commands.{Command as DefinedCommand, AreWordsOf, AreOfNoCommand, file_of};
 ghost use Rattle.run_definitions.specs.SegmentOutcomes.{IsSegmentOutcome};
+ghost use Rattle.run_definitions.specs.CheckOutcomes.{IsCheckOutcome};
 ghost use Rattle.run_definitions.specs.Outcomes.{IsOutcome};
-ghost use Rattle.sandhi_program.specs.Ends.{WroteAll, WrotePrefix, IsNoFault, MayEndNoCommand, Finishes, Refuses, file_fault, text_fault};
+ghost use Rattle.sandhi_program.specs.Ends.{WroteAll, WrotePrefix, IsNoFault, MayEndNoCommand, Finishes, Refuses, Wrote, file_fault, text_fault};
 ghost use Rattle.run_definitions.specs.Refusals.{file_refusal, text_refusal};
-ghost use Rattle.sandhi_program.specs.Segments.{WroteSegment};
+ghost use Rattle.sandhi_program.specs.Segments.{Writes};
+ghost use Rattle.sandhi_program.specs.Checks.{WritesCheck};
 
-use super::command::{Segment, command_of};
+use super::check::check;
+use super::command::{Command, FileWord, Segment, command_of};
 use super::refusal::{print_file_refusal, print_text_refusal};
 use super::segment::{SegmentError, segment};
 use super::status::{AnyFault, Status, TextFault};
@@ -33,22 +36,34 @@ fn finish<O: Sink>(out: &mut O, output: &str, status: Status) -> Status
 /// Writes what `segment` answers for the bytes of the lexicon file.
 fn write_segment<O: Sink>(alloc: Global, lex: &str, bytes: &[u8], text: &str, out: &mut O) -> Status
     requires { length text.now < 2 ^ 32 }
-    ensures { WroteSegment (record { place = 1; name = lex.now }) bytes.now text.now result (O.written out.old) (O.written out.new) (O.faults out.old) (O.faults out.new) }
+    ensures { Wrote (Writes (record { place = 1; name = lex.now }) bytes.now text.now) result (O.written out.old) (O.written out.new) (O.faults out.old) (O.faults out.new) }
 {
     match segment(alloc, bytes, text) {
         Ok(output) => finish(out, output.as_str(), Status::Done),
-        Err(SegmentError::BadFile(fault)) => refuse_file(alloc, lex, fault, out),
+        Err(SegmentError::BadFile(fault)) => refuse_file(alloc, 1, lex, fault, out),
         Err(SegmentError::BadText(fault)) => refuse_text(alloc, fault, out),
         Err(SegmentError::Memory) => Status::Memory,
     }
 }
 
-/// Writes the refusal of the lexicon file.
-fn refuse_file<O: Sink>(alloc: Global, lex: &str, fault: AnyFault, out: &mut O) -> Status
-    ensures { Refuses (Status.BadFile 1 fault) result (O.written out.old) (O.written out.new) (O.faults out.old) (O.faults out.new) (file_refusal lex.now (file_fault fault)) }
+/// Writes what `check` answers for the bytes of the lexicon file, whose name is the word at this place.
+fn write_check<O: Sink>(alloc: Global, place: u32, lex: &str, bytes: &[u8], out: &mut O) -> Status
+    ensures { Wrote (WritesCheck (record { place = place; name = lex.now }) bytes.now) result (O.written out.old) (O.written out.new) (O.faults out.old) (O.faults out.new) }
+{
+    match check(alloc, bytes) {
+        Ok(output) => finish(out, output.as_str(), Status::Done),
+        Err(SegmentError::BadFile(fault)) => refuse_file(alloc, place, lex, fault, out),
+        Err(SegmentError::BadText(fault)) => refuse_text(alloc, fault, out),
+        Err(SegmentError::Memory) => Status::Memory,
+    }
+}
+
+/// Writes the refusal of the lexicon file, whose name is this word, counted from 0.
+fn refuse_file<O: Sink>(alloc: Global, word: u32, lex: &str, fault: AnyFault, out: &mut O) -> Status
+    ensures { Refuses (Status.BadFile word fault) result (O.written out.old) (O.written out.new) (O.faults out.old) (O.faults out.new) (file_refusal lex.now (file_fault fault)) }
 {
     match print_file_refusal(alloc, lex, fault) {
-        Ok(output) => finish(out, output.as_str(), Status::BadFile { word: 1, fault }),
+        Ok(output) => finish(out, output.as_str(), Status::BadFile { word, fault }),
         Err(Memory) => Status::Memory,
     }
 }
@@ -91,6 +106,32 @@ fn run_segment<H: Shelf, O: Sink>(
     }
 }
 
+/// `check LEX`: reads the lexicon, and writes its counts and its first overlaps.
+fn run_check<H: Shelf, O: Sink>(
+    alloc: Global,
+    place: u32,
+    name: &str,
+    shelf: &mut H,
+    out: &mut O,
+) -> Status
+    ensures outcome { IsNoFault result → (files : Files) (old : List ℕ) → H.files shelf.old ≡ Some files → O.written out.old ≡ Some old
+        → WroteAll (IsCheckOutcome (record { place = place; name = name.now }) files) files old (O.written out.new) result }
+    ensures missing { result ≡ Status.ReadFault → Rose (H.failed_reads shelf.old) (H.failed_reads shelf.new) ⊎ Lacks (H.files shelf.old) name.now }
+    ensures nothing { result ≡ Status.ReadFault → O.written out.new ≡ O.written out.old }
+    ensures prefix { (files : Files) → H.files shelf.old ≡ Some files
+        → WrotePrefix (IsCheckOutcome (record { place = place; name = name.now }) files) (O.written out.old) (O.written out.new) }
+    ensures write_fault { result ≡ Status.WriteFault → Rose (O.faults out.old) (O.faults out.new) }
+    ensures usage { result ≡ Status.Usage → ⊥ }
+    ensures files { H.files shelf.new ≡ H.files shelf.old }
+    ensures failed_writes { H.failed_writes shelf.new ≡ H.failed_writes shelf.old }
+{
+    match shelf.read(alloc, name, MOST_FILE_BYTES + 1) {
+        Ok(bytes) => write_check(alloc, place, name, bytes.as_slice(), out),
+        Err(ShelfError::Missing | ShelfError::Failed) => Status::ReadFault,
+        Err(ShelfError::Memory) => Status::Memory,
+    }
+}
+
 /// Does what the words of the command line say, over the devices, and answers how the run ended. `words` are the
 /// program's words without its name. `usage` and the refusals of files and texts are written to `out`, a line each; where a
 /// file is not read nothing is written.
@@ -119,7 +160,7 @@ pub fn run<R: Threads + Sync, H: Shelf, I: Source, O: Sink, G: Gate + Sync>(
     ensures usage { result ≡ Status.Usage → AreOfNoCommand (map string_bytes words.now.items) }
     ensures no_command { AreOfNoCommand (map string_bytes words.now.items) → MayEndNoCommand result }
     ensures read_fault { result ≡ Status.ReadFault → Rose (H.failed_reads shelf.old) (H.failed_reads shelf.new)
-        ⊎ ((lex : FileWord) × (text : List ℕ) × AreWordsOf (SegmentWords lex text) (map string_bytes words.now.items) × Lacks (H.files shelf.old) lex.name) }
+        ⊎ ((command : DefinedCommand) × AreWordsOf command (map string_bytes words.now.items) × Lacks (H.files shelf.old) (file_of command).name) }
     ensures write_fault { result ≡ Status.WriteFault → Rose (O.faults out.old) (O.faults out.new) }
 
     // What stays: the files, and whatever the words do not use.
@@ -129,7 +170,10 @@ pub fn run<R: Threads + Sync, H: Shelf, I: Source, O: Sink, G: Gate + Sync>(
     ensures input { _input.new ≡ _input.old }
 {
     match command_of(words.as_slice()) {
-        Some(Segment { lex, text }) => run_segment(alloc, lex, text, shelf, out),
+        Some(Command::Segment(Segment { lex, text })) => {
+            run_segment(alloc, lex, text, shelf, out)
+        }
+        Some(Command::Check(FileWord { place, name })) => run_check(alloc, place, name, shelf, out),
         None => finish(out, "usage\n", Status::Usage),
     }
 }

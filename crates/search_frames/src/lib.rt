@@ -2,9 +2,9 @@
 //! the line, one after another in their order, and whether one leads on or ends the line.
 //!
 //! Proved: `open_frame` makes a frame that has everything to try (`all`); `go_on` brings it to its next key, which is the first
-//! of those left, and leaves just those after it, and answers false exactly where none is left (`went_on`, `nothing`); `seek`
-//! brings it to a given key, or answers false where this can't stand there (`found`, `not_there`); none of them changes what
-//! stands before its level (`changes`). `test_key` says whether a key leads on, and where to, or ends the line, or neither
+//! of those left, and leaves just those after it, and answers false only where none is left (`went_on`, `nothing`); `seek`
+//! brings it to a given key, or answers false where this is not possible there (`found`, `not_possible`); none of them changes
+//! what stands before its level (`changes`). `test_key` says whether a key leads on, and where to, or ends the line, or neither
 //! (`exact`).
 #![tactic(auto)]
 

@@ -4,10 +4,10 @@
 //! Proved: contracts see a `Search` as its lexicon, line and choices and its position in the listing. `new` stands before the
 //! first answer (`ok`). `advance` moves to the next one (`moved`), or past the last exactly where none is left (`ended`), under
 //! any guide that never says false of what stands in an answer; it takes no memory. `current` gives the steps of the answer at the
-//! position (`answer`). `save` and `into_resumption` keep the position, and `go_on` stands there again (`ok`). `resume` stands at
-//! the answer with the given keys (`ok`), and answers `NotAnAnswer` exactly where there is none (`not_an_answer`). `skip` moves to
-//! the least later answer whose first keys are others (`skipped`), or past the last exactly where there is none (`ended`). How many
-//! steps a move takes is not proved.
+//! position (`answer`). `save` and `into_resumption` keep the position (`ok`), and `go_on` stands there again (`ok`). `resume`
+//! stands at the answer with the given keys, or before the first where there are none (`over`, `at`), and answers `NotAnAnswer`
+//! only where no answer has them (`not_an_answer`). `skip` moves to the least later answer whose first keys are others (`moved`),
+//! or past the last exactly where there is none (`ended`). How many steps a move takes is not proved.
 #![tactic(auto)]
 
 mod finding;

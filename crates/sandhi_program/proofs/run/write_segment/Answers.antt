@@ -1,8 +1,8 @@
 -- What `segment` answers is what is written.
 use Rattle.std.proofs.Common.{refl, subst}
-use Rattle.sandhi_program.specs.Ends.{Silently, InWords}
+use Rattle.sandhi_program.specs.Ends.{Silently, InWords, Nothing, Something}
 use Rattle.sandhi_program.specs.SegmentErrors.{IsRefusal}
-use Rattle.sandhi_program.specs.Segments.{Page, OfFile, OfText, Nothing, Something}
+use Rattle.sandhi_program.specs.Segments.{Page, OfFile, OfText}
 use Rattle.sandhi_program.proofs.run.write_segment.Goals as goal
 
 pub returns-in-Ok : goal.returns-in-Ok

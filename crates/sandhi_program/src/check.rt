@@ -1,0 +1,112 @@
+ghost use Rattle.std.specs.Prelude.{◌≡◌, ◌<◌, ◌++◌, length, map, All, IfOk, IfErr, OnOk, string_bytes};
+ghost use Rattle.lexicon_definitions.specs.Rules.{printed_rule};
+ghost use Rattle.lexicon_definitions.specs.Lexicons.{rule_of};
+ghost use Rattle.segmentation_definitions.specs.Derivations.{IsRuleNumber};
+ghost use Rattle.segmentation_definitions.specs.PrintedAnswers.{output_line};
+ghost use Rattle.run_definitions.specs.Overlaps.{AreFirstOverlaps, printed_counts, printed_overlap, printed_overlaps};
+ghost use Rattle.sandhi_program.specs.Checks.{overlap_of, CanBePrinted, IsPrintedCheck, IsChecked};
+ghost use Rattle.sandhi_program.specs.SegmentErrors.{IsFileError};
+
+use super::page::rest_line;
+use super::segment::{SegmentError, read_contents};
+use form_lists::FormLists;
+use latin_schemes::print_slp1;
+use lexicon_file::Contents;
+use phoneme::Memory;
+use run_definitions::CHECK_OVERLAPS;
+use sandhi_rules::{RuleSet, print_rule};
+use std::alloc::Global;
+use strictness::{Overlap, overlaps};
+
+/// The first overlaps of a lexicon, and whether one is left after them.
+#[derive(Debug, Drop)]
+struct FirstOverlaps {
+    overlaps: Vec<Overlap>,
+    more: bool,
+}
+
+/// The first overlaps of a lexicon. One more is asked for than may be printed, so that it is known whether one is left.
+fn first_overlaps(
+    alloc: Global,
+    rules: &RuleSet,
+    lists: &FormLists,
+) -> Result<FirstOverlaps, Memory>
+    ensures ok { IfOk result (λ found. AreFirstOverlaps (record { rules = rules.now; phases = lists.now }) CHECK_OVERLAPS
+        (map overlap_of found.overlaps.items) found.more) }
+{
+    let mut overlaps = overlaps(alloc, lists, rules, CHECK_OVERLAPS + 1)?;
+    let more = overlaps.len() > CHECK_OVERLAPS as usize;
+    overlaps.truncate(CHECK_OVERLAPS as usize);
+    Ok(FirstOverlaps { overlaps, more })
+}
+
+/// The notation of the rule with this number, counted from 1.
+fn print_rule_of(alloc: Global, rules: &RuleSet, number: u32) -> Result<String, Memory>
+    requires { IsRuleNumber rules.now number }
+    ensures ok { IfOk result (λ text. string_bytes text ≡ printed_rule (rule_of rules.now number)) }
+{
+    match rules.rule(number) {
+        Some(rule) => print_rule(alloc, rule),
+        None => Ok(String::new(alloc)),
+    }
+}
+
+/// The line of an overlap.
+fn print_overlap(alloc: Global, rules: &RuleSet, overlap: &Overlap) -> Result<String, Memory>
+    requires { CanBePrinted rules.now overlap.now }
+    ensures ok { IfOk result (λ text. string_bytes text ≡ output_line (printed_overlap rules.now (overlap_of overlap.now))) }
+{
+    let phase = rules.phases()[overlap.phase as usize].as_str();
+    let form = print_slp1(alloc, &overlap.form)?;
+    let before = print_rule_of(alloc, rules, overlap.before)?;
+    let after = print_rule_of(alloc, rules, overlap.after)?;
+    Ok(format!(in alloc; "overlap {phase} {form} {before} {after}\n")?)
+}
+
+/// Appends the lines of the overlaps.
+fn push_overlaps(
+    alloc: Global,
+    output: &mut String,
+    rules: &RuleSet,
+    overlaps: &[Overlap],
+) -> Result<(), Memory>
+    requires { All (CanBePrinted rules.now) overlaps.now }
+    ensures ok { OnOk result (string_bytes output.new ≡ string_bytes output.old ++ printed_overlaps rules.now (map overlap_of overlaps.now)) }
+{
+    for overlap in overlaps {
+        let line = print_overlap(alloc, rules, overlap)?;
+        output.push_str(line.as_str())?;
+    }
+    Ok(())
+}
+
+/// The lines that say how many phases, rules and form lines the lexicon has.
+fn print_counts(alloc: Global, rules: &RuleSet, lists: &FormLists) -> Result<String, Memory>
+    ensures ok { IfOk result (λ text. string_bytes text ≡ printed_counts (record { rules = rules.now; phases = lists.now })) }
+{
+    let phases = rules.phases().len();
+    let count = rules.rules().len();
+    let forms = lists.lines();
+    Ok(format!(in alloc; "phases {phases}\nrules {count}\nforms {forms}\n")?)
+}
+
+/// The counts of the lexicon, its first overlaps a line each, then `more` or `end`.
+fn print_check(alloc: Global, rules: &RuleSet, lists: &FormLists) -> Result<String, Memory>
+    requires { length lists.now ≡ length rules.now.names }
+    ensures ok { IfOk result (λ output. IsPrintedCheck (record { rules = rules.now; phases = lists.now }) (string_bytes output)) }
+{
+    let found = first_overlaps(alloc, rules, lists)?;
+    let mut output = print_counts(alloc, rules, lists)?;
+    push_overlaps(alloc, &mut output, rules, found.overlaps.as_slice())?;
+    output.push_str(rest_line(found.more))?;
+    Ok(output)
+}
+
+/// What `check` writes for the bytes of a lexicon file.
+pub(crate) fn check(alloc: Global, bytes: &[u8]) -> Result<String, SegmentError>
+    ensures ok { IfOk result (λ output. IsChecked bytes.now (string_bytes output)) }
+    ensures refused { IfErr result (IsFileError bytes.now) }
+{
+    let Contents { rules, lists, .. } = read_contents(alloc, bytes)?;
+    Ok(print_check(alloc, &rules, &lists)?)
+}
