@@ -14,3 +14,4 @@ pub mod EntryLemmas
 pub mod FaultsRead
 pub mod WriteLemmas
 pub mod FormFields
+pub mod TripleLemmas

@@ -1,11 +1,10 @@
 -- Form lists are built up again by their entries, since their phases are lawful; and what the end of the lines gives.
-use Rattle.std.proofs.Common.{◌≡◌, ◌≢◌, ℕ, ◌<◌, Option, List, [], ◌∷◌, ◌++◌, length, replicate, All, sym, ◌∙◌, ap, subst, arith}
+use Rattle.std.proofs.Common.{◌≡◌, ◌≢◌, ℕ, ◌<◌, Option, List, [], ◌∷◌, ◌++◌, length, replicate, All, Some, IfSome, sym, ◌∙◌, ap, subst, arith}
 use Rattle.std.specs.List.{AllByRecursion}
 use Rattle.std.specs.List.Sorted.{IsStrictlySortedBy}
 use Rattle.std.proofs.lemmas.List.{length-replicate}
 use Rattle.std.proofs.lemmas.List.Elements.{All-head, All-tail}
 use Rattle.lexicon_definitions.specs.Lexicons.{RuleSet, Form, IsFormEntry}
-use Rattle.lexicon_definitions.specs.Limits.{IsRuleSetWithinLimits}
 use Rattle.lexicon_definitions.specs.Rules.{Rule}
 use Rattle.lexicon_definitions.specs.FormEntries.{Entry, IsListedForm, IsListedPhase}
 use Rattle.phase_automaton.specs.Automata.{StateMachine}
@@ -64,14 +63,20 @@ body_at_end lines.Head told automaton lists phase e h = absurd (cc)
 body_at_end lines.Phase told automaton lists phase e h = absurd (cc)
 body_at_end last told automaton lists phase e h = h
 
--- the rules that were kept are within the limits
-pub limits_kept : (kept told : Told) (rules : List Rule) → kept ≡ told → rules ≡ kept.rules → kept.last ≡ lines.End
-    → (told.last ≡ lines.End → IsRuleSetWithinLimits (rules_told told))
-    → IsRuleSetWithinLimits (record { names = kept.names; grammar = kept.grammar; plain = kept.plain; rules = rules })
-limits_kept kept told rules view same last h =
-    let all : kept.last ≡ lines.End → IsRuleSetWithinLimits (rules_told kept) =
-    subst (λ (t : Told). t.last ≡ lines.End → IsRuleSetWithinLimits (rules_told t)) (sym view) h in
-    subst (λ (rs : List Rule). IsRuleSetWithinLimits (record { names = kept.names; grammar = kept.grammar; plain = kept.plain; rules = rs })) (sym same) (all last)
+-- what holds of the rule set that was told holds of what was kept
+pub rules_kept : (P : RuleSet → Type 0) (kept told : Told) (rules : List Rule) → kept ≡ told → rules ≡ kept.rules → kept.last ≡ lines.End
+    → (told.last ≡ lines.End → P (rules_told told)) → P (record { names = kept.names; grammar = kept.grammar; plain = kept.plain; rules = rules })
+rules_kept P kept told rules view same last h =
+    let all : kept.last ≡ lines.End → P (rules_told kept) = subst (λ (t : Told). t.last ≡ lines.End → P (rules_told t)) (sym view) h in
+    subst (λ (rs : List Rule). P (record { names = kept.names; grammar = kept.grammar; plain = kept.plain; rules = rs })) (sym same) (all last)
+
+-- the automaton that was kept has the phases that were told
+pub phases_kept : (kept : Told) (automaton : Option StateMachine) (machine : StateMachine) (lists : List (List Form)) (phase : ℕ) (rules : List Rule) (set : RuleSet)
+    → set ≡ record { names = kept.names; grammar = kept.grammar; plain = kept.plain; rules = rules } → kept.last ≡ lines.End
+    → IsKept kept automaton lists phase → automaton ≡ Some machine → machine.phases ≡ length set.names
+phases_kept kept automaton machine lists phase rules set is_set last h some =
+    subst (λ a. IfSome a (λ (m : StateMachine). m.phases ≡ length kept.names)) some (body_at_end kept.last kept automaton lists phase last h.stage).phases
+    ∙ sym (ap (λ (s : RuleSet). length s.names) is_set)
 
 -- what was kept is the lexicon that was told
 pub lexicon_kept : (kept told : Told) (automaton : Option StateMachine) (lists held : List (List Form)) (phase : ℕ) (rules : List Rule) (set : RuleSet) → kept ≡ told

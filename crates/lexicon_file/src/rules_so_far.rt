@@ -1,33 +1,36 @@
 ghost use Rattle.std.specs.Prelude.{◌≡◌, ◌<◌, ◌||◌, nat_le, nat_lt, [], length};
 ghost use Rattle.std.specs.List.{list_any};
-ghost use Rattle.lexicon_text_definitions.specs.FileContents.{has_triple as has_triple_of, with_lead, leads_of};
+ghost use Rattle.lexicon_text_definitions.specs.FileContents.{with_lead, leads_of};
 ghost use Rattle.lexicon_file.specs.Added.{IsAdded, has_v};
 
 use crate::FileWhy;
 use crate::line_error::LineError;
+use crate::triple::Triple;
+use indexmap::IndexSet;
 use lexicon_definitions::{MOST_LEADS, MOST_RULES};
 use phoneme::Word;
 use sandhi_rules::Rule;
 use std::alloc::Global;
 use std::marker::Model;
 
-/// The rules that were read, in their order, and the number of their different `v` that are not empty.
+/// The rules that were read, in their order, their triples, and the number of their different `v` that are not empty.
 #[derive(Debug, Drop)]
 pub(crate) struct RulesSoFar {
     rules: Vec<Rule>,
+    triples: IndexSet<Triple>,
     leads: usize,
 }
 
 impl Model for RulesSoFar {
     ghost use Rattle.std.specs.Prelude.{List};
     ghost use Rattle.lexicon_definitions.specs.Rules.{Rule as RuleValue};
-    ghost use Rattle.lexicon_file.specs.Added.{IsCounted};
+    ghost use Rattle.lexicon_file.specs.Added.{AreKept};
 
     ghost Value = { List RuleValue };
 
     ghost view = { λ r. r.rules.items };
 
-    ghost invariant = { λ r. IsCounted r.rules.items r.leads };
+    ghost invariant = { λ r. AreKept r.rules.items r.triples.keys r.leads };
 }
 
 /// Whether the rule has this `v`.
@@ -37,19 +40,13 @@ fn is_with(rule: &Rule, v: &Word) -> bool
     *v == rule.v
 }
 
-/// Whether both rules have the same triple.
-fn are_twins(rule: &Rule, new: &Rule) -> bool
-    ensures { result ≡ has_triple_of new.now.u new.now.v new.now.w rule.now }
-{
-    rule.u == new.u && rule.v == new.v && rule.w == new.w
-}
-
 impl RulesSoFar {
     pub(crate) fn new(alloc: Global) -> RulesSoFar
         ensures { result ≡ [] }
     {
         RulesSoFar {
             rules: Vec::new(alloc),
+            triples: IndexSet::new(alloc),
             leads: 0,
         }
     }
@@ -58,7 +55,11 @@ impl RulesSoFar {
     pub(crate) fn into_rules(self) -> Vec<Rule>
         ensures { result.items ≡ self }
     {
-        let RulesSoFar { rules, leads: _ } = self;
+        let RulesSoFar {
+            rules,
+            triples: _,
+            leads: _,
+        } = self;
         rules
     }
 
@@ -67,13 +68,6 @@ impl RulesSoFar {
         ensures { result ≡ list_any (has_v v.now) self.now }
     {
         self.rules.iter().any(|rule| is_with(rule, v))
-    }
-
-    /// Whether one of the rules has the triple of this one.
-    fn has_twin(&self, new: &Rule) -> bool
-        ensures { result ≡ list_any (has_triple_of new.now.u new.now.v new.now.w) self.now }
-    {
-        self.rules.iter().any(|rule| are_twins(rule, new))
     }
 
     /// How many different `v` that are not empty the rules have with one of this `v`.
@@ -99,10 +93,13 @@ impl RulesSoFar {
         requires { length self.old < MOST_RULES }
         ensures { IsAdded self.old rule result self.new }
     {
-        if self.has_twin(&rule) {
+        let triple = Triple::of(*self.rules.allocator(), &rule)?;
+        let leads = self.leads_with(&rule.v);
+        // Room is taken first, so that the rule is appended wherever its triple was put in.
+        self.rules.reserve(1)?;
+        if !self.triples.insert(triple)? {
             return Err(FileWhy::Twice.into());
         }
-        let leads = self.leads_with(&rule.v);
         self.rules.push(rule)?;
         self.leads = leads;
         Ok(())

@@ -1,8 +1,29 @@
--- The rule brings the lead that was counted.
-use Rattle.std.proofs.Common.{ap}
+-- A triple that is new goes last with its rule, which brings the lead that was counted; one that is there is a twin.
+use Rattle.std.proofs.Common.{◌≡◌, not, List, [], ◌∷◌, ◌++◌, ap, ◌∙◌}
+use Rattle.lexicon_definitions.specs.Rules.{Rule}
 use Rattle.lexicon_file.proofs.LeadLemmas.{counted}
+use Rattle.lexicon_file.proofs.TripleLemmas.{twin_told, triples_pushed, refused}
 use Rattle.lexicon_file.proofs.rules_so_far.RulesSoFar.add.Goals as goal
 
 pub invariant_of-self-2 : goal.invariant_of-self-2
 invariant_of-self-2 c =
-    counted c.args.self.now _ _ c.args.rule c.rule.inside.v _ c.self.view_is (ap (λ rule. rule.v) c.rule.view_is) c.leads_with-leads.ensures c.in_ok-push.ensures.items c.requires
+    let rules : c.push.new.self.items ≡ c.self.inside.rules.items ++ c.args.rule ∷ [] =
+    c.in_ok-push.ensures.items ∙ ap (λ (rs : List Rule). rs ++ c.args.rule ∷ []) c.reserve.ensures.items in record {
+      counted = counted c.args.self.now _ _ c.args.rule c.rule.inside.v _ c.self.view_is (ap (λ rule. rule.v) c.rule.view_is) c.leads_with-leads.ensures rules c.requires;
+      alike = triples_pushed c.self.inside.rules.items _ c.args.rule c.self.inside.triples.keys _ c.in_ok-triple.triple c.in_ok-insert.field-0
+          c.self.invariant.alike c.in_ok-triple.ensures c.in_ok-insert.ensures.keys c.in_ok-insert.ensures.added c.if-not-branch.false rules;
+    }
+
+pub returns-then-not-branch : goal.returns-then-not-branch
+returns-then-not-branch c =
+    refused c.args.self.now c.reserve.new.self.items c.args.rule c.into.result c.into.ensures
+    (twin_told c.args.self.now c.self.inside.rules.items c.args.rule c.self.inside.triples.keys c.in_ok-triple.triple c.in_ok-insert.field-0 c.self.view_is
+    c.self.invariant.alike c.in_ok-triple.ensures c.in_ok-insert.ensures.added ∙ ap not c.if-not-branch.true)
+    (c.reserve.ensures.items ∙ c.self.view_is)
+
+pub returns : goal.returns
+returns c = (
+  twin_told c.args.self.now c.self.inside.rules.items c.args.rule c.self.inside.triples.keys c.in_ok-triple.triple c.in_ok-insert.field-0 c.self.view_is
+      c.self.invariant.alike c.in_ok-triple.ensures c.in_ok-insert.ensures.added ∙ ap not c.if-not-branch.false,
+  c.in_ok-push.ensures.items ∙ ap (λ (rs : List Rule). rs ++ c.args.rule ∷ []) (c.reserve.ensures.items ∙ c.self.view_is),
+)

@@ -6,17 +6,17 @@ use Rattle.lexicon_file.proofs.rules_so_far.RulesSoFar.leads_with.Goals.{then-is
 
 pub overflow_add-result : goal.overflow_add-result
 overflow_add-result c =
-    let few = few_counted _ _ c.self.invariant in omega (arith, few)
+    let few = few_counted _ _ c.self.invariant.counted in omega (arith, few)
 
 pub returns-then-has_v : goal.returns-then-has_v
 returns-then-has_v c = elim c.if-is_empty.branch [
-  | then-is_empty w ↦ kept_empty c.args.v.now _ _ _ c.self.view_is c.self.invariant (empty_by c.args.v.now c.is_empty.result c.is_empty.ensures ∙ w.if-is_empty.true)
-  | else-is_empty w ↦ kept_known c.args.v.now _ _ _ c.self.view_is c.self.invariant (sym w.has_v.ensures ∙ sym w.value-is ∙ c.if-has_v.true)
+  | then-is_empty w ↦ kept_empty c.args.v.now _ _ _ c.self.view_is c.self.invariant.counted (empty_by c.args.v.now c.is_empty.result c.is_empty.ensures ∙ w.if-is_empty.true)
+  | else-is_empty w ↦ kept_known c.args.v.now _ _ _ c.self.view_is c.self.invariant.counted (sym w.has_v.ensures ∙ sym w.value-is ∙ c.if-has_v.true)
 ]
 
 pub returns-else-has_v : goal.returns-else-has_v
 returns-else-has_v c = elim c.if-is_empty.branch [
   | then-is_empty w ↦ absurd (cc)
   | else-is_empty w ↦
-      one_more c.args.v.now _ _ _ c.self.view_is c.self.invariant (empty_by c.args.v.now c.is_empty.result c.is_empty.ensures ∙ w.if-is_empty.false) (sym w.has_v.ensures ∙ sym w.value-is ∙ c.if-has_v.false)
+      one_more c.args.v.now _ _ _ c.self.view_is c.self.invariant.counted (empty_by c.args.v.now c.is_empty.result c.is_empty.ensures ∙ w.if-is_empty.false) (sym w.has_v.ensures ∙ sym w.value-is ∙ c.if-has_v.false)
 ]
