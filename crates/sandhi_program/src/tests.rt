@@ -3,6 +3,7 @@ use super::status::{AnyFault, Status, TextFault};
 use latin_schemes::SpellFault;
 use lexicon_file::{FileFault, FileWhy};
 use outside::{MemoryShelf, MemorySink, MemorySource, NoGate};
+use std::process::Abort;
 use std::test::Fail;
 use std::thread::Threads;
 
@@ -24,6 +25,15 @@ const DATTA: &str =
 
 const RAJAPUTRA: &str =
     "slx 1\nphase word\nphase first\ngrammar first* word\nplain a p\nform word putra putra m.sg.voc\nform word rAja rAjan ind\nform first rAja rAjan iic\nend\n";
+
+const NAGACCATI: &str =
+    "slx 1\nphase ind\nphase pre\nphase verb\ngrammar (ind | pre? verb)+\nplain A g\nrule a|A>A\nform ind na na ind\nform pre A A pv\nform verb gacCati gam pr.ac.3.sg\nend\n";
+
+const DEVO: &str =
+    "slx 1\nphase word\ngrammar word+\nrule aH|g>og\nform word gacCati gam pr.ac.3.sg\nform word devaH deva m.sg.nom\nend\n";
+
+const EITHER: &str =
+    "slx 1\nphase ind\ngrammar (ind | ind)+\nrule a|i>e\nform ind iti iti ind\nform ind ca ca ind\nend\n";
 
 const DEVAS: &str = "slx 1\nphase word\ngrammar word+\nrule s|>H\nform word devas deva ind\nend\n";
 
@@ -90,6 +100,42 @@ fn a_line_has_all_its_answers_in_order(rt: HostRuntime) -> Result<(), Fail> {
         assert_eq!(rt; sink.bytes(), output.as_bytes(), "{text}");
     }
     Ok(())
+}
+
+/// Each of the texts has this output.
+fn have_output<R: Threads + Sync + AllocGlobal + Abort>(
+    rt: &R,
+    lexicon: &str,
+    texts: &[&str],
+    output: &str,
+) -> Result<(), Fail> {
+    let alloc = rt.alloc();
+    for text in texts {
+        let words = ["segment", "l", text];
+        let (status, sink) = run_over(rt, &words, lexicon, Vec::new(alloc), Vec::new(alloc))?;
+        assert!(rt; status == Status::Done);
+        assert_eq!(rt; sink.bytes(), output.as_bytes());
+    }
+    Ok(())
+}
+
+#[test]
+fn blanks_cut_a_line_and_a_form_may_take_no_letter(rt: HostRuntime) -> Result<(), Fail> {
+    let whole = "1: deva[word] + datta[word]\nend\n";
+    have_output(&rt, DATTA, &["deva datta"], whole)?;
+    let merged = "1: devaH[word] (aH|g>og) gacCati[word]\nend\n";
+    let texts = [
+        "devo gacCati",
+        "devogacCati",
+        "dev ogacCati",
+        "devog acCati",
+    ];
+    have_output(&rt, DEVO, &texts, merged)?;
+    have_output(&rt, DEVO, &["de vogacCati"], "end\n")?;
+    let none_taken = "1: na[ind] (a|A>A) A[pre] + gacCati[verb]\nend\n";
+    have_output(&rt, NAGACCATI, &["nAgacCati"], none_taken)?;
+    let once = "1: ca[ind] (a|i>e) iti[ind]\nend\n";
+    have_output(&rt, EITHER, &["ceti"], once)
 }
 
 /// The status of a lexicon file that is refused at a line.
