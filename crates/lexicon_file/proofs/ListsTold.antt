@@ -4,10 +4,11 @@ use Rattle.std.specs.List.{AllByRecursion}
 use Rattle.std.specs.List.Sorted.{IsStrictlySortedBy}
 use Rattle.std.proofs.lemmas.List.{length-replicate}
 use Rattle.std.proofs.lemmas.List.Elements.{All-head, All-tail}
-use Rattle.lexicon_definitions.specs.Lexicons.{RuleSet, Form, IsFormEntry}
+use Rattle.lexicon_definitions.specs.GrammarTexts.{grammar_of}
+use Rattle.lexicon_definitions.specs.Lexicons.{RuleSet, Form, IsFormEntry, tree_of}
 use Rattle.lexicon_definitions.specs.Rules.{Rule}
 use Rattle.lexicon_definitions.specs.FormEntries.{Entry, IsListedForm, IsListedPhase}
-use Rattle.phase_automaton.specs.Automata.{StateMachine}
+use Rattle.phase_automaton.specs.Automata.{StateMachine, Recognizes}
 use Rattle.lexicon_text_definitions.specs.FileLines as lines
 use Rattle.lexicon_text_definitions.specs.FileContents.{Told, compare_entries, with_entries, entries_from, rules_told, lexicon_told}
 use Rattle.lexicon_text_definitions.proofs.FormLines.{AreWithin, with_lines, no_lines_at_first}
@@ -69,6 +70,15 @@ pub rules_kept : (P : RuleSet → Type 0) (kept told : Told) (rules : List Rule)
 rules_kept P kept told rules view same last h =
     let all : kept.last ≡ lines.End → P (rules_told kept) = subst (λ (t : Told). t.last ≡ lines.End → P (rules_told t)) (sym view) h in
     subst (λ (rs : List Rule). P (record { names = kept.names; grammar = kept.grammar; plain = kept.plain; rules = rs })) (sym same) (all last)
+
+-- the automaton that was kept is that of the grammar that was told
+pub automaton_kept : (kept told : Told) (automaton : Option StateMachine) (machine : StateMachine) (lists : List (List Form)) (phase : ℕ) → kept ≡ told
+    → kept.last ≡ lines.End → IsKept kept automaton lists phase → automaton ≡ Some machine → Recognizes machine (tree_of (rules_told told))
+automaton_kept kept told automaton machine lists phase view last h some =
+    let body = body_at_end kept.last kept automaton lists phase last h.stage in
+    let recognizes : Recognizes machine (tree_of (rules_told kept)) =
+    subst (λ a. IfSome a (λ (m : StateMachine). Recognizes m (grammar_of kept.names kept.grammar))) some body.recognizes in
+    subst (λ (t : Told). Recognizes machine (tree_of (rules_told t))) view recognizes
 
 -- the automaton that was kept has the phases that were told
 pub phases_kept : (kept : Told) (automaton : Option StateMachine) (machine : StateMachine) (lists : List (List Form)) (phase : ℕ) (rules : List Rule) (set : RuleSet)

@@ -1,24 +1,24 @@
-ghost use Rattle.std.specs.Prelude.{◌≡◌, ◌<◌, ◌||◌, nat_le, nat_lt, [], length};
-ghost use Rattle.std.specs.List.{list_any};
+ghost use Rattle.std.specs.Prelude.{◌≡◌, ◌<◌, ◌||◌, nat_le, nat_lt, [], length, IsOk, OnOk};
 ghost use Rattle.lexicon_text_definitions.specs.FileContents.{with_lead, leads_of};
-ghost use Rattle.lexicon_file.specs.Added.{IsAdded, has_v};
+ghost use Rattle.lexicon_file.specs.Added.{IsAdded};
+ghost use Rattle.indexmap.specs.IndexSet.{spare};
 
 use crate::FileWhy;
 use crate::line_error::LineError;
 use crate::triple::Triple;
 use indexmap::IndexSet;
 use lexicon_definitions::{MOST_LEADS, MOST_RULES};
-use phoneme::Word;
+use phoneme::{Memory, Word};
 use sandhi_rules::Rule;
 use std::alloc::Global;
 use std::marker::Model;
 
-/// The rules that were read, in their order, their triples, and the number of their different `v` that are not empty.
+/// The rules that were read, in their order, their triples, and their different `v` that are not empty.
 #[derive(Debug, Drop)]
 pub(crate) struct RulesSoFar {
     rules: Vec<Rule>,
     triples: IndexSet<Triple>,
-    leads: usize,
+    leads: IndexSet<Word>,
 }
 
 impl Model for RulesSoFar {
@@ -30,14 +30,18 @@ impl Model for RulesSoFar {
 
     ghost view = { λ r. r.rules.items };
 
-    ghost invariant = { λ r. AreKept r.rules.items r.triples.keys r.leads };
+    ghost invariant = { λ r. AreKept r.rules.items r.triples.keys r.leads.keys };
 }
 
-/// Whether the rule has this `v`.
-fn is_with(rule: &Rule, v: &Word) -> bool
-    ensures { result ≡ has_v v.now rule.now }
+/// Puts a rule's `v` among the leads, unless it is empty or there. Wants no memory where there is room for one more.
+fn add_lead(leads: &mut IndexSet<Word>, v: Word) -> Result<(), Memory>
+    ensures ok { OnOk result (leads.new.keys ≡ with_lead leads.old.keys v) }
+    ensures room { 0 < spare leads.old → IsOk result }
 {
-    *v == rule.v
+    if !v.is_empty() {
+        leads.insert(v)?;
+    }
+    Ok(())
 }
 
 impl RulesSoFar {
@@ -47,7 +51,7 @@ impl RulesSoFar {
         RulesSoFar {
             rules: Vec::new(alloc),
             triples: IndexSet::new(alloc),
-            leads: 0,
+            leads: IndexSet::new(alloc),
         }
     }
 
@@ -63,21 +67,14 @@ impl RulesSoFar {
         rules
     }
 
-    /// Whether one of the rules has this `v`.
-    fn has_v(&self, v: &Word) -> bool
-        ensures { result ≡ list_any (has_v v.now) self.now }
-    {
-        self.rules.iter().any(|rule| is_with(rule, v))
-    }
-
     /// How many different `v` that are not empty the rules have with one of this `v`.
     fn leads_with(&self, v: &Word) -> usize
         ensures { result ≡ length (with_lead (leads_of self.now) v.now) }
     {
-        if v.is_empty() || self.has_v(v) {
-            self.leads
+        if v.is_empty() || self.leads.contains(v) {
+            self.leads.len()
         } else {
-            self.leads + 1
+            self.leads.len() + 1
         }
     }
 
@@ -93,15 +90,17 @@ impl RulesSoFar {
         requires { length self.old < MOST_RULES }
         ensures { IsAdded self.old rule result self.new }
     {
-        let triple = Triple::of(*self.rules.allocator(), &rule)?;
-        let leads = self.leads_with(&rule.v);
-        // Room is taken first, so that the rule is appended wherever its triple was put in.
+        let alloc = *self.rules.allocator();
+        let triple = Triple::of(alloc, &rule)?;
+        let lead = rule.v.copy(alloc)?;
+        // Room is taken first, so that the rule and its lead are put in wherever its triple was.
         self.rules.reserve(1)?;
+        self.leads.reserve(1)?;
         if !self.triples.insert(triple)? {
             return Err(FileWhy::Twice.into());
         }
+        add_lead(&mut self.leads, lead)?;
         self.rules.push(rule)?;
-        self.leads = leads;
         Ok(())
     }
 }

@@ -49,77 +49,148 @@ fn each_proper_front_has_no_end(rt: HostRuntime) -> Result<(), Fail> {
     Ok(())
 }
 
-#[test]
-fn faults_are_told_with_their_lines(rt: HostRuntime) -> Result<(), Fail> {
-    let rows: [(&[u8], u32, FileWhy); 24] = [
-        (b"", 1, FileWhy::NoEnd),
-        (b"\n", 1, FileWhy::Head),
-        (b"\xef\xbb\xbfslx 1\n", 1, FileWhy::Head),
-        (b"slx 1\r\n", 1, FileWhy::Head),
-        (b"# a comment\nslx 1\n", 1, FileWhy::Head),
-        (b"slx 1\nphase word\r\n", 2, FileWhy::Field),
-        (b"slx 1\n# a comment\n", 2, FileWhy::Order),
-        (b"slx 1\ngrammar word\n", 2, FileWhy::Order),
-        (b"slx 1\nphase word\nphase word\n", 3, FileWhy::Twice),
-        (b"slx 1\nphase word\nend\n", 3, FileWhy::Order),
-        (b"slx 1\nphase Word\n", 2, FileWhy::Field),
-        (b"slx 1\nphase abcdefghijklmnopq\n", 2, FileWhy::Field),
-        (b"slx 1\nphase word\ngrammar\n", 3, FileWhy::Field),
-        (
-            b"slx 1\nphase word\ngrammar \n",
-            3,
-            FileWhy::Grammar(GrammarFault::Syntax { at: 0 }),
-        ),
-        (
-            b"slx 1\nphase w\ngrammar w\nplain a aa\n",
-            4,
-            FileWhy::Spelling,
-        ),
-        (
-            b"slx 1\nphase w\ngrammar w\nplain a k\nplain a a\n",
-            5,
-            FileWhy::Falling,
-        ),
-        (
-            b"slx 1\nphase w\ngrammar w\nrule a|i>\n",
-            4,
-            FileWhy::Strict,
-        ),
-        (
-            b"slx 1\nphase w\ngrammar w\nrule a>i|e\n",
-            4,
-            FileWhy::Field,
-        ),
-        (
-            b"slx 1\nphase w\ngrammar w\nrule a|i>aaaaaaaaa\n",
-            4,
-            FileWhy::Limit,
-        ),
-        (
-            b"slx 1\nphase w\ngrammar w\nrule a|i>e\nrule a|i>e\n",
-            5,
-            FileWhy::Twice,
-        ),
-        (
-            b"slx 1\nphase w\ngrammar w\nform w  a ind\n",
-            4,
-            FileWhy::Spelling,
-        ),
-        (
-            b"slx 1\nphase w\ngrammar w\nform w a a m.sg\n",
-            4,
-            FileWhy::Field,
-        ),
-        (
-            b"slx 1\nphase w\ngrammar w\nform w i i ind\nform w a a ind\n",
-            5,
-            FileWhy::Falling,
-        ),
-        (b"slx 1\nphase w\ngrammar w\nend\n\n", 5, FileWhy::Trailing),
-    ];
-    for (bytes, line, why) in rows {
-        assert!(rt; has_fault(&rt, bytes, line, why));
+/// A file, and its first fault: its line, and why.
+type Refused = (&'static [u8], u32, FileWhy);
+
+/// The first of the rows whose file has not this first fault, counted from 0.
+fn first_other(rt: &HostRuntime, rows: &[Refused]) -> Option<usize> {
+    for (row, (bytes, line, why)) in rows.iter().enumerate() {
+        if !has_fault(rt, bytes, *line, *why) {
+            return Some(row);
+        }
     }
+    None
+}
+
+static HEADS: [Refused; 5] = [
+    (b"", 1, FileWhy::NoEnd),
+    (b"\n", 1, FileWhy::Head),
+    (b"\xef\xbb\xbfslx 1\n", 1, FileWhy::Head),
+    (b"slx 1\r\n", 1, FileWhy::Head),
+    (b"# a comment\nslx 1\n", 1, FileWhy::Head),
+];
+
+#[test]
+fn a_file_begins_with_its_version(rt: HostRuntime) -> Result<(), Fail> {
+    assert_eq!(rt; first_other(&rt, &HEADS), None);
+    Ok(())
+}
+
+static ORDERS: [Refused; 4] = [
+    (b"slx 1\n# a comment\n", 2, FileWhy::Order),
+    (b"slx 1\ngrammar word\n", 2, FileWhy::Order),
+    (b"slx 1\nphase word\nend\n", 3, FileWhy::Order),
+    (b"slx 1\nphase w\ngrammar w\nend\n\n", 5, FileWhy::Trailing),
+];
+
+#[test]
+fn lines_come_in_the_order_of_their_kinds(rt: HostRuntime) -> Result<(), Fail> {
+    assert_eq!(rt; first_other(&rt, &ORDERS), None);
+    Ok(())
+}
+
+static PHASE_LINES: [Refused; 4] = [
+    (b"slx 1\nphase word\r\n", 2, FileWhy::Field),
+    (b"slx 1\nphase Word\n", 2, FileWhy::Field),
+    (b"slx 1\nphase abcdefghijklmnopq\n", 2, FileWhy::Field),
+    (b"slx 1\nphase word\nphase word\n", 3, FileWhy::Twice),
+];
+
+#[test]
+fn phases_have_short_small_names_of_their_own(rt: HostRuntime) -> Result<(), Fail> {
+    assert_eq!(rt; first_other(&rt, &PHASE_LINES), None);
+    Ok(())
+}
+
+static GRAMMAR_LINES: [Refused; 2] = [
+    (b"slx 1\nphase word\ngrammar\n", 3, FileWhy::Field),
+    (
+        b"slx 1\nphase word\ngrammar \n",
+        3,
+        FileWhy::Grammar(GrammarFault::Syntax { at: 0 }),
+    ),
+];
+
+#[test]
+fn a_grammar_line_has_a_grammar(rt: HostRuntime) -> Result<(), Fail> {
+    assert_eq!(rt; first_other(&rt, &GRAMMAR_LINES), None);
+    Ok(())
+}
+
+static PLAIN_LINES: [Refused; 2] = [
+    (
+        b"slx 1\nphase w\ngrammar w\nplain a aa\n",
+        4,
+        FileWhy::Spelling,
+    ),
+    (
+        b"slx 1\nphase w\ngrammar w\nplain a k\nplain a a\n",
+        5,
+        FileWhy::Falling,
+    ),
+];
+
+#[test]
+fn plain_lines_have_rising_pairs_of_letters(rt: HostRuntime) -> Result<(), Fail> {
+    assert_eq!(rt; first_other(&rt, &PLAIN_LINES), None);
+    Ok(())
+}
+
+static RULE_LINES: [Refused; 4] = [
+    (
+        b"slx 1\nphase w\ngrammar w\nrule a|i>\n",
+        4,
+        FileWhy::Strict,
+    ),
+    (
+        b"slx 1\nphase w\ngrammar w\nrule a>i|e\n",
+        4,
+        FileWhy::Field,
+    ),
+    (
+        b"slx 1\nphase w\ngrammar w\nrule a|i>aaaaaaaaa\n",
+        4,
+        FileWhy::Limit,
+    ),
+    (
+        b"slx 1\nphase w\ngrammar w\nrule a|i>e\nrule a|i>e\n",
+        5,
+        FileWhy::Twice,
+    ),
+];
+
+#[test]
+fn rules_are_strict_and_short_and_differ(rt: HostRuntime) -> Result<(), Fail> {
+    assert_eq!(rt; first_other(&rt, &RULE_LINES), None);
+    Ok(())
+}
+
+static FORM_LINES: [Refused; 4] = [
+    (
+        b"slx 1\nphase w\ngrammar w\nform w  a ind\n",
+        4,
+        FileWhy::Spelling,
+    ),
+    (
+        b"slx 1\nphase w\ngrammar w\nform w a a m.sg\n",
+        4,
+        FileWhy::Field,
+    ),
+    (
+        b"slx 1\nphase w\ngrammar w\nform w i i ind\nform w a a ind\n",
+        5,
+        FileWhy::Falling,
+    ),
+    (
+        b"slx 1\nphase w\ngrammar w\nform w a a ind\nform w a a ind\n",
+        5,
+        FileWhy::Twice,
+    ),
+];
+
+#[test]
+fn form_lines_have_rising_forms_with_tags(rt: HostRuntime) -> Result<(), Fail> {
+    assert_eq!(rt; first_other(&rt, &FORM_LINES), None);
     Ok(())
 }
 

@@ -14,6 +14,7 @@ pub(crate) struct Found {
 impl Found {
     ghost use Rattle.strictness.specs.Appending.{IsFull, Takes};
 
+    /// For a search that wants at most this many overlaps, none of which is found yet. Takes no memory.
     pub fn new(alloc: Global, most: usize) -> Found
         ensures overlaps { result.overlaps.items ≡ [] }
         ensures most { result.most ≡ most }
@@ -24,6 +25,7 @@ impl Found {
         }
     }
 
+    /// Whether as many overlaps were found as are wanted, so that a search may end.
     pub fn is_full(&self) -> bool
         ensures { IsTrue result ↔ IsFull self.now }
     {

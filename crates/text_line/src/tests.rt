@@ -4,127 +4,155 @@ use std::alloc::Global;
 use std::test::Fail;
 use text_definitions::MOST_LINE_LETTERS;
 
-/// Each text is read as these letters, here in SLP1, with blanks at these places.
+/// A text in a scheme, the letters as which it is read, in SLP1, and the places of the blanks.
+type Spelling = (Scheme, &'static str, &'static str, &'static [u32]);
+
+/// A text in a scheme, and the place of a fault.
+type Place = (Scheme, &'static str, u32);
+
+/// Whether the text is read as these letters, in SLP1, with these blanks.
+fn is_read(alloc: Global, row: &Spelling) -> Result<bool, Fail> {
+    let (scheme, text, letters, blanks) = row;
+    if text.len() >= 100 {
+        return Ok(false);
+    }
+    let line = read_line(alloc, *scheme, text.as_bytes())?;
+    let printed = print_slp1(alloc, &line.letters)?;
+    Ok(printed.as_bytes() == letters.as_bytes() && line.blanks.as_slice() == *blanks)
+}
+
+/// The fault of spelling at which a short text is refused.
+fn fault_of(alloc: Global, scheme: Scheme, text: &[u8]) -> Option<SpellFault> {
+    if text.len() >= 100 {
+        return None;
+    }
+    match read_line(alloc, scheme, text) {
+        Err(LineError::Spell(fault)) => Some(fault),
+        _ => None,
+    }
+}
+
+static GAPS: [Spelling; 8] = [
+    (Scheme::Slp1, "deva datta", "devadatta", &[4]),
+    (Scheme::Slp1, "devo gacCati", "devogacCati", &[4]),
+    (Scheme::Slp1, "\r\n\t a\t|\n b | 12 |", "ab", &[1]),
+    (Scheme::Slp1, "a a a", "aaa", &[1, 2]),
+    (Scheme::Slp1, "| ceti", "ceti", &[]),
+    (Scheme::Wx, "cewi|cewi\r\n", "ceticeti", &[4]),
+    (Scheme::Velthuis, "a_i a i", "aiai", &[2, 3]),
+    (Scheme::Devanagari, "\u{915}\u{94D} \u{905}", "ka", &[1]),
+];
+
 #[test]
-fn texts_are_read(rt: HostRuntime) -> Result<(), Fail> {
-    let cases: [(Scheme, &[u8], &[u8], &[u32]); 16] = [
-        (Scheme::Slp1, b"deva datta", b"devadatta", &[4]),
-        (Scheme::Slp1, b"devo gacCati", b"devogacCati", &[4]),
-        (Scheme::Slp1, b"\r\n\t a\t|\n b | 12 |", b"ab", &[1]),
-        (Scheme::Slp1, b"a a a", b"aaa", &[1, 2]),
-        (Scheme::Slp1, b"a1|2", b"a", &[]),
-        (Scheme::Slp1, b"| ceti", b"ceti", &[]),
-        (Scheme::Wx, b"cewi|cewi\r\n", b"ceticeti", &[4]),
-        (Scheme::Velthuis, b"a_i a i", b"aiai", &[2, 3]),
-        (Scheme::Velthuis, b"k.r.s.na.h | 1 ||", b"kfzRaH", &[]),
-        (Scheme::Devanagari, "चेति । १२ ॥".as_bytes(), b"ceti", &[]),
-        (Scheme::Devanagari, "। चेति|12".as_bytes(), b"ceti", &[]),
-        (
-            Scheme::Devanagari,
-            "च इति।च॥१|2".as_bytes(),
-            b"caitica",
-            &[2, 5],
-        ),
-        (
-            Scheme::Devanagari,
-            "\u{915} \u{200C}\u{200D} \u{916}".as_bytes(),
-            b"kaKa",
-            &[2],
-        ),
-        (
-            Scheme::Devanagari,
-            "\u{200C} \u{915}\u{200D}\u{94D} \u{200C}".as_bytes(),
-            b"k",
-            &[],
-        ),
-        (
-            Scheme::Devanagari,
-            "\u{915}\u{94D} \u{905}".as_bytes(),
-            b"ka",
-            &[1],
-        ),
-        (
-            Scheme::Devanagari,
-            "\u{915}\u{966}\u{200D}".as_bytes(),
-            b"ka",
-            &[],
-        ),
-    ];
-    for (scheme, text, letters, blanks) in cases {
-        assert!(rt; text.len() < 100);
-        let line = read_line(rt.alloc(), scheme, text)?;
-        assert_eq!(rt; print_slp1(rt.alloc(), &line.letters)?.as_bytes(), letters);
-        assert_eq!(rt; line.blanks.as_slice(), blanks);
+fn a_run_of_gap_marks_between_letters_is_one_blank(rt: HostRuntime) -> Result<(), Fail> {
+    for row in &GAPS {
+        assert!(rt; is_read(rt.alloc(), row)?, "{}", row.1);
     }
     Ok(())
 }
 
-/// The fault of least place decides, and a digit is at fault only where a letter comes later.
+static VERSE_NUMBERS: [Spelling; 5] = [
+    (Scheme::Slp1, "a1|2", "a", &[]),
+    (Scheme::Velthuis, "k.r.s.na.h | 1 ||", "kfzRaH", &[]),
+    (Scheme::Devanagari, "चेति । १२ ॥", "ceti", &[]),
+    (Scheme::Devanagari, "। चेति|12", "ceti", &[]),
+    (Scheme::Devanagari, "च इति।च॥१|2", "caitica", &[2, 5]),
+];
+
 #[test]
-fn faults_have_their_place(rt: HostRuntime) -> Result<(), Fail> {
-    let cases: [(Scheme, &[u8], SpellFault); 20] = [
-        (Scheme::Slp1, b"c?", SpellFault::NotLetter { at: 1 }),
-        (Scheme::Slp1, b"a1?", SpellFault::NotLetter { at: 2 }),
-        (Scheme::Slp1, b"1?a", SpellFault::NotLetter { at: 0 }),
-        (Scheme::Slp1, b"a 1 b", SpellFault::NotLetter { at: 2 }),
-        (Scheme::Slp1, b"a?1b", SpellFault::NotLetter { at: 1 }),
-        (
-            Scheme::Slp1,
-            b"1 2 ? 3 ! a",
-            SpellFault::NotLetter { at: 0 },
-        ),
-        (Scheme::Slp1, b"1 2 ? 3 !", SpellFault::NotLetter { at: 4 }),
-        (
-            Scheme::Slp1,
-            b"a\xe0\xa5\xa4",
-            SpellFault::NotLetter { at: 1 },
-        ),
-        (Scheme::Wx, b"cewi\x0bcewi", SpellFault::NotLetter { at: 4 }),
-        (Scheme::Velthuis, b"a_ i", SpellFault::NotLetter { at: 1 }),
-        (Scheme::Velthuis, b"a_1i", SpellFault::NotLetter { at: 1 }),
-        (Scheme::Velthuis, b"1 . n", SpellFault::NotLetter { at: 0 }),
-        (Scheme::Velthuis, b"1 .", SpellFault::NotLetter { at: 2 }),
-        (
-            Scheme::Devanagari,
-            "१चेति".as_bytes(),
-            SpellFault::NotLetter { at: 0 },
-        ),
-        (
-            Scheme::Devanagari,
-            "\u{915}\u{967}\u{93F}".as_bytes(),
-            SpellFault::LoneSign { at: 6 },
-        ),
-        (
-            Scheme::Devanagari,
-            "\u{967}\u{93F}".as_bytes(),
-            SpellFault::LoneSign { at: 3 },
-        ),
-        (
-            Scheme::Devanagari,
-            "\u{967}\u{93F}\u{915}".as_bytes(),
-            SpellFault::NotLetter { at: 0 },
-        ),
-        (
-            Scheme::Devanagari,
-            "\u{915} \u{93F}".as_bytes(),
-            SpellFault::LoneSign { at: 4 },
-        ),
-        (
-            Scheme::Devanagari,
-            "\u{915}\u{970}".as_bytes(),
-            SpellFault::NotLetter { at: 3 },
-        ),
-        (
-            Scheme::Devanagari,
-            b"1? \xe0\xa4\x95 \xe0\xa5",
-            SpellFault::NotUtf8 { at: 7 },
-        ),
-    ];
-    for (scheme, text, fault) in cases {
-        assert!(rt; text.len() < 100);
-        let found = read_line(rt.alloc(), scheme, text).err();
-        assert_eq!(rt; found, Some(LineError::Spell(fault)));
+fn dandas_are_gap_marks_and_verse_numbers_spell_nothing(rt: HostRuntime) -> Result<(), Fail> {
+    for row in &VERSE_NUMBERS {
+        assert!(rt; is_read(rt.alloc(), row)?, "{}", row.1);
     }
+    Ok(())
+}
+
+static JOINERS: [Spelling; 3] = [
+    (
+        Scheme::Devanagari,
+        "\u{915} \u{200C}\u{200D} \u{916}",
+        "kaKa",
+        &[2],
+    ),
+    (
+        Scheme::Devanagari,
+        "\u{200C} \u{915}\u{200D}\u{94D} \u{200C}",
+        "k",
+        &[],
+    ),
+    (Scheme::Devanagari, "\u{915}\u{966}\u{200D}", "ka", &[]),
+];
+
+#[test]
+fn joiners_spell_nothing(rt: HostRuntime) -> Result<(), Fail> {
+    for row in &JOINERS {
+        assert!(rt; is_read(rt.alloc(), row)?, "{}", row.1);
+    }
+    Ok(())
+}
+
+/// The place is that of a digit.
+static EARLY_DIGITS: [Place; 6] = [
+    (Scheme::Slp1, "1?a", 0),
+    (Scheme::Slp1, "a 1 b", 2),
+    (Scheme::Slp1, "1 2 ? 3 ! a", 0),
+    (Scheme::Velthuis, "1 . n", 0),
+    (Scheme::Devanagari, "१चेति", 0),
+    (Scheme::Devanagari, "\u{967}\u{93F}\u{915}", 0),
+];
+
+#[test]
+fn a_digit_is_at_fault_where_a_letter_comes_later(rt: HostRuntime) -> Result<(), Fail> {
+    for (scheme, text, at) in &EARLY_DIGITS {
+        let found = fault_of(rt.alloc(), *scheme, text.as_bytes());
+        assert_eq!(rt; found, Some(SpellFault::NotLetter { at: *at }), "{text}");
+    }
+    Ok(())
+}
+
+/// The place is that of the first byte which spells no letter and is no digit.
+static NO_LETTERS: [Place; 10] = [
+    (Scheme::Slp1, "c?", 1),
+    (Scheme::Slp1, "a1?", 2),
+    (Scheme::Slp1, "a?1b", 1),
+    (Scheme::Slp1, "1 2 ? 3 !", 4),
+    (Scheme::Slp1, "a\u{964}", 1),
+    (Scheme::Wx, "cewi\u{B}cewi", 4),
+    (Scheme::Velthuis, "a_ i", 1),
+    (Scheme::Velthuis, "a_1i", 1),
+    (Scheme::Velthuis, "1 .", 2),
+    (Scheme::Devanagari, "\u{915}\u{970}", 3),
+];
+
+#[test]
+fn the_first_that_spells_no_letter_is_at_fault(rt: HostRuntime) -> Result<(), Fail> {
+    for (scheme, text, at) in &NO_LETTERS {
+        let found = fault_of(rt.alloc(), *scheme, text.as_bytes());
+        assert_eq!(rt; found, Some(SpellFault::NotLetter { at: *at }), "{text}");
+    }
+    Ok(())
+}
+
+/// The place is that of the sign `i`.
+static LONE_SIGNS: [Place; 3] = [
+    (Scheme::Devanagari, "\u{915}\u{967}\u{93F}", 6),
+    (Scheme::Devanagari, "\u{967}\u{93F}", 3),
+    (Scheme::Devanagari, "\u{915} \u{93F}", 4),
+];
+
+#[test]
+fn a_sign_after_no_consonant_is_at_fault(rt: HostRuntime) -> Result<(), Fail> {
+    for (scheme, text, at) in &LONE_SIGNS {
+        let found = fault_of(rt.alloc(), *scheme, text.as_bytes());
+        assert_eq!(rt; found, Some(SpellFault::LoneSign { at: *at }), "{text}");
+    }
+    Ok(())
+}
+
+#[test]
+fn a_text_that_is_not_utf8_has_no_other_fault(rt: HostRuntime) -> Result<(), Fail> {
+    let found = fault_of(rt.alloc(), Scheme::Devanagari, b"1? \xe0\xa4\x95 \xe0\xa5");
+    assert_eq!(rt; found, Some(SpellFault::NotUtf8 { at: 7 }));
     Ok(())
 }
 

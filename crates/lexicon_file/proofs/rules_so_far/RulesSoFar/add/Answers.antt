@@ -1,7 +1,7 @@
--- A triple that is new goes last with its rule, which brings the lead that was counted; one that is there is a twin.
+-- A triple that is new goes last with its rule, whose v is put among the leads; one that is there is a twin.
 use Rattle.std.proofs.Common.{◌≡◌, not, List, [], ◌∷◌, ◌++◌, ap, ◌∙◌}
 use Rattle.lexicon_definitions.specs.Rules.{Rule}
-use Rattle.lexicon_file.proofs.LeadLemmas.{counted}
+use Rattle.lexicon_file.proofs.LeadLemmas.{leads_put}
 use Rattle.lexicon_file.proofs.TripleLemmas.{twin_told, triples_pushed, refused}
 use Rattle.lexicon_file.proofs.rules_so_far.RulesSoFar.add.Goals as goal
 
@@ -9,9 +9,10 @@ pub invariant_of-self-2 : goal.invariant_of-self-2
 invariant_of-self-2 c =
     let rules : c.push.new.self.items ≡ c.self.inside.rules.items ++ c.args.rule ∷ [] =
     c.in_ok-push.ensures.items ∙ ap (λ (rs : List Rule). rs ++ c.args.rule ∷ []) c.reserve.ensures.items in record {
-      counted = counted c.args.self.now _ _ c.args.rule c.rule.inside.v _ c.self.view_is (ap (λ rule. rule.v) c.rule.view_is) c.leads_with-leads.ensures rules c.requires;
       alike = triples_pushed c.self.inside.rules.items _ c.args.rule c.self.inside.triples.keys _ c.in_ok-triple.triple c.in_ok-insert.field-0
           c.self.invariant.alike c.in_ok-triple.ensures c.in_ok-insert.ensures.keys c.in_ok-insert.ensures.added c.if-not-branch.false rules;
+      leading = leads_put c.self.inside.rules.items _ c.args.rule c.self.inside.leads.keys c.reserve-2.new.self.keys _ c.in_ok-lead.lead c.self.invariant.leading
+          c.reserve-2.ensures.keys (c.in_ok-lead.ensures ∙ ap (λ rule. rule.v) c.rule.view_is) c.in_ok-add_lead.ensures.ok rules;
     }
 
 pub returns-then-not-branch : goal.returns-then-not-branch

@@ -5,7 +5,7 @@ use Rattle.lexicon_text_definitions.specs.FileContents.{Told}
 use Rattle.lexicon_file.specs.Kinds.{kind_of}
 use Rattle.lexicon_definitions.specs.Lexicons.{IsRuleSet}
 use Rattle.lexicon_definitions.specs.Limits.{IsRuleSetWithinLimits}
-use Rattle.lexicon_file.proofs.ListsTold.{rules_kept, phases_kept, lexicon_kept}
+use Rattle.lexicon_file.proofs.ListsTold.{rules_kept, automaton_kept, phases_kept, lexicon_kept}
 use Rattle.lexicon_file.proofs.told.Told.finish.Goals as goal
 
 pub new-requires-clause-set : goal.new-requires-clause-set
@@ -25,6 +25,12 @@ returns-clause-ok c =
       lexicon_kept _ c.args.self c.self.inside.automaton c.self.inside.lists c.lists.inside.phases.items c.self.inside.last_phase c.into_rules.result.items c.in_ok-rules.rules c.self.view_is
           (cc) c.in_ok-rules.ensures.ok last c.self.invariant refl c.lists.view_is c.lists.invariant.1.each,
     )
+
+pub returns-clause-automaton : goal.returns-clause-automaton
+returns-clause-automaton c =
+    let last : kind_of c.self.inside.last ≡ End = search rules in
+    automaton_kept _ c.args.self c.self.inside.automaton c.in-Some.automaton c.self.inside.lists c.self.inside.last_phase c.self.view_is last c.self.invariant
+    c.in-Some.is
 
 pub returns-clause-phases : goal.returns-clause-phases
 returns-clause-phases c =
