@@ -1,0 +1,67 @@
+-- Spelling goes letter by letter, so it goes over parts of a word and over words that are put together.
+use Rattle.std.proofs.Common.{◌≡◌, ℕ, List, [], ◌∷◌, ◌++◌, length, take, drop, refl, sym, ap, ◌∙◌, append_assoc, codes}
+use Rattle.std.proofs.lemmas.List.{map-append, take-map, drop-map, length-map}
+use Rattle.text_definitions.specs.Spellings.{byte_of_letter}
+use Rattle.text_definitions.specs.Slp1.{slp1_of_word, slp1_table}
+use Rattle.lexicon_definitions.specs.Lexicons.{RuleSet, rule_of}
+use Rattle.derivation.specs.declared.step.Step.{Step as ProgramStep}
+use Rattle.derivation.specs.Steps.{step_after, letters_taken}
+use Rattle.std.specs.Fmt.{decimal}
+use Rattle.segmentation_definitions.specs.Derivations.{Step}
+use Rattle.segmentation_definitions.specs.PrintedAnswers.{printed_answer, printed_steps, output_line}
+
+-- no rule has an empty u and v, and an empty word has an empty text
+pub no_u : (rules : RuleSet) (number : ℕ) → number ≡ 0 → [] ≡ slp1_of_word (rule_of rules number).u
+unfolding slp1_of_word
+no_u rules number zero = rw zero refl
+
+pub no_v : (rules : RuleSet) (number : ℕ) → number ≡ 0 → [] ≡ slp1_of_word (rule_of rules number).v
+unfolding slp1_of_word
+no_v rules number zero = rw zero refl
+
+-- a part of the text is the text of a part
+pub spelled_part : (letters : List ℕ) (at taken : ℕ) → take taken (drop at (slp1_of_word letters)) ≡ slp1_of_word (take taken (drop at letters))
+unfolding slp1_of_word
+spelled_part letters at taken =
+    ap (take taken) (drop-map (byte_of_letter slp1_table) at letters) ∙ take-map (byte_of_letter slp1_table) taken (drop at letters)
+
+-- the text of three parts
+pub spelled_parts : (a b c : List ℕ) → slp1_of_word (a ++ b ++ c) ≡ slp1_of_word a ++ slp1_of_word b ++ slp1_of_word c
+unfolding slp1_of_word
+spelled_parts a b c =
+    map-append (byte_of_letter slp1_table) (a ++ b) c ∙ ap (λ text. text ++ slp1_of_word c) (map-append (byte_of_letter slp1_table) a b)
+
+-- three pieces after one another are appended together
+pub three_appended : (old a b c : List ℕ) → old ++ a ++ b ++ c ≡ old ++ (a ++ b ++ c)
+three_appended old a b c = append_assoc (old ++ a) b c ∙ append_assoc old a (b ++ c) ∙ ap (λ w. old ++ w) (sym (append_assoc a b c))
+
+-- four of them
+pub four_appended : (old a b c d : List ℕ) → old ++ a ++ b ++ c ++ d ≡ old ++ (a ++ b ++ c ++ d)
+four_appended old a b c d = ap (λ w. w ++ d) (three_appended old a b c) ∙ append_assoc old (a ++ b ++ c) d
+
+-- a form is appended in its three parts
+pub word_appended : (rules texts : RuleSet) (letters : List ℕ) (before : ℕ) (step : ProgramStep) (old first second third v taken u : List ℕ)
+    → rules ≡ texts → v ≡ slp1_of_word (rule_of texts before).v → taken ≡ slp1_of_word (letters_taken letters step)
+    → u ≡ slp1_of_word (rule_of texts step.rule).u → first ≡ old ++ v → second ≡ first ++ taken → third ≡ second ++ u
+    → third ≡ old ++ slp1_of_word (step_after rules letters before step).form
+word_appended rules texts letters before step old first second third v taken u same v_is taken_is u_is first_is second_is third_is =
+    let form : slp1_of_word (step_after rules letters before step).form ≡ v ++ taken ++ u =
+    ap (λ r. slp1_of_word (step_after r letters before step).form) same
+    ∙ spelled_parts (rule_of texts before).v (letters_taken letters step) (rule_of texts step.rule).u
+    ∙ sym (ap (λ w. w ++ taken ++ u) v_is ∙ ap (λ w. slp1_of_word (rule_of texts before).v ++ w ++ u) taken_is
+    ∙ ap (λ w. slp1_of_word (rule_of texts before).v ++ slp1_of_word (letters_taken letters step) ++ w) u_is) in
+    third_is ∙ ap (λ w. w ++ u) second_is ∙ ap (λ w. w ++ taken ++ u) first_is ∙ three_appended old v taken u ∙ ap (λ w. old ++ w) (sym form)
+
+-- a text has a byte for each letter
+pub spelled_length : (letters : List ℕ) → length (slp1_of_word letters) ≡ length letters
+unfolding slp1_of_word
+spelled_length letters = length-map letters (byte_of_letter slp1_table)
+
+-- an answer's line is appended in three parts
+pub answer_appended : (rules : RuleSet) (number : ℕ) (steps : List Step) (old first second third start text : List ℕ)
+    → start ≡ decimal number ++ codes ": " → text ≡ start → first ≡ old ++ text → second ≡ first ++ printed_steps rules steps → third ≡ second ++ 10 ∷ []
+    → third ≡ old ++ output_line (printed_answer rules number steps)
+unfolding printed_answer
+answer_appended rules number steps old first second third start text start_is text_is first_is second_is third_is =
+    third_is ∙ ap (λ w. w ++ 10 ∷ []) second_is ∙ ap (λ w. w ++ printed_steps rules steps ++ 10 ∷ []) (first_is ∙ ap (λ w. old ++ w) (text_is ∙ start_is))
+    ∙ three_appended old (decimal number ++ codes ": ") (printed_steps rules steps) (10 ∷ [])
