@@ -13,3 +13,8 @@ pub mod StepKeys
 pub mod StepLeaves
 pub mod StepLoops
 pub mod StepMoves
+pub mod StandingRanks
+pub mod ReachedStandings
+pub mod StandingPaths
+pub mod LeadingTo
+pub mod FrameCosts

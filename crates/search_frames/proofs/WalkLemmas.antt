@@ -26,6 +26,12 @@ walk_next rows node reached letters i letter walked low here =
     ap (λ (n : ℕ). take n letters) (add-one i) ∙ take-suc letters i letter low ∙ ap (λ (x : ℕ). take i letters ++ x ∷ []) (sym here) in
     ap (walk rows node) next ∙ walk-two rows (take i letters) (letter ∷ []) node reached walked ∙ and_then_some (child_in rows reached letter)
 
+-- where a word leads is where its rest leads from the node that is reached
+pub walk_rest : (rows : List Row) (node reached : ℕ) (letters : List ℕ) (i : ℕ) → walk rows node (take i letters) ≡ Some reached
+    → walk rows node letters ≡ walk rows reached (drop i letters)
+walk_rest rows node reached letters i walked =
+    ap (walk rows node) (sym (take-append-drop i letters)) ∙ walk-two rows (take i letters) (drop i letters) node reached walked
+
 -- a node that so many letters lead to has a place among as many as the longest word has, and one more
 pub has_place : (rows : List Row) (node child : ℕ) (letters : List ℕ) (count room : ℕ) → walk rows node (take count letters) ≡ Some child
     → count ≤ length letters → ((word : List ℕ) → IsSome (walk rows node word) → length word < room) → count < room

@@ -5,21 +5,28 @@
 //! of those left, and leaves just those after it, and answers false only where none is left (`went_on`, `nothing`); `seek`
 //! brings it to a given key, or answers false where this is not possible there (`found`, `not_possible`); none of them changes
 //! what stands before its level (`changes`). `test_key` says whether a key leads on, and where to, or ends the line, or neither
-//! (`exact`).
+//! (`exact`), and `test_letters` says the same as far as the letters, the blanks and the choices tell, whatever the grammar says
+//! (`exact`). A frame takes at most `steps_of_frame` steps, one for each key that it comes to counted in (`steps` of `open_frame`,
+//! `steps_on` and `steps_end` of `go_on`).
 #![tactic(auto)]
 
 mod entering;
 mod going_on;
+mod letter_testing;
 mod line_tests;
 mod opening;
 mod place;
+mod rooms;
 mod seeking;
 mod stepping;
 mod testing;
 mod walking;
 
 pub use going_on::go_on;
+pub use letter_testing::{LetterTest, test_letters};
 pub use opening::open_frame;
 pub use place::Place;
+pub use rooms::new_stack;
 pub use seeking::seek;
 pub use testing::{Test, test_key};
+pub use walking::supplied_letters;

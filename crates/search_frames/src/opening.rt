@@ -1,5 +1,6 @@
-ghost use Rattle.std.specs.Prelude.{◌≡◌, ◌<◌, length};
+ghost use Rattle.std.specs.Prelude.{◌≡◌, ◌+◌, ◌<◌, ◌≤◌, ℕ, length};
 ghost use Rattle.search_frames.specs.Frames.{IsStack, IsFrame, IsPlaceIn, HasAllToTry, ChangesFrom, place_of};
+ghost use Rattle.search_frames.specs.Costs.{HasAtMostChoices, steps_left, steps_of_frame};
 
 use super::Place;
 use super::walking::{supplied_letters, walk_phase};
@@ -25,6 +26,7 @@ pub fn open_frame<L>(
     ensures place { place_of stack.new level ≡ place }
     ensures all { HasAllToTry lexicon.now line.now stack.new level }
     ensures changes { ChangesFrom level stack.old stack.new }
+    ensures steps { (most : ℕ) → HasAtMostChoices lexicon.now.tries most → steps.new + steps_left lexicon.now most stack.new level ≤ steps.old + steps_of_frame lexicon.now most }
 {
     stack.steps[level] = Step {
         phase: 0,

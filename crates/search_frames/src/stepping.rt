@@ -1,7 +1,8 @@
-ghost use Rattle.std.specs.Prelude.{◌≡◌, ◌<◌, ◌+◌, ◌-◌, ◌^◌, length, MatchOption};
+ghost use Rattle.std.specs.Prelude.{◌≡◌, ◌<◌, ◌≤◌, ℕ, ◌+◌, ◌-◌, ◌^◌, length, MatchOption};
 ghost use Rattle.std.specs.Bool.{OnTrue, OnFalse};
 ghost use Rattle.annotated_trie.specs.Searched.{IsSearchedLexicon};
 ghost use Rattle.search_frames.specs.Frames.{IsStack, IsFrame, ChangesFrom, WentOn, LeftNode, HasNothingToTry, HasNoChange, step_of, frame_of, still_to_try};
+ghost use Rattle.search_frames.specs.Costs.{HasAtMostChoices, steps_from_change, steps_left, steps_after_node};
 ghost use Rattle.search_frames.specs.Changes.{IsChangeFrom, HasNoChangeFrom, HasSet};
 
 use super::walking::walk_phase;
@@ -23,7 +24,9 @@ struct Change {
 fn change_from<L>(lexicon: &Lexicon, node: Node, next: u32, steps: &mut Steps<L>) -> Option<Change>
     requires searched { IsSearchedLexicon lexicon.now }
     requires node { node < length lexicon.now.tries.trie.rows }
-    ensures { MatchOption result (HasNoChangeFrom lexicon.now.tries node next) (λ change. IsChangeFrom lexicon.now.tries node next change.rule change.next) }
+    ensures first { MatchOption result (HasNoChangeFrom lexicon.now.tries node next) (λ change. IsChangeFrom lexicon.now.tries node next change.rule change.next) }
+    ensures steps { (most : ℕ) → HasAtMostChoices lexicon.now.tries most
+        → MatchOption result (steps.new ≤ steps.old + steps_from_change most next) (λ change. steps.new + 1 + steps_from_change most change.next ≤ steps.old + steps_from_change most next) }
 {
     let tries = lexicon.tries();
     if next == 0 && tries.store().accepts(node) {
@@ -75,6 +78,8 @@ pub(crate) fn next_change<L>(
     ensures unchanged { OnFalse result (stack.new ≡ stack.old) }
     ensures none { OnFalse result (HasNoChange lexicon.now line.now stack.old level) }
     ensures changes { ChangesFrom level stack.old stack.new }
+    ensures steps_on { OnTrue result ((most : ℕ) → HasAtMostChoices lexicon.now.tries most → steps.new + 1 + steps_left lexicon.now most stack.new level ≤ steps.old + steps_left lexicon.now most stack.old level) }
+    ensures steps_end { OnFalse result ((most : ℕ) → HasAtMostChoices lexicon.now.tries most → steps.new + steps_after_node lexicon.now most stack.old level ≤ steps.old + steps_left lexicon.now most stack.old level) }
 {
     let frame = stack.frames[level];
     if frame.walked == 0 {
@@ -107,6 +112,8 @@ pub(crate) fn leave_node<L>(
     ensures unchanged { OnFalse result (stack.new ≡ stack.old) }
     ensures nothing { OnFalse result (HasNothingToTry lexicon.now line.now stack.old level) }
     ensures changes { ChangesFrom level stack.old stack.new }
+    ensures steps_on { OnTrue result ((most : ℕ) → steps.new + steps_left lexicon.now most stack.new level ≤ steps.old + steps_after_node lexicon.now most stack.old level) }
+    ensures steps_end { OnFalse result (steps.new ≡ steps.old) }
 {
     let phases = lexicon.rules().phases().len();
     if stack.frames[level].walked > 0 {

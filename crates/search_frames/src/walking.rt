@@ -1,8 +1,9 @@
-ghost use Rattle.std.specs.Prelude.{◌≡◌, ◌+◌, ◌++◌, ◌<◌, ◌≤◌, ℕ, List, length, take, slice_index_or, Some, IfSome, IsSome};
+ghost use Rattle.std.specs.Prelude.{◌≡◌, ◌+◌, ◌++◌, ◌<◌, ◌≤◌, ℕ, List, length, take, slice_index_or, Some, IfSome, IsSome, MatchOption};
 ghost use Rattle.lexicon_definitions.specs.Leads.{leads_of};
 ghost use Rattle.lexicon_definitions.specs.Tries.{walk};
 ghost use Rattle.derivation.specs.Guides.{IsEntranceOver, entrance_of};
 ghost use Rattle.answer_paths.specs.Fronts.{supplied};
+ghost use Rattle.resumption.specs.declared.frame.TheConstants.{NODES_OF_FRAME};
 ghost use Rattle.search_frames.specs.Frames.{IsPlaced, IsFrame, HasPhasesFrom, ChangesFrom, place_of, step_of};
 
 use annotated_trie::Lexicon;
@@ -14,7 +15,7 @@ use sandhi_rules::RuleSet;
 use shared_trie::{Node, Store};
 
 /// The letters that the rule before supplies to a form that is entered so.
-pub(crate) fn supplied_letters(rules: &RuleSet, entrance: Entrance) -> &[Letter]
+pub fn supplied_letters(rules: &RuleSet, entrance: Entrance) -> &[Letter]
     requires { IsEntranceOver (leads_of rules.now.rules) entrance }
     ensures { result.now ≡ supplied (entrance_of (leads_of rules.now.rules) entrance) }
 {
@@ -27,11 +28,14 @@ pub(crate) fn supplied_letters(rules: &RuleSet, entrance: Entrance) -> &[Letter]
     }
 }
 
-/// Where the word leads from the node.
+/// Where the word leads from the node. Takes a step for each letter, and no more than the longest word that leads somewhere has
+/// and one.
 fn walk_word<L>(store: &Store, node: Node, word: &[Letter], steps: &mut Steps<L>) -> Option<Node>
-    requires { node < length store.now.rows }
+    requires there { node < length store.now.rows }
+    requires short { (word : List ℕ) → IsSome (walk store.now.rows node word) → length word < NODES_OF_FRAME }
     ensures value { result ≡ walk store.now.rows node word.now }
     ensures there { IfSome result (λ reached. reached < length store.now.rows) }
+    ensures steps { MatchOption result (steps.new ≤ steps.old + NODES_OF_FRAME) (λ _. steps.new ≡ steps.old + length word.now) }
 {
     let mut reached = node;
     for letter in word {
@@ -59,6 +63,8 @@ fn walk_letters<L>(
     ensures within { result ≤ length letters.now + 1 }
     ensures walked { (taken : ℕ) → taken < result → walk store.now.rows node (take taken letters.now) ≡ Some (slice_index_or nodes.new.items (base + taken) 0) }
     ensures all { (taken : ℕ) → taken ≤ length letters.now → IsSome (walk store.now.rows node (take taken letters.now)) → taken < result }
+    ensures some { 0 < result }
+    ensures steps { steps.new ≤ steps.old + result }
 {
     nodes[base] = node;
     let mut walked = 1;
@@ -94,6 +100,7 @@ fn walk_fronts<L>(
     ensures within { result ≤ length letters.now + 1 }
     ensures walked { (taken : ℕ) → taken < result → walk store.now.rows root (lead.now ++ take taken letters.now) ≡ Some (slice_index_or nodes.new.items (base + taken) 0) }
     ensures all { (taken : ℕ) → taken ≤ length letters.now → IsSome (walk store.now.rows root (lead.now ++ take taken letters.now)) → taken < result }
+    ensures steps { steps.new ≤ steps.old + NODES_OF_FRAME }
 {
     match walk_word(store, root, lead, steps) {
         None => 0,
@@ -118,6 +125,7 @@ pub(crate) fn walk_phase<L>(
     ensures begun { (step_of stack.new level).phase ≡ phase }
     ensures phases { HasPhasesFrom lexicon.now line.now phase stack.new level }
     ensures changes { ChangesFrom level stack.old stack.new }
+    ensures steps { steps.new ≤ steps.old + NODES_OF_FRAME }
 {
     let store = lexicon.tries().store();
     let lead = supplied_letters(lexicon.rules(), stack.frames[level].entrance);

@@ -9,9 +9,10 @@ use Rattle.annotated_trie.specs.Searched.{SearchedLexicon, IsSearchedLexicon}
 use Rattle.resumption.specs.declared.state.Resumption.{Resumption}
 use Rattle.search_frames.specs.Standings.{Standing, after}
 use Rattle.search_frames.specs.Frames.{IsFrame, here_of}
-use Rattle.segmenter.specs.Chains.{IsReached, rank, AreFrames, LeadAlong, HasFound, HasNone, HasNoneBelow, BeginsUntried, ComesAfter, HasRoom, KeepsBefore}
-use Rattle.segmenter.proofs.StandingRanks.{rank_rises, rank_within}
-use Rattle.segmenter.proofs.ReachedStandings.{reached_after}
+use Rattle.search_frames.specs.Reached.{IsReached, rank}
+use Rattle.segmenter.specs.Chains.{AreFrames, LeadAlong, HasFound, HasNone, HasNoneBelow, BeginsUntried, ComesAfter, HasRoom, KeepsBefore}
+use Rattle.search_frames.proofs.StandingRanks.{rank_rises, rank_within}
+use Rattle.search_frames.proofs.ReachedStandings.{reached_after}
 use Rattle.segmenter.proofs.PathsFound.{on_true, on_false, none_below_last, none_below_deeper, found_after_deeper, found_after_here, none_after_here}
 
 -- what holds anyway holds in one case

@@ -1,9 +1,5 @@
 pub mod KeptFrames
-pub mod StandingRanks
-pub mod ReachedStandings
-pub mod StandingPaths
 pub mod PathsFound
-pub mod LeadingTo
 pub mod StandingAnswers
 pub mod KeyedFrames
 pub mod FramesAlong
@@ -12,3 +8,4 @@ pub mod SearchMoves
 pub mod SkippedKeys
 pub mod SkippedAnswers
 pub mod ResumedAnswers
+pub mod LevelCosts

@@ -19,7 +19,7 @@ use Rattle.search_frames.specs.Frames.{IsFrame, IsUntried, HasAllToTry, HasNothi
 use Rattle.search_frames.specs.Tests.{IsRefused}
 use Rattle.segmenter.specs.Chains.{AreFrames, HasFound, HasNone, Every, BeginsUntried, ComesAfter, HasNoneBelow, KeepsBefore}
 use Rattle.segmenter.proofs.KeptFrames.{keeps_itself, keeps_if_changes, keeps_then, keeps_less, frame_kept, place_kept, key_kept, here_kept, FrameKept, is_frame_kept, later_kept, untried_kept, kept_back}
-use Rattle.segmenter.proofs.StandingRanks.{not_both, possible_if_leads, possible_if_ends}
+use Rattle.search_frames.proofs.StandingRanks.{not_both, possible_if_leads, possible_if_ends}
 
 -- ---- lists of keys by their first keys
 

@@ -14,10 +14,11 @@ use Rattle.resumption.specs.declared.stand.Stand.TheVariants as stand
 use Rattle.resumption.specs.declared.state.Resumption.{Resumption}
 use Rattle.search_frames.specs.Standings.{Standing, after, opening, rules_in, ways_in}
 use Rattle.search_frames.specs.Frames.{IsStack, IsFrame, here_of}
-use Rattle.segmenter.specs.Chains.{AreFrames, LeadAlong, IsReached, HasRoom, KeepsBefore}
+use Rattle.search_frames.specs.Reached.{IsReached}
+use Rattle.segmenter.specs.Chains.{AreFrames, LeadAlong, HasRoom, KeepsBefore}
 use Rattle.segmenter.specs.Searches.{IsStackOf, StandsAtAnswer, StandsWhere, position_of, position_at, steps_in}
 use Rattle.segmenter.proofs.KeptFrames.{frame_kept, is_frame_kept, later_kept, here_kept, key_kept}
-use Rattle.segmenter.proofs.ReachedStandings.{opening_reached}
+use Rattle.search_frames.proofs.ReachedStandings.{opening_reached}
 use Rattle.segmenter.proofs.StandingAnswers.{frames_count}
 
 -- ---- a stack that stands otherwise

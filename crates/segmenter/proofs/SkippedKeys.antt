@@ -14,7 +14,7 @@ use Rattle.annotated_trie.specs.Searched.{SearchedLexicon}
 use Rattle.search_frames.specs.Standings.{Standing, after, ways_in}
 use Rattle.segmenter.specs.Chains.{ComesAfter}
 use Rattle.segmenter.proofs.StandingAnswers.{less_if_after}
-use Rattle.segmenter.proofs.StandingRanks.{not_both}
+use Rattle.search_frames.proofs.StandingRanks.{not_both}
 use Rattle.segmenter.proofs.PathsFound.{first_of_path}
 
 -- ---- what comes after the first keys

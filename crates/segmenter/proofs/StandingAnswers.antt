@@ -31,8 +31,8 @@ use Rattle.search_frames.specs.Standings.{Standing, rules_in, Ends, after, openi
 use Rattle.search_frames.specs.Frames.{IsFrame, here_of, key_at, step_of}
 use Rattle.segmenter.specs.Chains.{AreFrames, HasNone, Every, ComesAfter, LeadAlong}
 use Rattle.segmenter.specs.Searches.{steps_in}
-use Rattle.segmenter.proofs.StandingPaths.{path_from_opening}
-use Rattle.segmenter.proofs.StandingRanks.{not_both}
+use Rattle.search_frames.proofs.StandingPaths.{path_from_opening}
+use Rattle.search_frames.proofs.StandingRanks.{not_both}
 use Rattle.segmenter.proofs.PathsFound.{GoesOn, first_of_path}
 
 -- ---- steps that stand from a place on to the end of the line

@@ -2,31 +2,16 @@
 use Rattle.std.specs.Prelude.{◌≡◌, ℕ, ◌+◌, ◌*◌, ◌<◌, ◌≤◌, ◌⊎◌, List, [], ◌∷◌, length, take}
 use Rattle.std.specs.declared.cmp.Ordering.TheVariants.{Less}
 use Rattle.text_definitions.specs.Lines.{Line}
-use Rattle.segmentation_definitions.specs.Items.{Choice, covered_from, after_lead}
-use Rattle.segmentation_definitions.specs.Derivations.{Step, phases_of}
-use Rattle.segmentation_definitions.specs.Configurations.{Start, entrance_after}
+use Rattle.segmentation_definitions.specs.Items.{Choice}
 use Rattle.segmentation_definitions.specs.Listings.{Key, compare_keys}
 use Rattle.listing_laws.specs.Ways.{IsPath}
 use Rattle.listing_laws.specs.Positions.{IsFirst}
-use Rattle.answer_paths.specs.Fronts.{supplied, IsLedTo}
-use Rattle.phase_automaton.specs.Automata.{state_after}
 use Rattle.annotated_trie.specs.Searched.{SearchedLexicon}
 use Rattle.resumption.specs.declared.frame.TheConstants.{NODES_OF_FRAME}
 use Rattle.resumption.specs.declared.state.Resumption.{Resumption}
-use Rattle.search_frames.specs.Standings.{Standing, LeadsOn, rules_in, after, ways_in}
+use Rattle.search_frames.specs.Standings.{Standing, LeadsOn, after, ways_in}
 use Rattle.search_frames.specs.Frames.{IsStack, IsFrame, IsUntried, HasLaterToTry, here_of, key_at}
-
--- the front of an answer ends where the search stands
-pub record IsReached (searched : SearchedLexicon) (line : Line) (choices : List Choice) (here : Standing) : Type 0 where
-  pub front : List Step
-  pub led : IsLedTo searched.lexicon line choices front
-  pub at : here.at ≡ covered_from (rules_in searched) 0 [] front
-  pub entrance : here.entrance ≡ entrance_after (rules_in searched) Start front
-  pub state : here.state ≡ state_after searched.machine (phases_of front)
-
--- twice the letters that are derived, and one more where no rule supplies letters to the next form
-abbrev pub rank : Standing → ℕ
-rank here = 2 * here.at + after_lead (length (supplied here.entrance))
+use Rattle.search_frames.specs.Reached.{rank}
 
 -- the frames from the level on up to the last in use stand one after another along the keys, each at its key, and have just
 -- the later keys still to try

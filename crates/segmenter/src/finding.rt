@@ -1,11 +1,14 @@
-ghost use Rattle.std.specs.Prelude.{◌<◌, ◌+◌, ◌∷◌, List};
+ghost use Rattle.std.specs.Prelude.{◌<◌, ◌≤◌, ◌+◌, ◌-◌, ◌∷◌, ℕ, List};
 ghost use Rattle.std.specs.Bool.{OnTrue, OnFalse};
 ghost use Rattle.text_definitions.specs.Lines.{IsLine};
 ghost use Rattle.segmentation_definitions.specs.Listings.{Key};
 ghost use Rattle.annotated_trie.specs.Searched.{IsSearchedLexicon};
 ghost use Rattle.search_frames.specs.Frames.{IsStack, IsFrame, IsPlaceIn, standing_of, here_of};
-ghost use Rattle.segmenter.specs.Guided.{IsGuideOf};
-ghost use Rattle.segmenter.specs.Chains.{IsReached, AreFrames, HasFound, HasNone, Every, BeginsUntried, ComesAfter, LeadAlong, HasNoneBelow, HasRoom, KeepsBefore};
+ghost use Rattle.search_frames.specs.Guided.{IsGuideOf, IsExactOf};
+ghost use Rattle.search_frames.specs.Costs.{HasAtMostChoices, steps_left};
+ghost use Rattle.search_frames.specs.Reached.{IsReached};
+ghost use Rattle.segmenter.specs.MoveCosts.{steps_of_levels, levels_from, levels_after};
+ghost use Rattle.segmenter.specs.Chains.{AreFrames, HasFound, HasNone, Every, BeginsUntried, ComesAfter, LeadAlong, HasNoneBelow, HasRoom, KeepsBefore};
 
 use annotated_trie::Lexicon;
 use derivation::Guide;
@@ -37,6 +40,10 @@ pub(crate) fn find_first<D: Guide, L>(
     ensures found { OnTrue result (HasFound lexicon.now line.now choices.now Every stack.new level (standing_of lexicon.now place)) }
     ensures none { OnFalse result (HasNone lexicon.now line.now choices.now Every (standing_of lexicon.now place)) }
     ensures changes { KeepsBefore level stack.old stack.new }
+    ensures steps_on { IsExactOf lexicon.now line.now choices.now (D.says guide.now) → (most : ℕ) → HasAtMostChoices lexicon.now.tries most
+        → OnTrue result (steps.new ≤ steps.old + 1 + steps_of_levels lexicon.now most (levels_from line.now (standing_of lexicon.now place))) }
+    ensures steps_end { IsExactOf lexicon.now line.now choices.now (D.says guide.now) → (most : ℕ) → HasAtMostChoices lexicon.now.tries most
+        → OnFalse result (steps.new ≤ steps.old + 1) }
 {
     if !guide.live(place.at, place.entrance, place.state, steps) {
         return false;
@@ -66,6 +73,10 @@ pub(crate) fn find_next<D: Guide, L>(
     ensures found { OnTrue result (HasFound lexicon.now line.now choices.now (BeginsUntried lexicon.now stack.old level) stack.new level (here_of lexicon.now stack.old level)) }
     ensures none { OnFalse result (HasNone lexicon.now line.now choices.now (BeginsUntried lexicon.now stack.old level) (here_of lexicon.now stack.old level)) }
     ensures changes { KeepsBefore level stack.old stack.new }
+    ensures steps_on { IsExactOf lexicon.now line.now choices.now (D.says guide.now) → (most : ℕ) → HasAtMostChoices lexicon.now.tries most
+        → OnTrue result (steps.new ≤ steps.old + steps_left lexicon.now most stack.old level + steps_of_levels lexicon.now most (levels_after line.now (here_of lexicon.now stack.old level))) }
+    ensures steps_end { IsExactOf lexicon.now line.now choices.now (D.says guide.now) → (most : ℕ) → HasAtMostChoices lexicon.now.tries most
+        → OnFalse result (steps.new ≤ steps.old + steps_left lexicon.now most stack.old level) }
 {
     while go_on(lexicon, line, stack, level, steps) {
         let place = Place::of_frame(stack, level);
@@ -112,6 +123,10 @@ pub(crate) fn find_later<D: Guide, L>(
         → LeadAlong lexicon.now line.now choices.now (here_of lexicon.now stack.old level) keys
         → OnFalse result (HasNone lexicon.now line.now choices.now (ComesAfter keys) (here_of lexicon.now stack.old level)) }
     ensures changes { KeepsBefore level stack.old stack.new }
+    ensures steps_on { IsExactOf lexicon.now line.now choices.now (D.says guide.now) → (most : ℕ) → HasAtMostChoices lexicon.now.tries most
+        → OnTrue result (steps.new ≤ steps.old + steps_of_levels lexicon.now most (stack.old.depth - level + levels_after line.now (here_of lexicon.now stack.old level))) }
+    ensures steps_end { IsExactOf lexicon.now line.now choices.now (D.says guide.now) → (most : ℕ) → HasAtMostChoices lexicon.now.tries most
+        → OnFalse result (steps.new ≤ steps.old + steps_of_levels lexicon.now most (stack.old.depth - level)) }
 {
     if find_deeper(lexicon, line, choices, guide, stack, level, steps) {
         return true;
@@ -146,6 +161,10 @@ fn find_deeper<D: Guide, L>(
         → OnFalse result (HasNoneBelow lexicon.now line.now choices.now (here_of lexicon.now stack.old level) key rest) }
     ensures changes { KeepsBefore level stack.old stack.new }
     ensures kept { OnFalse result (KeepsBefore (level + 1) stack.old stack.new) }
+    ensures steps_on { IsExactOf lexicon.now line.now choices.now (D.says guide.now) → (most : ℕ) → HasAtMostChoices lexicon.now.tries most
+        → OnTrue result (steps.new ≤ steps.old + steps_of_levels lexicon.now most (stack.old.depth - level + levels_after line.now (here_of lexicon.now stack.old level))) }
+    ensures steps_end { IsExactOf lexicon.now line.now choices.now (D.says guide.now) → (most : ℕ) → HasAtMostChoices lexicon.now.tries most
+        → OnFalse result (steps.new ≤ steps.old + steps_of_levels lexicon.now most (stack.old.depth - (level + 1))) }
 {
     level + 1 < stack.depth as usize
         && find_later(lexicon, line, choices, guide, stack, level + 1, steps)

@@ -6,7 +6,8 @@ ghost use Rattle.annotated_trie.specs.Searched.{IsSearchedLexicon};
 ghost use Rattle.search_frames.specs.Standings.{ways_in};
 ghost use Rattle.search_frames.specs.Frames.{IsStack, IsPlaceIn, standing_of};
 ghost use Rattle.search_frames.specs.Tests.{IsTestOf};
-ghost use Rattle.segmenter.specs.Chains.{IsReached, AreFrames, HasRoom, KeepsBefore};
+ghost use Rattle.search_frames.specs.Reached.{IsReached};
+ghost use Rattle.segmenter.specs.Chains.{AreFrames, HasRoom, KeepsBefore};
 ghost use Rattle.segmenter.specs.GivenKeys.{StandsUnlessRefused, key_of_given, keys_of_given};
 
 use annotated_trie::Lexicon;

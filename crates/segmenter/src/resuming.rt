@@ -1,4 +1,4 @@
-ghost use Rattle.std.specs.Prelude.{◌≡◌, ◌≢◌, ◌≤◌, [], List, IfOk, IfErr};
+ghost use Rattle.std.specs.Prelude.{◌≡◌, ◌≢◌, ◌+◌, ◌*◌, ◌≤◌, ℕ, length, [], List, IfOk, IfErr};
 ghost use Rattle.std.specs.Bool.{OnTrue, OnFalse};
 ghost use Rattle.segmentation_definitions.specs.Derivations.{Step};
 ghost use Rattle.segmentation_definitions.specs.Listings.{AtAnswer};
@@ -7,11 +7,15 @@ ghost use Rattle.resumption.specs.declared.stand.Stand.TheVariants as stand;
 ghost use Rattle.segmenter.specs.declared.resuming.ResumeError.TheVariants.{NotAnAnswer as ErrorNotAnAnswer, Memory as ErrorMemory};
 ghost use Rattle.segmenter.specs.Chains.{KeepsBefore};
 ghost use Rattle.segmenter.specs.GivenKeys.{keys_of_given};
-ghost use Rattle.segmenter.specs.Guided.{IsGuideOf};
+ghost use Rattle.search_frames.specs.Guided.{IsGuideOf, IsExactOf};
+ghost use Rattle.search_frames.specs.Costs.{HasAtMostChoices};
+ghost use Rattle.segmentation_definitions.specs.StepBounds.{advance_bound};
+ghost use Rattle.segmenter.specs.MoveCosts.{AreKnownExact, steps_of_levels};
 ghost use Rattle.segmenter.specs.Searches.{IsStackOf, AreNoKeys, StandsAtKeys, Skipped, HasSkippedAll};
 ghost use Rattle.segmenter.specs.Skips.{HasNonePast, StandsPast, HasSkipped, HasSkippedOut, value_of};
 
 use super::finding::find_later;
+use super::guiding::SearchGuide;
 use super::keyed::find_keys;
 use super::search::{Search, empty_stack, opening};
 use annotated_trie::Lexicon;
@@ -40,7 +44,7 @@ impl From<Memory> for ResumeError {
     }
 }
 
-impl<'a, D: Guide> Search<'a, D> {
+impl<'a, D: SearchGuide> Search<'a, D> {
     /// A search that stands at the answer with these keys, or before the first answer where there are none. It is made from the
     /// keys alone, and asks no guide.
     pub fn resume(
@@ -52,6 +56,7 @@ impl<'a, D: Guide> Search<'a, D> {
         keys: &[Key],
     ) -> Result<Search<'a, D>, ResumeError>
         requires guide { IsGuideOf lexicon.now line.now choices.now (D.covers guide.now) (D.says guide.now) }
+        requires known { D.known guide.now lexicon.now line.now choices.now }
         ensures over { IfOk result (λ search. search ≡ record { searched = lexicon.now; line = line.now; choices = choices.now; position = search.position }) }
         ensures at { IfOk result (λ search. StandsAtKeys search (keys_of_given keys.now)) }
         ensures not_an_answer { IfErr result (λ error. error ≡ ErrorNotAnAnswer → (keys.now ≢ []) × AreNoKeys lexicon.now line.now choices.now (keys_of_given keys.now)) }
@@ -66,12 +71,14 @@ impl<'a, D: Guide> Search<'a, D> {
     }
 
     /// Moves past the first keys of the answer at which the search stands, as many as depth, all where it has fewer: to the first
-    /// later answer that has others. False where there is none; then the search stands past the last. Takes no memory.
+    /// later answer that has others. False where there is none; then the search stands past the last. Takes no memory, and no more
+    /// steps than `advance` may take.
     pub fn skip<L>(&mut self, depth: u32, steps: &mut Steps<L>) -> bool
         requires at { (answer : List Step) × (self.old.position ≡ AtAnswer answer) }
         requires depth { 1 ≤ depth }
         ensures moved { OnTrue result (Skipped depth self.old self.new) }
         ensures ended { OnFalse result (HasSkippedAll depth self.old self.new) }
+        ensures steps { AreKnownExact D D.known D.says self.old → (most : ℕ) → HasAtMostChoices self.old.searched.tries most → steps.new ≤ steps.old + advance_bound self.old.searched.lexicon most (length self.old.line.letters) }
     {
         skip_on(
             self.lexicon,
@@ -129,6 +136,7 @@ fn find_past<D: Guide, L>(
     ensures found { OnTrue result (StandsPast lexicon.now line.now choices.now depth stack.old stack.new) }
     ensures none { OnFalse result (HasNonePast depth (value_of lexicon.now line.now choices.now stack.old)) }
     ensures changes { KeepsBefore 0 stack.old stack.new }
+    ensures steps { IsExactOf lexicon.now line.now choices.now (D.says guide.now) → (most : ℕ) → HasAtMostChoices lexicon.now.tries most → steps.new ≤ steps.old + steps_of_levels lexicon.now most (4 * length line.now.letters) }
 {
     stack.depth = depth.min(stack.depth);
     find_later(lexicon, line, choices, guide, stack, 0, steps)
@@ -153,6 +161,7 @@ fn skip_on<D: Guide, L>(
     ensures stack { IsStackOf lexicon.now line.now choices.now stack.new }
     ensures moved { OnTrue result (HasSkipped lexicon.now line.now choices.now depth stack.old stack.new) }
     ensures ended { OnFalse result (HasSkippedOut lexicon.now line.now choices.now depth stack.old stack.new) }
+    ensures steps { IsExactOf lexicon.now line.now choices.now (D.says guide.now) → (most : ℕ) → HasAtMostChoices lexicon.now.tries most → steps.new ≤ steps.old + steps_of_levels lexicon.now most (4 * length line.now.letters) }
 {
     let found = find_past(lexicon, line, choices, guide, stack, depth, steps);
     stack.stand = if found { Stand::At } else { Stand::Past };

@@ -1,4 +1,4 @@
-ghost use Rattle.std.specs.Prelude.{◌≡◌, ◌<◌, ◌≤◌, IfOk, MatchOption, Some, None, List};
+ghost use Rattle.std.specs.Prelude.{◌≡◌, ◌+◌, ◌*◌, ◌<◌, ◌≤◌, ℕ, length, IfOk, MatchOption, Some, None, List};
 ghost use Rattle.std.specs.Bool.{OnTrue, OnFalse};
 ghost use Rattle.text_definitions.specs.Lines.{Line as LineValue};
 ghost use Rattle.segmentation_definitions.specs.Items.{Choice};
@@ -8,25 +8,29 @@ ghost use Rattle.resumption.specs.declared.stand.Stand.TheVariants as stand;
 ghost use Rattle.search_frames.specs.Frames.{IsPlaceIn, standing_of};
 ghost use Rattle.search_frames.specs.Standings.{opening};
 ghost use Rattle.segmenter.specs.Chains.{KeepsBefore};
-ghost use Rattle.segmenter.specs.Guided.{IsGuideOf};
+ghost use Rattle.search_frames.specs.Guided.{IsGuideOf, IsExactOf};
+ghost use Rattle.search_frames.specs.Costs.{HasAtMostChoices};
+ghost use Rattle.segmentation_definitions.specs.StepBounds.{advance_bound};
+ghost use Rattle.segmenter.specs.MoveCosts.{AreKnownExact, steps_of_levels};
 ghost use Rattle.segmenter.specs.Moves.{StandsAtNext, HasNoNext, HasMoved, HasRunOut};
 ghost use Rattle.segmenter.specs.Searches.{IsStackOf, position_of, MovedOn, HasEnded, IsCurrent, StandsWhere};
 
 use super::finding::{find_first, find_later};
+use super::guiding::SearchGuide;
 use annotated_trie::Lexicon;
 use derivation::{Entrance, Guide, Step};
 use outside::Steps;
 use phoneme::{Line, Memory};
 use reader_choices::Choices;
-use resumption::{Frame, NODES_OF_FRAME, Resumption, Stand};
-use search_frames::Place;
+use resumption::{Resumption, Stand};
+use search_frames::{Place, new_stack};
 use std::alloc::Global;
 use std::marker::Model;
 
 /// A search for the answers of a line, which stands before the first of them, at one, or past the last (a backtracking search
 /// whose stack can be kept, after Huet 2005). The guide says where it need not go on.
 #[derive(Drop)]
-pub struct Search<'a, D: Guide> {
+pub struct Search<'a, D: SearchGuide> {
     pub(crate) lexicon: &'a Lexicon,
     pub(crate) line: &'a Line,
     pub(crate) choices: &'a Choices,
@@ -34,9 +38,9 @@ pub struct Search<'a, D: Guide> {
     pub(crate) stack: Resumption,
 }
 
-impl<'a, D: Guide> Model for Search<'a, D> {
+impl<'a, D: SearchGuide> Model for Search<'a, D> {
     ghost use Rattle.annotated_trie.specs.Searched.{IsSearchedLexicon};
-    ghost use Rattle.segmenter.specs.Guided.{IsGuideOf};
+    ghost use Rattle.search_frames.specs.Guided.{IsGuideOf};
     ghost use Rattle.segmenter.specs.Searches.{SearchValue, IsStackOf, position_of};
 
     ghost Value = { SearchValue };
@@ -45,10 +49,11 @@ impl<'a, D: Guide> Model for Search<'a, D> {
 
     ghost invariant = { λ s. IsSearchedLexicon s.lexicon.now
         × IsGuideOf s.lexicon.now s.line.now s.choices.now (D.covers s.guide.now) (D.says s.guide.now)
-        × IsStackOf s.lexicon.now s.line.now s.choices.now s.stack };
+        × IsStackOf s.lexicon.now s.line.now s.choices.now s.stack
+        × D.known s.guide.now s.lexicon.now s.line.now s.choices.now };
 }
 
-impl<'a, D: Guide> Search<'a, D> {
+impl<'a, D: SearchGuide> Search<'a, D> {
     /// A search that stands before the first answer, with room for the longest. Refused only for want of memory.
     pub fn new(
         alloc: Global,
@@ -58,6 +63,7 @@ impl<'a, D: Guide> Search<'a, D> {
         guide: &'a D,
     ) -> Result<Search<'a, D>, Memory>
         requires guide { IsGuideOf lexicon.now line.now choices.now (D.covers guide.now) (D.says guide.now) }
+        requires known { D.known guide.now lexicon.now line.now choices.now }
         ensures ok { IfOk result (λ search. search ≡ record { searched = lexicon.now; line = line.now; choices = choices.now; position = BeforeFirst }) }
     {
         let stack = empty_stack(alloc, lexicon, line)?;
@@ -74,6 +80,7 @@ impl<'a, D: Guide> Search<'a, D> {
         from: Resumption,
     ) -> Search<'a, D>
         requires guide { IsGuideOf lexicon.now line.now choices.now (D.covers guide.now) (D.says guide.now) }
+        requires known { D.known guide.now lexicon.now line.now choices.now }
         requires stack { IsStackOf lexicon.now line.now choices.now from }
         ensures ok { result ≡ record { searched = lexicon.now; line = line.now; choices = choices.now; position = position_of lexicon.now line.now from } }
     {
@@ -87,10 +94,13 @@ impl<'a, D: Guide> Search<'a, D> {
         }
     }
 
-    /// Moves to the next answer. False where none is left; then the search stands past the last. Takes no memory.
+    /// Moves to the next answer. False where none is left; then the search stands past the last. Takes no memory. Under a guide
+    /// that is known to be exact it takes at most twelve steps for each letter of the line, each phase, each of the at most 65
+    /// nodes on the way along a form and each choice at one and one more.
     pub fn advance<L>(&mut self, steps: &mut Steps<L>) -> bool
         ensures moved { OnTrue result (MovedOn self.old self.new) }
         ensures ended { OnFalse result (HasEnded self.old self.new) }
+        ensures steps { AreKnownExact D D.known D.says self.old → (most : ℕ) → HasAtMostChoices self.old.searched.tries most → steps.new ≤ steps.old + advance_bound self.old.searched.lexicon most (length self.old.line.letters) }
     {
         move_on(
             self.lexicon,
@@ -142,6 +152,7 @@ fn find_next_answer<D: Guide, L>(
     ensures found { OnTrue result (StandsAtNext lexicon.now line.now choices.now stack.old stack.new) }
     ensures none { OnFalse result (HasNoNext lexicon.now line.now choices.now stack.old) }
     ensures changes { KeepsBefore 0 stack.old stack.new }
+    ensures steps { IsExactOf lexicon.now line.now choices.now (D.says guide.now) → (most : ℕ) → HasAtMostChoices lexicon.now.tries most → steps.new ≤ steps.old + steps_of_levels lexicon.now most (4 * length line.now.letters) }
 {
     match stack.stand {
         Stand::Before => find_first(
@@ -174,6 +185,7 @@ fn move_on<D: Guide, L>(
     ensures stack { IsStackOf lexicon.now line.now choices.now stack.new }
     ensures moved { OnTrue result (HasMoved lexicon.now line.now choices.now stack.old stack.new) }
     ensures ended { OnFalse result (HasRunOut lexicon.now line.now choices.now stack.old stack.new) }
+    ensures steps { IsExactOf lexicon.now line.now choices.now (D.says guide.now) → (most : ℕ) → HasAtMostChoices lexicon.now.tries most → steps.new ≤ steps.old + steps_of_levels lexicon.now most (4 * length line.now.letters) }
 {
     let found = find_next_answer(lexicon, line, choices, guide, stack, steps);
     stack.stand = if found { Stand::At } else { Stand::Past };
@@ -201,31 +213,5 @@ pub(crate) fn empty_stack(
     ensures stand { IfOk result (λ stack. stack.stand ≡ stand.Before) }
     ensures ok { IfOk result (λ stack. (choices : List Choice) → IsStackOf lexicon.now line.now choices stack) }
 {
-    // The proof knows that there is a phase only of a lexicon whose rules are read.
-    let _rules = lexicon.rules();
-    let room = 2 * line.letters.as_slice().len();
-    let step = Step {
-        phase: 0,
-        rule: 0,
-        at: 0,
-        lead: 0,
-        taken: 0,
-    };
-    let frame = Frame {
-        entrance: Entrance::Start,
-        state: lexicon.automaton().start(),
-        walked: 0,
-        next: 0,
-    };
-    Ok(Resumption {
-        stand: Stand::Before,
-        depth: 0,
-        steps: Vec::from_elem(alloc, step, room)?,
-        frames: Vec::from_elem(alloc, frame, room)?,
-        nodes: Vec::from_elem(
-            alloc,
-            lexicon.tries().store().root(0),
-            room * NODES_OF_FRAME,
-        )?,
-    })
+    new_stack(alloc, lexicon, 2 * line.letters.as_slice().len())
 }

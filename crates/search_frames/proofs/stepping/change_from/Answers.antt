@@ -1,11 +1,13 @@
 -- What stands at the first place that can be a change is the first change (`StepChanges`).
-use Rattle.std.proofs.Common.{◌≡◌, ◌≢◌, ◌<◌, ◌-◌, ◌⊎◌, ℕ, Bool, true, false, Option, Some, None, [], arith, sym, ◌∙◌, ap, subst, max}
+use Rattle.std.proofs.Common.{◌≡◌, ◌≢◌, ◌<◌, ◌-◌, ◌⊎◌, ℕ, Bool, true, false, Option, Some, None, [], length, arith, sym, ◌∙◌, ap, subst, max}
 use Rattle.std.specs.Prelude.{slice_get, IsTrue}
 use Rattle.lexicon_definitions.specs.Tries.{Trie, row_of}
 use Rattle.lexicon_definitions.specs.Lexicons.{RuleSet}
 use Rattle.annotated_trie.specs.Choices.{AnnotatedTrie, AreChoices, choices_of}
 use Rattle.search_frames.specs.Changes.{IsChangeFrom}
 use Rattle.search_frames.proofs.StepChanges.{none_first, choice_first, no_choice, choice_above}
+use Rattle.std.proofs.lemmas.Option.{slice_get_within}
+use Rattle.search_frames.proofs.FrameCosts.{none_costs, choice_costs, end_costs}
 use Rattle.search_frames.proofs.stepping.change_from.Given as given
 use Rattle.search_frames.proofs.stepping.change_from.Goals as goal
 use Rattle.search_frames.proofs.stepping.change_from.Goals.{After-choice, else-next-eq0-via-then-next-eq0+else-accepts, else-next-eq0-via-else-next-eq0}
@@ -29,8 +31,8 @@ not_there tries told store node accepted told_is store_is false_is says ends =
 place_cases : (next place : ℕ) → place ≡ max next 1 → ((next ≡ 0) × (place ≡ 1)) ⊎ ((0 < next) × (place ≡ next))
 place_cases next place is = grind arith
 
-pub returns-then-accepts : goal.returns-then-accepts
-returns-then-accepts g c =
+pub returns-then-accepts-clause-first : goal.returns-then-accepts-clause-first
+returns-then-accepts-clause-first g c =
     none_there c.args.lexicon.now.lexicon.rules c.args.lexicon.now.tries c.tries-tries.result.now c.store.result.now c.args.node c.args.next c.accepts.result
     (c.requires.searched.tries.each c.args.node c.requires.node)
     c.if-next-eq0.true c.tries-tries.ensures.value c.store.ensures c.if-accepts.true c.accepts.ensures.0
@@ -47,9 +49,9 @@ read : (tries told : AnnotatedTrie) (node place : ℕ) (found answer : Option �
 read tries told node place found answer told_is says is =
     sym (subst (λ (t : AnnotatedTrie). found ≡ slice_get (choices_of t node) place) told_is says) ∙ is
 
-pub returns-in_err-rule : goal.returns-in_err-rule
-returns-in_err-rule g c =
-    let b : After-choice g = (goal.at.returns-in_err-rule g c).After-choice in
+pub returns-in_err-rule-clause-first : goal.returns-in_err-rule-clause-first
+returns-in_err-rule-clause-first g c =
+    let b : After-choice g = (goal.at.returns-in_err-rule-clause-first g c).After-choice in
     let tries = c.args.lexicon.now.tries in
     let place = place_cases c.args.next c.max-place.result c.max-place.ensures in
     let none = read tries c.tries-tries.result.now c.args.node (c.max-place.result - 1) c.choice.result None c.tries-tries.ensures.value c.choice.ensures.value c.in_err-rule.was in
@@ -65,10 +67,27 @@ overflow_add-result g c =
     let few = c.requires.searched.limits.rules in
     omega (arith, above, few)
 
-pub returns : goal.returns
-returns g c =
-    let b : After-choice g = (goal.at.returns g c).After-choice in
+pub returns-clause-first : goal.returns-clause-first
+returns-clause-first g c =
+    let b : After-choice g = (goal.at.returns-clause-first g c).After-choice in
     let tries = c.args.lexicon.now.tries in
     let place = place_cases c.args.next c.max-place.result c.max-place.ensures in
     let found = read tries c.tries-tries.result.now c.args.node (c.max-place.result - 1) c.choice.result (Some c.in_ok-rule.rule) c.tries-tries.ensures.value c.choice.ensures.value c.in_ok-rule.was in
     choice_first c.args.lexicon.now.lexicon.rules tries c.args.node (c.requires.searched.tries.each c.args.node c.requires.node) c.args.next c.max-place.result c.in_ok-rule.rule place (no_end_here g b) c.requires.searched.limits.rules found
+
+pub returns-then-accepts-clause-steps : goal.returns-then-accepts-clause-steps
+returns-then-accepts-clause-steps g c most few = none_costs most c.args.next c.args.steps.now c.if-next-eq0.true
+
+pub returns-in_err-rule-clause-steps : goal.returns-in_err-rule-clause-steps
+returns-in_err-rule-clause-steps g c most few =
+    let place = place_cases c.args.next c.max-place.result c.max-place.ensures in
+    rw c.from_residual.ensures
+    (end_costs most c.args.next c.max-place.result c.args.steps.now c.choice.new.steps 0 place c.choice.ensures.steps)
+
+pub returns-clause-steps : goal.returns-clause-steps
+returns-clause-steps g c most few =
+    let tries = c.args.lexicon.now.tries in
+    let place = place_cases c.args.next c.max-place.result c.max-place.ensures in
+    let found = read tries c.tries-tries.result.now c.args.node (c.max-place.result - 1) c.choice.result (Some c.in_ok-rule.rule) c.tries-tries.ensures.value c.choice.ensures.value c.in_ok-rule.was in
+    choice_costs most c.args.next c.max-place.result c.args.steps.now c.choice.new.steps (length (choices_of tries c.args.node)) place c.choice.ensures.steps
+    (slice_get_within (choices_of tries c.args.node) (c.max-place.result - 1) c.in_ok-rule.rule found) (few c.args.node c.requires.node)

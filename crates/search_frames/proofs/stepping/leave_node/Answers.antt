@@ -6,6 +6,7 @@ use Rattle.resumption.specs.declared.frame.Frame.{Frame}
 use Rattle.search_frames.specs.Frames.{frame_of, step_of}
 use Rattle.search_frames.proofs.StepFrames.{frame_read, step_read}
 use Rattle.search_frames.proofs.StepLeaves.{left_back, left_phase}
+use Rattle.search_frames.proofs.FrameCosts.{back_costs, next_phase_costs, begun_costs}
 use Rattle.search_frames.proofs.stepping.leave_node.Given as given
 use Rattle.search_frames.proofs.stepping.leave_node.Goals as goal
 use Rattle.search_frames.proofs.stepping.leave_node.Goals.{After-index, After-index-2}
@@ -29,3 +30,15 @@ returns-clause-left g c =
     let phase = phase_is g (goal.at.returns-clause-left g c).After-index-2 in
     left_phase c.args.lexicon.now c.args.line.now c.args.level c.args.stack.now c.walk_phase.new.stack (c.index-2.result.now.phase + 1)
     (omega (arith, walked, c.if-index-gt0.false)) (omega (arith, phase)) c.walk_phase.ensures.frame c.walk_phase.ensures.place c.walk_phase.ensures.phases
+
+pub returns-then-index-gt0-clause-steps_on : goal.returns-then-index-gt0-clause-steps_on
+returns-then-index-gt0-clause-steps_on g c most =
+    back_costs c.args.lexicon.now c.args.line.now c.args.level most c.args.stack.now c.step_back.new.stack c.args.steps.now c.step_back.ensures
+
+pub returns-clause-steps_on : goal.returns-clause-steps_on
+returns-clause-steps_on g c most =
+    let phase = phase_is g (goal.at.returns-clause-steps_on g c).After-index-2 in
+    let next = c.index-2.result.now.phase + 1 in
+    next_phase_costs c.args.lexicon.now c.args.line.now c.args.level most c.args.stack.now c.walk_phase.new.stack next c.args.steps.now c.walk_phase.new.steps (omega (arith, phase))
+    (begun_costs c.args.lexicon.now c.args.line.now c.args.level most c.walk_phase.new.stack next c.args.steps.now c.walk_phase.new.steps
+    c.walk_phase.ensures.frame c.walk_phase.ensures.begun c.walk_phase.ensures.steps)

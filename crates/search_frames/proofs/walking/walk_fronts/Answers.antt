@@ -1,8 +1,9 @@
 -- A walk along the lead and then letters of the line is one along the letters from where the lead leads.
-use Rattle.std.proofs.Common.{take, IsSome, sym, ◌∙◌, subst}
+use Rattle.std.proofs.Common.{take, IsSome, ◌-◌, sym, ◌∙◌, subst, arith}
 use Rattle.lexicon_definitions.proofs.TrieWalks.{walk-two}
 use Rattle.resumption.specs.declared.frame.TheConstants.{NODES_OF_FRAME}
 use Rattle.search_frames.proofs.WalkLemmas.{nowhere_after, short_after}
+use Rattle.search_frames.proofs.FrameCosts.{fronts_cost}
 use Rattle.search_frames.proofs.walking.walk_fronts.Goals as goal
 
 pub walk_letters-requires-clause-short : goal.walk_letters-requires-clause-short
@@ -22,3 +23,12 @@ pub returns-in-Some-clause-all : goal.returns-in-Some-clause-all
 returns-in-Some-clause-all g c taken low walks =
     c.walk_letters.ensures.all taken low
     (subst IsSome (walk-two c.args.store.now.rows c.args.lead.now (take taken c.args.letters.now) c.args.root c.in-Some.node (sym c.in-Some.ensures.value)) walks)
+
+pub returns-in-Some-clause-steps : goal.returns-in-Some-clause-steps
+returns-in-Some-clause-steps g c =
+    let taken = c.walk_letters.result - 1 in
+    let some = c.walk_letters.ensures.some in
+    let walked = walk-two c.args.store.now.rows c.args.lead.now (take taken c.args.letters.now) c.args.root c.in-Some.node (sym c.in-Some.ensures.value)
+    ∙ c.walk_letters.ensures.walked taken (omega (arith, some)) in
+    fronts_cost c.args.store.now.rows c.args.root _ c.args.lead.now c.args.letters.now c.walk_letters.result c.args.steps.now c.walk_word.new.steps c.walk_letters.new.steps
+    c.requires.short c.in-Some.ensures.steps c.walk_letters.ensures.steps some c.walk_letters.ensures.within walked

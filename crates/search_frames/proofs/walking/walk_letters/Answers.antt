@@ -39,6 +39,7 @@ loop-letter-preserved g c =
       before = take-set-le c.args.base c.loop-letter.nodes.items (c.args.base + c.loop-letter.walked) c.in-Some.child (omega arith) ∙ inv.before;
       walked = more_walked rows c.args.node c.in-Some.child c.args.letters.now c.loop-letter.nodes.items c.args.base c.loop-letter.walked inv.walked place
           (ap (λ (n : ℕ). walk rows c.args.node (take n c.args.letters.now)) count ∙ walked);
+      spent = omega (arith, inv.spent, c.in-Some.ensures.steps);
     }
 
 pub returns-clause-all : goal.returns-clause-all

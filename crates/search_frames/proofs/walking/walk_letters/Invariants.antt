@@ -1,5 +1,5 @@
 -- The letters so far lead to the node that is reached, and each number of them to the node at its place.
-use Rattle.std.proofs.Common.{◌≡◌, ◌+◌, ◌<◌, length, take, Some}
+use Rattle.std.proofs.Common.{◌≡◌, ◌+◌, ◌<◌, ◌≤◌, length, take, Some}
 use Rattle.lexicon_definitions.specs.Tries.{walk}
 use Rattle.search_frames.proofs.WalkLemmas.{AreWalked}
 use Rattle.search_frames.proofs.walking.walk_letters.Given as goal
@@ -12,4 +12,5 @@ invariant-loop-letter g l = record {
   long : length l.nodes.items ≡ length l.fn.nodes.items;
   before : take l.base l.nodes.items ≡ take l.base l.fn.nodes.items;
   walked : AreWalked l.store.rows l.fn.node l.letters l.nodes.items l.base l.walked;
+  spent : l.steps ≤ l.fn.steps + l.letter-index;
 }

@@ -79,4 +79,5 @@ returns g c =
         frames = take-set old.frames.items level frame;
         nodes = walked.before;
       };
+      steps = walked.steps;
     }

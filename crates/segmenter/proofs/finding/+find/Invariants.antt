@@ -1,7 +1,10 @@
--- A search goes deeper to places of higher rank, and at one place from key to key.
-use Rattle.std.proofs.Common.{◌+◌, ◌-◌, ◌*◌, length}
+-- A search goes deeper to places of higher rank, and at one place from key to key, and spends no more than what a frame has no
+-- longer left.
+use Rattle.std.proofs.Common.{ℕ, ◌+◌, ◌-◌, ◌*◌, ◌≤◌, length}
 use Rattle.search_frames.specs.Frames.{standing_of, here_of, still_to_try}
-use Rattle.segmenter.specs.Chains.{rank}
+use Rattle.search_frames.specs.Guided.{IsExactOf}
+use Rattle.search_frames.specs.Costs.{HasAtMostChoices, steps_left}
+use Rattle.search_frames.specs.Reached.{rank}
 use Rattle.segmenter.proofs.PathsFound.{IsUnderWay}
 use Rattle.segmenter.proofs.finding.+find.Given as goal
 
@@ -12,7 +15,11 @@ abbrev pub decreases-find_next : goal.decreases-find_next
 decreases-find_next g l = 2 * (2 * length l.line.now.letters + 2 - rank (here_of l.lexicon.now l.stack.now l.level))
 
 abbrev pub invariant-find_next-loop-stack : goal.invariant-find_next-loop-stack
-invariant-find_next-loop-stack g l = IsUnderWay l.lexicon l.line l.choices l.level l.initial.stack l.stack
+invariant-find_next-loop-stack g l = record {
+  under : IsUnderWay l.lexicon l.line l.choices l.level l.initial.stack l.stack;
+  spent : IsExactOf l.lexicon l.line l.choices (g.D.Guide.says l.guide) → (most : ℕ) → HasAtMostChoices l.lexicon.tries most
+      → l.steps + steps_left l.lexicon most l.stack l.level ≤ l.initial.steps + steps_left l.lexicon most l.initial.stack l.level;
+}
 
 abbrev pub decreases-find_next-loop-stack : goal.decreases-find_next-loop-stack
 decreases-find_next-loop-stack g l = still_to_try l.lexicon l.stack l.level

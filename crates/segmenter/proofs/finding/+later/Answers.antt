@@ -1,8 +1,13 @@
 -- What comes after the keys of the frames in use shares their first key, or begins with a later one.
-use Rattle.std.proofs.Common.{arith}
+use Rattle.std.proofs.Common.{◌+◌, ◌-◌, ◌≤◌, arith, subst}
 use Rattle.search_frames.specs.Frames.{here_of}
-use Rattle.segmenter.proofs.KeptFrames.{is_frame_kept, keeps_less}
+use Rattle.segmenter.proofs.KeptFrames.{frame_kept, here_kept, is_frame_kept, keeps_less}
 use Rattle.segmenter.proofs.FramesAlong.{on_false_too, first_frame, deeper, deeper_found, deeper_none, last_none, later_found, later_none}
+use Rattle.search_frames.specs.Costs.{steps_left, steps_of_frame}
+use Rattle.search_frames.proofs.FrameCosts.{left_of_frame}
+use Rattle.segmenter.specs.MoveCosts.{steps_of_levels, levels_after}
+use Rattle.segmenter.proofs.PathsFound.{on_true, on_false}
+use Rattle.segmenter.proofs.LevelCosts.{more_levels, deeper_rises, later_found_costs, later_none_costs}
 use Rattle.segmenter.proofs.finding.+later.Goals as goal
 
 pub find_deeper-find_later-requires : goal.find_deeper-find_later-requires
@@ -74,3 +79,46 @@ find_later-returns-clause-none g t c keys frames along =
     later_none c.args.lexicon.now c.args.line.now c.args.choices.now c.args.stack.now c.args.level (here_of c.args.lexicon.now c.args.stack.now c.args.level)
     c.find_deeper.new.stack c.find_next.new.stack c.find_next.result c.if-find_deeper.ensures.kept c.if-find_deeper.ensures.none keys frames along
     c.find_next.ensures.none
+
+pub find_deeper-returns-then-level-stack-clause-steps_on : goal.find_deeper-returns-then-level-stack-clause-steps_on
+find_deeper-returns-then-level-stack-clause-steps_on g t c exact most few =
+    let searched = c.args.lexicon.now in
+    let stack = c.args.stack.now in
+    let level = c.args.level in
+    let here = here_of searched stack level in
+    let more = c.if-level-stack.true in
+    let rises = deeper_rises searched c.args.line.now c.args.choices.now c.requires.searched stack level here c.requires.frames.0 c.requires.frames.1 c.requires.frames.2 more in
+    let fewer = more_levels (steps_of_frame searched most)
+    (stack.depth - (level + 1) + levels_after c.args.line.now (here_of searched stack (level + 1))) (stack.depth - level + levels_after c.args.line.now here)
+    (omega (arith, rises, more)) in
+    on_true c.find_later.result (λ found. omega (arith, found, fewer)) (c.find_later.ensures.steps_on exact most few)
+
+pub find_later-returns-clause-steps_on : goal.find_later-returns-clause-steps_on
+find_later-returns-clause-steps_on g t c exact most few =
+    let searched = c.args.lexicon.now in
+    let line = c.args.line.now in
+    let stack = c.args.stack.now in
+    let mid = c.find_deeper.new.stack in
+    let level = c.args.level in
+    let frame = is_frame_kept searched line level stack mid c.if-find_deeper.ensures.kept
+    (first_frame searched line stack c.requires.frames.0 level (here_of searched stack level) c.requires.frames.1 c.requires.below) in
+    let here = here_kept searched line level stack mid (frame_kept level stack mid c.if-find_deeper.ensures.kept) in
+    on_true c.find_next.result
+    (λ found. later_found_costs (steps_of_frame searched most) stack.depth level c.args.steps.now c.find_deeper.new.steps (steps_left searched most mid level) c.find_next.new.steps
+    c.requires.below (c.if-find_deeper.ensures.steps_end exact most few) (left_of_frame searched line level most mid frame) (levels_after line (here_of searched stack level))
+    (subst (λ h. c.find_next.new.steps ≤ c.find_deeper.new.steps + steps_left searched most mid level + steps_of_levels searched most (levels_after line h)) here found))
+    (c.find_next.ensures.steps_on exact most few)
+
+pub find_later-returns-clause-steps_end : goal.find_later-returns-clause-steps_end
+find_later-returns-clause-steps_end g t c exact most few =
+    let searched = c.args.lexicon.now in
+    let line = c.args.line.now in
+    let stack = c.args.stack.now in
+    let mid = c.find_deeper.new.stack in
+    let level = c.args.level in
+    let frame = is_frame_kept searched line level stack mid c.if-find_deeper.ensures.kept
+    (first_frame searched line stack c.requires.frames.0 level (here_of searched stack level) c.requires.frames.1 c.requires.below) in
+    on_false c.find_next.result
+    (later_none_costs (steps_of_frame searched most) stack.depth level c.args.steps.now c.find_deeper.new.steps (steps_left searched most mid level) c.find_next.new.steps
+    c.requires.below (c.if-find_deeper.ensures.steps_end exact most few) (left_of_frame searched line level most mid frame))
+    (c.find_next.ensures.steps_end exact most few)

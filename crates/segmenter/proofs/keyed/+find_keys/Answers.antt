@@ -2,7 +2,7 @@
 use Rattle.std.proofs.Common.{◌≡◌, ℕ, ◌-◌, ◌<◌, ◌≤◌, List, length, take, drop, arith, length-take, length-drop}
 use Rattle.derivation.specs.declared.step.Key.{Key}
 use Rattle.segmenter.proofs.KeptFrames.{keeps_then, keeps_less}
-use Rattle.segmenter.proofs.LeadingTo.{leads_from}
+use Rattle.search_frames.proofs.LeadingTo.{leads_from}
 use Rattle.segmenter.proofs.PathsFound.{on_true}
 use Rattle.segmenter.proofs.KeyedFrames.{stand_along}
 use Rattle.search_frames.specs.Frames.{standing_of}

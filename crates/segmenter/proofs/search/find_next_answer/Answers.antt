@@ -4,6 +4,8 @@ use Rattle.segmenter.specs.Chains.{HasFound, HasNone, Every, ComesAfter}
 use Rattle.segmenter.proofs.PathsFound.{on_true, on_false}
 use Rattle.segmenter.proofs.SearchMoves.{next_before, none_before, next_at, none_at}
 use Rattle.segmenter.proofs.SearchStacks.{some_depth, first_reached, first_room, frames_from_first, keys_lead_along, at_opening}
+use Rattle.search_frames.specs.Frames.{standing_of, here_of}
+use Rattle.segmenter.proofs.LevelCosts.{either_way, few_frames, first_move, no_first_move, later_move, no_later_move}
 use Rattle.segmenter.proofs.search.find_next_answer.Goals as goal
 
 pub find_later-requires-clause-below : goal.find_later-requires-clause-below
@@ -63,3 +65,24 @@ returns-in-At-clause-none g c =
     (c.find_later.ensures.none stands.keys
     (frames_from_first c.args.lexicon.now c.args.line.now c.args.choices.now c.args.stack.now stands)
     (keys_lead_along c.args.lexicon.now c.args.line.now c.args.choices.now c.args.stack.now stands))
+
+pub returns-in-Before-clause-steps : goal.returns-in-Before-clause-steps
+returns-in-Before-clause-steps g c exact most few =
+    let searched = c.args.lexicon.now in
+    let line = c.args.line.now in
+    let first = first_move searched line c.args.choices.now c.requires.searched most c.args.steps.now c.find_first.new.steps c.requires.stack.is_line
+    (standing_of searched c.opening.result) c.opening.ensures.standing in
+    let none = no_first_move searched line c.args.choices.now c.requires.searched most c.args.steps.now c.find_first.new.steps c.requires.stack.is_line in
+    either_way c.find_first.result first none (c.find_first.ensures.steps_on exact most few) (c.find_first.ensures.steps_end exact most few)
+
+pub returns-in-At-clause-steps : goal.returns-in-At-clause-steps
+returns-in-At-clause-steps g c exact most few =
+    let searched = c.args.lexicon.now in
+    let line = c.args.line.now in
+    let stack = c.args.stack.now in
+    let stands = c.requires.stack.answer c.in-At.is in
+    let depth = few_frames searched line c.args.choices.now c.requires.searched c.requires.stack.is_line stack stands in
+    let here = at_opening searched line c.args.choices.now stack stands in
+    let later = later_move searched line c.args.choices.now c.requires.searched most c.args.steps.now c.find_later.new.steps stack.depth (here_of searched stack 0) here depth in
+    let none = no_later_move searched line c.args.choices.now c.requires.searched most c.args.steps.now c.find_later.new.steps stack.depth depth in
+    either_way c.find_later.result later none (c.find_later.ensures.steps_on exact most few) (c.find_later.ensures.steps_end exact most few)

@@ -3,6 +3,8 @@ use Rattle.std.proofs.Common.{subst}
 use Rattle.segmenter.specs.Searches.{SearchValue, Skipped, position_of}
 use Rattle.segmenter.proofs.PathsFound.{on_true}
 use Rattle.segmenter.proofs.SkippedAnswers.{skipped}
+use Rattle.segmenter.specs.Skips.{value_of}
+use Rattle.segmenter.proofs.LevelCosts.{CostsAtMost, move_within}
 use Rattle.segmenter.proofs.search.Search.skip.Goals as goal
 
 pub returns-clause-moved : goal.returns-clause-moved
@@ -18,3 +20,11 @@ returns-clause-moved g c =
     (λ moved. subst (λ old. Skipped c.args.depth old now) c.self.view_is
     (skipped s.lexicon.now s.line.now s.choices.now c.args.depth s.stack c.skip_on.new.stack moved))
     c.skip_on.ensures.moved
+
+pub returns-clause-steps : goal.returns-clause-steps
+returns-clause-steps g c =
+    let s = c.self.inside in
+    let within : CostsAtMost g.row.D.Denot g.D.SearchGuide.known g.D.Guide.says (value_of s.lexicon.now s.line.now s.choices.now s.stack) c.args.steps.now c.skip_on.new.steps =
+    λ exact most few. move_within s.lexicon.now s.line.now s.choices.now c.self.invariant.0 most c.args.steps.now c.skip_on.new.steps
+    (c.skip_on.ensures.steps (exact s.guide.now c.self.invariant.3) most few) in
+    subst (λ search. CostsAtMost g.row.D.Denot g.D.SearchGuide.known g.D.Guide.says search c.args.steps.now c.skip_on.new.steps) c.self.view_is within

@@ -14,7 +14,7 @@ use Rattle.answer_paths.proofs.LeadingOn.{ends_after}
 use Rattle.phase_automaton.specs.Automata.{StateMachine, next_state, state_after, start_state, is_accepting}
 use Rattle.annotated_trie.specs.Searched.{SearchedLexicon, IsSearchedLexicon}
 use Rattle.search_frames.specs.Standings.{Standing, rules_in, LeadsOn, Ends, after, opening}
-use Rattle.segmenter.specs.Chains.{IsReached}
+use Rattle.search_frames.specs.Reached.{IsReached}
 
 -- ---- the machine's state
 

@@ -16,7 +16,8 @@ use Rattle.answer_paths.specs.Following.{step_at, MayStand}
 use Rattle.answer_paths.proofs.FrontParts.{supplied_after}
 use Rattle.annotated_trie.specs.Searched.{SearchedLexicon, IsSearchedLexicon}
 use Rattle.search_frames.specs.Standings.{Standing, rules_in, IsPossible, LeadsOn, Ends, after}
-use Rattle.segmenter.specs.Chains.{rank}
+use Rattle.search_frames.specs.LetterTests.{MayLeadOn, MayEndLine}
+use Rattle.search_frames.specs.Reached.{rank}
 
 -- a key that leads on may stand there, and so may one that ends
 pub possible_if_leads : (searched : SearchedLexicon) (line : Line) (choices : List Choice) (here : Standing) (key : Key)
@@ -29,16 +30,31 @@ pub possible_if_ends : (searched : SearchedLexicon) (line : Line) (choices : Lis
 possible_if_ends searched line choices here key ends =
     record { number = ends.stands.number; within = ends.stands.within; form = ends.stands.form }
 
+-- what a key that leads on or ends may do as far as the letters tell
+pub may_if_leads : (searched : SearchedLexicon) (line : Line) (choices : List Choice) (here : Standing) (key : Key)
+    → LeadsOn searched line choices here key → MayLeadOn searched line choices here key
+may_if_leads searched line choices here key leads = record { stands = leads.stands; inner = leads.inner; left = leads.left }
+
+pub may_if_ends : (searched : SearchedLexicon) (line : Line) (choices : List Choice) (here : Standing) (key : Key)
+    → Ends searched line choices here key → MayEndLine searched line choices here key
+may_if_ends searched line choices here key ends =
+    record { stands = ends.stands; final_rule = ends.final_rule; all = ends.all; blanks_before = ends.blanks_before }
+
 -- no key both leads on and ends: without a rule, letters are left or not; and a rule has a v or none
-pub not_both : (searched : SearchedLexicon) (line : Line) (choices : List Choice) (here : Standing) (key : Key)
-    → Ends searched line choices here key → LeadsOn searched line choices here key → ⊥
-not_both searched line choices here key ends leads = elim (cases_lt 0 key.rule) [
+pub not_both_ways : (searched : SearchedLexicon) (line : Line) (choices : List Choice) (here : Standing) (key : Key)
+    → MayEndLine searched line choices here key → MayLeadOn searched line choices here key → ⊥
+not_both_ways searched line choices here key ends leads = elim (cases_lt 0 key.rule) [
   | inl above ↦ leads.inner above (ends.final_rule above)
   | inr none ↦
       let zero : key.rule ≡ 0 = omega arith in
       let empty = unchanged_at_zero (rules_in searched) key.rule zero in
       omega (arith, ends.all, leads.left zero, empty.w_empty)
 ]
+
+pub not_both : (searched : SearchedLexicon) (line : Line) (choices : List Choice) (here : Standing) (key : Key)
+    → Ends searched line choices here key → LeadsOn searched line choices here key → ⊥
+not_both searched line choices here key ends leads =
+    not_both_ways searched line choices here key (may_if_ends searched line choices here key ends) (may_if_leads searched line choices here key leads)
 
 -- the letters that the rule supplies after a step are its v
 supplied_after_step : (rules : RuleSet) (step : Step) → length (supplied (entrance_after_step rules step)) ≡ length (rule_after rules step).v

@@ -11,7 +11,7 @@ use Rattle.segmentation_definitions.specs.Configurations.{EndsAt}
 use Rattle.listing_laws.specs.Ways.{IsPath}
 use Rattle.answer_paths.specs.Fronts.{ways_of}
 use Rattle.answer_paths.specs.Following.{step_at}
-use Rattle.answer_paths.proofs.GuidedFronts.{stands_if_path}
+use Rattle.answer_paths.proofs.GuidedFronts.{stands_if_path, path_if_stands}
 use Rattle.phase_automaton.specs.Automata.{state_at}
 use Rattle.derivation.specs.Guides.{configuration_of}
 use Rattle.derivation.specs.declared.entrance.Entrance.{Entrance as ProgramEntrance}
@@ -19,9 +19,9 @@ use Rattle.annotated_trie.specs.Searched.{SearchedLexicon, IsSearchedLexicon}
 use Rattle.search_frames.specs.declared.place.Place.{Place}
 use Rattle.search_frames.specs.Standings.{Standing, after, opening, ways_in}
 use Rattle.search_frames.specs.Frames.{standing_of, IsPlaceIn}
-use Rattle.segmenter.specs.Guided.{IsGuideOf}
-use Rattle.segmenter.specs.Chains.{IsReached}
-use Rattle.segmenter.proofs.ReachedStandings.{ends_at_front, leads_from_front, leads_on_if_leads, reached_at, opening_reached}
+use Rattle.search_frames.specs.Guided.{IsGuideOf, IsExactOf}
+use Rattle.search_frames.specs.Reached.{IsReached}
+use Rattle.search_frames.proofs.ReachedStandings.{ends_at_front, leads_from_front, leads_on_if_leads, reached_at, opening_reached}
 
 module _ (searched : SearchedLexicon) (line : Line) (choices : List Choice) (is : IsSearchedLexicon searched) (line_is : IsLine line) where
   path_at_front : (keys : List Key) (here : Standing) (reached : IsReached searched line choices here)
@@ -93,3 +93,12 @@ module _ (searched : SearchedLexicon) (line : Line) (choices : List Choice) (cov
       (stands_if_path searched.lexicon line choices reached.front
       (configuration_of searched.lexicon is.recognizes.states place.at place.entrance place.state) (ends_at_place reached)
       (keys, (path_above_is_path searched line choices (standing_of searched place) is line_is reached keys).0 path))
+
+  -- and where an exact one says true there is a path
+  pub path_if_exact : IsExactOf searched line choices says → IsLine line → IsReached searched line choices (standing_of searched place)
+      → says place.at place.entrance place.state ≡ true → (keys : List Key) × IsPath (ways_in searched line choices) (standing_of searched place) keys
+  path_if_exact exact line_is reached true_here =
+      let has = path_if_stands searched.lexicon line choices reached.front
+      (configuration_of searched.lexicon is.recognizes.states place.at place.entrance place.state) is.lexicon line_is reached.led (ends_at_place reached)
+      ((exact is.recognizes).never_true place.at place.entrance place.state within true_here) in
+      (has.0, (path_above_is_path searched line choices (standing_of searched place) is line_is reached has.0).1 has.1)

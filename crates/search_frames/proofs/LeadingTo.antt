@@ -8,9 +8,9 @@ use Rattle.search_frames.specs.declared.place.Place.{Place}
 use Rattle.search_frames.specs.Standings.{Standing}
 use Rattle.search_frames.specs.Frames.{IsPlaceIn, standing_of}
 use Rattle.search_frames.specs.Tests.{LeadsTo}
-use Rattle.segmenter.specs.Chains.{IsReached, rank}
-use Rattle.segmenter.proofs.StandingRanks.{rank_rises, rank_within}
-use Rattle.segmenter.proofs.ReachedStandings.{reached_after}
+use Rattle.search_frames.specs.Reached.{IsReached, rank}
+use Rattle.search_frames.proofs.StandingRanks.{rank_rises, rank_within}
+use Rattle.search_frames.proofs.ReachedStandings.{reached_after}
 
 pub record LedTo (searched : SearchedLexicon) (line : Line) (choices : List Choice) (here : Standing) (next : Place) : Type 0 where
   pub place : IsPlaceIn searched line next

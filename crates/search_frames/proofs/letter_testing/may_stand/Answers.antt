@@ -1,6 +1,6 @@
 -- The form of a possible key has a letter.
 use Rattle.search_frames.proofs.TestPlaces.{some_letter}
-use Rattle.search_frames.proofs.testing.may_stand.Goals as goal
+use Rattle.search_frames.proofs.letter_testing.may_stand.Goals as goal
 
 pub may_enter-requires-clause-some : goal.may_enter-requires-clause-some
 may_enter-requires-clause-some c =

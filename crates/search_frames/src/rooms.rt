@@ -1,0 +1,47 @@
+ghost use Rattle.std.specs.Prelude.{◌≡◌, ◌*◌, ◌^◌, ◌<◌, length, IfOk};
+ghost use Rattle.resumption.specs.declared.frame.TheConstants.{NODES_OF_FRAME};
+ghost use Rattle.resumption.specs.declared.stand.Stand.TheVariants as stand;
+ghost use Rattle.search_frames.specs.Frames.{IsStack};
+
+use annotated_trie::Lexicon;
+use derivation::{Entrance, Step};
+use phoneme::Memory;
+use resumption::{Frame, NODES_OF_FRAME, Resumption, Stand};
+use std::alloc::Global;
+
+/// A stack with room for so many frames, of which none is in use; it stands before the first answer. Refused only for want of
+/// memory.
+pub fn new_stack(alloc: Global, lexicon: &Lexicon, room: usize) -> Result<Resumption, Memory>
+    requires few { room * NODES_OF_FRAME < 2 ^ 32 }
+    ensures stand { IfOk result (λ stack. stack.stand ≡ stand.Before) }
+    ensures empty { IfOk result (λ stack. stack.depth ≡ 0) }
+    ensures room { IfOk result (λ stack. length stack.frames.items ≡ room) }
+    ensures is_stack { IfOk result IsStack }
+{
+    // The proof knows that there is a phase only of a lexicon whose rules are read.
+    let _rules = lexicon.rules();
+    let step = Step {
+        phase: 0,
+        rule: 0,
+        at: 0,
+        lead: 0,
+        taken: 0,
+    };
+    let frame = Frame {
+        entrance: Entrance::Start,
+        state: lexicon.automaton().start(),
+        walked: 0,
+        next: 0,
+    };
+    Ok(Resumption {
+        stand: Stand::Before,
+        depth: 0,
+        steps: Vec::from_elem(alloc, step, room)?,
+        frames: Vec::from_elem(alloc, frame, room)?,
+        nodes: Vec::from_elem(
+            alloc,
+            lexicon.tries().store().root(0),
+            room * NODES_OF_FRAME,
+        )?,
+    })
+}

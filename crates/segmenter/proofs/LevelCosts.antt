@@ -1,0 +1,162 @@
+-- What a move spends, level by level: under an exact guide nothing is found only where the guide says so, so each frame that a
+-- move leaves stood when it began, and each that it enters stands when it ends; there are at most twice as many of either as
+-- letters, and each pays for its own keys.
+use Rattle.std.proofs.Common.{◌≡◌, ℕ, ◌+◌, ◌-◌, ◌*◌, ◌<◌, ◌≤◌, Bool, true, false, Option, List, [], ◌∷◌, length, ap, sym, ◌∙◌, subst, arith, add-one}
+use Rattle.std.specs.Bool.{OnTrue, OnFalse}
+use Rattle.std.proofs.Math.Nat.{add-mul, suc-mul, mul_assoc, mul-le-mul_left, mul-le-mul_right}
+use Rattle.text_definitions.specs.Lines.{Line, IsLine}
+use Rattle.segmentation_definitions.specs.Items.{Choice}
+use Rattle.segmentation_definitions.specs.Listings.{Key}
+use Rattle.segmentation_definitions.specs.StepBounds.{looks_at_one, advance_bound}
+use Rattle.derivation.specs.declared.entrance.Entrance.{Entrance}
+use Rattle.annotated_trie.specs.Searched.{SearchedLexicon, IsSearchedLexicon}
+use Rattle.resumption.specs.declared.state.Resumption.{Resumption}
+use Rattle.search_frames.specs.Standings.{Standing, after, opening, rules_in}
+use Rattle.search_frames.specs.Frames.{here_of}
+use Rattle.search_frames.specs.Reached.{rank}
+use Rattle.search_frames.specs.Costs.{HasAtMostChoices, steps_of_phase, steps_left_in_phase, steps_left, steps_of_frame}
+use Rattle.search_frames.proofs.FrameCosts.{some_steps, steps_within}
+use Rattle.search_frames.proofs.StandingRanks.{rank_rises, rank_within}
+use Rattle.segmenter.specs.Chains.{AreFrames, LeadAlong}
+use Rattle.segmenter.specs.Searches.{SearchValue, StandsAtAnswer}
+use Rattle.segmenter.specs.MoveCosts.{AreKnownExact, steps_of_levels, levels_from, levels_after}
+use Rattle.segmenter.proofs.KeptFrames.{FrameKept}
+use Rattle.segmenter.proofs.FramesAlong.{frames_count}
+use Rattle.segmenter.proofs.SearchStacks.{path_leads_along}
+
+-- what holds in each case holds
+pub either_way : {P Q R : Type 0} (b : Bool) → (P → R) → (Q → R) → OnTrue b P → OnFalse b Q → R
+either_way true f g p q = f p
+either_way false f g p q = g q
+
+-- ---- levels
+
+pub more_levels : (cost m n : ℕ) → m ≤ n → m * cost ≤ n * cost
+more_levels cost m n le = mul-le-mul_right cost le
+
+one_level : (cost m n : ℕ) → n ≡ m + 1 → n * cost ≡ m * cost + cost
+one_level cost m n is = ap (λ (k : ℕ). k * cost) (is ∙ add-one m) ∙ suc-mul m cost
+
+-- a path is found below a key of the frame: its levels are fewer than those after this one
+pub found_below : (cost bound here next start before key now left_start left_before left_key : ℕ) → here < next
+    → before + left_before ≤ start + left_start → key + 1 + left_key ≤ before + left_before → now ≤ key + 1 + (bound + 1 - next) * cost
+    → now ≤ start + left_start + (bound - here) * cost
+found_below cost bound here next start before key now left_start left_before left_key rises so_far went found =
+    let fewer = more_levels cost (bound + 1 - next) (bound - here) (omega (arith, rises)) in
+    omega (arith, so_far, went, found, fewer)
+
+-- nothing was found deeper, and the frame has no more left than a whole one
+module _ (cost depth level start mid left now : ℕ) (below : level < depth) (spent : mid ≤ start + (depth - (level + 1)) * cost) (whole : left ≤ cost) where
+  pub later_found_costs : (levels : ℕ) → now ≤ mid + left + levels * cost → now ≤ start + (depth - level + levels) * cost
+  later_found_costs levels found =
+      let one = one_level cost (depth - (level + 1)) (depth - level) (omega (arith, below)) in
+      let all = add-mul (depth - level) levels cost in
+      omega (arith, spent, whole, found, one, all)
+
+  pub later_none_costs : now ≤ mid + left → now ≤ start + (depth - level) * cost
+  later_none_costs found =
+      let one = one_level cost (depth - (level + 1)) (depth - level) (omega (arith, below)) in
+      omega (arith, spent, whole, found, one)
+
+-- ---- frames
+
+-- a frame that stays has as much left
+pub left_kept : (searched : SearchedLexicon) (most level : ℕ) (old new : Resumption) → FrameKept level old new
+    → steps_left searched most new level ≡ steps_left searched most old level
+left_kept searched most level old new kept =
+    let step = kept.step in
+    let frame = kept.frame in
+    λ i. (length (rules_in searched).names - ((step i).phase + 1)) * steps_of_phase most + steps_left_in_phase most (frame i).walked (frame i).next
+
+module _ (searched : SearchedLexicon) (line : Line) (choices : List Choice) (is : IsSearchedLexicon searched) where
+  -- the frame after the first stands at a higher rank
+  pub deeper_rises : (stack : Resumption) (level : ℕ) (here : Standing) (keys : List Key) → AreFrames searched line stack level here keys
+      → LeadAlong searched line choices here keys → level + 1 < stack.depth → rank here < rank (here_of searched stack (level + 1))
+  deeper_rises stack level here [] frames along more = absurd along
+  deeper_rises stack level here (key ∷ []) frames along more =
+      let last = frames.4 in
+      absurd (omega (arith, last, more))
+  deeper_rises stack level here (key ∷ next ∷ keys) frames along more =
+      subst (λ h. rank here < rank h) (sym frames.4.1) (rank_rises searched line choices here key is along.0)
+
+  -- keys along which each leads on are no more than the ranks
+  few_keys : (keys : List Key) (here : Standing) → LeadAlong searched line choices here keys → rank here ≤ 2 * length line.letters
+      → rank here + length keys ≤ 2 * length line.letters + 1
+  few_keys [] here along within = absurd along
+  few_keys (key ∷ []) here along within = omega (arith, within)
+  few_keys (key ∷ next ∷ keys) here along within =
+      let rises = rank_rises searched line choices here key is along.0 in
+      let later = few_keys (next ∷ keys) (after searched line here key) along.1 (rank_within searched line choices here key along.0) in
+      omega (arith, rises, later)
+
+  -- so an answer has no more frames than twice the letters
+  pub few_frames : IsLine line → (stack : Resumption) → StandsAtAnswer searched line choices stack → stack.depth ≤ 2 * length line.letters
+  few_frames line_is stack stands =
+      let some = line_is.not_empty in
+      let count = frames_count searched line stack stands.keys 0 opening stands.frames in
+      let few = few_keys stands.keys opening (path_leads_along searched line choices stands.keys opening stands.path) (omega (arith, some)) in
+      omega (arith, count, few)
+
+  -- ---- whole moves
+
+  -- from the opening there are twice as many levels as letters
+  pub first_move : (most steps now : ℕ) → IsLine line → (here : Standing) → here ≡ opening
+      → now ≤ steps + 1 + steps_of_levels searched most (levels_from line here) → now ≤ steps + steps_of_levels searched most (4 * length line.letters)
+  first_move most steps now line_is here here_is found =
+      let cost = steps_of_frame searched most in
+      let count = length line.letters in
+      let some = line_is.not_empty in
+      let one = some_steps searched most is.limits.some_phase in
+      let at_first = subst (λ h. now ≤ steps + 1 + steps_of_levels searched most (levels_from line h)) here_is found in
+      let less = more_levels cost (2 * count + 1 - 1) (2 * count) (omega arith) in
+      let all = add-mul (2 * count) (2 * count) cost in
+      let whole : 1 * cost ≤ 2 * count * cost = more_levels cost 1 (2 * count) (omega (arith, some)) in
+      let double : 4 * count * cost ≡ (2 * count + 2 * count) * cost = ap (λ (n : ℕ). n * cost) (omega arith) in
+      omega (arith, at_first, less, all, whole, double, one)
+
+  pub no_first_move : (most steps now : ℕ) → IsLine line → now ≤ steps + 1 → now ≤ steps + steps_of_levels searched most (4 * length line.letters)
+  no_first_move most steps now line_is found =
+      let cost = steps_of_frame searched most in
+      let count = length line.letters in
+      let some = line_is.not_empty in
+      let one = some_steps searched most is.limits.some_phase in
+      let whole : 1 * cost ≤ 4 * count * cost = more_levels cost 1 (4 * count) (omega (arith, some)) in
+      omega (arith, found, whole, one)
+
+  -- from an answer those of its frames are left, and then as many entered
+  pub later_move : (most steps now depth : ℕ) (here : Standing) → here ≡ opening → depth ≤ 2 * length line.letters
+      → now ≤ steps + steps_of_levels searched most (depth - 0 + levels_after line here) → now ≤ steps + steps_of_levels searched most (4 * length line.letters)
+  later_move most steps now depth here here_is few found =
+      let count = length line.letters in
+      let at_first = subst (λ h. now ≤ steps + steps_of_levels searched most (depth - 0 + levels_after line h)) here_is found in
+      let less = more_levels (steps_of_frame searched most) (depth - 0 + (2 * count - 1)) (4 * count) (omega (arith, few)) in
+      omega (arith, at_first, less)
+
+  pub no_later_move : (most steps now depth : ℕ) → depth ≤ 2 * length line.letters → now ≤ steps + steps_of_levels searched most (depth - 0)
+      → now ≤ steps + steps_of_levels searched most (4 * length line.letters)
+  no_later_move most steps now depth few found =
+      let less = more_levels (steps_of_frame searched most) (depth - 0) (4 * length line.letters) (omega (arith, few)) in
+      omega (arith, found, less)
+
+  -- four times the letters, each a frame, are within the bound
+  pub move_within : (most steps now : ℕ) → now ≤ steps + steps_of_levels searched most (4 * length line.letters)
+      → now ≤ steps + advance_bound searched.lexicon most (length line.letters)
+  move_within most steps now found =
+      let cost = steps_of_frame searched most in
+      let looks = looks_at_one searched.lexicon most in
+      let count = length line.letters in
+      let each = steps_within searched most is.lexicon.count in
+      let all : 4 * count * cost ≤ 4 * count * (3 * looks) = mul-le-mul_left (4 * count) each in
+      let apart = mul_assoc (4 * count) 3 looks in
+      let same : 4 * count * 3 * looks ≡ 12 * count * looks = ap (λ (n : ℕ). n * looks) (omega arith) in
+      omega (arith, found, all, apart, same)
+
+-- ---- what contracts see of a move
+
+-- where each guide of which this is known is exact, and no node has more choices than most, so many steps more than before are
+-- within the bound
+abbrev pub CostsAtMost : (Guide : Type 0) → (Guide → SearchedLexicon → Line → List Choice → Type 0) → (Guide → ℕ → Entrance → Option ℕ → Bool) → SearchValue
+    → ℕ → ℕ → Type 0
+CostsAtMost Guide known says search before now =
+    AreKnownExact Guide known says search → (most : ℕ) → HasAtMostChoices search.searched.tries most
+    → now ≤ before + advance_bound search.searched.lexicon most (length search.line.letters)
