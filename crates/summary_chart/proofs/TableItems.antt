@@ -1,0 +1,167 @@
+-- A pass over a chart's table has after each index the items of the places before it: what stands at one index is at one number
+-- of letters and one entrance. At the end these are the items of the living places, and so of the answers.
+use Rattle.std.proofs.Common.{◌≡◌, ◌⊎◌, ◌↔◌, inl, inr, ℕ, ◌+◌, ◌*◌, ◌<◌, ◌≤◌, Option, Some, None, List, [], length, get_or, refl, sym, ap, subst, ◌∙◌, arith}
+use Rattle.std.specs.List.{Contains}
+use Rattle.std.specs.List.Sorted.{IsStrictlySortedBy}
+use Rattle.std.proofs.lemmas.Bool.{cases_lt}
+use Rattle.std.proofs.lemmas.List.{get_or_default}
+use Rattle.text_definitions.specs.Lines.{Line, IsLine}
+use Rattle.segmentation_definitions.specs.Items.{Item, Choice}
+use Rattle.segmentation_definitions.specs.Listings.{Key, compare_items, IsItemOfAnswer, IsSummary}
+use Rattle.derivation.specs.declared.entrance.Entrance.{Entrance}
+use Rattle.annotated_trie.specs.Searched.{SearchedLexicon, IsSearchedLexicon}
+use Rattle.search_frames.specs.declared.place.Place.{Place}
+use Rattle.search_frames.specs.Standings.{Standing}
+use Rattle.search_frames.specs.Frames.{IsPlaceIn, standing_of}
+use Rattle.summary_chart.specs.declared.state_set.StateSet.{StateSet}
+use Rattle.summary_chart.specs.declared.table.Table.{Table}
+use Rattle.summary_chart.specs.StateSets.{HasState}
+use Rattle.summary_chart.specs.Tables.{IsTable, IsIn, IsIndexed, set_of}
+use Rattle.summary_chart.specs.Spreading.{GoesFurtherBy, leads_in, place_with, standing_with}
+use Rattle.summary_chart.specs.Charts.{IsChartTable, IsAlive, index_of_place}
+use Rattle.summary_chart.specs.Summaries.{IsItemBy, IsItemFrom, AddsItems, IsItemAt, IsItemBefore, HasItemsBefore, item_with}
+use Rattle.summary_chart.proofs.TableStates.{numbered_at, at_index, stands_in, with_within, index_within}
+use Rattle.summary_chart.proofs.RisingItems.{adds_none}
+use Rattle.summary_chart.proofs.AnswerItems.{IsItemOfLiving, GoesOnAlive, item_of_living, item_of_answer}
+
+-- ---- one index
+
+-- the set that is read at an index
+pub read_set : (table : Table) (index : ℕ) (set : StateSet) → index < length table.sets.items → set ≡ get_or table.sets.items index set
+    → set_of table index ≡ set
+read_set table index set low is = get_or_default table.sets.items index (record { bits = 0 }) set low ∙ sym is
+
+module _ (searched : SearchedLexicon) (line : Line) (choices : List Choice) (table : Table) (is : IsTable (leads_in searched) (length line.letters) table) where
+  module _ (index at : ℕ) (entrance : Entrance) (indexed : IsIndexed (leads_in searched) (length line.letters) index at entrance) where
+    -- a place at the index has these letters and this entrance
+    item_of_states : (place : Place) (item : Item) → index_of_place searched place ≡ index → IsItemAt searched line choices table place item
+        → IsItemFrom searched line choices table at entrance (set_of table index) item
+    item_of_states place item same here =
+        let there = at_index searched line index at entrance table is indexed place here.within here.there same in (
+          here.key,
+          record {
+            number = there.number;
+            state = there.state;
+            further = subst (λ (p : Place). GoesFurtherBy searched line choices table (standing_of searched p) here.key) there.is here.further;
+            is = here.is ∙ ap (λ (p : Place). item_with searched line p.at p.entrance here.key) there.is;
+          },
+        )
+
+    -- and what goes further from a state of the set does so from a place at the index
+    item_at_index : (item : Item) → IsItemFrom searched line choices table at entrance (set_of table index) item
+        → IsItemBefore searched line choices table (index + 1) item
+    item_at_index item (key, by) =
+        let here = indexed.is in (
+          place_with at entrance by.number,
+          omega (arith, here),
+          record {
+            within = with_within searched line index at entrance table is indexed by.number by.state;
+            there = stands_in searched line index at entrance table is indexed by.number by.state.1;
+            key = key;
+            further = by.further;
+            is = by.is;
+          },
+        )
+
+  -- ---- one index after another
+
+  weaker : (index : ℕ) (item : Item) → IsItemBefore searched line choices table index item → IsItemBefore searched line choices table (index + 1) item
+  weaker index item (place, before, here) = (place, omega (arith, before), here)
+
+  -- what stands before the next index stands before this one or at it
+  before_or_at : (index : ℕ) (place : Place) → index_of_place searched place < index + 1
+      → (index_of_place searched place < index) ⊎ (index_of_place searched place ≡ index)
+  before_or_at index place before = elim (cases_lt (index_of_place searched place) index) [
+    | inl low ↦ inl low
+    | inr high ↦ inr (omega (arith, high, before))
+  ]
+
+  -- the items of the states at the index were added
+  pub items_more : (index at : ℕ) (entrance : Entrance) (items more : List Item) → IsIndexed (leads_in searched) (length line.letters) index at entrance
+      → HasItemsBefore searched line choices table index items
+      → AddsItems (IsItemFrom searched line choices table at entrance (set_of table index)) items more
+      → HasItemsBefore searched line choices table (index + 1) more
+  items_more index at entrance items more indexed so_far added = record {
+    rising = added.rising;
+    has = λ item (place, before, here). elim (before_or_at index place before) [
+      | inl low ↦ added.keeps item (so_far.has item (place, low, here))
+      | inr same ↦ added.adds item (item_of_states index at entrance indexed place item same here)
+    ];
+    only = λ item there. elim (added.only item there) [
+      | inl old ↦ weaker index item (so_far.only item old)
+      | inr from ↦ item_at_index index at entrance indexed item from
+    ];
+  }
+
+  -- where the set at the index is empty, nothing is to be added
+  pub items_same : (index : ℕ) (items : List Item) → ((number : ℕ) → HasState (set_of table index) number → ⊥)
+      → HasItemsBefore searched line choices table index items → HasItemsBefore searched line choices table (index + 1) items
+  items_same index items none so_far = record {
+    rising = so_far.rising;
+    has = λ item (place, before, here). elim (before_or_at index place before) [
+      | inl low ↦ so_far.has item (place, low, here)
+      | inr same ↦ let there = numbered_at searched line index table place is here.there same in absurd (none there.number there.has)
+    ];
+    only = λ item there. weaker index item (so_far.only item there);
+  }
+
+-- ---- the whole table
+
+module _ (searched : SearchedLexicon) (line : Line) (choices : List Choice) (table : Table) (chart : IsChartTable searched line choices table) where
+  -- before the first index stands nothing
+  pub no_items : (items : List Item) → items ≡ [] → HasItemsBefore searched line choices table 0 items
+  unfolding IsStrictlySortedBy
+  no_items items none = subst (HasItemsBefore searched line choices table 0) (sym none) (record {
+    rising = tt;
+    has = λ item (place, before, here). absurd (omega (arith, before));
+    only = λ item (k, low, same). absurd (omega (arith, low));
+  })
+
+  -- in a chart a key goes on to a place of the table exactly where it goes on to a living one
+  alive_if_further : (here : Standing) (key : Key) → GoesFurtherBy searched line choices table here key → GoesOnAlive searched line choices here key
+  alive_if_further here key (inl ends) = inl ends
+  alive_if_further here key (inr (next, leads, inside)) = inr (next, leads, (chart.exact next leads.within).0 inside)
+
+  further_if_alive : (here : Standing) (key : Key) → GoesOnAlive searched line choices here key → GoesFurtherBy searched line choices table here key
+  further_if_alive here key (inl ends) = inl ends
+  further_if_alive here key (inr (next, leads, alive)) = inr (next, leads, (chart.exact next leads.within).1 alive)
+
+  -- a living place stands before the end of the table
+  before_end : (place : Place) → IsPlaceIn searched line place → IsIn table place → index_of_place searched place < length table.sets.items
+  before_end place within there =
+      let low = index_within searched line place there.entrance within in
+      let count = chart.lawful.count in
+      omega (arith, low, count)
+
+  -- the items of all places are those of the answers
+  pub summary_of_table : (items : List Item) → IsSearchedLexicon searched → IsLine line
+      → HasItemsBefore searched line choices table (length table.sets.items) items → IsSummary searched.lexicon line choices items
+  summary_of_table items is line_is all = record {
+    rising = all.rising;
+    members = λ item. (
+      λ there.
+          let (place, before, here) = all.only item there in
+          item_of_answer searched line choices is line_is item (record {
+            place = place;
+            within = here.within;
+            alive = (chart.exact place here.within).0 here.there;
+            key = here.key;
+            further = alive_if_further (standing_of searched place) here.key here.further;
+            is = here.is;
+          }),
+      λ answer.
+          let living = item_of_living searched line choices is line_is item answer in
+          let there = (chart.exact living.place living.within).1 living.alive in
+          all.has item (
+            living.place,
+            before_end living.place living.within there,
+            record {
+              within = living.within;
+              there = there;
+              key = living.key;
+              further = further_if_alive (standing_of searched living.place) living.key living.further;
+              is = living.is;
+            },
+          ),
+    );
+  }

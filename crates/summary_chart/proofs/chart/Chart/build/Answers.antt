@@ -1,0 +1,25 @@
+-- The table that the passes leave is that of a guide; and two passes take fewer steps than the bound.
+use Rattle.std.proofs.Common.{subst, arith}
+use Rattle.text_definitions.specs.Lines.{IsLine}
+use Rattle.phase_automaton.specs.Automata.{IsStateMachine}
+use Rattle.summary_chart.proofs.ChartGuides.{chart_is_guide, chart_is_exact}
+use Rattle.summary_chart.proofs.PassCosts.{chart_within}
+use Rattle.summary_chart.proofs.chart.Chart.build.Goals as goal
+
+pub returns-clause-guide : goal.returns-clause-guide
+returns-clause-guide g c =
+    chart_is_guide c.args.lexicon.now c.args.line.now c.args.choices.now c.keep_living.new.table c.rules-rules.ensures.searched
+    (subst IsLine c.line.view_is c.line.invariant) c.keep_living.ensures.living
+    (subst IsStateMachine c.automaton.ensures.value c.states-states.ensures.machine)
+
+pub returns-clause-exact : goal.returns-clause-exact
+returns-clause-exact g c =
+    chart_is_exact c.args.lexicon.now c.args.line.now c.args.choices.now c.keep_living.new.table c.rules-rules.ensures.searched
+    (subst IsLine c.line.view_is c.line.invariant) c.keep_living.ensures.living
+
+pub returns-clause-bound : goal.returns-clause-bound
+returns-clause-bound g c most few =
+    let within = chart_within c.args.lexicon.now c.args.line.now most c.rules-rules.ensures.searched in
+    let reach = c.reach.ensures.steps most few in
+    let back = c.keep_living.ensures.steps most few in
+    omega (arith, within, reach, back)

@@ -1,0 +1,6 @@
+pub mod StateSets
+pub mod Tables
+pub mod Spreading
+pub mod Charts
+pub mod Summaries
+pub mod SummaryRules

@@ -1,0 +1,66 @@
+-- Where keys lead on to from a place of the line with a set of states, and which of the states go further (own).
+use Rattle.std.specs.Prelude.{◌≡◌, ℕ, ◌⊎◌, ◌↔◌, Some, List}
+use Rattle.text_definitions.specs.Lines.{Line}
+use Rattle.lexicon_definitions.specs.Leads.{Lead, leads_of}
+use Rattle.segmentation_definitions.specs.Items.{Choice}
+use Rattle.segmentation_definitions.specs.Listings.{Key}
+use Rattle.derivation.specs.declared.entrance.Entrance.{Entrance}
+use Rattle.annotated_trie.specs.Searched.{SearchedLexicon}
+use Rattle.search_frames.specs.declared.place.Place.{Place}
+use Rattle.search_frames.specs.Standings.{Standing, Ends, rules_in}
+use Rattle.search_frames.specs.Frames.{IsPlaceIn, standing_of}
+use Rattle.search_frames.specs.Tests.{LeadsTo}
+use Rattle.summary_chart.specs.declared.state_set.StateSet.{StateSet}
+use Rattle.summary_chart.specs.declared.table.Table.{Table}
+use Rattle.summary_chart.specs.StateSets.{HasState, IsStateOf}
+use Rattle.summary_chart.specs.Tables.{IsIn}
+
+-- the leads of the lexicon's rules
+abbrev pub leads_in : SearchedLexicon → List Lead
+leads_in searched = leads_of (rules_in searched).rules
+
+-- the place after so many letters, entered so, with the state of this number
+abbrev pub place_with : ℕ → Entrance → ℕ → Place
+place_with at entrance number = record { at = at; entrance = entrance; state = Some number }
+
+-- and where a search stands there
+abbrev pub standing_with : SearchedLexicon → ℕ → Entrance → ℕ → Standing
+standing_with searched at entrance number = standing_of searched (place_with at entrance number)
+
+-- the key leads on to the place from one of the states
+abbrev pub IsLedOnTo : SearchedLexicon → Line → List Choice → ℕ → Entrance → StateSet → Key → Place → Type 0
+IsLedOnTo searched line choices at entrance set key next =
+    (number : ℕ) × IsStateOf searched.machine set number × LeadsTo searched line choices (standing_with searched at entrance number) key next
+
+-- the places to which a key leads on that is told by this were added to the table, and no others
+pub record Spreads (searched : SearchedLexicon) (line : Line) (choices : List Choice) (at : ℕ) (entrance : Entrance) (set : StateSet)
+    (IsTold : Key → Type 0) (old new : Table) : Type 0 where
+  pub keeps : (place : Place) → IsIn old place → IsIn new place
+  pub adds : (key : Key) (next : Place) → IsTold key → IsLedOnTo searched line choices at entrance set key next
+      → IsIn new next
+  pub only : (place : Place) → IsPlaceIn searched line place → IsIn new place
+      → IsIn old place ⊎ ((key : Key) × IsTold key × IsLedOnTo searched line choices at entrance set key place)
+
+-- the key ends the line, or leads on to a place of the table
+abbrev pub GoesFurtherBy : SearchedLexicon → Line → List Choice → Table → Standing → Key → Type 0
+GoesFurtherBy searched line choices table here key =
+    Ends searched line choices here key
+    ⊎ ((next : Place) × LeadsTo searched line choices here key next × IsIn table next)
+
+-- some key that is told by this does so
+abbrev pub GoesFurther : SearchedLexicon → Line → List Choice → Table → Standing → (Key → Type 0) → Type 0
+GoesFurther searched line choices table here IsTold = (key : Key) × IsTold key × GoesFurtherBy searched line choices table here key
+
+-- these are the states of the set from which such a key goes further
+abbrev pub AreGoingFurther : SearchedLexicon → Line → List Choice → Table → ℕ → Entrance → StateSet → (Key → Type 0) → StateSet → Type 0
+AreGoingFurther searched line choices table at entrance set IsTold result =
+    (number : ℕ) → HasState result number
+    ↔ (IsStateOf searched.machine set number × GoesFurther searched line choices table (standing_with searched at entrance number) IsTold)
+
+-- every key is told
+abbrev pub EveryKey : Key → Type 0
+EveryKey key = Unit {0}
+
+-- only this one is
+abbrev pub OnlyKey : Key → Key → Type 0
+OnlyKey key other = other ≡ key

@@ -1,0 +1,91 @@
+ghost use Rattle.std.specs.Prelude.{◌≡◌, ◌+◌, ◌*◌, ◌≤◌, ℕ, length, IfOk};
+ghost use Rattle.text_definitions.specs.Lines.{IsLine};
+ghost use Rattle.segmentation_definitions.specs.StepBounds.{chart_bound};
+ghost use Rattle.search_frames.specs.Costs.{HasAtMostChoices};
+ghost use Rattle.search_frames.specs.Guided.{IsGuideOf, IsExactOf};
+ghost use Rattle.summary_chart.specs.Charts.{IsChartTable, IsOpenTable, CoversPlace, says_of, steps_of_pass};
+ghost use Rattle.summary_chart.specs.Spreading.{leads_in};
+
+use super::passes::{keep_living, reach};
+use super::state_set::StateSet;
+use super::table::Table;
+use annotated_trie::Lexicon;
+use derivation::{Entrance, Guide};
+use outside::Steps;
+use phase_automaton::State;
+use phoneme::{Line, Memory};
+use reader_choices::Choices;
+use search_frames::new_stack;
+use std::alloc::Global;
+use std::marker::Model;
+
+/// The chart of a line: an exact guide, which says of each configuration whether it stands in an answer (own; for the summary of
+/// Goyal and Huet 2016). It is one for the lexicon, the line and the choices with which it was built.
+#[derive(Debug, Drop)]
+pub struct Chart {
+    pub(crate) table: Table,
+}
+
+impl Model for Chart {
+    ghost use Rattle.summary_chart.specs.declared.table.Table.{Table};
+
+    ghost Value = { Table };
+
+    ghost view = { λ c. c.table };
+}
+
+/// A table that has the opening alone.
+fn open_table(alloc: Global, lexicon: &Lexicon, line: &Line) -> Result<Table, Memory>
+    requires { IsLine line.now }
+    ensures { IfOk result (IsOpenTable lexicon.now line.now) }
+{
+    let mut table = Table::new(alloc, lexicon.rules(), line)?;
+    if let Some(start) = lexicon.automaton().start().number() {
+        table.add(0, Entrance::Start, StateSet::empty().with(start));
+    }
+    Ok(table)
+}
+
+impl Chart {
+    /// The chart of the line with these choices, over the lexicon. `steps` counts each letter that is walked and each look at a
+    /// choice, at most twice for each number of letters and each entrance. Refused only for want of memory.
+    pub fn build<L>(
+        alloc: Global,
+        lexicon: &Lexicon,
+        line: &Line,
+        choices: &Choices,
+        steps: &mut Steps<L>,
+    ) -> Result<Chart, Memory>
+        ensures guide { IfOk result (λ chart. IsGuideOf lexicon.now line.now choices.now (CoversPlace chart) (says_of chart)) }
+        ensures exact { IfOk result (λ chart. IsExactOf lexicon.now line.now choices.now (says_of chart)) }
+        ensures chart { IfOk result (λ chart. IsChartTable lexicon.now line.now choices.now chart) }
+        ensures steps { (most : ℕ) → HasAtMostChoices lexicon.now.tries most → steps.new ≤ steps.old + 2 * steps_of_pass lexicon.now line.now most }
+        ensures bound { (most : ℕ) → HasAtMostChoices lexicon.now.tries most → steps.new ≤ steps.old + chart_bound lexicon.now.lexicon most (length line.now.letters) (length (leads_in lexicon.now)) }
+    {
+        // The proof knows what holds of a line, a lexicon and an automaton only of those that are read.
+        let _letters = &line.letters;
+        let _rules = lexicon.rules();
+        let _states = lexicon.automaton().states();
+        let mut walker = new_stack(alloc, lexicon, 1)?;
+        let mut table = open_table(alloc, lexicon, line)?;
+        reach(lexicon, line, choices, &mut walker, &mut table, steps);
+        keep_living(lexicon, line, choices, &mut walker, &mut table, steps);
+        Ok(Chart { table })
+    }
+}
+
+impl Guide for Chart {
+    ghost use Rattle.summary_chart.specs.Charts.{CoversPlace, says_of};
+
+    ghost covers = { λ chart at entrance state. CoversPlace chart at entrance state };
+
+    ghost says = { λ chart at entrance state. says_of chart at entrance state };
+
+    fn live<L>(&self, at: u32, entrance: Entrance, state: State, steps: &mut Steps<L>) -> bool {
+        steps.tick();
+        match state.number() {
+            Some(number) => self.table.get(at, entrance).has(number),
+            None => false,
+        }
+    }
+}

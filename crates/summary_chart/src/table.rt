@@ -1,0 +1,114 @@
+ghost use Rattle.std.specs.Prelude.{◌≡◌, ◌^◌, ◌<◌, ◌≤◌, ◌⊎◌, ◌↔◌, ℕ, List, length, IfOk};
+ghost use Rattle.text_definitions.specs.Lines.{IsLine};
+ghost use Rattle.lexicon_definitions.specs.Leads.{Lead, leads_of};
+ghost use Rattle.lexicon_definitions.specs.declared.limits.TheConstants.{MOST_LEADS};
+ghost use Rattle.summary_chart.specs.StateSets.{HasState};
+ghost use Rattle.summary_chart.specs.Tables.{IsTable, AreEntrances, IsEntrance, HasSet, ChangesAt, IsIndexed, index_in, set_of, set_at};
+
+use super::state_set::StateSet;
+use derivation::Entrance;
+use phoneme::{Letter, Line, Memory};
+use sandhi_rules::RuleSet;
+use std::alloc::Global;
+
+/// How many entrances there are besides the leads: the start, and one for each letter.
+const OTHER_ENTRANCES: usize = 51;
+
+/// For each number of letters derived and each entrance a set of states. The entrances stand in their columns: the leads by their
+/// places, the start, and the letters by their codes.
+#[derive(Debug, Drop)]
+pub(crate) struct Table {
+    pub entrances: Vec<Entrance>,
+    pub sets: Vec<StateSet>,
+}
+
+/// The entrances over so many leads, in the order of their columns.
+fn entrances_over(alloc: Global, leads: usize) -> Result<Vec<Entrance>, Memory>
+    requires few { leads ≤ MOST_LEADS }
+    ensures { IfOk result (λ entrances. AreEntrances leads entrances.items) }
+{
+    let mut entrances = Vec::new(alloc);
+    for place in 0..leads {
+        entrances.push(Entrance::Lead(place as u16))?;
+    }
+    entrances.push(Entrance::Start)?;
+    for code in 1..51 {
+        if let Some(letter) = Letter::new(code) {
+            entrances.push(Entrance::Plain(letter))?;
+        }
+    }
+    Ok(entrances)
+}
+
+impl Table {
+    /// A table for the rules and the line whose sets are empty. Refused only for want of memory.
+    pub fn new(alloc: Global, rules: &RuleSet, line: &Line) -> Result<Table, Memory>
+        requires { IsLine line.now }
+        ensures is_table { IfOk result (λ table. IsTable (leads_of rules.now.rules) (length line.now.letters) table) }
+        ensures empty { IfOk result (λ table. (index number : ℕ) → HasState (set_of table index) number → ⊥) }
+    {
+        // Its contract says that there are not too many leads.
+        rules.rules();
+        let entrances = entrances_over(alloc, rules.leads().len())?;
+        let count = (line.letters.as_slice().len() + 1) * entrances.len();
+        Ok(Table {
+            entrances,
+            sets: Vec::from_elem(alloc, StateSet::empty(), count)?,
+        })
+    }
+
+    /// Where the set of an entrance stands, after so many letters.
+    fn index(&self, at: u32, entrance: Entrance) -> usize
+        requires { HasSet self.now at entrance }
+        ensures index { result ≡ index_in self.now at entrance }
+        ensures entrance { IsEntrance entrance }
+    {
+        let leads = self.entrances.len() - OTHER_ENTRANCES;
+        let column = match entrance {
+            Entrance::Lead(place) => usize::from(place),
+            Entrance::Start => leads,
+            Entrance::Plain(letter) => leads + usize::from(letter.code()),
+        };
+        at as usize * self.entrances.len() + column
+    }
+
+    /// The set after so many letters, at an entrance.
+    pub fn get(&self, at: u32, entrance: Entrance) -> StateSet
+        requires { HasSet self.now at entrance }
+        ensures set { result ≡ set_at self.now at entrance }
+        ensures entrance { IsEntrance entrance }
+    {
+        self.sets[self.index(at, entrance)]
+    }
+
+    /// Puts the states into the set after so many letters, at an entrance.
+    pub fn add(&mut self, at: u32, entrance: Entrance, states: StateSet)
+        requires { HasSet self.old at entrance }
+        ensures entrance { IsEntrance entrance }
+        ensures changes { ChangesAt (index_in self.old at entrance) self.old self.new }
+        ensures added { (number : ℕ) → HasState (set_at self.new at entrance) number ↔ (HasState (set_at self.old at entrance) number ⊎ HasState states number) }
+    {
+        let index = self.index(at, entrance);
+        self.sets[index] = self.sets[index].union(states);
+    }
+
+    /// Puts these states in place of those at the index.
+    pub fn replace(&mut self, index: usize, states: StateSet)
+        requires { index < length self.old.sets.items }
+        ensures changes { ChangesAt index self.old self.new }
+        ensures set { set_of self.new index ≡ states }
+    {
+        self.sets[index] = states;
+    }
+
+    /// After how many letters and at which entrance the set at the index stands.
+    pub fn place(&self, index: usize) -> (u32, Entrance)
+        requires wide { 51 ≤ length self.now.entrances.items }
+        requires there { index < length self.now.sets.items }
+        requires few { length self.now.sets.items < 2 ^ 32 }
+        ensures { (leads : List Lead) (letters : ℕ) → IsTable leads letters self.now → IsIndexed leads letters index result.0 result.1 }
+    {
+        let width = self.entrances.len();
+        ((index / width) as u32, self.entrances[index % width])
+    }
+}
