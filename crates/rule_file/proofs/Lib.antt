@@ -1,0 +1,11 @@
+pub mod CutLemmas
+pub mod Turns
+pub mod FaultLemmas
+pub mod DocumentLemmas
+pub mod NotationLemmas
+pub mod ClassLemmas
+pub mod PhaseLemmas
+pub mod PlainLemmas
+pub mod TripleLemmas
+pub mod EntryLemmas
+pub mod SetLemmas

@@ -1,0 +1,12 @@
+use Rattle.std.proofs.Common.{◌≡◌, drop}
+use Rattle.std.specs.List.Sorted.{IsStrictlySortedBy}
+use Rattle.list_laws.specs.RisingSets.{with_elements}
+use Rattle.lexicon_definitions.specs.Lexicons.{compare_pairs}
+use Rattle.rule_file_definitions.specs.PlainEntries.{pairs_between}
+use Rattle.rule_file.proofs.plain.add_pairs.Given as goal
+
+abbrev pub invariant-loop-letter : goal.invariant-loop-letter
+invariant-loop-letter l = record {
+  rising : IsStrictlySortedBy compare_pairs l.pairs.items;
+  rest : with_elements compare_pairs l.pairs.items (pairs_between (drop l.letter-index l.left) l.right) ≡ with_elements compare_pairs l.initial.pairs.items (pairs_between l.left l.right);
+}

@@ -1,0 +1,12 @@
+-- Twins are sought from here on as from the first rule, and the rules so far with those to come are all of them.
+use Rattle.std.proofs.Common.{◌≡◌, ◌++◌, length}
+use Rattle.std.specs.Vec.Iter.{into_iter_items, into_iter_len}
+use Rattle.rule_file_definitions.specs.RuleEntries.{have_twins}
+use Rattle.rule_file.proofs.rules_so_far.RulesSoFar.with_rules.Given as goal
+
+abbrev pub invariant-loop-rule : goal.invariant-loop-rule
+invariant-loop-rule l = record {
+  twins : have_twins l.rules (into_iter_items l.rule-iterator) ≡ have_twins l.initial.rules (into_iter_items l.initial.rule-iterator);
+  all : l.rules ++ into_iter_items l.rule-iterator ≡ l.initial.rules ++ into_iter_items l.initial.rule-iterator;
+  count : into_iter_len l.rule-iterator ≡ length (into_iter_items l.rule-iterator);
+}

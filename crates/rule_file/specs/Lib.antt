@@ -1,0 +1,4 @@
+pub mod Faults
+pub mod Held
+pub mod Written
+pub mod Triples

@@ -1,0 +1,152 @@
+ghost use Rattle.std.specs.Prelude.{◌≡◌, ◌≤◌, ◌++◌, IfOk, OnOk};
+ghost use Rattle.lexicon_definitions.specs.Rules.{all_phases as all_phases_of};
+ghost use Rattle.rule_file_definitions.specs.RuleNotations.{gap_of as gap_of_part, pattern_of as pattern_of_notation};
+ghost use Rattle.rule_file_definitions.specs.RuleEntries.{put_in, filled, unlimited_rule as unlimited_rule_of, rule_with as rule_with_of};
+ghost use Rattle.rule_file.specs.Written.{part_of, written};
+
+use crate::classes::spelled;
+use crate::notation::{Notation, Part};
+use lexicon_definitions::MOST_PHASES;
+use phoneme::{Letter, Memory, Word};
+use sandhi_rules::Rule;
+use std::alloc::Global;
+use std::marker::Model;
+
+/// A part of a notation as it is read: the letters before and after the class, where it has one.
+#[derive(Debug, Drop)]
+pub(crate) struct Gap {
+    pub before: Word,
+    pub has_class: bool,
+    pub after: Word,
+}
+
+impl Model for Gap {
+    ghost use Rattle.rule_file_definitions.specs.RuleNotations.{Gap as GapValue};
+
+    ghost Value = { GapValue };
+
+    ghost view = { λ g. record { before = g.before; has_class = g.has_class; after = g.after } };
+}
+
+/// A notation as it is read.
+#[derive(Debug, Drop)]
+pub(crate) struct Pattern {
+    pub x: Word,
+    pub u: Word,
+    pub v: Gap,
+    pub w: Gap,
+}
+
+impl Model for Pattern {
+    ghost use Rattle.rule_file_definitions.specs.RuleNotations.{Pattern as PatternValue};
+
+    ghost Value = { PatternValue };
+
+    ghost view = { λ p. record { x = p.x; u = p.u; v = p.v; w = p.w } };
+}
+
+/// The part, where both of its texts are spelled in SLP1.
+fn gap_of(alloc: Global, part: &Part<'_>) -> Result<Option<Gap>, Memory>
+    ensures { IfOk result (λ gap. gap ≡ gap_of_part (part_of part.now)) }
+{
+    let Some(before) = spelled(alloc, part.before)? else {
+        return Ok(None);
+    };
+    let Some(after) = spelled(alloc, part.after)? else {
+        return Ok(None);
+    };
+    Ok(Some(Gap {
+        before,
+        has_class: part.class.is_some(),
+        after,
+    }))
+}
+
+/// The notation, where all of it is spelled in SLP1.
+pub(crate) fn pattern_of(alloc: Global, notation: &Notation<'_>) -> Result<Option<Pattern>, Memory>
+    ensures { IfOk result (λ pattern. pattern ≡ pattern_of_notation (written notation.now)) }
+{
+    let Some(x) = spelled(alloc, notation.x)? else {
+        return Ok(None);
+    };
+    let Some(u) = spelled(alloc, notation.u)? else {
+        return Ok(None);
+    };
+    let Some(v) = gap_of(alloc, &notation.v)? else {
+        return Ok(None);
+    };
+    let Some(w) = gap_of(alloc, &notation.w)? else {
+        return Ok(None);
+    };
+    Ok(Some(Pattern { x, u, v, w }))
+}
+
+/// The set of the first count phases.
+fn all_phases(count: usize) -> u16
+    requires { count ≤ MOST_PHASES }
+    ensures { result ≡ all_phases_of count }
+{
+    ((1u32 << count) - 1) as u16
+}
+
+/// The rule with this triple that is unlimited over so many phases.
+fn unlimited_rule(count: usize, u: Word, v: Word, w: Word) -> Rule
+    requires { count ≤ MOST_PHASES }
+    ensures { result ≡ unlimited_rule_of count u v w }
+{
+    let before = all_phases(count);
+    let after = if v.is_empty() { 0 } else { before };
+    Rule {
+        u,
+        v,
+        w,
+        before,
+        after,
+    }
+}
+
+/// What is put in place of the class.
+fn push_letter(word: &mut Word, has_class: bool, filling: &Option<Letter>) -> Result<(), Memory>
+    ensures { OnOk result (word.new ≡ word.old ++ put_in has_class filling.now) }
+{
+    let Some(letter) = filling else {
+        return Ok(());
+    };
+    if has_class {
+        word.push(*letter)
+    } else {
+        Ok(())
+    }
+}
+
+impl Gap {
+    /// Appends the word with this letter in place of the class, or with nothing there.
+    fn push_filled(&self, word: &mut Word, filling: &Option<Letter>) -> Result<(), Memory>
+        ensures { OnOk result (word.new ≡ word.old ++ filled self.now filling.now) }
+    {
+        word.extend_from_slice(self.before.as_slice())?;
+        push_letter(word, self.has_class, filling)?;
+        word.extend_from_slice(self.after.as_slice())
+    }
+}
+
+impl Pattern {
+    /// The rule over so many phases with this letter in place of the class, or with nothing there.
+    pub(crate) fn rule_with(
+        &self,
+        alloc: Global,
+        count: usize,
+        filling: &Option<Letter>,
+    ) -> Result<Rule, Memory>
+        requires { count ≤ MOST_PHASES }
+        ensures { IfOk result (λ rule. rule ≡ rule_with_of count self.now filling.now) }
+    {
+        let mut u = self.x.copy(alloc)?;
+        u.extend_from_slice(self.u.as_slice())?;
+        let mut v = Word::new(alloc);
+        self.v.push_filled(&mut v, filling)?;
+        let mut w = self.x.copy(alloc)?;
+        self.w.push_filled(&mut w, filling)?;
+        Ok(unlimited_rule(count, u, v, w))
+    }
+}

@@ -1,0 +1,4 @@
+pub mod SmallTests
+pub mod SoundEntries
+pub mod SoundRules
+pub mod SoundSets

@@ -1,0 +1,77 @@
+-- Tests as facts, each by cases of the test or by induction on a list.
+use Rattle.std.proofs.Common.{◌≡◌, ◌≢◌, ℕ, ◌≤◌, Bool, true, false, cond, not, ◌&&◌, nat_lt, Result, Ok, Err, List, [], ◌∷◌, length, All, refl, sym, arith}
+use Rattle.std.specs.List.{AllByRecursion, list_any, list_all}
+use Rattle.std.specs.Str.{bytes_eq}
+use Rattle.std.proofs.lemmas.Bool.{and_parts, or_parts, and_from, leb-true}
+use Rattle.std.proofs.lemmas.Bool.Decides.{nat_tests}
+use Rattle.std.proofs.lemmas.List.Elements.{All-from_recursion}
+use Rattle.std.proofs.lemmas.Slice.Eq.{bytes_eq-Decides}
+use Rattle.lexicon_definitions.specs.declared.limits.TheConstants.{MOST_NAME_BYTES}
+use Rattle.lexicon_definitions.specs.GrammarTexts.{is_name_byte}
+use Rattle.lexicon_definitions.specs.GrammarFaults.{is_small_letter}
+use Rattle.lexicon_definitions.specs.Lexicons.{IsPhaseName}
+use Rattle.lexicon_definitions.specs.Rules.{Rule, IsSameTriple}
+use Rattle.rule_file_definitions.specs.SoundClasses.{is_phase_name}
+use Rattle.rule_file_definitions.specs.RuleEntries.{is_twin}
+
+-- ---- a choice whose outcome is known
+
+pub if_passed : {T E : Type 0} (b : Bool) (x : Result T E) (e : E) (y : T) → cond b x (Err e) ≡ Ok y → (b ≡ true) × (x ≡ Ok y)
+if_passed true x e y h = (refl, h)
+if_passed false x e y h = absurd (cc)
+
+pub if_refused : {T E : Type 0} (b : Bool) (x : Result T E) (e : E) (y : T) → cond b (Err e) x ≡ Ok y → (b ≡ false) × (x ≡ Ok y)
+if_refused true x e y h = absurd (cc)
+if_refused false x e y h = (refl, h)
+
+pub not_true : (b : Bool) → not b ≡ true → b ≡ false
+not_true true h = absurd (cc)
+not_true false h = refl
+
+pub not_below : (bound n : ℕ) → nat_lt bound n ≡ false → n ≤ bound
+not_below bound n h = grind (arith, nat_tests)
+
+-- ---- texts that are the same
+
+pub bytes_same : (left right : List ℕ) → bytes_eq left right ≡ true → left ≡ right
+bytes_same left right h = (bytes_eq-Decides left right).0 h
+
+none_by : (text : List ℕ) (texts : List (List ℕ)) → list_any (bytes_eq text) texts ≡ false → AllByRecursion (λ other. other ≢ text) texts
+none_by text [] h = tt
+none_by text (other ∷ texts) h =
+    let parts = or_parts (bytes_eq text other) (list_any (bytes_eq text) texts) h in
+    let apart : other ≢ text = λ e. let same = (bytes_eq-Decides text other).1 (sym e) in cc in
+    (apart, none_by text texts parts.1)
+
+-- none of these texts is this one
+pub none_same : (text : List ℕ) (texts : List (List ℕ)) → list_any (bytes_eq text) texts ≡ false → All (λ other. other ≢ text) texts
+none_same text texts h = All-from_recursion (λ other. other ≢ text) texts (none_by text texts h)
+
+-- the test of a phase's name
+pub name_from_test : (name : List ℕ) → is_phase_name name ≡ true → IsPhaseName name
+name_from_test [] h = absurd (cc)
+name_from_test (byte ∷ bytes) h =
+    let parts = and_parts (is_small_letter byte && _) (list_all is_name_byte bytes) h in
+    let first = and_parts (is_small_letter byte) _ parts.0 in
+    (first.0, leb-true (length (byte ∷ bytes)) MOST_NAME_BYTES first.1, parts.1)
+
+-- ---- triples
+
+pub test_from_triple : (left right : Rule) → IsSameTriple left right → is_twin right left ≡ true
+test_from_triple left right (d, e, f) =
+    and_from _ _ (and_from _ _ ((bytes_eq-Decides right.u left.u).1 (sym d)) ((bytes_eq-Decides right.v left.v).1 (sym e))) ((bytes_eq-Decides right.w left.w).1 (sym f))
+
+-- the rules have different triples
+abbrev pub IsOther : Rule → Rule → Type 0
+IsOther left right = IsSameTriple left right → ⊥
+
+others_by : (new : Rule) (rules : List Rule) → list_any (is_twin new) rules ≡ false → AllByRecursion (λ rule. IsOther rule new) rules
+others_by new [] h = tt
+others_by new (rule ∷ rules) h =
+    let parts = or_parts (is_twin new rule) (list_any (is_twin new) rules) h in
+    let other : IsOther rule new = λ same. let twin = test_from_triple rule new same in cc in
+    (other, others_by new rules parts.1)
+
+-- no rule has this one's triple
+pub others_from_test : (new : Rule) (rules : List Rule) → list_any (is_twin new) rules ≡ false → All (λ rule. IsOther rule new) rules
+others_from_test new rules h = All-from_recursion (λ rule. IsOther rule new) rules (others_by new rules h)
