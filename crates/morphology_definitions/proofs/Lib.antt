@@ -1,3 +1,4 @@
+pub mod Inflections
 pub mod JoinedExists
 pub mod JoinedWord
 pub mod NasalReach

@@ -1,1 +1,2 @@
 pub mod InternalSandhi
+pub mod Inflection

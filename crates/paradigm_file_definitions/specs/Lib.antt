@@ -1,0 +1,5 @@
+pub mod Records
+pub mod TableFaults
+pub mod TableFiles
+pub mod StemFaults
+pub mod StemFiles

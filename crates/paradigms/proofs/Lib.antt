@@ -1,0 +1,11 @@
+pub mod RecordLemmas
+pub mod FirstPlaces
+pub mod FieldLemmas
+pub mod RowReads
+pub mod RowEquality
+pub mod ClassLemmas
+pub mod ClassesKept
+pub mod TakeLemmas
+pub mod StemLemmas
+pub mod ReadLoops
+pub mod InflectionLemmas

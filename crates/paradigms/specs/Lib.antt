@@ -1,0 +1,5 @@
+pub mod RecordsLeft
+pub mod Rows
+pub mod Kept
+pub mod Answers
+pub mod Parts

@@ -1,0 +1,66 @@
+ghost use Rattle.std.specs.Prelude.{◌≡◌, ◌<◌, ◌≤◌, ◌^◌, ℕ, List, length, map, IfSome};
+ghost use Rattle.std.specs.List.{position};
+ghost use Rattle.std.specs.Str.{bytes_eq};
+ghost use Rattle.std.specs.String.{string_bytes};
+ghost use Rattle.lexicon_definitions.specs.declared.limits.TheConstants.{MOST_PHASES};
+ghost use Rattle.morphology_definitions.specs.Inflection.{Class};
+ghost use Rattle.paradigm_file_definitions.specs.TableFiles.{cut_of, take_cut, take_row};
+ghost use Rattle.paradigms.specs.Rows.{text_row};
+ghost use Rattle.paradigms.specs.Answers.{IsRead, table_why};
+
+use crate::fields::read_cut;
+use crate::record_error::RecordError;
+use crate::words::read_word;
+use crate::{Row, TableWhy};
+use form_tags::read_tag;
+use std::alloc::Global;
+
+/// The place of the first of the names that has these bytes, counted from 0.
+fn place_of(names: &[String], name: &[u8]) -> Option<usize>
+    ensures named { result ≡ position (bytes_eq name.now) (map string_bytes names.now) }
+    ensures within { IfSome result (λ place. place < length names.now) }
+{
+    for (place, known) in names.iter().enumerate() {
+        if name == known.as_bytes() {
+            return Some(place);
+        }
+    }
+    None
+}
+
+/// The row that these fields of a record tell, over these names of phases.
+pub(crate) fn read_row(
+    alloc: Global,
+    phases: &[String],
+    tag: &[u8],
+    phase: &[u8],
+    prefix: &[u8],
+    cut: &[u8],
+    ending: &[u8],
+) -> Result<Row, RecordError<TableWhy>>
+    requires few { length phases.now ≤ MOST_PHASES }
+    requires prefix { length prefix.now < 2 ^ 32 }
+    requires ending { length ending.now < 2 ^ 32 }
+    ensures { (number : ℕ) (classes : List Class) (name : List ℕ)
+        → IsRead table_why text_row (take_row number classes name)
+        (take_cut (map string_bytes phases.now) number classes name tag.now phase.now (cut_of cut.now) prefix.now ending.now) result }
+{
+    let Some(cut) = read_cut(cut) else {
+        return Err(RecordError::Why(TableWhy::Fields));
+    };
+    let Some(tag) = read_tag(tag) else {
+        return Err(RecordError::Why(TableWhy::Tag));
+    };
+    let Some(phase) = place_of(phases, phase) else {
+        return Err(RecordError::Why(TableWhy::Phase));
+    };
+    let prefix = read_word(alloc, prefix, TableWhy::Spelling)?;
+    let ending = read_word(alloc, ending, TableWhy::Spelling)?;
+    Ok(Row {
+        tag,
+        phase: phase as u32,
+        prefix,
+        cut,
+        ending,
+    })
+}
