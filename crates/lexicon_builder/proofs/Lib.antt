@@ -1,0 +1,5 @@
+pub mod EntriesAdded
+pub mod CollectedLists
+pub mod ListableEntries
+pub mod SourcesRead
+pub mod BuiltLexicons

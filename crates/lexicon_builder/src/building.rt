@@ -1,0 +1,61 @@
+ghost use Rattle.std.specs.Prelude.{◌≡◌, ◌≤◌, ◌<◌, length, IfOk, IfErr};
+ghost use Rattle.lexicon_text_definitions.specs.LexiconTexts.{text_of};
+ghost use Rattle.lexicon_text_definitions.specs.TextsOf.{HasText};
+ghost use Rattle.run_definitions.specs.SourceLexicons.{IsLexiconOf};
+ghost use Rattle.lexicon_file.specs.Contents.{lexicon_of};
+ghost use Rattle.lexicon_builder.specs.Sources.{AreSources, HaveTooManyLines, IfLimit};
+
+use crate::BuildError;
+use crate::collecting::{lists_of, sort_entries};
+use lexicon_definitions::MOST_FORM_LINES;
+use lexicon_file::{Contents, write};
+use lexicon_text_definitions::MOST_FILE_BYTES;
+use paradigms::{Stems, Tables, inflect_all};
+use phase_automaton::Automaton;
+use sandhi_rules::RuleSet;
+use std::alloc::Global;
+use std::thread::Threads;
+
+/// The lexicon of a rule set, tables and stems: its forms are those of all stems, each with its stem and its tag (after Huet
+/// 2005). Refused where it has more lines of forms than a lexicon may have. The automaton is that of the rule set's grammar.
+pub fn build_lexicon(
+    rt: &(impl Threads + Sync),
+    alloc: Global,
+    rules: RuleSet,
+    automaton: Automaton,
+    tables: &Tables,
+    stems: &Stems,
+) -> Result<Contents, BuildError>
+    requires { AreSources rules tables.now stems.now }
+    ensures ok { IfOk result (λ contents. IsLexiconOf rules tables.now stems.now (lexicon_of contents)) }
+    ensures text { IfOk result (λ contents. HasText (lexicon_of contents)) }
+    ensures automaton { IfOk result (λ contents. contents.automaton ≡ automaton) }
+    ensures limit { IfErr result (λ error. IfLimit error (HaveTooManyLines rules tables.now stems.now)) }
+{
+    let mut entries = inflect_all(rt, alloc, tables, stems)?;
+    sort_entries(&mut entries)?;
+    let phases = rules.phases().len() as u32;
+    let lists = lists_of(alloc, phases, entries)?;
+    if lists.lines() as usize > MOST_FORM_LINES {
+        return Err(BuildError::Limit);
+    }
+    Ok(Contents {
+        rules,
+        automaton,
+        lists,
+    })
+}
+
+/// The text of a lexicon, as its file holds it (own format). Refused where it has more bytes than a file may have.
+pub fn lexicon_text(alloc: Global, contents: &Contents) -> Result<Vec<u8>, BuildError>
+    requires { HasText (lexicon_of contents.now) }
+    ensures ok { IfOk result (λ text. text.items ≡ text_of (lexicon_of contents.now)) }
+    ensures fits { IfOk result (λ text. length text.items ≤ MOST_FILE_BYTES) }
+    ensures limit { IfErr result (λ error. IfLimit error (MOST_FILE_BYTES < length (text_of (lexicon_of contents.now)))) }
+{
+    let text = write(alloc, contents)?;
+    if text.len() > MOST_FILE_BYTES {
+        return Err(BuildError::Limit);
+    }
+    Ok(text)
+}
