@@ -1,2 +1,5 @@
+pub mod OneCommand
 pub mod OneOverlapList
 pub mod OneOutcome
+pub mod OneSourceLexicon
+pub mod OneBuildOutcome

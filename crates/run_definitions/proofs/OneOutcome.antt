@@ -1,8 +1,8 @@
 -- Two outcomes of one run are of one command; its file tells one thing, its text has one line, and this has one page.
 use Rattle.std.proofs.Common.{◌≡◌, ℕ, ◌+◌, ◌<◌, ◌≤◌, List, [], ◌∷◌, length, Option, Some, None, Ok, Err, sym, ◌∙◌, ap, subst, refl, inl, inr, arith}
-use Rattle.std.specs.Prelude.{codes, slice_index, slice_index_or}
 use Rattle.outside.specs.Files.{Files, contents_of}
 use Rattle.text_definitions.specs.Lines.{Line}
+use Rattle.text_definitions.specs.Schemes.{Scheme}
 use Rattle.text_definitions.specs.LineTexts.{LineFault}
 use Rattle.lexicon_definitions.specs.Lexicons.{Lexicon}
 use Rattle.lexicon_text_definitions.specs.FileReadings.{FileResult, IsReadAs}
@@ -10,70 +10,24 @@ use Rattle.segmentation_definitions.specs.Listings.{BeforeFirst}
 use Rattle.segmentation_definitions.specs.PrintedAnswers.{printed_page}
 use Rattle.segmentation_definitions.proofs.Listings.{same_page}
 use Rattle.run_definitions.specs.declared.limits.TheConstants.{CHECK_OVERLAPS, SEGMENT_PAGE}
-use Rattle.run_definitions.specs.Commands.{Command, Segment, Check, FileWord, IsArgument, HaveArguments, AreWordsOf}
+use Rattle.run_definitions.specs.Commands.{Command, Segment, Check, FileWord, AreWordsOf}
 use Rattle.run_definitions.specs.Ends as ends
 use Rattle.run_definitions.specs.Ends.{Outcome, Done, Large, outcome_over}
 use Rattle.run_definitions.specs.Refusals.{text_refusal}
 use Rattle.run_definitions.specs.SegmentOutcomes.{FileTells, NotThere, Refused, Holds, DoesTell, IsMissing, IsLarge, IsFaulty, IsLexicon, IsPageOutcome, IsListedOutcome, OfText, OfPage, IsOutcomeWith, IsSegmentOutcome}
 use Rattle.run_definitions.specs.Overlaps.{printed_check}
 use Rattle.run_definitions.specs.CheckOutcomes.{IsCheckOutcomeWith, IsCheckOutcome}
+use Rattle.run_definitions.proofs.OneCommand.{one_command}
 use Rattle.run_definitions.proofs.OneOverlapList.{one_list}
 use Rattle.run_definitions.specs.Outcomes.{IsOutcome, IsOutcomeOf, OfNoCommand, OfCommand}
 
--- the names of two commands differ in their first byte
-other_names : (left right : List (List ℕ)) → codes "segment" ∷ left ≡ codes "check" ∷ right → ⊥
-other_names left right e =
-    let f : slice_index (codes "segment") 0 ≡ slice_index (codes "check") 0 = ap (λ words. slice_index (slice_index_or words 0 []) 0) e in cc
-
--- `--` may be no argument
-end_is_no_argument : (word : List ℕ) → word ≡ codes "--" → IsArgument word → ⊥
-end_is_no_argument word e a =
-    (subst IsArgument e a).no_option (record { longer = omega arith; dash = refl })
-
--- words have one list of arguments: `--` itself is an option, so it is the first one where it ends the options
-one_arguments : (place : ℕ) (words : List (List ℕ)) (left right : List FileWord) → HaveArguments place words left
-    → HaveArguments place words right → left ≡ right
-one_arguments place [] left right p q = p ∙ sym q
-one_arguments place (word ∷ words) left right p q =
-    elim p [
-      | inl (e, l) ↦ elim q [
-        | inl (f, r) ↦ l ∙ sym r
-        | inr (a, others) ↦ absurd (end_is_no_argument word e a)
-      ]
-      | inr (a, (others, l, h)) ↦ elim q [
-        | inl (f, r) ↦ absurd (end_is_no_argument word f a)
-        | inr (b, (rest, r, k)) ↦
-            l ∙ ap (◌∷◌ (record { place = place; name = word })) (one_arguments (place + 1) words others rest h k) ∙ sym r
-      ]
-    ]
-
--- words are those of one command
-pub one_command : (words : List (List ℕ)) (left right : Command) → AreWordsOf left words → AreWordsOf right words → left ≡ right
-one_command words (Segment lex text) (Segment other more) p q =
-    let e : codes "segment" ∷ lex.name ∷ text ∷ [] ≡ codes "segment" ∷ other.name ∷ more ∷ [] = sym p.0.are ∙ q.0.are in
-    let same_name : lex.name ≡ other.name = cc in
-    let same_text : text ≡ more = cc in
-    let same_place : lex.place ≡ other.place = p.1 ∙ sym q.1 in
-    λ i. Segment (record { place = same_place i; name = same_name i }) (same_text i)
-one_command words (Segment lex text) (Check other) p q =
-    absurd (other_names (lex.name ∷ text ∷ []) q.following (sym p.0.are ∙ q.are))
-one_command words (Check lex) (Segment other text) p q =
-    absurd (other_names (other.name ∷ text ∷ []) p.following (sym q.0.are ∙ p.are))
-one_command words (Check lex) (Check other) p q =
-    let e : codes "check" ∷ p.following ≡ codes "check" ∷ q.following = sym p.are ∙ q.are in
-    let same : p.following ≡ q.following = cc in
-    let list : lex ∷ [] ≡ other ∷ [] =
-    one_arguments 1 q.following (lex ∷ []) (other ∷ []) (subst (λ w. HaveArguments 1 w (lex ∷ [])) same p.have) q.have in
-    let same_word : lex ≡ other = cc in
-    ap Check same_word
-
 -- one file has one content
-same_bytes : (files : Files) (name bytes more : List ℕ) → contents_of files name ≡ Some bytes → contents_of files name ≡ Some more
+pub same_bytes : (files : Files) (name bytes more : List ℕ) → contents_of files name ≡ Some bytes → contents_of files name ≡ Some more
     → bytes ≡ more
 same_bytes files name bytes more p q = let f : Some bytes ≡ Some more = sym p ∙ q in cc (f)
 
 -- a file that is there is not missing
-not_missing : (files : Files) (name bytes : List ℕ) → contents_of files name ≡ None → contents_of files name ≡ Some bytes → ⊥
+pub not_missing : (files : Files) (name bytes : List ℕ) → contents_of files name ≡ None → contents_of files name ≡ Some bytes → ⊥
 not_missing files name bytes p q = let f : None ≡ Some bytes = sym p ∙ q in cc (f)
 
 -- where bytes are read in one way, a file tells one thing
@@ -125,32 +79,32 @@ module _ (one : (bytes : List ℕ) (left right : FileResult) → IsReadAs bytes 
       λ i. outcome_over files (printed_page lexicon.rules 1 (page.0 i) (page.1 i)) Done in
       p.is ∙ printed ∙ sym q.is
 
-  one_listed : (lexicon : Lexicon) (text : List ℕ) (files : Files) (a b : Outcome) → IsListedOutcome lexicon text files a
-      → IsListedOutcome lexicon text files b → a ≡ b
-  one_listed lexicon text files a b (OfText fault p e) (OfText other q f) =
+  one_listed : (lexicon : Lexicon) (scheme : Scheme) (text : List ℕ) (files : Files) (a b : Outcome) → IsListedOutcome lexicon scheme text files a
+      → IsListedOutcome lexicon scheme text files b → a ≡ b
+  one_listed lexicon scheme text files a b (OfText fault p e) (OfText other q f) =
       let same : Err fault ≡ Err other = sym p ∙ q in
       let same_fault : fault ≡ other = cc in
       e ∙ ap (λ (x : LineFault). outcome_over files (text_refusal x) (ends.BadText x)) same_fault ∙ sym f
-  one_listed lexicon text files a b (OfText fault p e) (OfPage line q f) =
+  one_listed lexicon scheme text files a b (OfText fault p e) (OfPage line q f) =
       let same : Err fault ≡ Ok line = sym p ∙ q in absurd (cc)
-  one_listed lexicon text files a b (OfPage line p e) (OfText fault q f) =
+  one_listed lexicon scheme text files a b (OfPage line p e) (OfText fault q f) =
       let same : Ok line ≡ Err fault = sym p ∙ q in absurd (cc)
-  one_listed lexicon text files a b (OfPage line p e) (OfPage other q f) =
+  one_listed lexicon scheme text files a b (OfPage line p e) (OfPage other q f) =
       let same : Ok line ≡ Ok other = sym p ∙ q in
       let same_line : line ≡ other = cc in
       one_page_outcome lexicon other files a b (subst (λ (l : Line). IsPageOutcome lexicon l files a) same_line e) f
 
-  one_outcome_with : (tells : FileTells) (lex : FileWord) (text : List ℕ) (files : Files) (a b : Outcome)
-      → IsOutcomeWith tells lex text files a → IsOutcomeWith tells lex text files b → a ≡ b
-  one_outcome_with NotThere lex text files a b p q = p ∙ sym q
-  one_outcome_with (Refused fault) lex text files a b p q = p ∙ sym q
-  one_outcome_with (Holds lexicon) lex text files a b p q = one_listed lexicon text files a b p q
+  one_outcome_with : (tells : FileTells) (lex : FileWord) (scheme : Scheme) (text : List ℕ) (files : Files) (a b : Outcome)
+      → IsOutcomeWith tells lex scheme text files a → IsOutcomeWith tells lex scheme text files b → a ≡ b
+  one_outcome_with NotThere lex scheme text files a b p q = p ∙ sym q
+  one_outcome_with (Refused fault) lex scheme text files a b p q = p ∙ sym q
+  one_outcome_with (Holds lexicon) lex scheme text files a b p q = one_listed lexicon scheme text files a b p q
 
-  pub one_segment_outcome : (lex : FileWord) (text : List ℕ) (files : Files) (a b : Outcome) → IsSegmentOutcome lex text files a
-      → IsSegmentOutcome lex text files b → a ≡ b
-  one_segment_outcome lex text files a b p q =
+  pub one_segment_outcome : (lex : FileWord) (scheme : Scheme) (text : List ℕ) (files : Files) (a b : Outcome) → IsSegmentOutcome lex scheme text files a
+      → IsSegmentOutcome lex scheme text files b → a ≡ b
+  one_segment_outcome lex scheme text files a b p q =
       let same = one_telling files lex.name p.tells q.tells p.does_tell q.does_tell in
-      one_outcome_with q.tells lex text files a b (subst (λ (t : FileTells). IsOutcomeWith t lex text files a) same p.is_outcome) q.is_outcome
+      one_outcome_with q.tells lex scheme text files a b (subst (λ (t : FileTells). IsOutcomeWith t lex scheme text files a) same p.is_outcome) q.is_outcome
 
   one_check_with : (tells : FileTells) (lex : FileWord) (files : Files) (a b : Outcome) → IsCheckOutcomeWith tells lex files a
       → IsCheckOutcomeWith tells lex files b → a ≡ b
@@ -171,7 +125,7 @@ module _ (one : (bytes : List ℕ) (left right : FileResult) → IsReadAs bytes 
   -- each command has one outcome at most
   one_outcome_of : (command : Command) (files : Files) (input : Option (List ℕ)) (a b : Outcome) → IsOutcomeOf command files input a
       → IsOutcomeOf command files input b → a ≡ b
-  one_outcome_of (Segment lex text) files input a b p q = one_segment_outcome lex text files a b p q
+  one_outcome_of (Segment lex scheme text) files input a b p q = one_segment_outcome lex scheme text files a b p q
   one_outcome_of (Check lex) files input a b p q = one_check_outcome lex files a b p q
 
   -- and so has a run

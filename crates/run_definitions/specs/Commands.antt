@@ -1,63 +1,57 @@
 -- The words of a run, and the commands that they are (own).
-use Rattle.std.specs.Prelude.{◌≡◌, ℕ, ◌+◌, ◌<◌, ◌≤◌, ◌⊎◌, List, [], ◌∷◌, length, slice_index, codes, All}
+use Rattle.std.specs.Prelude.{◌≡◌, ℕ, ◌≤◌, List, [], ◌∷◌, length, codes, All}
+use Rattle.text_definitions.specs.Schemes.{Scheme, Slp1, Wx, Velthuis, Devanagari}
 use Rattle.run_definitions.specs.declared.limits.TheConstants.{MOST_WORD_BYTES}
+use Rattle.run_definitions.specs.Arguments as arguments
+use Rattle.run_definitions.specs.Arguments.{HaveArguments}
 
--- the name of a file, and which of the words it is, counted from 0
-pub record FileWord : Type 0 where
-  pub place : ℕ
-  pub name : List ℕ
+-- a word that may name a file, with its place
+abbrev pub FileWord : Type 0
+FileWord = arguments.FileWord
 
 -- a command with its arguments
 pub data Command : Type 0 where
-  Segment : (lex : FileWord) → (text : List ℕ) → Command
+  Segment : (lex : FileWord) → (scheme : Scheme) → (text : List ℕ) → Command
   Check : (lex : FileWord) → Command
 
 -- the lexicon file that the command reads
 abbrev pub file_of : Command → FileWord
-file_of (Segment lex text) = lex
+file_of (Segment lex scheme text) = lex
 file_of (Check lex) = lex
 
--- the word is an option: it begins with `-`, and that is not all of it
-pub record IsOption (word : List ℕ) : Type 0 where
-  pub longer : 1 < length word
-  pub dash : slice_index word 0 ≡ 45
+-- the word that names the scheme
+abbrev pub name_of_scheme : Scheme → List ℕ
+name_of_scheme Slp1 = codes "slp1"
+name_of_scheme Wx = codes "wx"
+name_of_scheme Velthuis = codes "velthuis"
+name_of_scheme Devanagari = codes "devanagari"
 
--- the word may be an argument: it is not too long, and no option
-pub record IsArgument (word : List ℕ) : Type 0 where
-  pub within_limit : length word ≤ MOST_WORD_BYTES
-  pub no_option : IsOption word → ⊥
+-- the values of `--in` give the scheme: at most one of them, which is its name, and none gives SLP1
+abbrev pub GiveScheme : List (List ℕ) → Scheme → Type 0
+GiveScheme [] scheme = scheme ≡ Slp1
+GiveScheme (value ∷ []) scheme = value ≡ name_of_scheme scheme
+GiveScheme (value ∷ other ∷ values) scheme = ⊥
 
--- the words are the name of a command and these arguments
-pub record AreNameAndArguments (words : List (List ℕ)) (name : List ℕ) (arguments : List (List ℕ)) : Type 0 where
-  pub are : words ≡ name ∷ arguments
-  pub may_be : All IsArgument arguments
+-- the first word of a command
+abbrev pub name_of_command : Command → List ℕ
+name_of_command (Segment lex scheme text) = codes "segment"
+name_of_command (Check lex) = codes "check"
 
--- the words with their places, counted from this one on
-abbrev pub placed_from : ℕ → List (List ℕ) → List FileWord
-placed_from place [] = []
-placed_from place (word ∷ words) = record { place = place; name = word } ∷ placed_from (place + 1) words
+-- these values of `--in` and these arguments are the command's
+abbrev pub Takes : Command → List (List ℕ) → List FileWord → Type 0
+Takes (Segment lex scheme text) values arguments =
+    GiveScheme values scheme × ((place : ℕ) × (arguments ≡ lex ∷ record { place = place; name = text } ∷ []))
+Takes (Check lex) values arguments = (values ≡ []) × (arguments ≡ lex ∷ [])
 
--- the words from this place on have these arguments: the first `--` is none, and what comes after it is one whatever it is;
--- what comes before it may be one
-abbrev pub HaveArguments : ℕ → List (List ℕ) → List FileWord → Type 0
-HaveArguments place [] arguments = arguments ≡ []
-HaveArguments place (word ∷ words) arguments =
-    ((word ≡ codes "--") × (arguments ≡ placed_from (place + 1) words))
-    ⊎ (IsArgument word × ((others : List FileWord) × (arguments ≡ record { place = place; name = word } ∷ others)
-    × HaveArguments (place + 1) words others))
-
--- the words are the name of a command and words that have these arguments, and none of them is too long
-pub record AreNameAndPlaced (words : List (List ℕ)) (name : List ℕ) (arguments : List FileWord) : Type 0 where
+-- the words are those of the command: its name, and words that give what it takes, of which none is too long
+pub record AreWordsOf (command : Command) (words : List (List ℕ)) : Type 0 where
   pub following : List (List ℕ)
-  pub are : words ≡ name ∷ following
-  pub have : HaveArguments 1 following arguments
+  pub are : words ≡ name_of_command command ∷ following
   pub within_limit : All (λ word. length word ≤ MOST_WORD_BYTES) following
-
--- the words are those of the command
-abbrev pub AreWordsOf : Command → List (List ℕ) → Type 0
-AreWordsOf (Segment lex text) words =
-    AreNameAndArguments words (codes "segment") (lex.name ∷ text ∷ []) × (lex.place ≡ 1)
-AreWordsOf (Check lex) words = AreNameAndPlaced words (codes "check") (lex ∷ [])
+  pub values : List (List ℕ)
+  pub given : List FileWord
+  pub have : HaveArguments following values given
+  pub takes : Takes command values given
 
 -- the words are those of no command
 abbrev pub AreOfNoCommand : List (List ℕ) → Type 0

@@ -3,11 +3,18 @@ use Rattle.std.specs.Prelude.{ℕ, List}
 use Rattle.outside.specs.Files.{Files}
 use Rattle.text_definitions.specs.LineTexts.{LineFault}
 use Rattle.lexicon_text_definitions.specs.FileFaults.{FileFault}
+use Rattle.rule_file_definitions.specs.RuleFileFaults as rule_file
+use Rattle.paradigm_file_definitions.specs.Records as records
+use Rattle.paradigm_file_definitions.specs.TableFaults.{TableWhy}
+use Rattle.paradigm_file_definitions.specs.StemFaults.{StemWhy}
 
--- why a file is refused: it is too large, or it has this fault as a lexicon file
+-- why a file is refused: it is too large, or it has this fault as a lexicon file, a rule file, a table file or a stem file
 pub data AnyFault : Type 0 where
   Large : AnyFault
   Lexicon : (fault : FileFault) → AnyFault
+  Rules : (fault : rule_file.Fault) → AnyFault
+  Tables : (fault : records.Fault TableWhy) → AnyFault
+  Stems : (fault : records.Fault StemWhy) → AnyFault
 
 -- how a run ends, where no device fails and memory is found; a refused file is told by the place of its name among the
 -- words, counted from 0

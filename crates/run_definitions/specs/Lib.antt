@@ -1,7 +1,10 @@
+pub mod Arguments
 pub mod Commands
 pub mod Ends
 pub mod Refusals
 pub mod SegmentOutcomes
 pub mod Overlaps
 pub mod CheckOutcomes
+pub mod SourceLexicons
+pub mod BuildOutcomes
 pub mod Outcomes

@@ -18,7 +18,7 @@ usage_outcome files = outcome_over files (output_line (codes "usage")) ends.Usag
 
 -- the outcome of the command over these files and this input, which is None where the source does not tell it
 abbrev pub IsOutcomeOf : Command → Files → Option (List ℕ) → Outcome → Type 0
-IsOutcomeOf (Segment lex text) files input outcome = IsSegmentOutcome lex text files outcome
+IsOutcomeOf (Segment lex scheme text) files input outcome = IsSegmentOutcome lex scheme text files outcome
 IsOutcomeOf (Check lex) files input outcome = IsCheckOutcome lex files outcome
 
 -- the outcome of a run with these words over these files and this input

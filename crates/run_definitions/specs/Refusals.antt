@@ -6,7 +6,11 @@ use Rattle.text_definitions.specs.LineTexts.{LineFault, Misspelled, NoLetters, T
 use Rattle.lexicon_text_definitions.specs.FileFaults as file
 use Rattle.lexicon_text_definitions.specs.FileFaults.{Why}
 use Rattle.segmentation_definitions.specs.PrintedAnswers.{output_line}
-use Rattle.run_definitions.specs.Ends.{AnyFault, Large, Lexicon}
+use Rattle.rule_file_definitions.specs.EntryWhys as entry
+use Rattle.rule_file_definitions.specs.RuleFileFaults as rule_file
+use Rattle.paradigm_file_definitions.specs.TableFaults as table
+use Rattle.paradigm_file_definitions.specs.StemFaults as stem
+use Rattle.run_definitions.specs.Ends.{AnyFault, Large, Lexicon, Rules, Tables, Stems}
 
 -- the name of a reason, without what it carries
 abbrev pub name_of_why : Why → List ℕ
@@ -23,11 +27,59 @@ name_of_why file.Limit = codes "Limit"
 name_of_why file.Twice = codes "Twice"
 name_of_why file.Falling = codes "Falling"
 
--- `bad file NAME: Large`, or `bad file NAME line N: WHY`
+-- the name of a reason of an entry of the rules
+abbrev pub name_of_entry_why : entry.Why → List ℕ
+name_of_entry_why entry.Shape = codes "Shape"
+name_of_entry_why entry.Spelling = codes "Spelling"
+name_of_entry_why entry.Class = codes "Class"
+name_of_entry_why entry.Strict = codes "Strict"
+name_of_entry_why entry.Long = codes "Long"
+name_of_entry_why entry.Twice = codes "Twice"
+name_of_entry_why entry.Limit = codes "Limit"
+
+-- the name of a reason of a table's record
+abbrev pub name_of_table_why : table.TableWhy → List ℕ
+name_of_table_why table.Fields = codes "Fields"
+name_of_table_why table.Tag = codes "Tag"
+name_of_table_why table.Phase = codes "Phase"
+name_of_table_why table.Spelling = codes "Spelling"
+name_of_table_why table.Limit = codes "Limit"
+name_of_table_why table.Twice = codes "Twice"
+
+-- the name of a reason of a stem's record
+abbrev pub name_of_stem_why : stem.StemWhy → List ℕ
+name_of_stem_why stem.Fields = codes "Fields"
+name_of_stem_why stem.Spelling = codes "Spelling"
+name_of_stem_why stem.UnknownClass = codes "UnknownClass"
+name_of_stem_why stem.Short = codes "Short"
+name_of_stem_why stem.Limit = codes "Limit"
+name_of_stem_why stem.Twice = codes "Twice"
+
+-- what a refusal says after the name of a rule file: `: Toml`, `: Shape`, ` phase N`, ` class N`, ` plain N`, ` rule N: WHY` or
+-- `: Grammar`
+abbrev pub rules_refusal : rule_file.Fault → List ℕ
+rules_refusal rule_file.Toml = codes ": Toml"
+rules_refusal rule_file.Shape = codes ": Shape"
+rules_refusal (rule_file.Phase number) = codes " phase " ++ decimal number
+rules_refusal (rule_file.Class number) = codes " class " ++ decimal number
+rules_refusal (rule_file.Plain number) = codes " plain " ++ decimal number
+rules_refusal (rule_file.Rule number why) = codes " rule " ++ decimal number ++ codes ": " ++ name_of_entry_why why
+rules_refusal (rule_file.Grammar fault) = codes ": Grammar"
+
+-- what a refusal says after the name of a file of records: ` record N: WHY`
+abbrev pub record_refusal : ℕ → List ℕ → List ℕ
+record_refusal number why = codes " record " ++ decimal number ++ codes ": " ++ why
+
+-- `bad file NAME: Large`; `bad file NAME line N: WHY` of a lexicon file; and so on of the others
 abbrev pub file_refusal : List ℕ → AnyFault → List ℕ
 file_refusal name Large = output_line (codes "bad file " ++ name ++ codes ": Large")
 file_refusal name (Lexicon fault) =
     output_line (codes "bad file " ++ name ++ codes " line " ++ decimal fault.line ++ codes ": " ++ name_of_why fault.why)
+file_refusal name (Rules fault) = output_line (codes "bad file " ++ name ++ rules_refusal fault)
+file_refusal name (Tables fault) =
+    output_line (codes "bad file " ++ name ++ record_refusal fault.number (name_of_table_why fault.why))
+file_refusal name (Stems fault) =
+    output_line (codes "bad file " ++ name ++ record_refusal fault.number (name_of_stem_why fault.why))
 
 -- the place of a fault of spelling
 abbrev pub place_of_fault : SpellingFault → ℕ

@@ -1,8 +1,8 @@
--- What `segment` does with the name of a lexicon file and a text (own).
+-- What `segment` does with the name of a lexicon file and a text in a scheme (own).
 use Rattle.std.specs.Prelude.{◌≡◌, ℕ, ◌<◌, ◌≤◌, Bool, List, [], length, Some, None, Ok, Err}
 use Rattle.outside.specs.Files.{Files, contents_of}
 use Rattle.text_definitions.specs.Lines.{Line}
-use Rattle.text_definitions.specs.Schemes.{Slp1}
+use Rattle.text_definitions.specs.Schemes.{Scheme}
 use Rattle.text_definitions.specs.LineTexts.{LineFault, line_of_text}
 use Rattle.lexicon_definitions.specs.Lexicons.{Lexicon}
 use Rattle.lexicon_text_definitions.specs.declared.limits.TheConstants.{MOST_FILE_BYTES}
@@ -40,22 +40,22 @@ pub record IsPageOutcome (lexicon : Lexicon) (line : Line) (files : Files) (outc
   pub page : IsPage lexicon line [] BeforeFirst SEGMENT_PAGE answers more
   pub is : outcome ≡ outcome_over files (printed_page lexicon.rules 1 answers more) Done
 
--- with a lexicon and the reading of a text, its fault is written, or the page of its line
-pub data IsListedOutcome (lexicon : Lexicon) (text : List ℕ) (files : Files) (outcome : Outcome) : Type 0 where
-  OfText : (fault : LineFault) → line_of_text Slp1 text ≡ Err fault
-      → outcome ≡ outcome_over files (text_refusal fault) (BadText fault) → IsListedOutcome lexicon text files outcome
-  OfPage : (line : Line) → line_of_text Slp1 text ≡ Ok line → IsPageOutcome lexicon line files outcome
-      → IsListedOutcome lexicon text files outcome
+-- with a lexicon and the reading of a text in its scheme, its fault is written, or the page of its line
+pub data IsListedOutcome (lexicon : Lexicon) (scheme : Scheme) (text : List ℕ) (files : Files) (outcome : Outcome) : Type 0 where
+  OfText : (fault : LineFault) → line_of_text scheme text ≡ Err fault
+      → outcome ≡ outcome_over files (text_refusal fault) (BadText fault) → IsListedOutcome lexicon scheme text files outcome
+  OfPage : (line : Line) → line_of_text scheme text ≡ Ok line → IsPageOutcome lexicon line files outcome
+      → IsListedOutcome lexicon scheme text files outcome
 
 -- by what the file tells: nothing is written, its refusal is, or what is listed
-abbrev pub IsOutcomeWith : FileTells → FileWord → List ℕ → Files → Outcome → Type 0
-IsOutcomeWith NotThere lex text files outcome = outcome ≡ outcome_over files [] ReadFault
-IsOutcomeWith (Refused fault) lex text files outcome =
+abbrev pub IsOutcomeWith : FileTells → FileWord → Scheme → List ℕ → Files → Outcome → Type 0
+IsOutcomeWith NotThere lex scheme text files outcome = outcome ≡ outcome_over files [] ReadFault
+IsOutcomeWith (Refused fault) lex scheme text files outcome =
     outcome ≡ outcome_over files (file_refusal lex.name fault) (BadFile lex.place fault)
-IsOutcomeWith (Holds lexicon) lex text files outcome = IsListedOutcome lexicon text files outcome
+IsOutcomeWith (Holds lexicon) lex scheme text files outcome = IsListedOutcome lexicon scheme text files outcome
 
--- the outcome of `segment` with this name of a file and this text
-pub record IsSegmentOutcome (lex : FileWord) (text : List ℕ) (files : Files) (outcome : Outcome) : Type 0 where
+-- the outcome of `segment` with this name of a file and this text in this scheme
+pub record IsSegmentOutcome (lex : FileWord) (scheme : Scheme) (text : List ℕ) (files : Files) (outcome : Outcome) : Type 0 where
   pub tells : FileTells
   pub does_tell : DoesTell files lex.name tells
-  pub is_outcome : IsOutcomeWith tells lex text files outcome
+  pub is_outcome : IsOutcomeWith tells lex scheme text files outcome

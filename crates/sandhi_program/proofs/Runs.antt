@@ -3,6 +3,7 @@
 use Rattle.std.proofs.Common.{◌≡◌, ℕ, ◌+◌, ◌<◌, ◌≤◌, List, [], ◌++◌, length, take, min, Option, Some, None, Ok, Err, refl, sym, ap, subst, ◌∙◌, inl, inr, arith, append-nil, length-take}
 use Rattle.std.specs.Option.{option_map}
 use Rattle.std.proofs.lemmas.List.{take_all}
+use Rattle.text_definitions.specs.Schemes.{Scheme}
 use Rattle.outside.specs.Files.{Files, contents_of, first_bytes}
 use Rattle.outside.specs.Told.{bytes_after, GrowsByPrefix}
 use Rattle.run_definitions.specs.Commands.{Command, FileWord, AreWordsOf, AreOfNoCommand}
@@ -57,10 +58,10 @@ refused_file files name content bytes (OfLexicon fault) there e why =
     IsFaulty content there low (fault_of fault) (subst (λ b. IsReadAs b (Err (fault_of fault))) (sym same) why.1) refl
 
 -- the outcome whose output `segment` writes
-pub outcome_of : (lex : FileWord) (text : List ℕ) (files : Files) (content bytes : List ℕ) (status : Status) (output : List ℕ)
-    → contents_of files lex.name ≡ Some content → take (MOST_FILE_BYTES + 1) content ≡ bytes → Writes lex bytes text status output
-    → (outcome : Outcome) × IsSegmentOutcome lex text files outcome × (outcome.output ≡ output) × (outcome.files ≡ files) × Tells status outcome.end
-outcome_of lex text files content bytes status output there e (segments.Page st p) =
+pub outcome_of : (lex : FileWord) (scheme : Scheme) (text : List ℕ) (files : Files) (content bytes : List ℕ) (status : Status) (output : List ℕ)
+    → contents_of files lex.name ≡ Some content → take (MOST_FILE_BYTES + 1) content ≡ bytes → Writes lex bytes scheme text status output
+    → (outcome : Outcome) × IsSegmentOutcome lex scheme text files outcome × (outcome.output ≡ output) × (outcome.files ≡ files) × Tells status outcome.end
+outcome_of lex scheme text files content bytes status output there e (segments.Page st p) =
     let low = within content bytes e p.within in
     let same = whole content bytes e low in (
       outcome_over files output ends.Done,
@@ -78,7 +79,7 @@ outcome_of lex text files content bytes status output there e (segments.Page st 
       refl,
       subst (λ (x : Status). Tells x ends.Done) (sym st) refl,
     )
-outcome_of lex text files content bytes status output there e (segments.OfFile fault st why o) = (
+outcome_of lex scheme text files content bytes status output there e (segments.OfFile fault st why o) = (
   outcome_over files output (ends.BadFile lex.place (file_fault fault)),
   record {
     tells = Refused (file_fault fault);
@@ -89,7 +90,7 @@ outcome_of lex text files content bytes status output there e (segments.OfFile f
   refl,
   subst (λ (x : Status). Tells x (ends.BadFile lex.place (file_fault fault))) (sym st) refl,
 )
-outcome_of lex text files content bytes status output there e (segments.OfText fault st why o) =
+outcome_of lex scheme text files content bytes status output there e (segments.OfText fault st why o) =
     let low = within content bytes e why.within in
     let same = whole content bytes e low in (
       outcome_over files output (ends.BadText (text_fault fault)),
@@ -142,27 +143,27 @@ wrote_prefix_of May IsIt files has result old new faults now (Something status o
     let (outcome, is, out, stay, tells) = has status output w in inr (outcome, is, subst (GrowsByPrefix old new) (sym out) f.prefix)
 
 -- and so it is of `segment`
-pub wrote_all : (lex : FileWord) (text : List ℕ) (files : Files) (content bytes : List ℕ) (result : Status)
+pub wrote_all : (lex : FileWord) (scheme : Scheme) (text : List ℕ) (files : Files) (content bytes : List ℕ) (result : Status)
     (old new : Option (List ℕ)) (faults now : ℕ) (told : List ℕ)
     → contents_of files lex.name ≡ Some content → take (MOST_FILE_BYTES + 1) content ≡ bytes
-    → Wrote (Writes lex bytes text) result old new faults now → old ≡ Some told → IsNoFault result
-    → WroteAll (IsSegmentOutcome lex text files) files told new result
-wrote_all lex text files content bytes result old new faults now told there e =
-    wrote_all_of (Writes lex bytes text) (IsSegmentOutcome lex text files) files
-    (λ status output w. outcome_of lex text files content bytes status output there e w) result old new faults now told
+    → Wrote (Writes lex bytes scheme text) result old new faults now → old ≡ Some told → IsNoFault result
+    → WroteAll (IsSegmentOutcome lex scheme text files) files told new result
+wrote_all lex scheme text files content bytes result old new faults now told there e =
+    wrote_all_of (Writes lex bytes scheme text) (IsSegmentOutcome lex scheme text files) files
+    (λ status output w. outcome_of lex scheme text files content bytes status output there e w) result old new faults now told
 
-pub wrote_prefix : (lex : FileWord) (text : List ℕ) (files : Files) (content bytes : List ℕ) (result : Status)
+pub wrote_prefix : (lex : FileWord) (scheme : Scheme) (text : List ℕ) (files : Files) (content bytes : List ℕ) (result : Status)
     (old new : Option (List ℕ)) (faults now : ℕ)
     → contents_of files lex.name ≡ Some content → take (MOST_FILE_BYTES + 1) content ≡ bytes
-    → Wrote (Writes lex bytes text) result old new faults now → WrotePrefix (IsSegmentOutcome lex text files) old new
-wrote_prefix lex text files content bytes result old new faults now there e =
-    wrote_prefix_of (Writes lex bytes text) (IsSegmentOutcome lex text files) files
-    (λ status output w. outcome_of lex text files content bytes status output there e w) result old new faults now
+    → Wrote (Writes lex bytes scheme text) result old new faults now → WrotePrefix (IsSegmentOutcome lex scheme text files) old new
+wrote_prefix lex scheme text files content bytes result old new faults now there e =
+    wrote_prefix_of (Writes lex bytes scheme text) (IsSegmentOutcome lex scheme text files) files
+    (λ status output w. outcome_of lex scheme text files content bytes status output there e w) result old new faults now
 
 -- a missing file has its outcome
-pub missing_wrote : (lex : FileWord) (text : List ℕ) (files : Files) (told : List ℕ) (old new : Option (List ℕ))
-    → contents_of files lex.name ≡ None → old ≡ Some told → new ≡ old → WroteAll (IsSegmentOutcome lex text files) files told new ReadFault
-missing_wrote lex text files told old new missing o same = record {
+pub missing_wrote : (lex : FileWord) (scheme : Scheme) (text : List ℕ) (files : Files) (told : List ℕ) (old new : Option (List ℕ))
+    → contents_of files lex.name ≡ None → old ≡ Some told → new ≡ old → WroteAll (IsSegmentOutcome lex scheme text files) files told new ReadFault
+missing_wrote lex scheme text files told old new missing o same = record {
   outcome = outcome_over files [] ends.ReadFault;
   is_it = record { tells = NotThere; does_tell = IsMissing missing refl; is_outcome = refl };
   output = same ∙ o ∙ ap Some (sym (append-nil told));

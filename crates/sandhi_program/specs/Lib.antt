@@ -1,5 +1,4 @@
 pub mod Ends
-pub mod Words
 pub mod Refusals
 pub mod SegmentErrors
 pub mod Segments

@@ -1,5 +1,6 @@
 -- What the refusals of `segment` say of the bytes of a lexicon file and of a text.
 use Rattle.std.specs.Prelude.{ℕ, List}
+use Rattle.text_definitions.specs.Schemes.{Scheme}
 use Rattle.sandhi_program.specs.declared.segment.SegmentError.{SegmentError}
 use Rattle.sandhi_program.specs.declared.segment.SegmentError.TheVariants.{BadFile, BadText, Memory}
 use Rattle.sandhi_program.specs.Segments.{IsRefusedFile, IsRefusedText}
@@ -11,7 +12,7 @@ IsFileError bytes (BadText fault) = ⊥
 IsFileError bytes Memory = Unit {0}
 
 -- the error is a fault of the file or of the text, or memory ran out
-abbrev pub IsRefusal : List ℕ → List ℕ → SegmentError → Type 0
-IsRefusal bytes text (BadFile fault) = IsRefusedFile bytes fault
-IsRefusal bytes text (BadText fault) = IsRefusedText bytes text fault
-IsRefusal bytes text Memory = Unit {0}
+abbrev pub IsRefusal : List ℕ → Scheme → List ℕ → SegmentError → Type 0
+IsRefusal bytes scheme text (BadFile fault) = IsRefusedFile bytes fault
+IsRefusal bytes scheme text (BadText fault) = IsRefusedText bytes scheme text fault
+IsRefusal bytes scheme text Memory = Unit {0}

@@ -1,7 +1,7 @@
--- What `segment` writes for the bytes of a lexicon file and a text.
+-- What `segment` writes for the bytes of a lexicon file and a text in a scheme.
 use Rattle.std.specs.Prelude.{◌≡◌, ℕ, ◌<◌, ◌≤◌, List, [], length, Bool, Ok, Err}
 use Rattle.text_definitions.specs.Lines.{Line}
-use Rattle.text_definitions.specs.Schemes.{Slp1}
+use Rattle.text_definitions.specs.Schemes.{Scheme}
 use Rattle.text_definitions.specs.LineTexts.{line_of_text}
 use Rattle.lexicon_definitions.specs.declared.limits.TheConstants.{MOST_FORM_LINES}
 use Rattle.lexicon_definitions.specs.Lexicons.{Lexicon, tree_of}
@@ -40,12 +40,12 @@ pub record IsPrintedPage (lexicon : Lexicon) (line : Line) (output : List ℕ) :
   pub printed : output ≡ printed_page lexicon.rules 1 answers more
 
 -- the bytes are those of the lexicon's file, the text has a line, and the output is its page
-pub record IsSegmented (bytes text output : List ℕ) : Type 0 where
+pub record IsSegmented (bytes : List ℕ) (scheme : Scheme) (text output : List ℕ) : Type 0 where
   pub within : length bytes ≤ MOST_FILE_BYTES
   pub lexicon : Lexicon
   pub read : IsReadAs bytes (Ok lexicon)
   pub line : Line
-  pub spelled : line_of_text Slp1 text ≡ Ok line
+  pub spelled : line_of_text scheme text ≡ Ok line
   pub page : IsPrintedPage lexicon line output
 
 -- the bytes are those of no lexicon file, for this reason
@@ -54,16 +54,16 @@ IsRefusedFile bytes Large = MOST_FILE_BYTES < length bytes
 IsRefusedFile bytes (OfLexicon fault) = (length bytes ≤ MOST_FILE_BYTES) × IsReadAs bytes (Err (fault_of fault))
 
 -- the bytes are those of a lexicon's file, and the text has this fault
-pub record IsRefusedText (bytes text : List ℕ) (fault : TextFault) : Type 0 where
+pub record IsRefusedText (bytes : List ℕ) (scheme : Scheme) (text : List ℕ) (fault : TextFault) : Type 0 where
   pub within : length bytes ≤ MOST_FILE_BYTES
   pub lexicon : Lexicon
   pub read : IsReadAs bytes (Ok lexicon)
-  pub misspelled : line_of_text Slp1 text ≡ Err (text_fault fault)
+  pub misspelled : line_of_text scheme text ≡ Err (text_fault fault)
 
 -- what `segment` writes before the status: its page, or the refusal of the file or of the text
-pub data Writes (lex : FileWord) (bytes text : List ℕ) (status : Status) (output : List ℕ) : Type 0 where
-  Page : status ≡ Done → IsSegmented bytes text output → Writes lex bytes text status output
+pub data Writes (lex : FileWord) (bytes : List ℕ) (scheme : Scheme) (text : List ℕ) (status : Status) (output : List ℕ) : Type 0 where
+  Page : status ≡ Done → IsSegmented bytes scheme text output → Writes lex bytes scheme text status output
   OfFile : (fault : AnyFault) → status ≡ BadFile lex.place fault → IsRefusedFile bytes fault
-      → output ≡ file_refusal lex.name (file_fault fault) → Writes lex bytes text status output
-  OfText : (fault : TextFault) → status ≡ BadText fault → IsRefusedText bytes text fault
-      → output ≡ text_refusal (text_fault fault) → Writes lex bytes text status output
+      → output ≡ file_refusal lex.name (file_fault fault) → Writes lex bytes scheme text status output
+  OfText : (fault : TextFault) → status ≡ BadText fault → IsRefusedText bytes scheme text fault
+      → output ≡ text_refusal (text_fault fault) → Writes lex bytes scheme text status output

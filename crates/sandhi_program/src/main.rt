@@ -7,14 +7,9 @@
 #![tactic(auto)]
 
 mod check;
-#[cfg(test)]
-mod check_tests;
-mod command;
 mod page;
 mod refusal;
 mod run;
-#[cfg(test)]
-mod search_tests;
 mod segment;
 mod status;
 #[cfg(test)]
@@ -50,5 +45,9 @@ fn main(rt: HostRuntime) -> ExitCode {
         ),
         Err(Memory) => Status::Memory,
     };
+    if let Some(explanation) = status.explanation() {
+        // Nobody is left to tell where standard error fails too.
+        let _ = eprintln!(rt; "{explanation}");
+    }
     ExitCode::from(status.exit_code())
 }

@@ -1,19 +1,21 @@
-ghost use Rattle.std.specs.Prelude.{◌≡◌, ◌<◌, ◌≤◌, ◌^◌, length, IfOk, IfErr, Ok, string_bytes};
+ghost use Rattle.std.specs.Prelude.{◌≡◌, ◌<◌, ◌≤◌, ◌^◌, length, IfOk, IfErr, Ok};
 ghost use Rattle.lexicon_text_definitions.specs.FileReadings.{IsReadAs};
 ghost use Rattle.lexicon_file.specs.Contents.{lexicon_of};
-ghost use Rattle.sandhi_program.specs.Segments.{IsBuildable, IsSegmented};
+ghost use Rattle.text_line.specs.Values.{scheme_of};
+ghost use Rattle.sandhi_program.specs.Segments.{IsBuildable, IsPrintedPage, IsSegmented};
 ghost use Rattle.sandhi_program.specs.SegmentErrors.{IsFileError, IsRefusal};
 
 use super::page::print_page;
 use super::status::{AnyFault, TextFault};
 use annotated_trie::Lexicon;
-use derivation::OpenGuide;
 use lexicon_file::{Contents, FileError, read};
 use lexicon_text_definitions::MOST_FILE_BYTES;
-use phoneme::Memory;
+use outside::Steps;
+use phoneme::{Line, Memory};
 use reader_choices::Choices;
-use segmenter::Search;
+use segmenter::{ExactGuide, Search};
 use std::alloc::Global;
+use summary_chart::Chart;
 use text_line::{LineError, Scheme, read_line};
 
 /// Why there is no page.
@@ -88,16 +90,31 @@ pub(crate) fn build_lexicon(alloc: Global, contents: Contents) -> Result<Lexicon
     Lexicon::build(alloc, &lists, rules, automaton)
 }
 
-/// What `segment` writes for the bytes of a lexicon file and a text.
-pub(crate) fn segment(alloc: Global, bytes: &[u8], text: &str) -> Result<String, SegmentError>
+/// The page of the line's first answers, found under its chart.
+fn list_answers(alloc: Global, lexicon: &Lexicon, line: &Line) -> Result<Vec<u8>, Memory>
+    ensures ok { IfOk result (λ output. IsPrintedPage lexicon.now.lexicon line.now output.items) }
+{
+    let choices = Choices::new(alloc);
+    let mut steps = Steps::<()>::new();
+    let chart = Chart::build(alloc, lexicon, line, &choices, &mut steps)?;
+    let guide = ExactGuide { guide: &chart };
+    let mut search = Search::new(alloc, lexicon, line, &choices, &guide)?;
+    print_page(alloc, lexicon, line, &mut search)
+}
+
+/// What `segment` writes for the bytes of a lexicon file and a text in a scheme.
+pub(crate) fn segment(
+    alloc: Global,
+    bytes: &[u8],
+    scheme: Scheme,
+    text: &str,
+) -> Result<Vec<u8>, SegmentError>
     requires { length text.now < 2 ^ 32 }
-    ensures ok { IfOk result (λ output. IsSegmented bytes.now text.now (string_bytes output)) }
-    ensures refused { IfErr result (IsRefusal bytes.now text.now) }
+    ensures ok { IfOk result (λ output. IsSegmented bytes.now (scheme_of scheme) text.now output.items) }
+    ensures refused { IfErr result (IsRefusal bytes.now (scheme_of scheme) text.now) }
 {
     let contents = read_contents(alloc, bytes)?;
-    let line = read_line(alloc, Scheme::Slp1, text.as_bytes())?;
+    let line = read_line(alloc, scheme, text.as_bytes())?;
     let lexicon = build_lexicon(alloc, contents)?;
-    let choices = Choices::new(alloc);
-    let mut search = Search::new(alloc, &lexicon, &line, &choices, &OpenGuide)?;
-    Ok(print_page(alloc, &lexicon, &line, &mut search)?)
+    Ok(list_answers(alloc, &lexicon, &line)?)
 }

@@ -54,4 +54,17 @@ impl Status {
             Status::BadText { .. } => 6,
         }
     }
+
+    /// What a person is told on standard error, where the output alone says little; for the other statuses it is enough.
+    pub fn explanation(self) -> Option<&'static str> {
+        match self {
+            Status::Memory => Some("there was not enough memory"),
+            Status::Usage => Some(
+                "the commands are:\n  segment [--in SCHEME] LEX TEXT    (SCHEME is slp1, wx, velthuis or devanagari; without it slp1)\n  check LEX\nWords after `--` are never options.",
+            ),
+            Status::ReadFault => Some("a file is not there, or could not be read"),
+            Status::WriteFault => Some("the output could not be written"),
+            Status::Done | Status::BadFile { .. } | Status::BadText { .. } => None,
+        }
+    }
 }

@@ -1,5 +1,5 @@
--- The words tell the command's name and arguments.
-use Rattle.run_definitions.proofs.OneOutcome.{one_command}
+-- The words tell the command's name, values and arguments.
+use Rattle.run_definitions.proofs.OneCommand.{one_command}
 use Rattle.run_definitions.proofs.laws.words_are_of_one_command.Goals as goal
 
 pub returns : goal.returns

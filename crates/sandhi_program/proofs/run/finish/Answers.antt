@@ -6,7 +6,7 @@ use Rattle.sandhi_program.proofs.run.finish.Goals as goal
 
 pub returns-in-Ok : goal.returns-in-Ok
 returns-in-Ok g c =
-    let ok = rw c.as_bytes.ensures.value at c.in-Ok.ensures.ok in record {
+    let ok = c.in-Ok.ensures.ok in record {
       all = λ own. (refl, ok);
       prefix = GrowsByPrefix-all _ _ _ ok;
       write_fault = λ e. absurd (no_fault_is_not_write_fault c.args.status c.requires e);

@@ -6,7 +6,7 @@ use Rattle.sandhi_program.specs.Checks.{Overlaps, OfFile}
 use Rattle.sandhi_program.proofs.run.write_check.Goals as goal
 
 pub returns-in-Ok : goal.returns-in-Ok
-returns-in-Ok g c = Something _ _ (Overlaps refl c.in-Ok.ensures.ok) (rw (← c.as_str.ensures.value) c.finish.ensures)
+returns-in-Ok g c = Something _ _ (Overlaps refl c.in-Ok.ensures.ok) (rw (← c.as_bytes.ensures.value) c.finish.ensures)
 
 pub returns-in-Err-BadFile : goal.returns-in-Err-BadFile
 returns-in-Err-BadFile g c = elim c.refuse_file.ensures [

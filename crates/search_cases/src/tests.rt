@@ -1,10 +1,13 @@
-use super::segment::{build_lexicon, read_contents};
+ghost use Rattle.search_cases.specs.Buildable.{IsBuildable};
+
 use annotated_trie::Lexicon;
 use derivation::{Key, OpenGuide, Step};
+use lexicon_file::{Contents, read};
 use outside::Steps;
-use phoneme::Line;
+use phoneme::{Line, Memory};
 use reader_choices::Choices;
 use segmenter::{ResumeError, Search};
+use std::alloc::Global;
 use std::process::Abort;
 use std::test::Fail;
 use text_line::{Scheme, read_line};
@@ -21,11 +24,26 @@ const LETTERS: &str =
 /// letter is no plain pair, or too many letters are taken.
 static NO_ANSWERS: [[(u32, u32); 2]; 3] = [[(1, 1), (2, 0)], [(1, 0), (3, 0)], [(2, 1), (3, 0)]];
 
+/// The lexicon of a file's contents.
+fn built(alloc: Global, contents: Contents) -> Result<Lexicon, Memory>
+    requires { IsBuildable contents }
+{
+    let Contents {
+        rules,
+        automaton,
+        lists,
+    } = contents;
+    Lexicon::build(alloc, &lists, rules, automaton)
+}
+
 fn lexicon_of<R: Abort + AllocGlobal>(rt: &R, text: &str) -> Result<Lexicon, Fail> {
-    let Ok(contents) = read_contents(rt.alloc(), text.as_bytes()) else {
-        panic!(rt; "no lexicon");
-    };
-    Ok(build_lexicon(rt.alloc(), contents)?)
+    if text.len() > 1_000 {
+        panic!(rt; "a long lexicon");
+    }
+    match read(rt.alloc(), text.as_bytes()) {
+        Ok(contents) => Ok(built(rt.alloc(), contents)?),
+        Err(_refused) => panic!(rt; "no lexicon"),
+    }
 }
 
 fn line_of<R: Abort + AllocGlobal>(rt: &R, text: &str) -> Line {

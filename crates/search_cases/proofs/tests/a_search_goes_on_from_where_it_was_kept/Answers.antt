@@ -1,7 +1,7 @@
 -- A copy of what was kept is that of a search over the same lexicon and line.
 use Rattle.std.proofs.Common.{rules}
 use Rattle.segmenter.proofs.SearchStacks.{copy_stands}
-use Rattle.sandhi_program.proofs.search_tests.a_search_goes_on_from_where_it_was_kept.Goals as goal
+use Rattle.search_cases.proofs.tests.a_search_goes_on_from_where_it_was_kept.Goals as goal
 
 pub go_on-other-requires-clause-stack : goal.go_on-other-requires-clause-stack
 go_on-other-requires-clause-stack g c =

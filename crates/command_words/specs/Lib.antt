@@ -1,0 +1,3 @@
+pub mod Meant
+pub mod Turns
+pub mod ClapLine

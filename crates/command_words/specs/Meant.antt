@@ -1,0 +1,30 @@
+-- The program's commands and what it reads in words, as the definitions name them.
+use Rattle.std.specs.Prelude.{map}
+use Rattle.text_line.specs.Values.{scheme_of}
+use Rattle.run_definitions.specs.Arguments as arguments
+use Rattle.run_definitions.specs.Commands as defined
+use Rattle.command_words.specs.declared.placed_word.PlacedWord.{PlacedWord}
+use Rattle.command_words.specs.declared.command.Command.{Command}
+use Rattle.command_words.specs.declared.command.Command.TheVariants.{Segment, Check}
+use Rattle.command_words.specs.declared.given.Given.{Given}
+use Rattle.command_words.specs.declared.arguments.Turn.{Turn}
+use Rattle.command_words.specs.declared.arguments.Turn.TheVariants.{Any, Value, Argument}
+
+-- a word with its place
+abbrev pub word_meant : PlacedWord → arguments.FileWord
+word_meant word = record { place = word.place; name = word.name.now }
+
+-- the command with its arguments
+abbrev pub command_meant : Command → defined.Command
+command_meant (Segment lex scheme text) = defined.Segment (word_meant lex) (scheme_of scheme) text.name.now
+command_meant (Check lex) = defined.Check (word_meant lex)
+
+-- what a next word may be
+abbrev pub turn_meant : Turn → arguments.Turn
+turn_meant Any = arguments.Any
+turn_meant Value = arguments.Value
+turn_meant Argument = arguments.Argument
+
+-- the values and the arguments that words give
+abbrev pub given_meant : Given → arguments.Given
+given_meant given = record { values = map (λ value. value.now) given.values.items; arguments = map word_meant given.arguments.items }

@@ -1,0 +1,63 @@
+-- Words give one list of values and one of arguments; and a command is read back from its name and these.
+use Rattle.std.proofs.Common.{◌≡◌, ℕ, List, [], ◌∷◌, Option, Some, None, sym, ◌∙◌, ap, refl}
+use Rattle.std.specs.Prelude.{◌==◌, if◌then◌else◌, codes, slice_index}
+use Rattle.std.specs.Str.{bytes_eq}
+use Rattle.text_definitions.specs.Schemes.{Scheme, Slp1, Wx, Velthuis, Devanagari}
+use Rattle.run_definitions.specs.Arguments.{Given, given_by}
+use Rattle.run_definitions.specs.Commands.{Command, Segment, Check, FileWord, name_of_scheme, GiveScheme, name_of_command, Takes, AreWordsOf}
+
+-- schemes are told by the first byte of their names
+scheme_named : List ℕ → Scheme
+scheme_named name =
+    if slice_index name 0 == 115 then Slp1 else (if slice_index name 0 == 119 then Wx else (if slice_index name 0 == 118 then Velthuis else Devanagari))
+
+named_back : (scheme : Scheme) → scheme_named (name_of_scheme scheme) ≡ scheme
+unfolding scheme_named
+named_back Slp1 = refl
+named_back Wx = refl
+named_back Velthuis = refl
+named_back Devanagari = refl
+
+scheme_given : List (List ℕ) → Scheme
+scheme_given [] = Slp1
+scheme_given (value ∷ values) = scheme_named value
+
+given_back : (values : List (List ℕ)) (scheme : Scheme) → GiveScheme values scheme → scheme_given values ≡ scheme
+unfolding scheme_given
+given_back [] scheme e = sym e
+given_back (value ∷ []) scheme e = ap scheme_named e ∙ named_back scheme
+given_back (value ∷ other ∷ values) scheme e = absurd e
+
+segment_from : List (List ℕ) → List FileWord → Option Command
+segment_from values [] = None
+segment_from values (lex ∷ []) = None
+segment_from values (lex ∷ text ∷ others) = Some (Segment lex (scheme_given values) text.name)
+
+check_from : List FileWord → Option Command
+check_from [] = None
+check_from (lex ∷ others) = Some (Check lex)
+
+command_from : List ℕ → List (List ℕ) → List FileWord → Option Command
+command_from name values arguments = if bytes_eq name (codes "segment") then segment_from values arguments else check_from arguments
+
+read_back : (command : Command) (values : List (List ℕ)) (arguments : List FileWord) → Takes command values arguments
+    → command_from (name_of_command command) values arguments ≡ Some command
+unfolding command_from segment_from check_from
+read_back (Segment lex scheme text) values arguments takes =
+    ap (segment_from values) takes.1.1 ∙ ap (λ s. Some (Segment lex s text)) (given_back values scheme takes.0)
+read_back (Check lex) values arguments takes = ap check_from takes.1
+
+-- words are those of one command
+pub one_command : (words : List (List ℕ)) (left right : Command) → AreWordsOf left words → AreWordsOf right words → left ≡ right
+one_command words left right p q =
+    let e : name_of_command left ∷ p.following ≡ name_of_command right ∷ q.following = sym p.are ∙ q.are in
+    let name : name_of_command left ≡ name_of_command right = cc in
+    let following : p.following ≡ q.following = cc in
+    let l : Given = record { values = p.values; arguments = p.given } in
+    let r : Given = record { values = q.values; arguments = q.given } in
+    let given : Some l ≡ Some r = sym p.have ∙ ap given_by following ∙ q.have in
+    let same : l ≡ r = cc (given) in
+    let back : Some left ≡ Some right =
+    sym (read_back left p.values p.given p.takes) ∙ (λ i. command_from (name i) ((same i).values) ((same i).arguments))
+    ∙ read_back right q.values q.given q.takes in
+    cc (back)

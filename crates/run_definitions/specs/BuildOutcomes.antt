@@ -1,0 +1,109 @@
+-- What `build` does with the names of a rule file, a table file, a stem file and a file to write (own).
+use Rattle.std.specs.Prelude.{◌≡◌, ℕ, ◌<◌, ◌≤◌, ◌++◌, List, [], length, Some, None, Result, Ok, Err, codes}
+use Rattle.std.specs.Fmt.{decimal}
+use Rattle.outside.specs.Files.{Files, contents_of, with_file}
+use Rattle.lexicon_definitions.specs.Lexicons.{RuleSet, Lexicon}
+use Rattle.lexicon_definitions.specs.Limits.{count_lines}
+use Rattle.lexicon_text_definitions.specs.declared.limits.TheConstants.{MOST_FILE_BYTES}
+use Rattle.lexicon_text_definitions.specs.LexiconTexts.{text_of}
+use Rattle.segmentation_definitions.specs.PrintedAnswers.{output_line}
+use Rattle.morphology_definitions.specs.Inflection.{Class, Stem}
+use Rattle.rule_file_definitions.specs.RuleFileReadings.{IsReadAs}
+use Rattle.paradigm_file_definitions.specs.TableFaults.{TableWhy}
+use Rattle.paradigm_file_definitions.specs.TableFiles.{tables_of}
+use Rattle.paradigm_file_definitions.specs.StemFaults.{StemWhy, Limit}
+use Rattle.paradigm_file_definitions.specs.StemFiles.{stems_of}
+use Rattle.paradigm_file_definitions.specs.Records.{FileResult}
+use Rattle.run_definitions.specs.Commands.{FileWord}
+use Rattle.run_definitions.specs.Ends.{Outcome, AnyFault, Large, Rules, Tables, Stems, Done, ReadFault, BadFile, outcome_over}
+use Rattle.run_definitions.specs.Refusals.{file_refusal}
+use Rattle.run_definitions.specs.SourceLexicons.{IsLexiconOf, IsOversized, FitsFile}
+
+-- what a source file tells: that it is not there, why it is refused, or what it holds
+pub data SourceTells (A : Type 0) : Type 0 where
+  Missing : SourceTells A
+  Refused : (fault : AnyFault) → SourceTells A
+  Holds : (held : A) → SourceTells A
+
+-- the file under the name tells this, where its bytes are read in this way and its faults have this name
+pub data DoesTellSource {A Fault : Type 0} (is_read : List ℕ → Result A Fault → Type 0) (named : Fault → AnyFault) (files : Files)
+    (name : List ℕ) (tells : SourceTells A) : Type 0 where
+  IsMissing : contents_of files name ≡ None → tells ≡ Missing → DoesTellSource is_read named files name tells
+  IsLarge : (bytes : List ℕ) → contents_of files name ≡ Some bytes → MOST_FILE_BYTES < length bytes → tells ≡ Refused Large
+      → DoesTellSource is_read named files name tells
+  IsFaulty : (bytes : List ℕ) → contents_of files name ≡ Some bytes → length bytes ≤ MOST_FILE_BYTES → (fault : Fault)
+      → is_read bytes (Err fault) → tells ≡ Refused (named fault) → DoesTellSource is_read named files name tells
+  IsSound : (bytes : List ℕ) → contents_of files name ≡ Some bytes → length bytes ≤ MOST_FILE_BYTES → (held : A)
+      → is_read bytes (Ok held) → tells ≡ Holds held → DoesTellSource is_read named files name tells
+
+-- the bytes of a table file over these names of phases are read as these classes, or have this first fault
+abbrev pub AreTables : List (List ℕ) → List ℕ → FileResult (List Class) TableWhy → Type 0
+AreTables phases bytes result = tables_of phases bytes ≡ result
+
+-- the bytes of a stem file over these classes are read as these stems, or have this first fault
+abbrev pub AreStems : List Class → List ℕ → FileResult (List Stem) StemWhy → Type 0
+AreStems classes bytes result = stems_of classes bytes ≡ result
+
+-- what the rule file tells
+abbrev pub RulesTell : Files → List ℕ → SourceTells RuleSet → Type 0
+RulesTell files name tells = DoesTellSource IsReadAs Rules files name tells
+
+-- what the table file tells, over the phases of the rule file
+abbrev pub TablesTell : RuleSet → Files → List ℕ → SourceTells (List Class) → Type 0
+TablesTell rules files name tells = DoesTellSource (AreTables rules.names) Tables files name tells
+
+-- what the stem file tells, over the classes of the table file
+abbrev pub StemsTell : List Class → Files → List ℕ → SourceTells (List Stem) → Type 0
+StemsTell classes files name tells = DoesTellSource (AreStems classes) Stems files name tells
+
+-- by what a source file tells: nothing is written, its refusal is, or it goes on with what the file holds
+abbrev pub IsOutcomeAfter : {A : Type 0} → SourceTells A → FileWord → Files → Outcome → (A → Type 0) → Type 0
+IsOutcomeAfter Missing word files outcome following = outcome ≡ outcome_over files [] ReadFault
+IsOutcomeAfter (Refused fault) word files outcome following =
+    outcome ≡ outcome_over files (file_refusal word.name fault) (BadFile word.place fault)
+IsOutcomeAfter (Holds held) word files outcome following = following held
+
+-- the fault of a stem file of which no record is at fault, but whose lexicon is too large
+abbrev pub lexicon_fault : AnyFault
+lexicon_fault = Stems (record { number = 0; why = Limit })
+
+-- `forms F`, the number of form lines
+abbrev pub printed_build : Lexicon → List ℕ
+printed_build lexicon = output_line (codes "forms " ++ decimal (count_lines lexicon.phases))
+
+-- what is left where the lexicon is written: the file has its text, and all others are as they were
+abbrev pub built_outcome : Lexicon → FileWord → Files → Outcome
+built_outcome lexicon out files =
+    record { output = printed_build lexicon; files = with_file files out.name (text_of lexicon); end = Done }
+
+-- with the lexicon of the sources, the stem file is refused where it is too large, and otherwise it is written
+pub data IsWrittenOutcome (lexicon : Lexicon) (stems out : FileWord) (files : Files) (outcome : Outcome) : Type 0 where
+  OfLimit : IsOversized lexicon → outcome ≡ outcome_over files (file_refusal stems.name lexicon_fault) (BadFile stems.place lexicon_fault)
+      → IsWrittenOutcome lexicon stems out files outcome
+  OfText : FitsFile lexicon → outcome ≡ built_outcome lexicon out files → IsWrittenOutcome lexicon stems out files outcome
+
+-- with what the three files hold
+pub record IsLexiconOutcome (rules : RuleSet) (classes : List Class) (held : List Stem) (stems out : FileWord) (files : Files)
+    (outcome : Outcome) : Type 0 where
+  pub lexicon : Lexicon
+  pub is_of : IsLexiconOf rules classes held lexicon
+  pub is_outcome : IsWrittenOutcome lexicon stems out files outcome
+
+-- with what the first two hold, the stem file is read
+pub record IsStemsOutcome (rules : RuleSet) (classes : List Class) (stems out : FileWord) (files : Files) (outcome : Outcome)
+    : Type 0 where
+  pub tells : SourceTells (List Stem)
+  pub do_tell : StemsTell classes files stems.name tells
+  pub is_outcome : IsOutcomeAfter tells stems files outcome (λ held. IsLexiconOutcome rules classes held stems out files outcome)
+
+-- with what the rule file holds, the table file is read
+pub record IsTablesOutcome (rules : RuleSet) (tables stems out : FileWord) (files : Files) (outcome : Outcome) : Type 0 where
+  pub tells : SourceTells (List Class)
+  pub do_tell : TablesTell rules files tables.name tells
+  pub is_outcome : IsOutcomeAfter tells tables files outcome (λ classes. IsStemsOutcome rules classes stems out files outcome)
+
+-- the outcome of `build` with these names of files: the rule file is read first
+pub record IsBuildOutcome (rules tables stems out : FileWord) (files : Files) (outcome : Outcome) : Type 0 where
+  pub tells : SourceTells RuleSet
+  pub do_tell : RulesTell files rules.name tells
+  pub is_outcome : IsOutcomeAfter tells rules files outcome (λ set. IsTablesOutcome set tables stems out files outcome)
