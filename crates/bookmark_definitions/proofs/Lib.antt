@@ -1,0 +1,5 @@
+pub mod JoinedTexts
+pub mod NumbersAndWords
+pub mod WrittenLines
+pub mod WrittenParts
+pub mod WrittenBookmarks

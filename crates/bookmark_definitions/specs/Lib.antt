@@ -1,0 +1,3 @@
+pub mod Bookmarks
+pub mod BookmarkTexts
+pub mod BookmarkReadings

@@ -1,0 +1,10 @@
+//! Bookmarks, as definitions in `specs/`: what a bookmark has and its bounds (`IsBookmark`), its text (`text_of_bookmark`),
+//! and the bookmark that a text is read as (`bookmark_of_text`).
+//!
+//! Proved: what is read as a bookmark is one, and the text that was read is its text (`what_is_read_is_a_bookmark`); the text
+//! of a bookmark is read as this bookmark (`a_bookmark_is_read_back`).
+#![tactic(auto)]
+
+mod laws;
+
+pub use laws::{a_bookmark_is_read_back, what_is_read_is_a_bookmark};

@@ -1,0 +1,85 @@
+-- What a line of a session asks for: its first word, up to the first blank, and the rest after this blank (own).
+use Rattle.std.specs.Prelude.{ℕ, ◌&&◌, nat_le, Bool, true, false, if◌then◌else◌, Option, Some, None, List, [], ◌∷◌, length, codes}
+use Rattle.std.specs.Str.{bytes_eq, all_ascii_digits}
+use Rattle.std.specs.Str.Parse.{digits_value}
+use Rattle.text_definitions.specs.Schemes.{Scheme, Slp1, Wx, Velthuis, Devanagari}
+use Rattle.lexicon_text_definitions.specs.FileLines.{Parts, parts_of}
+use Rattle.bookmark_definitions.specs.Bookmarks.{Bookmark}
+use Rattle.bookmark_definitions.specs.BookmarkReadings.{bookmark_of_text}
+use Rattle.session_definitions.specs.declared.limits.TheConstants.{MOST_PAGE}
+
+-- what a line asks for: a line of text to be read, a page, the summary, an item to be kept or rejected, the newest choice to
+-- be taken back, the analyses of an item, a bookmark, to go on from one, or the end; None stands for what could not be
+-- read: a scheme that is none, a number that is none, a text that is no bookmark
+pub data Request : Type 0 where
+  Text : (scheme : Option Scheme) → (text : List ℕ) → Request
+  Page : (count : Option ℕ) → Request
+  Summary : Request
+  Choose : (kept : Bool) → (number : Option ℕ) → Request
+  Undo : Request
+  Tags : (number : Option ℕ) → Request
+  Mark : Request
+  Resume : (mark : Option Bookmark) → Request
+  Quit : Request
+  NoWord : Request
+
+-- what comes after the first blank, and nothing where there is none
+abbrev pub after_blank : Option (List ℕ) → List ℕ
+after_blank None = []
+after_blank (Some rest) = rest
+
+-- the scheme of this name
+abbrev pub scheme_named : List ℕ → Option Scheme
+scheme_named name =
+    if bytes_eq name (codes "slp1") then Some Slp1
+    else if bytes_eq name (codes "wx") then Some Wx
+    else if bytes_eq name (codes "velthuis") then Some Velthuis
+    else if bytes_eq name (codes "devanagari") then Some Devanagari
+    else None
+
+-- one digit or more, but not too many, which may begin with 0
+abbrev pub are_digits_up_to : ℕ → List ℕ → Bool
+are_digits_up_to most text = nat_le 1 (length text) && nat_le (length text) most && all_ascii_digits text
+
+-- how many answers a page may have, as one to four digits write it: at least 1, and not too many
+abbrev pub page_size_of : List ℕ → Option ℕ
+page_size_of text =
+    if are_digits_up_to 4 text && nat_le 1 (digits_value 10 text) && nat_le (digits_value 10 text) MOST_PAGE
+    then Some (digits_value 10 text) else None
+
+-- the number of an item, counted from 1, as one to nine digits write it
+abbrev pub item_number_of : List ℕ → Option ℕ
+item_number_of text =
+    if are_digits_up_to 9 text && nat_le 1 (digits_value 10 text) then Some (digits_value 10 text) else None
+
+-- the request, where nothing comes after its word
+abbrev pub alone : List ℕ → Request → Request
+alone [] request = request
+alone (byte ∷ rest) request = NoWord
+
+-- `text SCHEME TEXT`: what comes after `text`, cut at its own first blank
+abbrev pub text_request : Parts → Request
+text_request parts = Text (scheme_named parts.kind) (after_blank parts.rest)
+
+-- what the word asks for with this rest
+abbrev pub request_with : List ℕ → List ℕ → Request
+request_with word rest =
+    if bytes_eq word (codes "text") then text_request (parts_of rest)
+    else if bytes_eq word (codes "page") then Page (page_size_of rest)
+    else if bytes_eq word (codes "summary") then alone rest Summary
+    else if bytes_eq word (codes "keep") then Choose true (item_number_of rest)
+    else if bytes_eq word (codes "reject") then Choose false (item_number_of rest)
+    else if bytes_eq word (codes "undo") then alone rest Undo
+    else if bytes_eq word (codes "tags") then Tags (item_number_of rest)
+    else if bytes_eq word (codes "mark") then alone rest Mark
+    else if bytes_eq word (codes "resume") then Resume (bookmark_of_text rest)
+    else if bytes_eq word (codes "quit") then alone rest Quit
+    else NoWord
+
+-- what a line in two parts asks for
+abbrev pub request_of_parts : Parts → Request
+request_of_parts parts = request_with parts.kind (after_blank parts.rest)
+
+-- what a line asks for
+unfoldable pub request_of : List ℕ → Request
+request_of line = request_of_parts (parts_of line)
