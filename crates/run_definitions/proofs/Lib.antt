@@ -1,5 +1,10 @@
 pub mod OneCommand
+pub mod OneContent
 pub mod OneOverlapList
-pub mod OneOutcome
 pub mod OneSourceLexicon
 pub mod OneBuildOutcome
+pub mod OneBatchOutcome
+pub mod OneDemoOutcome
+pub mod OneOutcome
+pub mod BatchSoFar
+pub mod SoFar

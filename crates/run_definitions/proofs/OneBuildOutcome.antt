@@ -11,7 +11,7 @@ use Rattle.run_definitions.specs.Commands.{FileWord}
 use Rattle.run_definitions.specs.Ends.{Outcome, AnyFault, Rules, Tables, Stems}
 use Rattle.run_definitions.specs.SourceLexicons.{IsOversized, FitsFile}
 use Rattle.run_definitions.specs.BuildOutcomes.{SourceTells, Missing, Refused, Holds, DoesTellSource, IsMissing, IsLarge, IsFaulty, IsSound, AreTables, AreStems, IsOutcomeAfter, IsWrittenOutcome, OfLimit, OfText, IsLexiconOutcome, IsStemsOutcome, IsTablesOutcome, IsBuildOutcome}
-use Rattle.run_definitions.proofs.OneOutcome.{same_bytes, not_missing}
+use Rattle.run_definitions.proofs.OneContent.{same_bytes, not_missing}
 use Rattle.run_definitions.proofs.OneSourceLexicon.{one_lexicon}
 
 -- ---- what a source file tells
@@ -31,7 +31,7 @@ module _ {A Fault : Type 0} (is_read : List ℕ → Result A Fault → Type 0) (
       one more left right (subst (λ b. is_read b left) (same_bytes files name bytes more p q) r) s
 
   -- and tells one thing
-  one_telling : (files : Files) (name : List ℕ) (left right : SourceTells A) → DoesTellSource is_read named files name left
+  pub one_telling : (files : Files) (name : List ℕ) (left right : SourceTells A) → DoesTellSource is_read named files name left
       → DoesTellSource is_read named files name right → left ≡ right
   one_telling files name left right (IsMissing p e) (IsMissing q f) = e ∙ sym f
   one_telling files name left right (IsMissing p e) (IsLarge more q l f) = absurd (not_missing files name more p q)
@@ -59,7 +59,7 @@ module _ {A Fault : Type 0} (is_read : List ℕ → Result A Fault → Type 0) (
       e ∙ ap Holds same_held ∙ sym f
 
 -- by what a file tells, what follows has one outcome where each of what may be held gives one
-one_after : {A : Type 0} (tells : SourceTells A) (word : FileWord) (files : Files) (a b : Outcome) (left right : A → Type 0)
+pub one_after : {A : Type 0} (tells : SourceTells A) (word : FileWord) (files : Files) (a b : Outcome) (left right : A → Type 0)
     → ((held : A) → left held → right held → a ≡ b) → IsOutcomeAfter tells word files a left → IsOutcomeAfter tells word files b right → a ≡ b
 one_after Missing word files a b left right one p q = p ∙ sym q
 one_after (Refused fault) word files a b left right one p q = p ∙ sym q
@@ -102,7 +102,7 @@ one_tables_outcome rules tables stems out files a b p q =
     (subst (λ (t : SourceTells (List Class)). IsOutcomeAfter t tables files a (following a)) same p.is_outcome) q.is_outcome
 
 -- a rule file is read in one way: the grammar's text has one first fault at most
-one_decided : (before left right : FileResult) → IsDecided before left → IsDecided before right → left ≡ right
+pub one_decided : (before left right : FileResult) → IsDecided before left → IsDecided before right → left ≡ right
 one_decided (Err fault) left right p q = p ∙ sym q
 one_decided (Ok set) left right (inl p) (inl q) = p.1 ∙ sym q.1
 one_decided (Ok set) left right (inl p) (inr (fault, first, e)) = absurd (p.0 fault first)

@@ -1,10 +1,11 @@
 -- Words give one list of values and one of arguments; and a command is read back from its name and these.
 use Rattle.std.proofs.Common.{◌≡◌, ℕ, List, [], ◌∷◌, Option, Some, None, sym, ◌∙◌, ap, refl}
-use Rattle.std.specs.Prelude.{◌==◌, if◌then◌else◌, codes, slice_index}
+use Rattle.std.specs.Prelude.{◌==◌, if◌then◌else◌, codes, slice_index, option_map}
 use Rattle.std.specs.Str.{bytes_eq}
 use Rattle.text_definitions.specs.Schemes.{Scheme, Slp1, Wx, Velthuis, Devanagari}
+use Rattle.session_definitions.specs.Requests.{page_size_of}
 use Rattle.run_definitions.specs.Arguments.{Given, given_by}
-use Rattle.run_definitions.specs.Commands.{Command, Segment, Check, FileWord, name_of_scheme, GiveScheme, name_of_command, Takes, AreWordsOf}
+use Rattle.run_definitions.specs.Commands.{Command, Segment, Check, Build, Read, Batch, Demo, FileWord, demo_number_of, name_of_scheme, GiveScheme, name_of_command, Takes, AreWordsOf}
 
 -- schemes are told by the first byte of their names
 scheme_named : List ℕ → Scheme
@@ -37,15 +38,44 @@ check_from : List FileWord → Option Command
 check_from [] = None
 check_from (lex ∷ others) = Some (Check lex)
 
+build_from : List FileWord → Option Command
+build_from (rules ∷ tables ∷ stems ∷ out ∷ others) = Some (Build rules tables stems out)
+build_from arguments = None
+
+read_from : List FileWord → Option Command
+read_from [] = None
+read_from (lex ∷ others) = Some (Read lex)
+
+batch_from : List FileWord → Option Command
+batch_from (lex ∷ named ∷ file ∷ counted ∷ others) =
+    option_map (λ count. Batch lex (scheme_named named.name) file count) (page_size_of counted.name)
+batch_from arguments = None
+
+demo_from : List FileWord → Option Command
+demo_from [] = None
+demo_from (word ∷ others) = option_map Demo (demo_number_of word.name)
+
 command_from : List ℕ → List (List ℕ) → List FileWord → Option Command
-command_from name values arguments = if bytes_eq name (codes "segment") then segment_from values arguments else check_from arguments
+command_from name values arguments =
+    if bytes_eq name (codes "segment") then segment_from values arguments
+    else (if bytes_eq name (codes "check") then check_from arguments
+    else (if bytes_eq name (codes "build") then build_from arguments
+    else (if bytes_eq name (codes "read") then read_from arguments
+    else (if bytes_eq name (codes "batch") then batch_from arguments else demo_from arguments))))
 
 read_back : (command : Command) (values : List (List ℕ)) (arguments : List FileWord) → Takes command values arguments
     → command_from (name_of_command command) values arguments ≡ Some command
-unfolding command_from segment_from check_from
+unfolding command_from segment_from check_from build_from read_from batch_from demo_from
 read_back (Segment lex scheme text) values arguments takes =
     ap (segment_from values) takes.1.1 ∙ ap (λ s. Some (Segment lex s text)) (given_back values scheme takes.0)
 read_back (Check lex) values arguments takes = ap check_from takes.1
+read_back (Build rules tables stems out) values arguments takes = ap build_from takes.1
+read_back (Read lex) values arguments takes = ap read_from takes.1
+read_back (Batch lex scheme file count) values arguments takes =
+    let is = takes.1 in
+    ap batch_from is.are ∙ ap (option_map (λ n. Batch lex (scheme_named is.named.name) file n)) is.counts
+    ∙ ap (λ name. Some (Batch lex (scheme_named name) file count)) is.names ∙ ap (λ s. Some (Batch lex s file count)) (named_back scheme)
+read_back (Demo number) values arguments takes = let is = takes.1 in ap demo_from is.are ∙ ap (option_map Demo) is.is
 
 -- words are those of one command
 pub one_command : (words : List (List ℕ)) (left right : Command) → AreWordsOf left words → AreWordsOf right words → left ≡ right

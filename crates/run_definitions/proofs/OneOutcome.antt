@@ -1,5 +1,5 @@
 -- Two outcomes of one run are of one command; its file tells one thing, its text has one line, and this has one page.
-use Rattle.std.proofs.Common.{◌≡◌, ℕ, ◌+◌, ◌<◌, ◌≤◌, List, [], ◌∷◌, length, Option, Some, None, Ok, Err, sym, ◌∙◌, ap, subst, refl, inl, inr, arith}
+use Rattle.std.proofs.Common.{◌≡◌, ℕ, ◌<◌, ◌≤◌, List, [], length, Option, Some, Ok, Err, sym, ◌∙◌, ap, subst, arith}
 use Rattle.outside.specs.Files.{Files, contents_of}
 use Rattle.text_definitions.specs.Lines.{Line}
 use Rattle.text_definitions.specs.Schemes.{Scheme}
@@ -9,26 +9,25 @@ use Rattle.lexicon_text_definitions.specs.FileReadings.{FileResult, IsReadAs}
 use Rattle.segmentation_definitions.specs.Listings.{BeforeFirst}
 use Rattle.segmentation_definitions.specs.PrintedAnswers.{printed_page}
 use Rattle.segmentation_definitions.proofs.Listings.{same_page}
+use Rattle.session_definitions.specs.Sessions.{IsSession}
+use Rattle.session_definitions.proofs.OneSession.{one_session}
 use Rattle.run_definitions.specs.declared.limits.TheConstants.{CHECK_OVERLAPS, SEGMENT_PAGE}
-use Rattle.run_definitions.specs.Commands.{Command, Segment, Check, FileWord, AreWordsOf}
+use Rattle.run_definitions.specs.Commands.{Command, Segment, Check, Build, Read, Batch, Demo, FileWord}
 use Rattle.run_definitions.specs.Ends as ends
 use Rattle.run_definitions.specs.Ends.{Outcome, Done, Large, outcome_over}
 use Rattle.run_definitions.specs.Refusals.{text_refusal}
 use Rattle.run_definitions.specs.SegmentOutcomes.{FileTells, NotThere, Refused, Holds, DoesTell, IsMissing, IsLarge, IsFaulty, IsLexicon, IsPageOutcome, IsListedOutcome, OfText, OfPage, IsOutcomeWith, IsSegmentOutcome}
 use Rattle.run_definitions.specs.Overlaps.{printed_check}
 use Rattle.run_definitions.specs.CheckOutcomes.{IsCheckOutcomeWith, IsCheckOutcome}
+use Rattle.run_definitions.specs.ReadOutcomes.{end_with, IsSessionOutcome, IsReadOutcomeWith, IsReadOutcome}
+use Rattle.run_definitions.specs.BatchOutcomes.{IsBatchOutcomeWith, IsBatchOutcome}
+use Rattle.run_definitions.proofs.OneBatchOutcome.{one_text_outcome}
+use Rattle.run_definitions.proofs.OneDemoOutcome.{one_demo_outcome}
+use Rattle.run_definitions.proofs.OneBuildOutcome.{one_build_outcome}
 use Rattle.run_definitions.proofs.OneCommand.{one_command}
+use Rattle.run_definitions.proofs.OneContent.{same_bytes, not_missing}
 use Rattle.run_definitions.proofs.OneOverlapList.{one_list}
 use Rattle.run_definitions.specs.Outcomes.{IsOutcome, IsOutcomeOf, OfNoCommand, OfCommand}
-
--- one file has one content
-pub same_bytes : (files : Files) (name bytes more : List ℕ) → contents_of files name ≡ Some bytes → contents_of files name ≡ Some more
-    → bytes ≡ more
-same_bytes files name bytes more p q = let f : Some bytes ≡ Some more = sym p ∙ q in cc (f)
-
--- a file that is there is not missing
-pub not_missing : (files : Files) (name bytes : List ℕ) → contents_of files name ≡ None → contents_of files name ≡ Some bytes → ⊥
-not_missing files name bytes p q = let f : None ≡ Some bytes = sym p ∙ q in cc (f)
 
 -- where bytes are read in one way, a file tells one thing
 module _ (one : (bytes : List ℕ) (left right : FileResult) → IsReadAs bytes left → IsReadAs bytes right → left ≡ right) where
@@ -44,7 +43,7 @@ module _ (one : (bytes : List ℕ) (left right : FileResult) → IsReadAs bytes 
   not_large files name bytes more limit p q large small =
       let same = ap length (same_bytes files name bytes more p q) in omega arith
 
-  one_telling : (files : Files) (name : List ℕ) (left right : FileTells) → DoesTell files name left → DoesTell files name right → left ≡ right
+  pub one_telling : (files : Files) (name : List ℕ) (left right : FileTells) → DoesTell files name left → DoesTell files name right → left ≡ right
   one_telling files name left right (IsMissing p e) (IsMissing q f) = e ∙ sym f
   one_telling files name left right (IsMissing p e) (IsLarge more q l f) = absurd (not_missing files name more p q)
   one_telling files name left right (IsMissing p e) (IsFaulty more q l fault r f) = absurd (not_missing files name more p q)
@@ -122,11 +121,50 @@ module _ (one : (bytes : List ℕ) (left right : FileResult) → IsReadAs bytes 
       let same = one_telling files lex.name p.tells q.tells p.does_tell q.does_tell in
       one_check_with q.tells lex files a b (subst (λ (t : FileTells). IsCheckOutcomeWith t lex files a) same p.is_outcome) q.is_outcome
 
+  one_session_outcome : (lexicon : Lexicon) (input : Option (List ℕ)) (files : Files) (a b : Outcome) → IsSessionOutcome lexicon input files a
+      → IsSessionOutcome lexicon input files b → a ≡ b
+  one_session_outcome lexicon input files a b p q =
+      let told : Some p.told ≡ Some q.told = sym p.is_told ∙ q.is_told in
+      let same_told : p.told ≡ q.told = cc (told) in
+      let session : IsSession lexicon q.told p.output p.end = subst (λ t. IsSession lexicon t p.output p.end) same_told p.session in
+      let one = one_session lexicon q.told p.output q.output p.end q.end session q.session in
+      let printed : outcome_over files p.output (end_with p.end) ≡ outcome_over files q.output (end_with q.end) =
+      λ i. outcome_over files (one.0 i) (end_with (one.1 i)) in
+      p.is ∙ printed ∙ sym q.is
+
+  one_read_with : (tells : FileTells) (lex : FileWord) (files : Files) (input : Option (List ℕ)) (a b : Outcome) → IsReadOutcomeWith tells lex files input a
+      → IsReadOutcomeWith tells lex files input b → a ≡ b
+  one_read_with NotThere lex files input a b p q = p ∙ sym q
+  one_read_with (Refused fault) lex files input a b p q = p ∙ sym q
+  one_read_with (Holds lexicon) lex files input a b p q = one_session_outcome lexicon input files a b p q
+
+  pub one_read_outcome : (lex : FileWord) (files : Files) (input : Option (List ℕ)) (a b : Outcome) → IsReadOutcome lex files input a
+      → IsReadOutcome lex files input b → a ≡ b
+  one_read_outcome lex files input a b p q =
+      let same = one_telling files lex.name p.tells q.tells p.does_tell q.does_tell in
+      one_read_with q.tells lex files input a b (subst (λ (t : FileTells). IsReadOutcomeWith t lex files input a) same p.is_outcome) q.is_outcome
+
+  one_batch_with : (tells : FileTells) (lex : FileWord) (scheme : Scheme) (file : FileWord) (count : ℕ) (files : Files) (a b : Outcome)
+      → IsBatchOutcomeWith tells lex scheme file count files a → IsBatchOutcomeWith tells lex scheme file count files b → a ≡ b
+  one_batch_with NotThere lex scheme file count files a b p q = p ∙ sym q
+  one_batch_with (Refused fault) lex scheme file count files a b p q = p ∙ sym q
+  one_batch_with (Holds lexicon) lex scheme file count files a b p q = one_text_outcome lexicon scheme file count files a b p q
+
+  pub one_batch_outcome : (lex : FileWord) (scheme : Scheme) (file : FileWord) (count : ℕ) (files : Files) (a b : Outcome)
+      → IsBatchOutcome lex scheme file count files a → IsBatchOutcome lex scheme file count files b → a ≡ b
+  one_batch_outcome lex scheme file count files a b p q =
+      let same = one_telling files lex.name p.tells q.tells p.does_tell q.does_tell in
+      one_batch_with q.tells lex scheme file count files a b (subst (λ (t : FileTells). IsBatchOutcomeWith t lex scheme file count files a) same p.is_outcome) q.is_outcome
+
   -- each command has one outcome at most
-  one_outcome_of : (command : Command) (files : Files) (input : Option (List ℕ)) (a b : Outcome) → IsOutcomeOf command files input a
+  pub one_outcome_of : (command : Command) (files : Files) (input : Option (List ℕ)) (a b : Outcome) → IsOutcomeOf command files input a
       → IsOutcomeOf command files input b → a ≡ b
   one_outcome_of (Segment lex scheme text) files input a b p q = one_segment_outcome lex scheme text files a b p q
   one_outcome_of (Check lex) files input a b p q = one_check_outcome lex files a b p q
+  one_outcome_of (Build rules tables stems out) files input a b p q = one_build_outcome rules tables stems out files a b p q
+  one_outcome_of (Read lex) files input a b p q = one_read_outcome lex files input a b p q
+  one_outcome_of (Batch lex scheme file count) files input a b p q = one_batch_outcome lex scheme file count files a b p q
+  one_outcome_of (Demo number) files input a b p q = one_demo_outcome number files a b p q
 
   -- and so has a run
   pub one_outcome : (words : List (List ℕ)) (files : Files) (input : Option (List ℕ)) (a b : Outcome)

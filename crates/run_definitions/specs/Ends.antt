@@ -17,13 +17,14 @@ pub data AnyFault : Type 0 where
   Stems : (fault : records.Fault StemWhy) → AnyFault
 
 -- how a run ends, where no device fails and memory is found; a refused file is told by the place of its name among the
--- words, counted from 0
+-- words, counted from 0; the input of a session may be too long
 pub data End : Type 0 where
   Done : End
   Usage : End
   ReadFault : End
   BadFile : (word : ℕ) → (fault : AnyFault) → End
   BadText : (fault : LineFault) → End
+  TooMuch : End
 
 -- what a run writes, the files after it, and how it ends
 pub record Outcome : Type 0 where

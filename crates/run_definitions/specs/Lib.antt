@@ -7,4 +7,7 @@ pub mod Overlaps
 pub mod CheckOutcomes
 pub mod SourceLexicons
 pub mod BuildOutcomes
+pub mod DemoOutcomes
+pub mod ReadOutcomes
+pub mod BatchOutcomes
 pub mod Outcomes

@@ -3,11 +3,15 @@
 use Rattle.std.specs.Prelude.{◌≡◌, ℕ, List, Option, codes}
 use Rattle.outside.specs.Files.{Files}
 use Rattle.segmentation_definitions.specs.PrintedAnswers.{output_line}
-use Rattle.run_definitions.specs.Commands.{Command, Segment, Check, AreWordsOf, AreOfNoCommand}
+use Rattle.run_definitions.specs.Commands.{Command, Segment, Check, Build, Read, Batch, Demo, AreWordsOf, AreOfNoCommand}
 use Rattle.run_definitions.specs.Ends as ends
 use Rattle.run_definitions.specs.Ends.{outcome_over}
 use Rattle.run_definitions.specs.SegmentOutcomes.{IsSegmentOutcome}
 use Rattle.run_definitions.specs.CheckOutcomes.{IsCheckOutcome}
+use Rattle.run_definitions.specs.BuildOutcomes.{IsBuildOutcome}
+use Rattle.run_definitions.specs.ReadOutcomes.{IsReadOutcome, IsReadSoFar}
+use Rattle.run_definitions.specs.BatchOutcomes.{IsBatchOutcome, IsBatchSoFar}
+use Rattle.run_definitions.specs.DemoOutcomes.{IsDemoOutcome}
 
 abbrev pub Outcome : Type 0
 Outcome = ends.Outcome
@@ -20,9 +24,32 @@ usage_outcome files = outcome_over files (output_line (codes "usage")) ends.Usag
 abbrev pub IsOutcomeOf : Command → Files → Option (List ℕ) → Outcome → Type 0
 IsOutcomeOf (Segment lex scheme text) files input outcome = IsSegmentOutcome lex scheme text files outcome
 IsOutcomeOf (Check lex) files input outcome = IsCheckOutcome lex files outcome
+IsOutcomeOf (Build rules tables stems out) files input outcome = IsBuildOutcome rules tables stems out files outcome
+IsOutcomeOf (Read lex) files input outcome = IsReadOutcome lex files input outcome
+IsOutcomeOf (Batch lex scheme file count) files input outcome = IsBatchOutcome lex scheme file count files outcome
+IsOutcomeOf (Demo number) files input outcome = IsDemoOutcome number files outcome
 
 -- the outcome of a run with these words over these files and this input
 pub data IsOutcome (words : List (List ℕ)) (files : Files) (input : Option (List ℕ)) (outcome : Outcome) : Type 0 where
   OfNoCommand : AreOfNoCommand words → outcome ≡ usage_outcome files → IsOutcome words files input outcome
   OfCommand : (command : Command) → AreWordsOf command words → IsOutcomeOf command files input outcome
       → IsOutcome words files input outcome
+
+-- all that the command writes over these files and this input
+abbrev pub IsOutputOf : Command → Files → Option (List ℕ) → List ℕ → Type 0
+IsOutputOf command files input output = (outcome : Outcome) × IsOutcomeOf command files input outcome × (output ≡ outcome.output)
+
+-- what the command may have come to write, of which a prefix is written where it stops: for `read` and for `batch` the replies to
+-- some of the first lines, for any other command all of its output
+abbrev pub IsSoFarOf : Command → Files → Option (List ℕ) → List ℕ → Type 0
+IsSoFarOf (Segment lex scheme text) files input output = IsOutputOf (Segment lex scheme text) files input output
+IsSoFarOf (Check lex) files input output = IsOutputOf (Check lex) files input output
+IsSoFarOf (Build rules tables stems out) files input output = IsOutputOf (Build rules tables stems out) files input output
+IsSoFarOf (Read lex) files input output = IsReadSoFar lex files input output
+IsSoFarOf (Batch lex scheme file count) files input output = IsBatchSoFar lex scheme file count files output
+IsSoFarOf (Demo number) files input output = IsOutputOf (Demo number) files input output
+
+-- what a run with these words may have come to write over these files and this input
+pub data IsSoFar (words : List (List ℕ)) (files : Files) (input : Option (List ℕ)) (output : List ℕ) : Type 0 where
+  OfNone : AreOfNoCommand words → output ≡ (usage_outcome files).output → IsSoFar words files input output
+  OfOne : (command : Command) → AreWordsOf command words → IsSoFarOf command files input output → IsSoFar words files input output

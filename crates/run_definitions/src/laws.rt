@@ -1,4 +1,4 @@
-ghost use Rattle.std.specs.Prelude.{◌≡◌, ℕ, List, Option};
+ghost use Rattle.std.specs.Prelude.{◌≡◌, ◌++◌, ℕ, List, Option};
 ghost use Rattle.outside.specs.Files.{Files};
 ghost use Rattle.text_definitions.specs.Schemes.{Scheme};
 ghost use Rattle.lexicon_definitions.specs.Lexicons.{Lexicon, RuleSet};
@@ -6,8 +6,11 @@ ghost use Rattle.morphology_definitions.specs.Inflection.{Class, Stem};
 ghost use Rattle.run_definitions.specs.Commands.{Command, FileWord, AreWordsOf};
 ghost use Rattle.run_definitions.specs.CheckOutcomes.{IsCheckOutcome};
 ghost use Rattle.run_definitions.specs.BuildOutcomes.{IsBuildOutcome};
+ghost use Rattle.run_definitions.specs.DemoOutcomes.{IsDemoOutcome};
 ghost use Rattle.run_definitions.specs.SourceLexicons.{IsLexiconOf};
-ghost use Rattle.run_definitions.specs.Outcomes.{Outcome, IsOutcome};
+ghost use Rattle.run_definitions.specs.Outcomes.{Outcome, IsOutcome, IsSoFar};
+ghost use Rattle.run_definitions.specs.ReadOutcomes.{IsReadOutcome};
+ghost use Rattle.run_definitions.specs.BatchOutcomes.{IsBatchOutcome};
 ghost use Rattle.run_definitions.specs.SegmentOutcomes.{IsSegmentOutcome};
 
 /// Words are those of one command at most.
@@ -39,9 +42,34 @@ pub fn build_has_one_outcome()
         → IsBuildOutcome rules tables stems out files left → IsBuildOutcome rules tables stems out files right → left ≡ right }
 {}
 
+/// With one number, `demo` has one outcome at most over the same files.
+pub fn demo_has_one_outcome()
+    ensures { (number : ℕ) (files : Files) (left right : Outcome)
+        → IsDemoOutcome number files left → IsDemoOutcome number files right → left ≡ right }
+{}
+
+/// With one file and one input, `read` has one outcome at most over the same files.
+pub fn read_has_one_outcome()
+    ensures { (lex : FileWord) (files : Files) (input : Option (List ℕ)) (left right : Outcome)
+        → IsReadOutcome lex files input left → IsReadOutcome lex files input right → left ≡ right }
+{}
+
+/// With two files, a scheme and a size of pages, `batch` has one outcome at most over the same files.
+pub fn batch_has_one_outcome()
+    ensures { (lex : FileWord) (scheme : Scheme) (file : FileWord) (count : ℕ) (files : Files) (left right : Outcome)
+        → IsBatchOutcome lex scheme file count files left → IsBatchOutcome lex scheme file count files right → left ≡ right }
+{}
+
 /// A run has one outcome at most: these words over these files and this input write one output, leave one set of files,
 /// and end in one way.
 pub fn a_run_has_one_outcome()
     ensures { (words : List (List ℕ)) (files : Files) (input : Option (List ℕ)) (left right : Outcome)
         → IsOutcome words files input left → IsOutcome words files input right → left ≡ right }
+{}
+
+/// Where a run stops, a prefix is written of what it may have come to write; and this begins the output of its outcome.
+pub fn what_was_written_begins_the_outcome()
+    ensures { (words : List (List ℕ)) (files : Files) (input : Option (List ℕ)) (output : List ℕ) (outcome : Outcome)
+        → IsSoFar words files input output → IsOutcome words files input outcome
+        → (rest : List ℕ) × (outcome.output ≡ output ++ rest) }
 {}

@@ -4,3 +4,4 @@ pub mod States
 pub mod PrintedSummaries
 pub mod Replies
 pub mod Sessions
+pub mod PageReplies

@@ -2,11 +2,19 @@
 //! how the session stands after it (`IsReply`), and what is written for a whole input and how the session ends (`IsSession`).
 //!
 //! Proved: a line has one reply at most (`a_line_has_one_reply`), lines have one list of replies
-//! (`lines_have_one_list_of_replies`), and so an input has one session (`an_input_has_one_session`).
+//! (`lines_have_one_list_of_replies`), and so an input has one session (`an_input_has_one_session`). What is replied to some
+//! first lines begins what is written for all of them (`first_replies_begin_all_replies`). For one line and one list of choices
+//! the pages up to `end` are together the listing, wherever they are cut (`pages_to_the_end_are_the_listing`), whatever other
+//! replies stand between them that keep the place (`requests_between_pages_keep_the_place`).
 #![tactic(auto)]
 
 mod laws;
 mod limits;
+mod page_laws;
 
-pub use laws::{a_line_has_one_reply, an_input_has_one_session, lines_have_one_list_of_replies};
+pub use laws::{
+    a_line_has_one_reply, an_input_has_one_session, first_replies_begin_all_replies,
+    lines_have_one_list_of_replies,
+};
 pub use limits::{MOST_INPUT_BYTES, MOST_PAGE, MOST_SESSION_LINE_BYTES};
+pub use page_laws::{pages_to_the_end_are_the_listing, requests_between_pages_keep_the_place};

@@ -1,0 +1,11 @@
+pub mod DifferentElements
+pub mod DemoBytes
+pub mod DemoGrammar
+pub mod StemTexts
+pub mod StemRecords
+pub mod StemsRead
+pub mod DrawnWords
+pub mod LinesRead
+pub mod LexiconLines
+pub mod WordsFormed
+pub mod SourcesRead
