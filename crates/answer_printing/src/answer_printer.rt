@@ -1,33 +1,40 @@
-ghost use Rattle.std.specs.Prelude.{◌≡◌, ◌+◌, ◌<◌, ◌≤◌, ◌++◌, length, IfOk, OnOk};
+ghost use Rattle.std.specs.Prelude.{◌≡◌, ◌+◌, ◌<◌, ◌≤◌, [], ◌∷◌, ◌++◌, length, map, IfOk, OnOk};
 ghost use Rattle.segmentation_definitions.specs.PrintedAnswers.{printed_answer, printed_form, printed_joint, printed_end, printed_steps, output_line};
 ghost use Rattle.text_definitions.specs.Slp1.{slp1_of_word};
 ghost use Rattle.derivation.specs.Steps.{StandIn, steps_of, step_after, letters_taken};
+ghost use Rattle.answer_printing.specs.Fronts.{AreStarts, IsOpen, step_in};
 
 use super::RuleTexts;
+use super::printed_front::{PrintedFront, PrintedStep};
 use derivation::Step;
 use latin_schemes::print_slp1;
 use phoneme::{Line, Memory};
 use std::alloc::Global;
 use std::marker::Model;
+use std::mem;
 
-/// Prints answers of a line: its letters are spelled once.
+/// Prints answers of a line: its letters are spelled once, and of each answer only the steps that differ from those of the answer
+/// before.
 #[derive(Debug, Drop)]
 pub struct AnswerPrinter<'a> {
     texts: &'a RuleTexts<'a>,
     line: &'a Line,
     spelled: String,
+    front: PrintedFront,
 }
 
 impl<'a> Model for AnswerPrinter<'a> {
     ghost use Rattle.std.specs.Prelude.{◌≡◌, string_bytes};
     ghost use Rattle.text_definitions.specs.Slp1.{slp1_of_word};
     ghost use Rattle.answer_printing.specs.Texts.{PrintedWith};
+    ghost use Rattle.answer_printing.specs.Fronts.{AreStarts};
 
     ghost Value = { PrintedWith };
 
     ghost view = { λ p. record { rules = p.texts.now; letters = p.line.now.letters } };
 
-    ghost invariant = { λ p. string_bytes p.spelled ≡ slp1_of_word p.line.now.letters };
+    ghost invariant = { λ p. (string_bytes p.spelled ≡ slp1_of_word p.line.now.letters)
+        × AreStarts p.texts.now p.line.now.letters p.front.steps.items p.front.text.items };
 }
 
 impl<'a> AnswerPrinter<'a> {
@@ -43,6 +50,7 @@ impl<'a> AnswerPrinter<'a> {
             texts,
             line,
             spelled: print_slp1(alloc, &line.letters)?,
+            front: PrintedFront::new(alloc),
         })
     }
 
@@ -112,42 +120,85 @@ impl<'a> AnswerPrinter<'a> {
         Ok(())
     }
 
-    /// Appends the forms with what stands between them and after the last.
-    fn push_steps(&self, output: &mut Vec<u8>, steps: &[Step]) -> Result<(), Memory>
+    /// Prints a step, after the rule with the number `before`, with what stands between it and the next.
+    fn push_joined(&self, front: &mut PrintedFront, before: u32, step: &Step) -> Result<(), Memory>
+        requires open { IsOpen self.now.rules self.now.letters front.old.steps.items before front.old.text.items }
+        requires phase { step.now.phase < length self.now.rules.names }
+        requires rule { step.now.rule ≤ length self.now.rules.rules }
+        requires within { step.now.at + step.now.taken ≤ length self.now.letters }
+        ensures open { OnOk result (IsOpen self.now.rules self.now.letters front.new.steps.items step.now.rule front.new.text.items) }
+        ensures steps { OnOk result (map step_in front.new.steps.items ≡ map step_in front.old.steps.items ++ step.now ∷ []) }
+    {
+        let at = front.text.as_slice().len();
+        front.steps.push(PrintedStep {
+            step: *step,
+            at,
+            before,
+        })?;
+        self.push_form(&mut front.text, before, step)?;
+        self.push_joint(&mut front.text, step.rule)?;
+        Ok(())
+    }
+
+    /// Prints the last step, after the rule with the number `before`.
+    fn push_last(&self, front: &mut PrintedFront, before: u32, step: &Step) -> Result<(), Memory>
+        requires open { IsOpen self.now.rules self.now.letters front.old.steps.items before front.old.text.items }
+        requires phase { step.now.phase < length self.now.rules.names }
+        requires rule { step.now.rule ≤ length self.now.rules.rules }
+        requires within { step.now.at + step.now.taken ≤ length self.now.letters }
+        ensures starts { OnOk result (AreStarts self.now.rules self.now.letters front.new.steps.items front.new.text.items) }
+        ensures text { OnOk result (front.new.text.items ≡ printed_steps self.now.rules (steps_of self.now.rules self.now.letters (map step_in front.old.steps.items ++ step.now ∷ []))) }
+    {
+        let at = front.text.as_slice().len();
+        front.steps.push(PrintedStep {
+            step: *step,
+            at,
+            before,
+        })?;
+        self.push_form(&mut front.text, before, step)?;
+        self.push_end(&mut front.text, step.rule)?;
+        Ok(())
+    }
+
+    /// The printed forms with what stands between them and after the last, from those of the answer before.
+    fn print_steps(&self, before: PrintedFront, steps: &[Step]) -> Result<PrintedFront, Memory>
+        requires starts { AreStarts self.now.rules self.now.letters before.steps.items before.text.items }
         requires stand { StandIn self.now.rules self.now.letters steps.now }
         requires some { 0 < length steps.now }
-        ensures ok { OnOk result (output.new.items ≡ output.old.items ++ printed_steps self.now.rules (steps_of self.now.rules self.now.letters steps.now)) }
+        ensures starts { IfOk result (λ front. AreStarts self.now.rules self.now.letters front.steps.items front.text.items) }
+        ensures text { IfOk result (λ front. front.text.items ≡ printed_steps self.now.rules (steps_of self.now.rules self.now.letters steps.now)) }
     {
-        let mut before = 0;
-        for (j, step) in steps.iter().enumerate() {
-            self.push_form(output, before, step)?;
-            if j + 1 < steps.len() {
-                self.push_joint(output, step.rule)?;
-            } else {
-                self.push_end(output, step.rule)?;
-            }
-            before = step.rule;
+        let mut front = before;
+        let mut rule = front.keep(steps);
+        let last = steps.len() - 1;
+        for j in front.steps.len()..last {
+            self.push_joined(&mut front, rule, &steps[j])?;
+            rule = steps[j].rule;
         }
-        Ok(())
+        self.push_last(&mut front, rule, &steps[last])?;
+        Ok(front)
     }
 
     /// Appends the line of an answer with its number in the listing, counted from 1, and the line's end: `N: FORM[PHASE]`, then
     /// ` + FORM[PHASE]` for each further form that is joined unchanged and ` (u|v>w) FORM[PHASE]` for one after a rule; a final
     /// rule stands at the end as ` (u|>w)`. Words are in SLP1. The layout is our own. Refused only for want of memory.
     pub fn push_answer(
-        &self,
+        &mut self,
         alloc: Global,
         output: &mut Vec<u8>,
         steps: &[Step],
         number: u64,
     ) -> Result<(), Memory>
-        requires stand { StandIn self.now.rules self.now.letters steps.now }
+        requires stand { StandIn self.old.rules self.old.letters steps.now }
         requires some { 0 < length steps.now }
+        ensures unchanged { self.new ≡ self.old }
         ensures ok { OnOk result (output.new.items ≡ output.old.items
-            ++ output_line (printed_answer self.now.rules number (steps_of self.now.rules self.now.letters steps.now))) }
+            ++ output_line (printed_answer self.old.rules number (steps_of self.old.rules self.old.letters steps.now))) }
     {
+        let before = mem::replace(&mut self.front, PrintedFront::new(alloc));
+        self.front = self.print_steps(before, steps)?;
         output.extend_from_slice(format!(in alloc; "{number}: ")?.as_bytes())?;
-        self.push_steps(output, steps)?;
+        output.extend_from_slice(self.front.text.as_slice())?;
         output.push(b'\n')?;
         Ok(())
     }

@@ -57,7 +57,7 @@ module _ (most next place steps now count : ℕ) (is_place : ((next ≡ 0) × (p
 -- ---- in a phase
 
 -- at a node the frame has the nodes with fewer letters, and what this one has from the next change on
-left_at_node : (most next taken : ℕ) → steps_left_in_phase most (taken + 1) next ≡ taken * steps_of_node most + steps_from_change most next
+pub left_at_node : (most next taken : ℕ) → steps_left_in_phase most (taken + 1) next ≡ taken * steps_of_node most + steps_from_change most next
 left_at_node most next taken = ap (λ (n : ℕ). steps_left_in_phase most n next) (add-one taken)
 
 -- where every change is to be tried, it has all of each node

@@ -13,6 +13,7 @@ pub mod StepKeys
 pub mod StepLeaves
 pub mod StepLoops
 pub mod StepMoves
+pub mod StepSkips
 pub mod StandingRanks
 pub mod ReachedStandings
 pub mod StandingPaths

@@ -6,3 +6,4 @@ pub mod Reached
 pub mod Guided
 pub mod Costs
 pub mod LetterTests
+pub mod Skips

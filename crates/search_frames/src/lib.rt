@@ -3,11 +3,12 @@
 //!
 //! Proved: `open_frame` makes a frame that has everything to try (`all`); `go_on` brings it to its next key, which is the first
 //! of those left, and leaves just those after it, and answers false only where none is left (`went_on`, `nothing`); `seek`
-//! brings it to a given key, or answers false where this is not possible there (`found`, `not_possible`); none of them changes
+//! brings it to a given key, or answers false where this is not possible there (`found`, `not_possible`); `skip_unwritten` leaves
+//! out only keys whose rule's `w` does not come next in the line (`skipped`); none of them changes
 //! what stands before its level (`changes`). `test_key` says whether a key leads on, and where to, or ends the line, or neither
 //! (`exact`), and `test_letters` says the same as far as the letters, the blanks and the choices tell, whatever the grammar says
 //! (`exact`). A frame takes at most `steps_of_frame` steps, one for each key that it comes to counted in (`steps` of `open_frame`,
-//! `steps_on` and `steps_end` of `go_on`).
+//! `steps_on` and `steps_end` of `go_on`, `steps` of `skip_unwritten`).
 #![tactic(auto)]
 
 mod entering;
@@ -18,6 +19,7 @@ mod opening;
 mod place;
 mod rooms;
 mod seeking;
+mod skipping;
 mod stepping;
 mod testing;
 mod walking;
@@ -28,5 +30,6 @@ pub use opening::open_frame;
 pub use place::Place;
 pub use rooms::new_stack;
 pub use seeking::seek;
+pub use skipping::skip_unwritten;
 pub use testing::{Test, test_key};
 pub use walking::supplied_letters;

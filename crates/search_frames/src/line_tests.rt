@@ -46,6 +46,17 @@ pub(crate) fn w_of(rules: &RuleSet, rule: u32) -> &[Letter]
     }
 }
 
+/// Whether the word comes first among the letters. Most words differ in the first letter, so this is looked at before the others.
+pub(crate) fn begins_with(letters: &[Letter], word: &[Letter]) -> bool
+    ensures { IsTrue result ↔ (take (length word.now) letters.now ≡ word.now) }
+{
+    match (word, letters) {
+        ([], _) => true,
+        (_, []) => false,
+        ([first, ..], [letter, ..]) => letter == first && letters.starts_with(word),
+    }
+}
+
 /// Whether the `w` of the step's rule comes next in the line after the letters that the step takes.
 pub(crate) fn is_written(rules: &RuleSet, line: &Line, place: &Place, step: &Step) -> bool
     requires rule { step.now.rule ≤ length rules.now.rules }
@@ -53,7 +64,7 @@ pub(crate) fn is_written(rules: &RuleSet, line: &Line, place: &Place, step: &Ste
     ensures { IsTrue result ↔ (take (length (rule_of rules.now step.now.rule).w) (drop (place.now.at + step.now.taken) line.now.letters) ≡ (rule_of rules.now step.now.rule).w) }
 {
     let w = w_of(rules, step.rule);
-    line.letters.as_slice()[end_of(place, step)..].starts_with(w)
+    begins_with(&line.letters.as_slice()[end_of(place, step)..], w)
 }
 
 /// Whether the step's rule, if there is one, may follow a form of its phase.

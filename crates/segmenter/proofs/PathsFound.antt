@@ -1,6 +1,6 @@
 -- What a search finds at a level, from its next key and what it found at the level after it: paths with a smaller first key come
 -- first, and those with one first key are in the order of their rests.
-use Rattle.std.proofs.Common.{◌≡◌, ◌≢◌, ℕ, ◌+◌, ◌⊎◌, inl, inr, Bool, true, false, List, [], ◌∷◌, refl, sym, ap, ◌∙◌, subst}
+use Rattle.std.proofs.Common.{◌≡◌, ◌≢◌, ℕ, ◌+◌, ◌⊎◌, inl, inr, Bool, true, false, List, [], ◌∷◌, length, take, drop, refl, sym, ap, ◌∙◌, subst}
 use Rattle.std.specs.Bool.{OnTrue, OnFalse}
 use Rattle.std.specs.declared.cmp.Ordering.{Ordering}
 use Rattle.std.specs.declared.cmp.Ordering.TheVariants.{Less, Greater}
@@ -14,8 +14,12 @@ use Rattle.segmentation_definitions.proofs.KeyLists.{compare_keys_total}
 use Rattle.listing_laws.specs.Ways.{IsPath}
 use Rattle.annotated_trie.specs.Searched.{SearchedLexicon}
 use Rattle.resumption.specs.declared.state.Resumption.{Resumption}
-use Rattle.search_frames.specs.Standings.{Standing, IsPossible, LeadsOn, Ends, after, ways_in}
-use Rattle.search_frames.specs.Frames.{IsFrame, IsUntried, HasAllToTry, HasNothingToTry, HasLaterToTry, ChangesFrom, WentOn, here_of, place_of, key_at, standing_of}
+use Rattle.lexicon_definitions.specs.Lexicons.{rule_of}
+use Rattle.answer_paths.specs.Following.{MayStand}
+use Rattle.search_frames.specs.declared.place.Place.{Place}
+use Rattle.search_frames.specs.Standings.{Standing, IsPossible, LeadsOn, Ends, after, ways_in, rules_in}
+use Rattle.search_frames.specs.Skips.{IsUnwritten, SkippedUnwritten}
+use Rattle.search_frames.specs.Frames.{IsFrame, IsUntried, HasAllToTry, HasNothingToTry, HasLaterToTry, ChangesFrom, WentOn, here_of, place_of, key_at, standing_of, step_of}
 use Rattle.search_frames.specs.Tests.{IsRefused}
 use Rattle.segmenter.specs.Chains.{AreFrames, HasFound, HasNone, Every, BeginsUntried, ComesAfter, HasNoneBelow, KeepsBefore}
 use Rattle.segmenter.proofs.KeptFrames.{keeps_itself, keeps_if_changes, keeps_then, keeps_less, frame_kept, place_kept, key_kept, here_kept, FrameKept, is_frame_kept, later_kept, untried_kept, kept_back}
@@ -237,6 +241,34 @@ module _ (searched : SearchedLexicon) (line : Line) (choices : List Choice) (lev
             → BeginsUntried searched deep level keys
         begins_kept deep kept [] wanted = absurd wanted
         begins_kept deep kept (x ∷ xs) wanted = untried_kept searched line level mid deep x kept went.frame.few wanted
+
+  -- the loop left out keys whose w does not come next, with which no path begins
+  pub under_way_skipped : (old new : Resumption) → IsUnderWay searched line choices level first old → SkippedUnwritten searched line level old new
+      → ChangesFrom level old new → IsUnderWay searched line choices level first new
+  under_way_skipped old new under_way skipped changes = record {
+    frame = skipped.frame;
+    same_place = skipped.same_place ∙ under_way.same_place;
+    keeps = keeps_then level first old new under_way.keeps (keeps_if_changes level old new changes);
+    left = left;
+    only = λ key possible untried. under_way.only key possible (skipped.only key untried);
+  }
+    where
+      written : (x : Key) → MayStand searched.lexicon line choices (here_of searched first level).at (here_of searched first level).entrance x
+          → IsUnwritten searched (drop ((step_of old level).at + x.taken) line.letters) x.rule → ⊥
+      written x stands unwritten =
+          unwritten (subst (λ (place : Place). take (length (rule_of (rules_in searched) x.rule).w) (drop (place.at + x.taken) line.letters) ≡ (rule_of (rules_in searched) x.rule).w)
+          (sym under_way.same_place) stands.written)
+
+      left : (keys : List Key) → IsPath (ways_in searched line choices) (here_of searched first level) keys
+          → BeginsUntried searched first level keys → BeginsUntried searched new level keys
+      left [] path wanted = absurd wanted
+      left (x ∷ xs) path wanted = elim (skipped.left x (under_way.left (x ∷ xs) path wanted)) [
+        | inl untried ↦ untried
+        | inr unwritten ↦ absurd (elim (first_of_path searched line choices (here_of searched first level) x xs path) [
+          | inl ends ↦ written x ends.0.stands unwritten
+          | inr goes ↦ written x goes.leads.stands unwritten
+        ])
+      ]
 
   -- the frame has nothing left to try: no path is wanted
   pub none_left : (old : Resumption) → IsUnderWay searched line choices level first old → HasNothingToTry searched line old level

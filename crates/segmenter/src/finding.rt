@@ -16,7 +16,7 @@ use outside::Steps;
 use phoneme::Line;
 use reader_choices::Choices;
 use resumption::Resumption;
-use search_frames::{Place, Test, go_on, open_frame, test_key};
+use search_frames::{Place, Test, go_on, open_frame, skip_unwritten, test_key};
 
 /// Finds the first path from the place, with the frames from the level on. False where there is none.
 #[cycle(find)]
@@ -81,7 +81,7 @@ pub(crate) fn find_next<D: Guide, L>(
     while go_on(lexicon, line, stack, level, steps) {
         let place = Place::of_frame(stack, level);
         match test_key(lexicon, line, choices, &place, &stack.steps[level]) {
-            Test::Refused => {}
+            Test::Refused => skip_unwritten(lexicon, line, stack, level, steps),
             Test::Ends => {
                 stack.depth = level as u32 + 1;
                 return true;

@@ -3,7 +3,7 @@ use Rattle.std.proofs.Common.{◌≡◌, ℕ, ◌+◌, ◌*◌, List, length, ar
 use Rattle.derivation.specs.Steps.{key_of}
 use Rattle.segmenter.proofs.KeptFrames.{frame_kept, keeps_then, keeps_less, other_depth}
 use Rattle.search_frames.proofs.StandingPaths.{guide_says, path_if_exact}
-use Rattle.segmenter.proofs.PathsFound.{found_first, none_at_all, on_true, on_false, under_way_refused, found_end, found_deeper, under_way_deeper, none_left, here_mid, keeps_mid}
+use Rattle.segmenter.proofs.PathsFound.{found_first, none_at_all, on_true, on_false, under_way_refused, under_way_skipped, found_end, found_deeper, under_way_deeper, none_left, here_mid, keeps_mid}
 use Rattle.text_definitions.specs.Lines.{Line}
 use Rattle.segmentation_definitions.specs.Items.{Choice}
 use Rattle.derivation.specs.declared.step.Step.{Step}
@@ -59,16 +59,20 @@ test_here searched line choices stack level place step test place_is step_is exa
     (subst (λ p. IsTestOf searched line choices (standing_of searched p) (key_of step) test) place_is exact)
 
 pub find_next-loop-stack-preserved-in-Refused : goal.find_next-loop-stack-preserved-in-Refused
-find_next-loop-stack-preserved-in-Refused g t c = record {
-  under = under_way_refused c.args.lexicon.now c.args.line.now c.args.choices.now c.args.level c.args.stack.now c.loop-stack.stack c.go_on.new.stack
-      c.loop-stack.invariant.under (c.loop-stack-test.ensures.went_on) c.go_on.ensures.changes
-      (test_here c.args.lexicon.now c.args.line.now c.args.choices.now c.go_on.new.stack c.args.level c.of_frame-place.result c.index.result.now Refused
-      c.of_frame-place.ensures (read_step c.go_on.new.stack c.args.level c.index.result.now c.loop-stack-test.ensures.went_on.frame.placed.is_stack c.loop-stack-test.ensures.went_on.frame.placed.there c.index.ensures) c.in-Refused.ensures.exact);
-  spent = λ exact most few.
-      let so_far = c.loop-stack.invariant.spent exact most few in
-      let went = c.loop-stack-test.ensures.steps_on most few in
-      omega (arith, so_far, went);
-}
+find_next-loop-stack-preserved-in-Refused g t c =
+    let refused = under_way_refused c.args.lexicon.now c.args.line.now c.args.choices.now c.args.level c.args.stack.now c.loop-stack.stack c.go_on.new.stack
+    c.loop-stack.invariant.under (c.loop-stack-test.ensures.went_on) c.go_on.ensures.changes
+    (test_here c.args.lexicon.now c.args.line.now c.args.choices.now c.go_on.new.stack c.args.level c.of_frame-place.result c.index.result.now Refused
+    c.of_frame-place.ensures (read_step c.go_on.new.stack c.args.level c.index.result.now c.loop-stack-test.ensures.went_on.frame.placed.is_stack c.loop-stack-test.ensures.went_on.frame.placed.there c.index.ensures) c.in-Refused.ensures.exact) in
+    record {
+      under = under_way_skipped c.args.lexicon.now c.args.line.now c.args.choices.now c.args.level c.args.stack.now c.go_on.new.stack c.skip_unwritten.new.stack
+          refused c.skip_unwritten.ensures.skipped c.skip_unwritten.ensures.changes;
+      spent = λ exact most few.
+          let so_far = c.loop-stack.invariant.spent exact most few in
+          let went = c.loop-stack-test.ensures.steps_on most few in
+          let skipped = c.skip_unwritten.ensures.steps most few in
+          omega (arith, so_far, went, skipped);
+    }
 
 pub find_next-returns-in-Ends-clause-found : goal.find_next-returns-in-Ends-clause-found
 find_next-returns-in-Ends-clause-found g t c =
