@@ -12,7 +12,7 @@ pub(crate) fn cut(text: &[u8], mark: u8) -> Option<(&[u8], &[u8])>
 }
 
 /// The first line of the bytes, whether a line end comes after it, and what follows. `None` where there are no bytes.
-pub(crate) fn first_line(bytes: &[u8]) -> Option<(&[u8], bool, &[u8])>
+pub fn first_line(bytes: &[u8]) -> Option<(&[u8], bool, &[u8])>
     ensures line { MatchOption result (bytes.now ≡ [])
         (λ line. lines_of_bytes bytes.now ≡ record { bytes = line.0.now; ended = line.1 } ∷ lines_of_bytes line.2.now) }
     ensures within { IfSome result (λ line. length line.0.now ≤ length bytes.now) }

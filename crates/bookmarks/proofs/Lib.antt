@@ -1,0 +1,10 @@
+pub mod PartLemmas
+pub mod HandedOn
+pub mod ListsRead
+pub mod NumbersRead
+pub mod WordsRead
+pub mod LinesRead
+pub mod LinesPrinted
+pub mod PrintedFields
+pub mod ListsPrinted
+pub mod ReadBookmarks

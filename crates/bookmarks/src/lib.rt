@@ -1,0 +1,24 @@
+//! Bookmarks: a position in the listing of a line's answers, kept as one short text, from which a reader goes on another day.
+//!
+//! Proved: `print_bookmark` gives the text of a bookmark (`ok`), and `read_bookmark` the bookmark that a text is read as (`ok`);
+//! it answers `Form` only where the text is read as none (`form`). Both are refused besides only for want of memory. By the laws
+//! of `bookmark_definitions` what is printed is read as the same bookmark, and what is read has the text that was read.
+#![tactic(auto)]
+
+mod bookmark;
+mod choices;
+mod error;
+mod keys;
+mod lines;
+mod numbers;
+mod parts;
+mod printing;
+mod reading;
+#[cfg(test)]
+mod tests;
+mod words;
+
+pub use bookmark::Bookmark;
+pub use error::BookmarkError;
+pub use printing::print_bookmark;
+pub use reading::read_bookmark;

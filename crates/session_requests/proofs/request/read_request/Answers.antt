@@ -1,0 +1,10 @@
+-- The two parts tell what the line asks for.
+use Rattle.std.proofs.Common.{◌≡◌, IfOk, subst}
+use Rattle.session_requests.specs.Meant.{request_meant}
+use Rattle.session_requests.proofs.CutLemmas.{asked}
+use Rattle.session_requests.proofs.request.read_request.Goals as goal
+
+pub returns-clause-ok : goal.returns-clause-ok
+returns-clause-ok c =
+    subst (λ meant. IfOk c.request_with.result (λ request. request_meant request ≡ meant))
+    (asked c.args.line.now _ _ c.word_and_rest.ensures.word c.word_and_rest.ensures.rest) c.request_with.ensures.ok
