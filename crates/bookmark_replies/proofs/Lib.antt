@@ -1,0 +1,3 @@
+pub mod MarkedReadings
+pub mod ResumedReadings
+pub mod ResumeReplies

@@ -1,0 +1,2 @@
+pub mod AnswerBounds
+pub mod RefusedReplies

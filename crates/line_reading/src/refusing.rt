@@ -1,0 +1,36 @@
+ghost use Rattle.std.specs.Prelude.{◌≡◌, ◌++◌, IfOk, OnOk, codes};
+ghost use Rattle.segmentation_definitions.specs.PrintedAnswers.{output_line};
+
+use super::Reading;
+use phoneme::Memory;
+
+/// Appends the refusal `? WHY`.
+pub fn push_refusal(output: &mut Vec<u8>, why: &str) -> Result<(), Memory>
+    ensures { OnOk result (output.new.items ≡ output.old.items ++ output_line (codes "? " ++ why.now)) }
+{
+    output.extend_from_slice(b"? ")?;
+    output.extend_from_slice(why.as_bytes())?;
+    output.extend_from_slice(b"\n")?;
+    Ok(())
+}
+
+/// Appends the refusal `? WHY`; what is read stays.
+pub fn refuse(
+    output: &mut Vec<u8>,
+    why: &str,
+    reading: Option<Reading>,
+) -> Result<Option<Reading>, Memory>
+    ensures output { OnOk result (output.new.items ≡ output.old.items ++ output_line (codes "? " ++ why.now)) }
+    ensures same { IfOk result (λ same. same ≡ reading) }
+{
+    push_refusal(output, why)?;
+    Ok(reading)
+}
+
+/// Appends `ok`.
+pub fn push_ok(output: &mut Vec<u8>) -> Result<(), Memory>
+    ensures { OnOk result (output.new.items ≡ output.old.items ++ output_line (codes "ok")) }
+{
+    output.extend_from_slice(b"ok\n")?;
+    Ok(())
+}

@@ -1,0 +1,4 @@
+mod PagePositions
+mod PageReadings
+mod RefusedPages
+mod SummarizedReadings

@@ -1,0 +1,3 @@
+pub mod LineReplies
+pub mod OpenReplies
+pub mod ShortTexts

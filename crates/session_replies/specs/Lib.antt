@@ -1,0 +1,2 @@
+pub mod SessionValues
+pub mod Answered
