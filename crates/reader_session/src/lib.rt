@@ -1,0 +1,23 @@
+//! A reading session served over a source and a sink (after the lean reader of Goyal and Huet 2016): the lines of the input are
+//! read piece by piece, each is answered by `session_replies`, and its reply is written before the next line is looked at.
+//!
+//! Proved of `serve`, over every source and every sink, by the names of its contract:
+//!
+//! - `session`: where it ends with `Done` or `TooMuch`, it wrote all that the session of the input writes, and the session ends
+//!   so. An input of just the greatest length is served whole; of a longer one the complete lines within its first bytes are.
+//! - `prefix`: wherever it ends, a prefix of the replies to some first lines was written, which begins what the session writes
+//!   (`what_was_written_begins_the_session`).
+//! - `replies`: where a read fails, just the replies to all complete lines among the bytes taken were written.
+//! - `read_fault`, `write_fault`: a fault is answered only where the device counted one.
+//!
+//! Not said: that a device which fails is answered with its own fault, and not with want of memory.
+#![tactic(auto)]
+
+mod input;
+mod laws;
+mod lines;
+mod serve_end;
+
+pub use input::serve;
+pub use laws::what_was_written_begins_the_session;
+pub use serve_end::ServeEnd;

@@ -1,0 +1,89 @@
+ghost use Rattle.std.specs.Prelude.{◌≡◌, ℕ, List, [], ◌∷◌, ◌++◌, MatchOption, OnOk, OnErr, IfOk};
+ghost use Rattle.outside.specs.Answers.{OnFailedWrite};
+ghost use Rattle.outside.specs.Counts.{Rose};
+ghost use Rattle.lexicon_text_definitions.specs.FileLines.{lines_of_bytes};
+ghost use Rattle.reader_session.specs.Serving.{HasNoEnd, HasServed, HasStopped, HasServedWithin, HasStoppedWithin};
+
+use outside::{Sink, WriteError, write_all};
+use session_replies::{After, Session};
+use std::alloc::Global;
+
+/// The bytes before and after the first line end, where there is one.
+fn first_line(bytes: &[u8]) -> Option<(&[u8], &[u8])>
+    ensures { MatchOption result (HasNoEnd bytes.now)
+        (λ parts. (bytes.now ≡ parts.0.now ++ 10 ∷ parts.1.now) × HasNoEnd parts.0.now) }
+{
+    let at = bytes.iter().position(|byte| *byte == b'\n')?;
+    Some((&bytes[..at], &bytes[at + 1..]))
+}
+
+/// Writes the reply to one line of the input, whose line end is not among its bytes, and answers how the session stands then.
+fn serve_line<O: Sink>(
+    alloc: Global,
+    session: &mut Session,
+    line: &[u8],
+    ended: bool,
+    sink: &mut O,
+) -> Result<After, WriteError>
+    ensures ok { IfOk result (HasServed (record { bytes = line.now; ended = ended } ∷ []) session.old session.new
+        (O.written sink.old) (O.written sink.new)) }
+    ensures stopped { OnErr result (HasStopped (record { bytes = line.now; ended = ended } ∷ []) session.old
+        (O.written sink.old) (O.written sink.new)) }
+    ensures fault { OnFailedWrite result (Rose (O.faults sink.old) (O.faults sink.new)) }
+    ensures faults { OnOk result (O.faults sink.new ≡ O.faults sink.old) }
+{
+    let mut reply = Vec::new(alloc);
+    let after = session.reply(alloc, line, ended, &mut reply)?;
+    write_all(sink, &reply)?;
+    Ok(after)
+}
+
+/// Serves the lines that end within the next piece of the input, where `rest` has the line that began before it, and leaves in
+/// `rest` what comes after the last line end. After a line that ends the session, the bytes are not looked at.
+pub(crate) fn serve_piece<O: Sink>(
+    alloc: Global,
+    session: &mut Session,
+    rest: &mut Vec<u8>,
+    piece: &[u8],
+    sink: &mut O,
+) -> Result<After, WriteError>
+    requires { HasNoEnd rest.old.items }
+    ensures ok { IfOk result (HasServedWithin (rest.old.items ++ piece.now) rest.new.items session.old session.new
+        (O.written sink.old) (O.written sink.new)) }
+    ensures stopped { OnErr result (HasStoppedWithin (rest.old.items ++ piece.now) session.old
+        (O.written sink.old) (O.written sink.new)) }
+    ensures fault { OnFailedWrite result (Rose (O.faults sink.old) (O.faults sink.new)) }
+    ensures faults { OnOk result (O.faults sink.new ≡ O.faults sink.old) }
+{
+    let mut left = piece;
+    while let Some((line, following)) = first_line(left) {
+        rest.extend_from_slice(line)?;
+        let After::Open = serve_line(alloc, session, rest, true, sink)? else {
+            return Ok(After::Over);
+        };
+        rest.clear();
+        left = following;
+    }
+    rest.extend_from_slice(left)?;
+    Ok(After::Open)
+}
+
+/// Serves what is left after the last line end of the input, which is a line where it is not empty.
+pub(crate) fn serve_rest<O: Sink>(
+    alloc: Global,
+    session: &mut Session,
+    rest: &[u8],
+    sink: &mut O,
+) -> Result<After, WriteError>
+    requires { HasNoEnd rest.now }
+    ensures ok { IfOk result (HasServed (lines_of_bytes rest.now) session.old session.new
+        (O.written sink.old) (O.written sink.new)) }
+    ensures stopped { OnErr result (HasStopped (lines_of_bytes rest.now) session.old
+        (O.written sink.old) (O.written sink.new)) }
+    ensures fault { OnFailedWrite result (Rose (O.faults sink.old) (O.faults sink.new)) }
+{
+    if rest.is_empty() {
+        return Ok(After::Open);
+    }
+    serve_line(alloc, session, rest, false, sink)
+}
