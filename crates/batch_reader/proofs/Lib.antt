@@ -1,0 +1,2 @@
+mod HalfReplies
+mod SharedRepliers

@@ -1,0 +1,56 @@
+ghost use Rattle.std.specs.Prelude.{◌≡◌, IfOk};
+ghost use Rattle.batch_reader.specs.Replies.{IsReply};
+
+use annotated_trie::Lexicon;
+use answer_printing::{AnswerPrinter, RuleTexts};
+use outside::{Gate, Steps};
+use page_printing::push_page;
+use phoneme::{Line, Memory};
+use reader_choices::Choices;
+use segmenter::{ExactGuide, Search};
+use std::alloc::Global;
+use summary_chart::Chart;
+
+/// What all lines are answered by: the lexicon with the texts of its rules, which are made once, the most answers of a page, and
+/// the gate that each worker passes.
+#[derive(Drop)]
+pub(crate) struct Replier<'a, G: Gate> {
+    pub lexicon: &'a Lexicon,
+    pub texts: &'a RuleTexts<'a>,
+    pub count: u32,
+    pub gate: &'a G,
+    pub ghost same_rules: { texts.now ≡ lexicon.now.lexicon.rules },
+}
+
+impl<'a, G: Gate> Replier<'a, G> {
+    /// The page of the line's first answers, found under its chart and numbered from 1.
+    fn list_answers(&self, alloc: Global, line: &Line) -> Result<Vec<u8>, Memory>
+        ensures ok { IfOk result (λ text. IsReply self.now.lexicon.now.lexicon self.now.count line.now text.items) }
+    {
+        let choices = Choices::new(alloc);
+        let mut steps = Steps::<()>::new();
+        let chart = Chart::build(alloc, self.lexicon, line, &choices, &mut steps)?;
+        let guide = ExactGuide { guide: &chart };
+        let mut search = Search::new(alloc, self.lexicon, line, &choices, &guide)?;
+        let mut printer = AnswerPrinter::new(alloc, self.texts, line)?;
+        let mut text = Vec::new(alloc);
+        push_page(
+            alloc,
+            &mut text,
+            &mut printer,
+            &mut search,
+            1,
+            self.count,
+            &mut steps,
+        )?;
+        Ok(text)
+    }
+
+    /// The reply to the line with this number, by a worker that passes the gate before it begins.
+    pub fn reply(&self, alloc: Global, line: &Line, number: u64) -> Result<Vec<u8>, Memory>
+        ensures ok { IfOk result (λ text. IsReply self.now.lexicon.now.lexicon self.now.count line.now text.items) }
+    {
+        self.gate.pass(number);
+        self.list_answers(alloc, line)
+    }
+}
