@@ -1,0 +1,5 @@
+pub mod DrawnLemmas
+pub mod PassedAnswers
+pub mod InputsRead
+pub mod ErrorsRead
+pub mod InputsMade

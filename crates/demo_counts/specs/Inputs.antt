@@ -1,0 +1,37 @@
+-- What is made of a number, as contracts see it.
+use Rattle.std.specs.Prelude.{◌≡◌, ℕ, ◌≤◌, List, length}
+use Rattle.lexicon_definitions.specs.declared.limits.TheConstants.{MOST_FORM_LINES}
+use Rattle.lexicon_definitions.specs.Lexicons.{tree_of}
+use Rattle.lexicon_definitions.specs.Limits.{count_lines}
+use Rattle.phase_automaton.specs.Automata.{Recognizes}
+use Rattle.lexicon_file.specs.declared.contents.Contents.{Contents}
+use Rattle.lexicon_file.specs.Contents.{lexicon_of}
+use Rattle.demo_definitions.specs.DrawnStems.{stems_of_number}
+use Rattle.demo_definitions.specs.DrawnTexts.{text_of_number}
+use Rattle.demo_definitions.specs.SourceTexts.{demo_stems}
+use Rattle.demo_definitions.specs.SourceContents.{stems_spelled}
+use Rattle.run_definitions.specs.DemoOutcomes as outcomes
+use Rattle.run_definitions.specs.DemoOutcomes.{IsDemoLexicon}
+use Rattle.demo_counts.specs.declared.counts.DemoCounts.{DemoCounts}
+
+-- the bytes are the stem file of some number
+abbrev pub IsStemFile : List ℕ → Type 0
+IsStemFile bytes = (number : ℕ) × (bytes ≡ demo_stems number)
+
+-- the stems and the text are those of the number
+pub record AreInput (number : ℕ) (stems : List (List ℕ)) (text : List ℕ) : Type 0 where
+  pub stems_are : stems ≡ stems_of_number number
+  pub text_is : text ≡ text_of_number number
+
+-- the contents are the lexicon of the sources of the number, and it can be searched
+pub record AreDemoContents (number : ℕ) (contents : Contents) : Type 0 where
+  pub is_lexicon : IsDemoLexicon number (stems_spelled number) (lexicon_of contents)
+  pub count : length contents.lists ≡ length contents.rules.names
+  pub lines : count_lines contents.lists ≤ MOST_FORM_LINES
+  pub recognizes : Recognizes contents.automaton (tree_of contents.rules)
+  pub phases : contents.automaton.phases ≡ length contents.rules.names
+
+-- the counts, as the definitions have them
+abbrev pub counts_told : DemoCounts → outcomes.DemoCounts
+counts_told counts =
+    record { stems = counts.stems; forms = counts.forms; letters = counts.letters; answers = counts.answers; more = counts.more }
