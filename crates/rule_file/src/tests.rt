@@ -89,8 +89,8 @@ fn an_entry_is_refused_for_its_first_reason(rt: HostRuntime) -> Result<(), Fail>
 }
 
 #[test]
-fn a_file_is_refused_for_its_first_fault(rt: HostRuntime) -> Result<(), Fail> {
-    let rows: [(&[u8], RuleFault); 14] = [
+fn a_document_of_another_shape_is_refused(rt: HostRuntime) -> Result<(), Fail> {
+    let rows: [(&[u8], RuleFault); 6] = [
         (b"phases = [", RuleFault::Toml),
         (b"# \xff", RuleFault::Toml),
         (b"", RuleFault::Shape),
@@ -106,6 +106,16 @@ fn a_file_is_refused_for_its_first_fault(rt: HostRuntime) -> Result<(), Fail> {
             b"phases = []\ngrammar = \"\"\nplain = [\"\"]\nrules = []\nclasses = []\n",
             RuleFault::Shape,
         ),
+    ];
+    for (bytes, fault) in rows {
+        assert!(rt; has_fault(&rt, bytes, fault));
+    }
+    Ok(())
+}
+
+#[test]
+fn a_file_is_refused_for_its_first_fault(rt: HostRuntime) -> Result<(), Fail> {
+    let rows: [(&[u8], RuleFault); 8] = [
         (
             b"phases = []\ngrammar = \"\"\nplain = [\"\"]\nrules = []\n",
             RuleFault::Phase(0),
