@@ -4,12 +4,16 @@ use Rattle.std.proofs.Common.{◌≡◌, ℕ, ◌+◌, ◌-◌, ◌*◌, ◌^◌
 use Rattle.std.specs.List.{All}
 use Rattle.run_definitions.specs.declared.limits.TheConstants.{MOST_WORD_BYTES}
 use Rattle.run_definitions.specs.Arguments.{Given, FileWord, given_by}
-use Rattle.run_definitions.specs.Commands.{Command, Segment, Check, Takes, name_of_command, AreWordsOf, AreOfNoCommand}
+use Rattle.run_definitions.specs.Commands.{Command, Segment, Check, Build, Read, Batch, Demo, Takes, name_of_command, AreWordsOf, AreOfNoCommand}
 use Rattle.command_words.proofs.WordCounts.{few_words}
 
 -- a scheme takes one value at most
 one_value : (values : List (List ℕ)) (command : Command) (given : List FileWord) → Takes command values given → length given + 2 * length values ≤ 8
 one_value values (Check lex) given takes = omega (arith, ap length takes.0, ap length takes.1)
+one_value values (Build rules tables stems out) given takes = omega (arith, ap length takes.0, ap length takes.1)
+one_value values (Read lex) given takes = omega (arith, ap length takes.0, ap length takes.1)
+one_value values (Batch lex scheme file count) given takes = omega (arith, ap length takes.0, ap length takes.1.are)
+one_value values (Demo number) given takes = omega (arith, ap length takes.0, ap length takes.1.are)
 one_value [] (Segment lex scheme text) given takes = omega (arith, ap length takes.1.1)
 one_value (value ∷ []) (Segment lex scheme text) given takes = omega (arith, ap length takes.1.1)
 one_value (value ∷ other ∷ values) (Segment lex scheme text) given takes = absurd takes.0

@@ -5,7 +5,7 @@ use Rattle.run_definitions.specs.Arguments as arguments
 use Rattle.run_definitions.specs.Commands as defined
 use Rattle.command_words.specs.declared.placed_word.PlacedWord.{PlacedWord}
 use Rattle.command_words.specs.declared.command.Command.{Command}
-use Rattle.command_words.specs.declared.command.Command.TheVariants.{Segment, Check}
+use Rattle.command_words.specs.declared.command.Command.TheVariants.{Segment, Check, Build, Read, Batch, Demo}
 use Rattle.command_words.specs.declared.given.Given.{Given}
 use Rattle.command_words.specs.declared.arguments.Turn.{Turn}
 use Rattle.command_words.specs.declared.arguments.Turn.TheVariants.{Any, Value, Argument}
@@ -18,6 +18,11 @@ word_meant word = record { place = word.place; name = word.name.now }
 abbrev pub command_meant : Command → defined.Command
 command_meant (Segment lex scheme text) = defined.Segment (word_meant lex) (scheme_of scheme) text.name.now
 command_meant (Check lex) = defined.Check (word_meant lex)
+command_meant (Build words) =
+    defined.Build (word_meant words.rules) (word_meant words.tables) (word_meant words.stems) (word_meant words.out)
+command_meant (Read lex) = defined.Read (word_meant lex)
+command_meant (Demo number) = defined.Demo number
+command_meant (Batch words) = defined.Batch (word_meant words.lex) (scheme_of words.scheme) (word_meant words.file) words.count
 
 -- what a next word may be
 abbrev pub turn_meant : Turn → arguments.Turn

@@ -1,15 +1,19 @@
-ghost use Rattle.std.specs.Prelude.{◌≡◌, ◌≤◌, ◌↔◌, List, ℕ, length, map, string_bytes, All, IsTrue, IfSome, IfNone, IfOk};
+ghost use Rattle.std.specs.Prelude.{◌≡◌, ◌≤◌, ◌↔◌, List, ℕ, codes, length, map, string_bytes, All, IsTrue, IfSome, IfNone, IfOk};
 ghost use Rattle.run_definitions.specs.declared.limits.TheConstants.{MOST_WORD_BYTES};
 ghost use Rattle.run_definitions.specs.Commands.{Command as DefinedCommand, AreWordsOf, AreOfNoCommand, GiveScheme, Takes, name_of_command};
 ghost use Rattle.text_definitions.specs.Schemes as defined;
 ghost use Rattle.text_line.specs.Values.{scheme_of};
 ghost use Rattle.command_words.specs.Meant.{command_meant, given_meant};
 
+use super::batch_words::BatchWords;
+use super::build_words::BuildWords;
+use super::demo_number::demo_number_of;
 use super::given::{Given, given_of};
 use super::placed_word::PlacedWord;
 use super::scheme_names::scheme_named;
 use phoneme::Memory;
 use run_definitions::MOST_WORD_BYTES;
+use session_requests::page_size_of;
 use std::alloc::Global;
 use text_line::Scheme;
 
@@ -25,6 +29,18 @@ pub enum Command<'a> {
     /// The lexicon file.
     Check {
         lex: PlacedWord<'a>,
+    },
+    /// The three source files, and the file to write.
+    Build(BuildWords<'a>),
+    /// The lexicon file.
+    Read {
+        lex: PlacedWord<'a>,
+    },
+    /// The lexicon file, the text file with its scheme, and the size of a page.
+    Batch(BatchWords<'a>),
+    /// The number from which an input is made.
+    Demo {
+        number: u64,
     },
 }
 
@@ -52,6 +68,104 @@ fn scheme_given(values: &[&str]) -> Option<Scheme>
     }
 }
 
+/// `segment` with what is given.
+fn segment_with<'a>(given: &Given<'a>) -> Option<Command<'a>>
+    ensures some { IfSome result (λ command. (name_of_command (command_meant command) ≡ codes "segment")
+        × Takes (command_meant command) (given_meant given.now).values (given_meant given.now).arguments) }
+    ensures none { IfNone result ((command : DefinedCommand) → name_of_command command ≡ codes "segment"
+        → Takes command (given_meant given.now).values (given_meant given.now).arguments → ⊥) }
+{
+    match (given.values.as_slice(), given.arguments.as_slice()) {
+        (values, [lex, text]) => Some(Command::Segment {
+            lex: *lex,
+            scheme: scheme_given(values)?,
+            text: *text,
+        }),
+        _ => None,
+    }
+}
+
+/// `check` with what is given.
+fn check_with<'a>(given: &Given<'a>) -> Option<Command<'a>>
+    ensures some { IfSome result (λ command. (name_of_command (command_meant command) ≡ codes "check")
+        × Takes (command_meant command) (given_meant given.now).values (given_meant given.now).arguments) }
+    ensures none { IfNone result ((command : DefinedCommand) → name_of_command command ≡ codes "check"
+        → Takes command (given_meant given.now).values (given_meant given.now).arguments → ⊥) }
+{
+    match (given.values.as_slice(), given.arguments.as_slice()) {
+        ([], [lex]) => Some(Command::Check { lex: *lex }),
+        _ => None,
+    }
+}
+
+/// `build` with what is given.
+fn build_with<'a>(given: &Given<'a>) -> Option<Command<'a>>
+    ensures some { IfSome result (λ command. (name_of_command (command_meant command) ≡ codes "build")
+        × Takes (command_meant command) (given_meant given.now).values (given_meant given.now).arguments) }
+    ensures none { IfNone result ((command : DefinedCommand) → name_of_command command ≡ codes "build"
+        → Takes command (given_meant given.now).values (given_meant given.now).arguments → ⊥) }
+{
+    match (given.values.as_slice(), given.arguments.as_slice()) {
+        ([], [rules, tables, stems, out]) => Some(Command::Build(BuildWords {
+            rules: *rules,
+            tables: *tables,
+            stems: *stems,
+            out: *out,
+        })),
+        _ => None,
+    }
+}
+
+/// `read` with what is given.
+fn read_with<'a>(given: &Given<'a>) -> Option<Command<'a>>
+    ensures some { IfSome result (λ command. (name_of_command (command_meant command) ≡ codes "read")
+        × Takes (command_meant command) (given_meant given.now).values (given_meant given.now).arguments) }
+    ensures none { IfNone result ((command : DefinedCommand) → name_of_command command ≡ codes "read"
+        → Takes command (given_meant given.now).values (given_meant given.now).arguments → ⊥) }
+{
+    match (given.values.as_slice(), given.arguments.as_slice()) {
+        ([], [lex]) => Some(Command::Read { lex: *lex }),
+        _ => None,
+    }
+}
+
+/// `batch` with what is given.
+fn batch_with<'a>(given: &Given<'a>) -> Option<Command<'a>>
+    ensures some { IfSome result (λ command. (name_of_command (command_meant command) ≡ codes "batch")
+        × Takes (command_meant command) (given_meant given.now).values (given_meant given.now).arguments) }
+    ensures none { IfNone result ((command : DefinedCommand) → name_of_command command ≡ codes "batch"
+        → Takes command (given_meant given.now).values (given_meant given.now).arguments → ⊥) }
+{
+    match (given.values.as_slice(), given.arguments.as_slice()) {
+        ([], [lex, scheme, file, count]) => {
+            let scheme = scheme_named(scheme.name)?;
+            let count = page_size_of(count.name.as_bytes())?;
+            Some(Command::Batch(BatchWords {
+                lex: *lex,
+                scheme,
+                file: *file,
+                count,
+            }))
+        }
+        _ => None,
+    }
+}
+
+/// `demo` with what is given.
+fn demo_with<'a>(given: &Given<'a>) -> Option<Command<'a>>
+    ensures some { IfSome result (λ command. (name_of_command (command_meant command) ≡ codes "demo")
+        × Takes (command_meant command) (given_meant given.now).values (given_meant given.now).arguments) }
+    ensures none { IfNone result ((command : DefinedCommand) → name_of_command command ≡ codes "demo"
+        → Takes command (given_meant given.now).values (given_meant given.now).arguments → ⊥) }
+{
+    match (given.values.as_slice(), given.arguments.as_slice()) {
+        ([], [word]) => Some(Command::Demo {
+            number: demo_number_of(word.name)?,
+        }),
+        _ => None,
+    }
+}
+
 /// The command of this name that takes what is given.
 fn command_with<'a>(name: &str, given: &Given<'a>) -> Option<Command<'a>>
     ensures some { IfSome result (λ command. (name.now ≡ name_of_command (command_meant command))
@@ -59,13 +173,13 @@ fn command_with<'a>(name: &str, given: &Given<'a>) -> Option<Command<'a>>
     ensures none { IfNone result ((command : DefinedCommand) → name.now ≡ name_of_command command
         → Takes command (given_meant given.now).values (given_meant given.now).arguments → ⊥) }
 {
-    match (name, given.values.as_slice(), given.arguments.as_slice()) {
-        ("segment", values, [lex, text]) => Some(Command::Segment {
-            lex: *lex,
-            scheme: scheme_given(values)?,
-            text: *text,
-        }),
-        ("check", [], [lex]) => Some(Command::Check { lex: *lex }),
+    match name {
+        "segment" => segment_with(given),
+        "check" => check_with(given),
+        "build" => build_with(given),
+        "read" => read_with(given),
+        "batch" => batch_with(given),
+        "demo" => demo_with(given),
         _ => None,
     }
 }

@@ -12,11 +12,16 @@
 #![tactic(auto)]
 
 mod arguments;
+mod batch_words;
+mod build_words;
 mod command;
+mod demo_number;
 mod given;
 mod line;
 mod placed_word;
 mod scheme_names;
 
+pub use batch_words::BatchWords;
+pub use build_words::BuildWords;
 pub use command::{Command, command_of};
 pub use placed_word::PlacedWord;

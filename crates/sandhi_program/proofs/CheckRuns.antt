@@ -1,29 +1,32 @@
 -- What a run of `check` writes is the output of an outcome, as it is of `segment`.
-use Rattle.std.proofs.Common.{◌≡◌, ℕ, ◌+◌, List, [], take, Option, Some, None, Ok, refl, sym, ap, subst, ◌∙◌, append-nil}
+use Rattle.std.proofs.Common.{◌≡◌, ℕ, ◌+◌, List, [], take, None, Some, Ok, refl, sym, ap, subst, ◌∙◌}
 use Rattle.outside.specs.Files.{Files, contents_of}
 use Rattle.run_definitions.specs.Commands.{FileWord}
 use Rattle.run_definitions.specs.Ends as ends
-use Rattle.run_definitions.specs.Ends.{Outcome, outcome_over}
+use Rattle.run_definitions.specs.Ends.{outcome_over}
 use Rattle.run_definitions.specs.SegmentOutcomes.{NotThere, Refused, Holds, IsMissing, IsLexicon}
 use Rattle.run_definitions.specs.CheckOutcomes.{IsCheckOutcome}
 use Rattle.lexicon_text_definitions.specs.FileReadings.{IsReadAs}
 use Rattle.lexicon_text_definitions.specs.declared.limits.TheConstants.{MOST_FILE_BYTES}
 use Rattle.sandhi_program.specs.declared.status.Status.{Status}
-use Rattle.sandhi_program.specs.declared.status.Status.TheVariants.{ReadFault}
-use Rattle.sandhi_program.specs.Ends.{Tells, WroteAll, WrotePrefix, IsNoFault, Wrote, file_fault}
+use Rattle.sandhi_program.specs.declared.status.Status.TheVariants.{Done, Usage, BadFile}
+use Rattle.sandhi_program.specs.Ends.{Tells, file_fault}
+use Rattle.sandhi_program.specs.RunEnds.{HasOutcome}
 use Rattle.sandhi_program.specs.Checks.{WritesCheck, Overlaps, OfFile}
-use Rattle.sandhi_program.proofs.Runs.{whole, within, refused_file, wrote_all_of, wrote_prefix_of}
+use Rattle.sandhi_program.proofs.FilesRead.{whole, within}
+use Rattle.sandhi_program.proofs.SegmentRuns.{refused_file}
 
-module _ (lex : FileWord) (files : Files) where
+module _ (lex : FileWord) where
   -- the outcome whose output `check` writes
-  outcome_of : (content bytes : List ℕ) (status : Status) (output : List ℕ)
+  pub check_outcome : (files : Files) (content bytes : List ℕ) (status : Status) (output : List ℕ)
       → contents_of files lex.name ≡ Some content → take (MOST_FILE_BYTES + 1) content ≡ bytes → WritesCheck lex bytes status output
-      → (outcome : Outcome) × IsCheckOutcome lex files outcome × (outcome.output ≡ output) × (outcome.files ≡ files) × Tells status outcome.end
-  outcome_of content bytes status output there e (Overlaps st p) =
+      → HasOutcome (IsCheckOutcome lex files) status output files
+  check_outcome files content bytes status output there e (Overlaps st p) =
       let low = within content bytes e p.within in
-      let same = whole content bytes e low in (
-        outcome_over files output ends.Done,
-        record {
+      let same = whole content bytes e low in record {
+        end = ends.Done;
+        told = subst (λ (x : Status). Tells x ends.Done) (sym st) refl;
+        is_it = record {
           tells = Holds p.lexicon;
           does_tell = IsLexicon content there low p.lexicon (subst (λ b. IsReadAs b (Ok p.lexicon)) (sym same) p.read) refl;
           is_outcome = record {
@@ -32,45 +35,23 @@ module _ (lex : FileWord) (files : Files) where
             first = p.check.first;
             is = ap (λ out. outcome_over files out ends.Done) p.check.printed;
           };
-        },
-        refl,
-        refl,
-        subst (λ (x : Status). Tells x ends.Done) (sym st) refl,
-      )
-  outcome_of content bytes status output there e (OfFile fault st why o) = (
-    outcome_over files output (ends.BadFile lex.place (file_fault fault)),
-    record {
+        };
+      }
+  check_outcome files content bytes status output there e (OfFile fault st why o) = record {
+    end = ends.BadFile lex.place (file_fault fault);
+    told = subst (λ (x : Status). Tells x (ends.BadFile lex.place (file_fault fault))) (sym st) refl;
+    is_it = record {
       tells = Refused (file_fault fault);
       does_tell = refused_file files lex.name content bytes fault there e why;
       is_outcome = ap (λ out. outcome_over files out (ends.BadFile lex.place (file_fault fault))) o;
-    },
-    refl,
-    refl,
-    subst (λ (x : Status). Tells x (ends.BadFile lex.place (file_fault fault))) (sym st) refl,
-  )
+    };
+  }
 
-  pub check_wrote_all : (content bytes : List ℕ) (result : Status) (old new : Option (List ℕ)) (faults now : ℕ) (told : List ℕ)
-      → contents_of files lex.name ≡ Some content → take (MOST_FILE_BYTES + 1) content ≡ bytes
-      → Wrote (WritesCheck lex bytes) result old new faults now → old ≡ Some told → IsNoFault result
-      → WroteAll (IsCheckOutcome lex files) files told new result
-  check_wrote_all content bytes result old new faults now told there e =
-      wrote_all_of (WritesCheck lex bytes) (IsCheckOutcome lex files) files
-      (λ status output w. outcome_of content bytes status output there e w) result old new faults now told
-
-  pub check_wrote_prefix : (content bytes : List ℕ) (result : Status) (old new : Option (List ℕ)) (faults now : ℕ)
-      → contents_of files lex.name ≡ Some content → take (MOST_FILE_BYTES + 1) content ≡ bytes
-      → Wrote (WritesCheck lex bytes) result old new faults now → WrotePrefix (IsCheckOutcome lex files) old new
-  check_wrote_prefix content bytes result old new faults now there e =
-      wrote_prefix_of (WritesCheck lex bytes) (IsCheckOutcome lex files) files
-      (λ status output w. outcome_of content bytes status output there e w) result old new faults now
+  -- words that are refused are written by no command
+  pub check_not_usage : (bytes : List ℕ) (status : Status) (output : List ℕ) → WritesCheck lex bytes status output → status ≡ Usage → ⊥
+  check_not_usage bytes status output (Overlaps st p) e = let f : Done ≡ Usage = sym st ∙ e in cc (f)
+  check_not_usage bytes status output (OfFile fault st why o) e = let f : BadFile lex.place fault ≡ Usage = sym st ∙ e in cc (f)
 
   -- a missing file has its outcome
-  pub missing_check : (told : List ℕ) (old new : Option (List ℕ)) → contents_of files lex.name ≡ None → old ≡ Some told → new ≡ old
-      → WroteAll (IsCheckOutcome lex files) files told new ReadFault
-  missing_check told old new missing o same = record {
-    outcome = outcome_over files [] ends.ReadFault;
-    is_it = record { tells = NotThere; does_tell = IsMissing missing refl; is_outcome = refl };
-    output = same ∙ o ∙ ap Some (sym (append-nil told));
-    files = refl;
-    told = refl;
-  }
+  pub check_missing : (files : Files) → contents_of files lex.name ≡ None → IsCheckOutcome lex files (outcome_over files [] ends.ReadFault)
+  check_missing files missing = record { tells = NotThere; does_tell = IsMissing missing refl; is_outcome = refl }

@@ -14,3 +14,10 @@ pub fault_line : (name number why : List ℕ)
     ≡ (codes "bad file " ++ name ++ codes " line " ++ number ++ codes ": " ++ why) ++ 10 ∷ []
 fault_line name number why =
     ap (λ rest. codes "bad file " ++ rest) (moved name (codes " line ") number (codes ": ") why (10 ∷ []))
+
+-- of a source file: what is said after its name
+pub source_line : (name rest : List ℕ) → codes "bad file " ++ (name ++ (rest ++ codes "\n")) ≡ (codes "bad file " ++ name ++ rest) ++ 10 ∷ []
+source_line name rest = ap (λ r. codes "bad file " ++ r) (sym (append_assoc name rest (10 ∷ [])))
+
+pub rule_line : (number why : List ℕ) → codes " rule " ++ (number ++ (codes ": " ++ why)) ≡ codes " rule " ++ number ++ codes ": " ++ why
+rule_line number why = ap (λ r. codes " rule " ++ r) (sym (append_assoc number (codes ": ") why))

@@ -9,10 +9,12 @@ use Rattle.text_definitions.specs.LineTexts as texts
 use Rattle.text_definitions.specs.LineTexts.{LineFault}
 use Rattle.latin_schemes.specs.Faults as spelling
 use Rattle.lexicon_file.specs.Contents as files
+use Rattle.rule_file.specs.Faults as rules
+use Rattle.paradigms.specs.Answers.{table_why, stem_why}
 use Rattle.sandhi_program.specs.declared.status.Status.{Status}
-use Rattle.sandhi_program.specs.declared.status.Status.TheVariants.{Done, Memory, Usage, ReadFault, WriteFault, BadFile, BadText}
+use Rattle.sandhi_program.specs.declared.status.Status.TheVariants.{Done, Memory, Usage, ReadFault, WriteFault, BadFile, BadText, TooMuch}
 use Rattle.sandhi_program.specs.declared.status.AnyFault.{AnyFault}
-use Rattle.sandhi_program.specs.declared.status.AnyFault.TheVariants.{Large, Lexicon}
+use Rattle.sandhi_program.specs.declared.status.AnyFault.TheVariants.{Large, Lexicon, Rules, Tables, Stems}
 use Rattle.sandhi_program.specs.declared.status.TextFault.{TextFault}
 use Rattle.sandhi_program.specs.declared.status.TextFault.TheVariants.{Spell, NoLetters, TooLong}
 
@@ -25,11 +27,15 @@ exit_status ReadFault = 3
 exit_status WriteFault = 4
 exit_status (BadFile word fault) = 5
 exit_status (BadText fault) = 6
+exit_status TooMuch = 7
 
 -- the fault of a file, and that of a text, as the definitions name them
 abbrev pub file_fault : AnyFault → ends.AnyFault
 file_fault Large = ends.Large
 file_fault (Lexicon fault) = ends.Lexicon (files.fault_of fault)
+file_fault (Rules fault) = ends.Rules (rules.fault_of fault)
+file_fault (Tables fault) = ends.Tables (record { number = fault.number; why = table_why fault.why })
+file_fault (Stems fault) = ends.Stems (record { number = fault.number; why = stem_why fault.why })
 
 abbrev pub text_fault : TextFault → LineFault
 text_fault (Spell fault) = texts.Misspelled (spelling.fault_of fault)
@@ -43,20 +49,25 @@ Tells Usage end = end ≡ ends.Usage
 Tells ReadFault end = end ≡ ends.ReadFault
 Tells (BadFile word fault) end = end ≡ ends.BadFile word (file_fault fault)
 Tells (BadText fault) end = end ≡ ends.BadText (text_fault fault)
+Tells TooMuch end = end ≡ ends.TooMuch
 Tells Memory end = ⊥
 Tells WriteFault end = ⊥
 
+-- how a run ends where a file was not read: memory was wanting, or the device failed, or the file is not there
+abbrev pub IsUnread : Status → Type 0 → Type 0 → Type 0
+IsUnread status failed lacking = (status ≡ Memory) ⊎ ((status ≡ ReadFault) × (failed ⊎ lacking))
+
 -- the run wrote all the output of such an outcome, the files are as it leaves them, and the status tells its end
-pub record WroteAll (IsIt : Outcome → Type 0) (after : Files) (old : List ℕ) (written : Option (List ℕ)) (status : Status) : Type 0 where
+pub record WroteAll (IsIt : Outcome → Type 0) (after : Option Files) (old : List ℕ) (written : Option (List ℕ)) (status : Status) : Type 0 where
   pub outcome : Outcome
   pub is_it : IsIt outcome
   pub output : written ≡ Some (old ++ outcome.output)
-  pub files : after ≡ outcome.files
+  pub files : after ≡ Some outcome.files
   pub told : Tells status outcome.end
 
--- nothing was written, or a prefix of the output of such an outcome
-abbrev pub WrotePrefix : (Outcome → Type 0) → Option (List ℕ) → Option (List ℕ) → Type 0
-WrotePrefix IsIt old new = (new ≡ old) ⊎ ((outcome : Outcome) × IsIt outcome × GrowsByPrefix old new outcome.output)
+-- nothing was written, or a prefix of such an output
+abbrev pub WrotePrefix : (List ℕ → Type 0) → Option (List ℕ) → Option (List ℕ) → Type 0
+WrotePrefix IsIt old new = (new ≡ old) ⊎ ((output : List ℕ) × IsIt output × GrowsByPrefix old new output)
 
 -- the status is neither of a device that failed nor of want of memory
 abbrev pub IsNoFault : Status → Type 0
@@ -64,6 +75,7 @@ IsNoFault Done = Unit {0}
 IsNoFault Usage = Unit {0}
 IsNoFault (BadFile word fault) = Unit {0}
 IsNoFault (BadText fault) = Unit {0}
+IsNoFault TooMuch = Unit {0}
 IsNoFault ReadFault = ⊥
 IsNoFault WriteFault = ⊥
 IsNoFault Memory = ⊥
@@ -77,6 +89,7 @@ MayEndNoCommand Done = ⊥
 MayEndNoCommand ReadFault = ⊥
 MayEndNoCommand (BadFile word fault) = ⊥
 MayEndNoCommand (BadText fault) = ⊥
+MayEndNoCommand TooMuch = ⊥
 
 -- what writing all of an output before a status leaves: all of it, where the status is given; else a prefix of it, and the
 -- status is that of the sink's fault, which it counted, or of want of memory

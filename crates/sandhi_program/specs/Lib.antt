@@ -1,5 +1,11 @@
 pub mod Ends
+pub mod RunEnds
 pub mod Refusals
 pub mod SegmentErrors
 pub mod Segments
 pub mod Checks
+pub mod Batches
+pub mod Demos
+pub mod Sessions
+pub mod Sources
+pub mod SourceErrors

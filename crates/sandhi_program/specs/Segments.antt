@@ -20,7 +20,7 @@ use Rattle.run_definitions.specs.Refusals.{file_refusal, text_refusal}
 use Rattle.sandhi_program.specs.declared.status.Status.{Status}
 use Rattle.sandhi_program.specs.declared.status.Status.TheVariants.{Done, BadFile, BadText}
 use Rattle.sandhi_program.specs.declared.status.AnyFault.{AnyFault}
-use Rattle.sandhi_program.specs.declared.status.AnyFault.TheVariants.{Large, Lexicon as OfLexicon}
+use Rattle.sandhi_program.specs.declared.status.AnyFault.TheVariants.{Large, Lexicon as OfLexicon, Rules, Tables, Stems}
 use Rattle.sandhi_program.specs.declared.status.TextFault.{TextFault}
 use Rattle.sandhi_program.specs.Ends.{file_fault, text_fault}
 
@@ -52,6 +52,9 @@ pub record IsSegmented (bytes : List ℕ) (scheme : Scheme) (text output : List 
 abbrev pub IsRefusedFile : List ℕ → AnyFault → Type 0
 IsRefusedFile bytes Large = MOST_FILE_BYTES < length bytes
 IsRefusedFile bytes (OfLexicon fault) = (length bytes ≤ MOST_FILE_BYTES) × IsReadAs bytes (Err (fault_of fault))
+IsRefusedFile bytes (Rules fault) = ⊥
+IsRefusedFile bytes (Tables fault) = ⊥
+IsRefusedFile bytes (Stems fault) = ⊥
 
 -- the bytes are those of a lexicon's file, and the text has this fault
 pub record IsRefusedText (bytes : List ℕ) (scheme : Scheme) (text : List ℕ) (fault : TextFault) : Type 0 where

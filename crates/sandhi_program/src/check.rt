@@ -1,17 +1,26 @@
-ghost use Rattle.std.specs.Prelude.{◌≡◌, ◌<◌, ◌++◌, length, map, All, IfOk, IfErr, OnOk, string_bytes};
+ghost use Rattle.std.specs.Prelude.{◌≡◌, ◌<◌, [], ◌∷◌, ◌++◌, length, map, All, IfOk, IfErr, OnOk, None, string_bytes};
 ghost use Rattle.lexicon_definitions.specs.Rules.{printed_rule};
 ghost use Rattle.lexicon_definitions.specs.Lexicons.{rule_of};
 ghost use Rattle.segmentation_definitions.specs.Derivations.{IsRuleNumber};
 ghost use Rattle.segmentation_definitions.specs.PrintedAnswers.{output_line};
 ghost use Rattle.run_definitions.specs.Overlaps.{AreFirstOverlaps, printed_counts, printed_overlap, printed_overlaps};
-ghost use Rattle.sandhi_program.specs.Checks.{overlap_of, CanBePrinted, IsPrintedCheck, IsChecked};
+ghost use Rattle.run_definitions.specs.CheckOutcomes.{IsCheckOutcome};
+ghost use Rattle.command_words.specs.Meant.{word_meant};
+ghost use Rattle.sandhi_program.specs.Ends.{Wrote};
+ghost use Rattle.sandhi_program.specs.RunEnds.{devices, Ran};
+ghost use Rattle.sandhi_program.specs.Checks.{overlap_of, CanBePrinted, IsPrintedCheck, IsChecked, WritesCheck};
 ghost use Rattle.sandhi_program.specs.SegmentErrors.{IsFileError};
 
-use super::page::rest_line;
+use super::ending::{finish, refuse_file, refuse_text};
+use super::reading::read_file;
 use super::segment::{SegmentError, read_contents};
+use super::status::Status;
+use command_words::PlacedWord;
 use form_lists::FormLists;
 use latin_schemes::print_slp1;
 use lexicon_file::Contents;
+use outside::{Shelf, Sink};
+use page_printing::rest_line;
 use phoneme::Memory;
 use run_definitions::CHECK_OVERLAPS;
 use sandhi_rules::{RuleSet, print_rule};
@@ -109,4 +118,33 @@ pub(crate) fn check(alloc: Global, bytes: &[u8]) -> Result<String, SegmentError>
 {
     let Contents { rules, lists, .. } = read_contents(alloc, bytes)?;
     Ok(print_check(alloc, &rules, &lists)?)
+}
+
+/// Writes what `check` answers for the bytes of the lexicon file.
+fn write_check<O: Sink>(alloc: Global, lex: &PlacedWord<'_>, bytes: &[u8], out: &mut O) -> Status
+    ensures { Wrote (WritesCheck (word_meant lex.now) bytes.now) result (O.written out.old) (O.written out.new) (O.faults out.old) (O.faults out.new) }
+{
+    match check(alloc, bytes) {
+        Ok(output) => finish(out, output.as_bytes(), Status::Done),
+        Err(SegmentError::BadFile(fault)) => refuse_file(alloc, lex, fault, out),
+        Err(SegmentError::BadText(fault)) => refuse_text(alloc, fault, out),
+        Err(SegmentError::Memory) => Status::Memory,
+    }
+}
+
+/// `check LEX`: reads the lexicon, and writes its counts and its first overlaps.
+pub(crate) fn run_check<H: Shelf, O: Sink>(
+    alloc: Global,
+    lex: &PlacedWord<'_>,
+    shelf: &mut H,
+    out: &mut O,
+) -> Status
+    ensures { Ran (IsCheckOutcome (word_meant lex.now)) (word_meant lex.now ∷ []) None result
+        (devices (H.files shelf.old) (H.failed_reads shelf.old) (H.failed_writes shelf.old) (O.written out.old) (O.faults out.old))
+        (devices (H.files shelf.new) (H.failed_reads shelf.new) (H.failed_writes shelf.new) (O.written out.new) (O.faults out.new)) }
+{
+    match read_file(alloc, lex, shelf) {
+        Ok(bytes) => write_check(alloc, lex, bytes.as_slice(), out),
+        Err(status) => status,
+    }
 }

@@ -1,16 +1,33 @@
 //! Yuzudeck's program: makes the devices, runs the words of the command line, and ends with the exit status.
 //!
-//! Proved of `run`, over any devices: all the output of the outcome that the definitions give the words and files was written
-//! and the status tells its end, unless memory ran out or a device failed (`outcome`); otherwise a prefix of that output
-//! (`prefix`); when each refusal comes (`usage`, `no_command`, `read_fault`, `write_fault`); and what stays (`files`,
-//! `failed_writes`, `input`).
+//! Proved of `run`, over any devices: all the output of the outcome that the definitions give the words, files and input was
+//! written, the files are as it leaves them, and the status tells its end, unless memory ran out or a device failed
+//! (`outcome`); otherwise a prefix of that output (`prefix`), and for `read` where the input could not be read just the replies
+//! to the complete lines that were taken (`replies`); when each refusal comes (`usage`, `no_command`, `missing`, `read_fault`,
+//! `write_fault`); what becomes of the files, whatever happens (`files`, `other_files`, `done_files`, `read_fault_files`,
+//! `write_fault_files`); and what stays (`failed_writes`, `unused_shelf`, `input`, `unread_input`).
 #![tactic(auto)]
 
+mod batch;
+#[cfg(test)]
+mod batch_tests;
+mod build;
+#[cfg(test)]
+mod build_tests;
 mod check;
-mod page;
+mod demo;
+#[cfg(test)]
+mod demo_tests;
+mod ending;
+mod read;
+#[cfg(test)]
+mod read_tests;
+mod reading;
 mod refusal;
 mod run;
 mod segment;
+mod source_files;
+mod source_refusal;
 mod status;
 #[cfg(test)]
 mod tests;

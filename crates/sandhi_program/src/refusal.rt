@@ -3,6 +3,7 @@ ghost use Rattle.lexicon_file.specs.Faults.{why_of};
 ghost use Rattle.run_definitions.specs.Refusals.{name_of_why, file_refusal, text_refusal};
 ghost use Rattle.sandhi_program.specs.Ends.{file_fault, text_fault};
 
+use super::source_refusal::{name_of_stem_why, name_of_table_why, record_refusal, rules_refusal};
 use super::status::{AnyFault, TextFault};
 use lexicon_file::FileWhy;
 use phoneme::Memory;
@@ -28,7 +29,7 @@ fn name_of(why: FileWhy) -> &'static str
     }
 }
 
-/// `bad file NAME: Large`, or `bad file NAME line N: WHY`.
+/// `bad file NAME: Large`, `bad file NAME line N: WHY` of a lexicon file, and so on of the source files.
 pub(crate) fn print_file_refusal(
     alloc: Global,
     name: &str,
@@ -42,6 +43,18 @@ pub(crate) fn print_file_refusal(
             let why = name_of(fault.why);
             let line = fault.line;
             Ok(format!(in alloc; "bad file {name} line {line}: {why}\n")?)
+        }
+        AnyFault::Rules(fault) => {
+            let rest = rules_refusal(alloc, fault)?;
+            Ok(format!(in alloc; "bad file {name}{rest}\n")?)
+        }
+        AnyFault::Tables(fault) => {
+            let rest = record_refusal(alloc, fault.number, name_of_table_why(fault.why))?;
+            Ok(format!(in alloc; "bad file {name}{rest}\n")?)
+        }
+        AnyFault::Stems(fault) => {
+            let rest = record_refusal(alloc, fault.number, name_of_stem_why(fault.why))?;
+            Ok(format!(in alloc; "bad file {name}{rest}\n")?)
         }
     }
 }

@@ -1,18 +1,27 @@
-ghost use Rattle.std.specs.Prelude.{◌≡◌, ◌<◌, ◌≤◌, ◌^◌, length, IfOk, IfErr, Ok};
+ghost use Rattle.std.specs.Prelude.{◌≡◌, ◌<◌, ◌≤◌, ◌^◌, [], ◌∷◌, length, IfOk, IfErr, Ok, None};
 ghost use Rattle.lexicon_text_definitions.specs.FileReadings.{IsReadAs};
 ghost use Rattle.lexicon_file.specs.Contents.{lexicon_of};
 ghost use Rattle.text_line.specs.Values.{scheme_of};
-ghost use Rattle.sandhi_program.specs.Segments.{IsBuildable, IsPrintedPage, IsSegmented};
+ghost use Rattle.command_words.specs.Meant.{word_meant};
+ghost use Rattle.run_definitions.specs.SegmentOutcomes.{IsSegmentOutcome};
+ghost use Rattle.sandhi_program.specs.Ends.{Wrote};
+ghost use Rattle.sandhi_program.specs.RunEnds.{devices, Ran};
+ghost use Rattle.sandhi_program.specs.Segments.{IsBuildable, IsPrintedPage, IsSegmented, Writes};
 ghost use Rattle.sandhi_program.specs.SegmentErrors.{IsFileError, IsRefusal};
 
-use super::page::print_page;
-use super::status::{AnyFault, TextFault};
+use super::ending::{finish, refuse_file, refuse_text};
+use super::reading::read_file;
+use super::status::{AnyFault, Status, TextFault};
 use annotated_trie::Lexicon;
+use answer_printing::{AnswerPrinter, RuleTexts};
+use command_words::PlacedWord;
 use lexicon_file::{Contents, FileError, read};
 use lexicon_text_definitions::MOST_FILE_BYTES;
-use outside::Steps;
+use outside::{Shelf, Sink, Steps};
+use page_printing::push_page;
 use phoneme::{Line, Memory};
 use reader_choices::Choices;
+use run_definitions::SEGMENT_PAGE;
 use segmenter::{ExactGuide, Search};
 use std::alloc::Global;
 use summary_chart::Chart;
@@ -90,7 +99,7 @@ pub(crate) fn build_lexicon(alloc: Global, contents: Contents) -> Result<Lexicon
     Lexicon::build(alloc, &lists, rules, automaton)
 }
 
-/// The page of the line's first answers, found under its chart.
+/// The page of the line's first answers, found under its chart and numbered from 1.
 fn list_answers(alloc: Global, lexicon: &Lexicon, line: &Line) -> Result<Vec<u8>, Memory>
     ensures ok { IfOk result (λ output. IsPrintedPage lexicon.now.lexicon line.now output.items) }
 {
@@ -99,7 +108,19 @@ fn list_answers(alloc: Global, lexicon: &Lexicon, line: &Line) -> Result<Vec<u8>
     let chart = Chart::build(alloc, lexicon, line, &choices, &mut steps)?;
     let guide = ExactGuide { guide: &chart };
     let mut search = Search::new(alloc, lexicon, line, &choices, &guide)?;
-    print_page(alloc, lexicon, line, &mut search)
+    let texts = RuleTexts::new(alloc, lexicon.rules())?;
+    let mut printer = AnswerPrinter::new(alloc, &texts, line)?;
+    let mut output = Vec::new(alloc);
+    push_page(
+        alloc,
+        &mut output,
+        &mut printer,
+        &mut search,
+        1,
+        SEGMENT_PAGE,
+        &mut steps,
+    )?;
+    Ok(output)
 }
 
 /// What `segment` writes for the bytes of a lexicon file and a text in a scheme.
@@ -117,4 +138,44 @@ pub(crate) fn segment(
     let line = read_line(alloc, scheme, text.as_bytes())?;
     let lexicon = build_lexicon(alloc, contents)?;
     Ok(list_answers(alloc, &lexicon, &line)?)
+}
+
+/// Writes what `segment` answers for the bytes of the lexicon file.
+fn write_segment<O: Sink>(
+    alloc: Global,
+    lex: &PlacedWord<'_>,
+    bytes: &[u8],
+    scheme: Scheme,
+    text: &str,
+    out: &mut O,
+) -> Status
+    requires { length text.now < 2 ^ 32 }
+    ensures { Wrote (Writes (word_meant lex.now) bytes.now (scheme_of scheme) text.now) result (O.written out.old) (O.written out.new) (O.faults out.old) (O.faults out.new) }
+{
+    match segment(alloc, bytes, scheme, text) {
+        Ok(output) => finish(out, output.as_slice(), Status::Done),
+        Err(SegmentError::BadFile(fault)) => refuse_file(alloc, lex, fault, out),
+        Err(SegmentError::BadText(fault)) => refuse_text(alloc, fault, out),
+        Err(SegmentError::Memory) => Status::Memory,
+    }
+}
+
+/// `segment LEX TEXT`: reads the lexicon and the text, lists the answers, and writes one page of them.
+pub(crate) fn run_segment<H: Shelf, O: Sink>(
+    alloc: Global,
+    lex: &PlacedWord<'_>,
+    scheme: Scheme,
+    text: &str,
+    shelf: &mut H,
+    out: &mut O,
+) -> Status
+    requires { length text.now < 2 ^ 32 }
+    ensures { Ran (IsSegmentOutcome (word_meant lex.now) (scheme_of scheme) text.now) (word_meant lex.now ∷ []) None result
+        (devices (H.files shelf.old) (H.failed_reads shelf.old) (H.failed_writes shelf.old) (O.written out.old) (O.faults out.old))
+        (devices (H.files shelf.new) (H.failed_reads shelf.new) (H.failed_writes shelf.new) (O.written out.new) (O.faults out.new)) }
+{
+    match read_file(alloc, lex, shelf) {
+        Ok(bytes) => write_segment(alloc, lex, bytes.as_slice(), scheme, text, out),
+        Err(status) => status,
+    }
 }

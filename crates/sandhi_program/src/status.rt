@@ -3,6 +3,8 @@ ghost use Rattle.sandhi_program.specs.Ends.{exit_status};
 
 use latin_schemes::SpellFault;
 use lexicon_file::FileFault;
+use paradigms::{StemFault, TableFault};
+use rule_file::RuleFault;
 
 /// How a run ended, and with which fault.
 #[derive(Clone, Copy, Debug, PartialEq, Eq)]
@@ -15,19 +17,25 @@ pub enum Status {
     Usage,
     /// A file could not be read, or is not there.
     ReadFault,
-    /// The output could not be written.
+    /// The output, or the file that the command makes, could not be written.
     WriteFault,
     /// The file whose name is the word at this place, counted from 0, is refused.
     BadFile { word: u32, fault: AnyFault },
     /// The text is refused.
     BadText { fault: TextFault },
+    /// The input of a session is too long, and no line of its first bytes ends the session.
+    TooMuch,
 }
 
-/// Why a file is refused: it has more than `MOST_FILE_BYTES` bytes, or a fault of its format.
+/// Why a file is refused: it has more than `MOST_FILE_BYTES` bytes, or a fault of its format. The fault of stems with the
+/// number 0 is that the lexicon of the sources is too large.
 #[derive(Clone, Copy, Debug, PartialEq, Eq)]
 pub enum AnyFault {
     Large,
     Lexicon(FileFault),
+    Rules(RuleFault),
+    Tables(TableFault),
+    Stems(StemFault),
 }
 
 /// Why a text is refused: its first fault of spelling, or else that it has no letter or too many.
@@ -39,8 +47,8 @@ pub enum TextFault {
 }
 
 impl Status {
-    /// The exit status of the process: 0 for `Done`, 1 `Memory`, 2 `Usage`, 3 `ReadFault`, 4 `WriteFault`, 5 `BadFile` and
-    /// 6 `BadText`.
+    /// The exit status of the process: 0 for `Done`, 1 `Memory`, 2 `Usage`, 3 `ReadFault`, 4 `WriteFault`, 5 `BadFile`,
+    /// 6 `BadText` and 7 `TooMuch`.
     pub fn exit_code(self) -> u8
         ensures { result ≡ exit_status self }
     {
@@ -52,6 +60,7 @@ impl Status {
             Status::WriteFault => 4,
             Status::BadFile { .. } => 5,
             Status::BadText { .. } => 6,
+            Status::TooMuch => 7,
         }
     }
 
@@ -60,10 +69,13 @@ impl Status {
         match self {
             Status::Memory => Some("there was not enough memory"),
             Status::Usage => Some(
-                "the commands are:\n  segment [--in SCHEME] LEX TEXT    (SCHEME is slp1, wx, velthuis or devanagari; without it slp1)\n  check LEX\nWords after `--` are never options.",
+                "the commands are:\n  segment [--in SCHEME] LEX TEXT    (SCHEME is slp1, wx, velthuis or devanagari; without it slp1)\n  check LEX\n  build RULES TABLES STEMS OUT\n  read LEX    (a reading session: one command a line on standard input)\n  batch LEX SCHEME FILE N    (the first N answers, 1 to 1000, for each line of FILE)\n  demo NUMBER    (counts the answers of an input that is made from the number)\nWords after `--` are never options.",
             ),
-            Status::ReadFault => Some("a file is not there, or could not be read"),
-            Status::WriteFault => Some("the output could not be written"),
+            Status::ReadFault => Some("a file is not there, or it or the input could not be read"),
+            Status::WriteFault => Some(
+                "the output could not be written, or the file OUT that `build` makes: without a line `forms` OUT may hold anything",
+            ),
+            Status::TooMuch => Some("the input of a session may have 16777216 bytes"),
             Status::Done | Status::BadFile { .. } | Status::BadText { .. } => None,
         }
     }

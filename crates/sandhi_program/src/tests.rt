@@ -6,22 +6,22 @@ use std::test::Fail;
 use std::thread::Threads;
 
 /// Lexicon files, the first of which is the stored one.
-const CETI: &str =
+pub(super) const CETI: &str =
     "slx 1\nphase word\ngrammar word+\nrule a|i>e\nform word iti iti ind\nform word ca ca ind\nend\n";
 
 const UVACA: &str =
     "slx 1\nphase word\ngrammar word+\nrule a|i>e\nrule i|u>yu\nform word iti iti ind\nform word uvAca vac perf.ac.3.sg\nform word ca ca ind\nend\n";
 
-const NAGACCATI: &str =
+pub(super) const NAGACCATI: &str =
     "slx 1\nphase ind\nphase pre\nphase verb\ngrammar (ind | pre? verb)+\nplain A g\nrule a|A>A\nform ind na na ind\nform pre A A pv\nform verb gacCati gam pr.ac.3.sg\nend\n";
 
 const OVERLAP: &str =
     "slx 1\nphase word\ngrammar word+\nrule a|u>o\nrule u|a>va\nform word api api ind\nform word u u ind\nform word ca ca ind\nend\n";
 
-const NASTI: &str =
+pub(super) const NASTI: &str =
     "slx 1\nphase word\ngrammar word+\nrule a|a>A\nrule a|A>A\nform word asti as pr.ac.3.sg\nform word Asti Asti ind\nform word na na ind\nend\n";
 
-const DATTA: &str =
+pub(super) const DATTA: &str =
     "slx 1\nphase word\ngrammar word+\nplain a d\nform word datta datta m.sg.voc\nform word deva deva m.sg.voc\nform word devadatta devadatta m.sg.voc\nend\n";
 
 const RAJAPUTRA: &str =
@@ -36,7 +36,7 @@ const EITHER: &str =
 const DEVAS: &str =
     "slx 1\nphase word\ngrammar word+\nrule s|>H\nform word devas deva m.sg.nom\nend\n";
 
-const ALL_A: &str =
+pub(super) const ALL_A: &str =
     "slx 1\nphase word\ngrammar word+\nplain a a\nform word a a ind\nform word aa aa ind\nend\n";
 
 const NO_OVERLAP: &str =

@@ -2,8 +2,9 @@
 use Rattle.std.proofs.Common.{◌≡◌, string_bytes, ◌++◌, ◌∙◌, ap, codes}
 use Rattle.std.specs.Fmt.{decimal}
 use Rattle.lexicon_file.specs.Faults.{why_of}
-use Rattle.run_definitions.specs.Refusals.{name_of_why}
-use Rattle.sandhi_program.proofs.RefusalLines.{large_line, fault_line}
+use Rattle.rule_file.specs.Faults.{fault_of}
+use Rattle.run_definitions.specs.Refusals.{name_of_why, rules_refusal}
+use Rattle.sandhi_program.proofs.RefusalLines.{large_line, fault_line, source_line}
 use Rattle.sandhi_program.proofs.refusal.print_file_refusal.Goals as goal
 
 pub returns-in_ok-format-in-Large : goal.returns-in_ok-format-in-Large
@@ -19,4 +20,15 @@ returns-in_ok-format-in-Lexicon c =
       ok = rw c.in-Lexicon.is
           (told ∙ ap (λ why. codes "bad file " ++ (name ++ (codes " line " ++ (number ++ (codes ": " ++ (why ++ codes "\n")))))) c.name_of-why.ensures
           ∙ fault_line name number (name_of_why (why_of c.in-Lexicon.fault.why)));
+    }
+
+pub returns-in_ok-format-in-Rules : goal.returns-in_ok-format-in-Rules
+returns-in_ok-format-in-Rules c =
+    let name = c.args.name.now in
+    let told : string_bytes c.in_ok-format-in-Rules.field-0 ≡ codes "bad file " ++ (name ++ (string_bytes c.in_ok-rest-in-Rules.rest ++ codes "\n")) =
+    c.in_ok-format-in-Rules.ensures.ok in
+    record {
+      ok = rw c.in-Rules.is
+          (told ∙ ap (λ rest. codes "bad file " ++ (name ++ (rest ++ codes "\n"))) c.in_ok-rest-in-Rules.ensures.ok
+          ∙ source_line name (rules_refusal (fault_of c.in-Rules.fault)));
     }

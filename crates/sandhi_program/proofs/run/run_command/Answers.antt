@@ -1,39 +1,26 @@
--- A file that is not there has its outcome.
-use Rattle.std.proofs.Common.{inl, inr}
-use Rattle.text_line.specs.Values.{scheme_of}
-use Rattle.command_words.specs.Meant.{word_meant}
-use Rattle.sandhi_program.proofs.CheckRuns.{missing_check}
-use Rattle.sandhi_program.proofs.Runs.{missing_wrote}
+-- The command ends as its own; one that does not read the source leaves it as it is.
+use Rattle.std.proofs.Common.{refl}
+use Rattle.sandhi_program.specs.Sessions.{Apart, InBatch}
+use Rattle.sandhi_program.specs.Batches.{NoReplies, WithReplies}
 use Rattle.sandhi_program.proofs.run.run_command.Goals as goal
 
-pub returns-in-Segment-clause-missing : goal.returns-in-Segment-clause-missing
-returns-in-Segment-clause-missing g c fault files input old told written =
-    let same = c.run_segment.ensures.nothing fault in
-    elim (c.run_segment.ensures.missing fault) [
-      | inl rose ↦ inl rose
-      | inr lacks ↦ inr (rw (c.in-Segment.is, fault) (missing_wrote (word_meant c.in-Segment.lex) (scheme_of c.in-Segment.scheme) c.in-Segment.text.name.now files old _ _ (rw told at lacks) written same))
-    ]
+pub returns-in-Segment : goal.returns-in-Segment
+returns-in-Segment g c = rw c.in-Segment.is (Apart refl c.run_segment.ensures)
 
-pub returns-in-Check-clause-missing : goal.returns-in-Check-clause-missing
-returns-in-Check-clause-missing g c fault files input old told written =
-    let same = c.run_check.ensures.nothing fault in
-    elim (c.run_check.ensures.missing fault) [
-      | inl rose ↦ inl rose
-      | inr lacks ↦ inr (rw (c.in-Check.is, fault) (missing_check (word_meant c.in-Check.lex) files old _ _ (rw told at lacks) written same))
-    ]
+pub returns-in-Check : goal.returns-in-Check
+returns-in-Check g c = rw c.in-Check.is (Apart refl c.run_check.ensures)
 
--- the command's outcome is that of its own
+pub returns-in-Build : goal.returns-in-Build
+returns-in-Build g c = rw c.in-Build.is (Apart refl c.run_build.ensures)
 
-pub returns-in-Segment-clause-outcome : goal.returns-in-Segment-clause-outcome
-returns-in-Segment-clause-outcome g c own files input old told written =
-    rw c.in-Segment.is (c.run_segment.ensures.outcome own files old told written)
+pub returns-in-Read : goal.returns-in-Read
+returns-in-Read g c = rw c.in-Read.is c.run_read.ensures
 
-pub returns-in-Segment-clause-prefix : goal.returns-in-Segment-clause-prefix
-returns-in-Segment-clause-prefix g c files input told = rw c.in-Segment.is (c.run_segment.ensures.prefix files told)
+pub returns-in-Batch : goal.returns-in-Batch
+returns-in-Batch g c = rw c.in-Batch.is (elim c.run_batch.ensures [
+  | NoReplies ran ↦ Apart refl ran
+  | WithReplies r ↦ InBatch _ _ _ _ refl refl r
+])
 
-pub returns-in-Check-clause-outcome : goal.returns-in-Check-clause-outcome
-returns-in-Check-clause-outcome g c own files input old told written =
-    rw c.in-Check.is (c.run_check.ensures.outcome own files old told written)
-
-pub returns-in-Check-clause-prefix : goal.returns-in-Check-clause-prefix
-returns-in-Check-clause-prefix g c files input told = rw c.in-Check.is (c.run_check.ensures.prefix files told)
+pub returns-in-Demo : goal.returns-in-Demo
+returns-in-Demo g c = rw c.in-Demo.is (Apart refl (c.run_demo.ensures _ _ _))

@@ -1,0 +1,35 @@
+-- The first fault that a reader of source files answers is why the file is refused.
+use Rattle.std.proofs.Common.{ℕ, ◌≤◌, List, length, Err, refl}
+use Rattle.lexicon_text_definitions.specs.declared.limits.TheConstants.{MOST_FILE_BYTES}
+use Rattle.morphology_definitions.specs.Inflection.{Class}
+use Rattle.rule_file_definitions.specs.RuleFileReadings.{IsReadAs}
+use Rattle.paradigm_file_definitions.specs.TableFiles.{tables_of}
+use Rattle.paradigm_file_definitions.specs.StemFiles.{stems_of}
+use Rattle.rule_file.specs.Faults.{fault_of, IfFault}
+use Rattle.rule_file.specs.declared.error.RuleError.{RuleError}
+use Rattle.rule_file.specs.declared.error.RuleError.TheVariants as rules
+use Rattle.paradigms.specs.Answers.{table_why, stem_why, IsTableFault, IsStemFault}
+use Rattle.paradigms.specs.declared.errors.TableError.{TableError}
+use Rattle.paradigms.specs.declared.errors.TableError.TheVariants as tables
+use Rattle.paradigms.specs.declared.errors.StemError.{StemError}
+use Rattle.paradigms.specs.declared.errors.StemError.TheVariants as stems
+use Rattle.run_definitions.specs.Ends as ends
+use Rattle.run_definitions.specs.BuildOutcomes.{AreTables, AreStems}
+use Rattle.sandhi_program.specs.Refusals.{error_of_rules, error_of_tables, error_of_stems}
+use Rattle.sandhi_program.specs.Sources.{Faulty}
+use Rattle.sandhi_program.specs.SourceErrors.{IsSourceError}
+
+pub rules_error : (bytes : List ℕ) (error : RuleError) → length bytes ≤ MOST_FILE_BYTES → IfFault error (λ fault. IsReadAs bytes (Err fault))
+    → IsSourceError IsReadAs ends.Rules bytes (error_of_rules error)
+rules_error bytes (rules.Fault fault) low read = Faulty low (fault_of fault) read refl
+rules_error bytes rules.Memory low read = tt
+
+pub tables_error : (phases : List (List ℕ)) (bytes : List ℕ) (error : TableError) → length bytes ≤ MOST_FILE_BYTES
+    → IsTableFault (tables_of phases bytes) error → IsSourceError (AreTables phases) ends.Tables bytes (error_of_tables error)
+tables_error phases bytes (tables.Fault fault) low read = Faulty low (record { number = fault.number; why = table_why fault.why }) read refl
+tables_error phases bytes tables.Memory low read = tt
+
+pub stems_error : (classes : List Class) (bytes : List ℕ) (error : StemError) → length bytes ≤ MOST_FILE_BYTES
+    → IsStemFault (stems_of classes bytes) error → IsSourceError (AreStems classes) ends.Stems bytes (error_of_stems error)
+stems_error classes bytes (stems.Fault fault) low read = Faulty low (record { number = fault.number; why = stem_why fault.why }) read refl
+stems_error classes bytes stems.Memory low read = tt

@@ -1,0 +1,32 @@
+-- The session is served over the lexicon that was read, or the refusal of the file is written.
+use Rattle.std.proofs.Common.{refl, subst}
+use Rattle.sandhi_program.specs.Ends.{Silently, InWords, Nothing, Something}
+use Rattle.sandhi_program.specs.SegmentErrors.{IsFileError}
+use Rattle.sandhi_program.specs.Sessions.{Unserved, Served}
+use Rattle.sandhi_program.proofs.read.serve_over.Goals as goal
+
+pub returns-in-Ok : goal.returns-in-Ok
+returns-in-Ok g c = Served _ c.in-Ok.ensures.ok c.serve.result c.status_of.ensures (record {
+  session = c.serve.ensures.session;
+  prefix = c.serve.ensures.prefix;
+  replies = c.serve.ensures.replies;
+  read_fault = c.serve.ensures.read_fault;
+  write_fault = c.serve.ensures.write_fault;
+})
+
+pub returns-in-Err-BadFile : goal.returns-in-Err-BadFile
+returns-in-Err-BadFile g c = elim c.refuse_file.ensures [
+  | Silently memory same ↦ Unserved refl (Nothing memory same)
+  | InWords finishes ↦ Unserved refl (Something _ _ (record {
+    fault = c.in-Err-BadFile.fault;
+    ends = refl;
+    refused = subst (IsFileError c.args.bytes.now) c.in-Err-BadFile.field-0-is c.in-Err-BadFile.ensures.refused;
+    printed = refl;
+  }) finishes)
+]
+
+pub returns-in-Err-BadText : goal.returns-in-Err-BadText
+returns-in-Err-BadText g c = absurd (subst (IsFileError c.args.bytes.now) c.in-Err-BadText.field-0-is c.in-Err-BadText.ensures.refused)
+
+pub returns-in-Err-Memory : goal.returns-in-Err-Memory
+returns-in-Err-Memory g c = Unserved refl (Nothing refl refl)

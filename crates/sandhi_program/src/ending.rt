@@ -1,0 +1,53 @@
+ghost use Rattle.run_definitions.specs.Refusals.{file_refusal, text_refusal};
+ghost use Rattle.sandhi_program.specs.Ends.{IsNoFault, Finishes, Refuses, file_fault, text_fault};
+
+use super::refusal::{print_file_refusal, print_text_refusal};
+use super::status::{AnyFault, Status, TextFault};
+use command_words::PlacedWord;
+use outside::{Sink, WriteError, write_all};
+use phoneme::Memory;
+use std::alloc::Global;
+
+/// Writes the output, and then ends with the status.
+pub(crate) fn finish<O: Sink>(out: &mut O, output: &[u8], status: Status) -> Status
+    requires { IsNoFault status }
+    ensures { Finishes status result (O.written out.old) (O.written out.new) (O.faults out.old) (O.faults out.new) output.now }
+{
+    match write_all(out, output) {
+        Ok(()) => status,
+        Err(WriteError::Failed) => Status::WriteFault,
+        Err(WriteError::Memory) => Status::Memory,
+    }
+}
+
+/// Writes the refusal of the file that this word names.
+pub(crate) fn refuse_file<O: Sink>(
+    alloc: Global,
+    word: &PlacedWord<'_>,
+    fault: AnyFault,
+    out: &mut O,
+) -> Status
+    ensures { Refuses (Status.BadFile word.now.place fault) result (O.written out.old) (O.written out.new) (O.faults out.old) (O.faults out.new) (file_refusal word.now.name.now (file_fault fault)) }
+{
+    match print_file_refusal(alloc, word.name, fault) {
+        Ok(output) => finish(
+            out,
+            output.as_bytes(),
+            Status::BadFile {
+                word: word.place,
+                fault,
+            },
+        ),
+        Err(Memory) => Status::Memory,
+    }
+}
+
+/// Writes the refusal of the text.
+pub(crate) fn refuse_text<O: Sink>(alloc: Global, fault: TextFault, out: &mut O) -> Status
+    ensures { Refuses (Status.BadText fault) result (O.written out.old) (O.written out.new) (O.faults out.old) (O.faults out.new) (text_refusal (text_fault fault)) }
+{
+    match print_text_refusal(alloc, fault) {
+        Ok(output) => finish(out, output.as_bytes(), Status::BadText { fault }),
+        Err(Memory) => Status::Memory,
+    }
+}
