@@ -1,18 +1,20 @@
 #!/usr/bin/env python3
 """Build the starter lexicon and show that the traditional reading of each line is among its answers.
 
-    python3 check_readings.py PROGRAM [READINGS]
+    python3 check_readings.py PROGRAM [--only] [READINGS]
 
 PROGRAM is the path of the command. READINGS is a file of readings; without it, readings/readings.tsv beside
 this script is taken. Each of its lines has four fields, separated by tabs: a number, the source, the line in
 Devanagari, and the reading as FORM[PHASE] parts in SLP1, separated by blanks.
 
-The script builds the lexicon into a temporary folder and opens one session on it. For each line it keeps the
-segments of the reading one after another, as a reader would do by hand, and then looks whether the reading is among
-the answers that are left. (There may be others, with one more segment between two kept ones.) A form may stand at
-several places of a line; then each is tried in turn. The answers of the line are counted page by page, up to 10,000.
+The script builds the lexicon into a temporary folder, checks it, and opens one session on it. For each line it keeps
+the segments of the reading one after another, as a reader would do by hand, and then looks whether the reading is
+among the answers that are left. (There may be others, with one more segment between two kept ones.) A form may stand
+at several places of a line; then each is tried in turn. The answers of the line are counted page by page, up to 10,000.
 
-The script prints a row for each line and the totals, and ends with status 1 where a reading is missing.
+It prints a row for each line and the totals. Then it counts the answers again with one thing changed at a time, and
+prints a row for each change, which tells what keeps the number down; `--only` leaves this out. It ends with status 1
+where a reading is missing, and where the lexicon cannot be built or has an overlap.
 """
 
 import re
@@ -26,6 +28,7 @@ from pathlib import Path
 HERE = Path(__file__).resolve().parent
 MOST = 10_000
 PART = re.compile(r"([^ \[\]()]+)\[([a-z0-9_]+)\]")
+LETTERS = "aAiIuUfeEoOkKgGNcCjJYwWqQRtTdDnpPbBmyrlvSzshH"
 
 
 class Session:
@@ -62,6 +65,11 @@ class Session:
             if page[-1:] != ["more"]:
                 return
 
+    def count(self, text):
+        """How many answers a text has, up to MOST."""
+        self.ask(f"text devanagari {text}")
+        return sum(1 for _ in self.answers())
+
     def has(self, reading, done=0, place=-1):
         """Whether the reading is found by keeping its parts from number `done` on, each after the place before."""
         if done == len(reading):
@@ -79,42 +87,115 @@ class Session:
         return False
 
 
-def main():
-    if len(sys.argv) not in (2, 3):
-        raise SystemExit(__doc__)
-    program = sys.argv[1]
-    readings = Path(sys.argv[2]) if len(sys.argv) == 3 else HERE / "readings" / "readings.tsv"
-    with tempfile.TemporaryDirectory() as folder:
-        lexicon = str(Path(folder) / "starter.slx")
-        files = [str(HERE / name) for name in ("rules.toml", "tables.csv", "stems.csv")]
-        start = time.monotonic()
-        built = subprocess.run([program, "build", *files, lexicon], capture_output=True, text=True)
-        if built.returncode != 0:
-            raise SystemExit(f"build ended with status {built.returncode}: {built.stdout.strip()}")
-        print(f"{built.stdout.strip()}, built in {time.monotonic() - start:.1f} s")
-        checked = subprocess.run([program, "check", lexicon], capture_output=True, text=True)
-        print(checked.stdout.strip().replace("\n", ", "))
+def build(program, folder, rules, tables, stems):
+    """Builds the lexicon of three texts in a folder. Returns its path, what was printed, and the seconds it took."""
+    paths = [Path(folder) / name for name in ("rules.toml", "tables.csv", "stems.csv", "starter.slx")]
+    for path, text in zip(paths, (rules, tables, stems)):
+        path.write_text(text, encoding="utf-8")
+    start = time.monotonic()
+    built = subprocess.run([program, "build", *map(str, paths)], capture_output=True, text=True)
+    if built.returncode != 0:
+        raise SystemExit(f"build ended with status {built.returncode}: {built.stdout.strip()}")
+    return str(paths[3]), built.stdout.strip(), time.monotonic() - start
 
+
+def any_order(rules):
+    """The rules with a grammar in which any phase may follow any other."""
+    phases = re.findall(r'"(\w+)"', re.search(r"^phases = \[(.*)\]$", rules, re.M)[1])
+    return re.sub(r'^grammar = ".*"$', f'grammar = "({" | ".join(phases)})+"', rules, flags=re.M)
+
+
+def all_plain(rules):
+    """The rules with all pairs of letters plain."""
+    rules = re.sub(r"^plain = \[\n.*?^\]$", 'plain = ["<all> <all>"]', rules, flags=re.M | re.S)
+    return rules.replace("[classes]\n", f'[classes]\nall = "{LETTERS}"\n')
+
+
+def words_of_things(tables):
+    """The tables with the bare stems of things where those of persons are, so that they are words of their own too."""
+    return re.sub(r"^([^,]*,[^,]*),thing,", r"\1,stem,", tables, flags=re.M)
+
+
+def loose_ends(rules):
+    """The rules with a grammar in which the last members of compounds stand alone too."""
+    return rules.replace("((ind | pron ", "((ind | ifc | pron ")
+
+
+def without_blanks(text):
+    """The text without its blanks."""
+    return text.replace(" ", "")
+
+
+def totals(name, counts):
+    """One row of numbers of answers."""
+    shares = [sum(count <= most for count in counts) / len(counts) for most in (10, 100, 1000)]
+    numbers = [statistics.median(counts), statistics.mean(counts), max(counts)]
+    row = f"{name:36} {numbers[0]:>6g} {numbers[1]:>8.1f} {numbers[2]:>6}"
+    return row + "".join(f" {100 * share:>5.1f}%" for share in shares)
+
+
+def read_lines(program, lexicon, rows):
+    """Prints a row for each line. Returns the numbers of answers, and the lines whose reading is missing."""
+    session = Session(program, lexicon)
+    session.count("अ")  # the lexicon is read before the first line is timed
+    counts, missing = [], []
+    print(" line  answers  seconds  reading  source")
+    for number, source, text, chain in rows:
+        start = time.monotonic()
+        counts.append(session.count(text))
+        seconds = time.monotonic() - start
+        session.ask(f"text devanagari {text}")
+        found = session.has(PART.findall(chain))
+        if not found:
+            missing.append(number)
+        print(f"{number:>5} {counts[-1]:>8} {seconds:>8.3f}  {'there' if found else 'MISSING':7}  {source}")
+    session.ask("quit")
+    return counts, missing
+
+
+def compare(program, folder, sources, rows):
+    """Prints the numbers of answers with one thing changed at a time."""
+    rules, tables, stems = sources
+    texts = [text for _, _, text, _ in rows]
+    changes = [
+        ("any phase after any other", (any_order(rules), tables, stems), texts),
+        ("last members of compounds alone too", (loose_ends(rules), tables, stems), texts),
+        ("bare stems of things as words too", (rules, words_of_things(tables), stems), texts),
+        ("all pairs of letters plain", (all_plain(rules), tables, stems), texts),
+        ("texts without blanks", sources, [without_blanks(text) for text in texts]),
+    ]
+    for name, changed, lines in changes:
+        if changed == sources and lines == texts:
+            raise SystemExit(f"nothing was changed for: {name}")
+        lexicon, _, _ = build(program, folder, *changed)
         session = Session(program, lexicon)
-        counts, missing = [], []
-        print(" line  answers  seconds  reading  source")
-        for row in readings.read_text(encoding="utf-8").splitlines():
-            number, source, text, chain = row.split("\t")
-            start = time.monotonic()
-            session.ask(f"text devanagari {text}")
-            counts.append(sum(1 for _ in session.answers()))
-            seconds = time.monotonic() - start
-            session.ask(f"text devanagari {text}")
-            found = session.has(PART.findall(chain))
-            if not found:
-                missing.append(number)
-            print(f"{number:>5} {counts[-1]:>8} {seconds:>8.3f}  {'there' if found else 'MISSING':7}  {source}")
+        print(totals(name, [session.count(text) for text in lines]), flush=True)
         session.ask("quit")
 
-    over = sum(count >= MOST for count in counts)
-    print(f"{len(counts)} lines, {len(missing)} readings missing {' '.join(missing)}".rstrip())
-    print(f"answers a line: median {statistics.median(counts):g}, most {max(counts)}, {over} lines with {MOST} or more")
-    raise SystemExit(1 if missing else 0)
+
+def main():
+    words = [word for word in sys.argv[1:] if word != "--only"]
+    if len(words) not in (1, 2):
+        raise SystemExit(__doc__)
+    begun = time.monotonic()
+    program = words[0]
+    readings = Path(words[1]) if len(words) == 2 else HERE / "readings" / "readings.tsv"
+    rows = [row.split("\t") for row in readings.read_text(encoding="utf-8").splitlines()]
+    sources = [(HERE / name).read_text(encoding="utf-8") for name in ("rules.toml", "tables.csv", "stems.csv")]
+    with tempfile.TemporaryDirectory() as folder:
+        lexicon, printed, seconds = build(program, folder, *sources)
+        print(f"{printed}, built in {seconds:.1f} s")
+        checked = subprocess.run([program, "check", lexicon], capture_output=True, text=True).stdout.split("\n")
+        print(", ".join(checked).rstrip(", "))
+        counts, missing = read_lines(program, lexicon, rows)
+        print(f"{len(counts)} lines, {len(missing)} readings missing {' '.join(missing)}".rstrip())
+        print(f"{'answers a line':36} median     mean   most   <=10  <=100 <=1000")
+        print(totals("the lexicon as it is", counts), flush=True)
+        if "--only" not in sys.argv:
+            compare(program, folder, sources, rows)
+    print(f"{time.monotonic() - begun:.1f} s in all")
+    overlaps = [line for line in checked if line.startswith("overlap")]
+    raise SystemExit(1 if missing or overlaps or "end" not in checked else 0)
 
 
 if __name__ == "__main__":
