@@ -1,21 +1,16 @@
 -- Suffixes that are added leave the numbers of those before; a word's number is that of its first letter and the number of the
 -- rest, by induction on the word.
-use Rattle.std.proofs.Common.{◌≡◌, ℕ, ◌+◌, ◌-◌, ◌≤◌, Bool, true, false, ◌&&◌, inl, inr, Some, List, [], ◌∷◌, ◌++◌, length, take, drop, get_or, slice_get, nat_eq, if◌then◌else◌, refl, sym, ◌∙◌, ap, subst, arith, true≢false, length-append, append-nil}
-use Rattle.std.proofs.lemmas.Bool.{eqb-true, cases_lt}
+use Rattle.std.proofs.Common.{◌≡◌, ℕ, ◌+◌, ◌-◌, ◌≤◌, Bool, true, false, ◌&&◌, inl, inr, Some, List, [], ◌∷◌, ◌++◌, length, take, drop, get_or, slice_get, nat_eq, if◌then◌else◌, refl, sym, ◌∙◌, ap, subst, arith, length-append, append-nil}
+use Rattle.std.proofs.lemmas.Bool.{eqb-true, cases_lt, and_parts}
 use Rattle.std.proofs.lemmas.List.{get_or_append_left, get_or_push, length_push, take_rest}
 use Rattle.std.proofs.lemmas.Option.{slice_get_within, slice_get_read, get_or_from_slice_get}
 use Rattle.lexicon_definitions.specs.Rules.{Rule}
 use Rattle.annotated_trie.specs.Suffixes.{AddsSuffixes, AreNumbers, IsLonger, StandsFor}
 
--- a conjunction that is true
-pub both : (a b : Bool) → (a && b) ≡ true → (a ≡ true) × (b ≡ true)
-both true b e = (refl, e)
-both false b e = absurd (true≢false (sym e))
-
 -- pairs that are told to be equal are one
 pub same_pair : (letter rest : ℕ) (pair : ℕ × ℕ) → (nat_eq letter pair.0 && nat_eq rest pair.1) ≡ true → pair ≡ (letter, rest)
 same_pair letter rest pair e =
-    let two = both (nat_eq letter pair.0) (nat_eq rest pair.1) e in
+    let two = and_parts (nat_eq letter pair.0) (nat_eq rest pair.1) e in
     let first = sym (eqb-true letter pair.0 two.0) in
     let second = sym (eqb-true rest pair.1 two.1) in
     λ i. (first i, second i)

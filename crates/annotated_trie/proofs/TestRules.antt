@@ -1,7 +1,6 @@
 -- The rule sets of the tests, part by part: each word has letters, and no two rules have one triple.
 use Rattle.std.proofs.Common.{◌≡◌, ◌≢◌, ℕ, ◌≤◌, List, [], ◌∷◌, ◌++◌, length, refl, ◌∙◌, sym, ap, subst, arith}
 use Rattle.std.specs.Prelude.{All, AllPairs}
-use Rattle.std.specs.List.Sorted.{IsStrictlySortedBy}
 use Rattle.std.proofs.lemmas.List.Elements.{All-nil, All-from_recursion}
 use Rattle.std.proofs.lemmas.List.Kept.{AllPairs-cons}
 use Rattle.text_definitions.specs.Letters.{IsLetter}
@@ -9,6 +8,9 @@ use Rattle.text_definitions.specs.Words.{IsWord}
 use Rattle.lexicon_definitions.specs.Lexicons.{RuleSet, IsPhaseName, IsRuleSet, compare_pairs}
 use Rattle.lexicon_definitions.specs.Limits.{IsShortRule}
 use Rattle.lexicon_definitions.specs.Rules.{Rule, IsRule, IsSameTriple}
+use Rattle.text_definitions.proofs.WrittenWords.{letter_is_word}
+use Rattle.list_laws.proofs.Sorted.{sorted_nil}
+use Rattle.list_laws.proofs.Elements.{some_by_first}
 
 -- the set of these rules over one phase
 abbrev set_of : List Rule → RuleSet
@@ -36,22 +38,9 @@ rule_is u v w is_u is_v is_w some_u some_v some_w =
       after_none = (λ e. absurd (omega (arith, e)), λ final. absurd (some_v final));
     }
 
--- a word of one letter
-one_letter : (a : ℕ) → IsLetter a → IsWord (a ∷ [])
-one_letter a is = All-from_recursion IsLetter (a ∷ []) (is, tt)
-
 -- a word of two letters
 two_letters : (a b : ℕ) → IsLetter a → IsLetter b → IsWord (a ∷ b ∷ [])
 two_letters a b is_a is_b = All-from_recursion IsLetter (a ∷ b ∷ []) (is_a, (is_b, tt))
-
--- a word with a letter is not empty
-some : (a : ℕ) (word : List ℕ) → a ∷ word ≢ []
-some a word e = absurd cc
-
--- no pairs rise
-no_pairs : IsStrictlySortedBy compare_pairs []
-unfolding IsStrictlySortedBy
-no_pairs = tt
 
 -- what holds of different rules of one phase
 set_is : (all : List Rule) → All (IsRule 1) all → AllPairs AreApart all → IsRuleSet (set_of all)
@@ -61,7 +50,7 @@ set_is all each distinct =
       distinct_names = λ i j d before within. absurd (omega (arith, before, within));
       grammar_is_text = (refl, refl);
       letters = λ k d low. absurd (omega (arith, low));
-      rising = no_pairs;
+      rising = sorted_nil compare_pairs;
       each = each;
       distinct = distinct;
     }
@@ -80,18 +69,18 @@ third = rule_with (1 ∷ []) (5 ∷ []) (13 ∷ [])
 
 first_is : IsRule 1 first
 first_is =
-    rule_is (1 ∷ []) (3 ∷ []) (11 ∷ []) (one_letter 1 (omega arith, omega arith)) (one_letter 3 (omega arith, omega arith)) (one_letter 11 (omega arith, omega arith))
-    (some 1 []) (some 3 []) (some 11 [])
+    rule_is (1 ∷ []) (3 ∷ []) (11 ∷ []) (letter_is_word 1 (omega arith, omega arith)) (letter_is_word 3 (omega arith, omega arith)) (letter_is_word 11 (omega arith, omega arith))
+    (some_by_first 1 []) (some_by_first 3 []) (some_by_first 11 [])
 
 second_is : IsRule 1 second
 second_is =
-    rule_is (32 ∷ 3 ∷ []) (2 ∷ []) (42 ∷ 2 ∷ []) (two_letters 32 3 (omega arith, omega arith) (omega arith, omega arith)) (one_letter 2 (omega arith, omega arith))
-    (two_letters 42 2 (omega arith, omega arith) (omega arith, omega arith)) (some 32 (3 ∷ [])) (some 2 []) (some 42 (2 ∷ []))
+    rule_is (32 ∷ 3 ∷ []) (2 ∷ []) (42 ∷ 2 ∷ []) (two_letters 32 3 (omega arith, omega arith) (omega arith, omega arith)) (letter_is_word 2 (omega arith, omega arith))
+    (two_letters 42 2 (omega arith, omega arith) (omega arith, omega arith)) (some_by_first 32 (3 ∷ [])) (some_by_first 2 []) (some_by_first 42 (2 ∷ []))
 
 third_is : IsRule 1 third
 third_is =
-    rule_is (1 ∷ []) (5 ∷ []) (13 ∷ []) (one_letter 1 (omega arith, omega arith)) (one_letter 5 (omega arith, omega arith)) (one_letter 13 (omega arith, omega arith))
-    (some 1 []) (some 5 []) (some 13 [])
+    rule_is (1 ∷ []) (5 ∷ []) (13 ∷ []) (letter_is_word 1 (omega arith, omega arith)) (letter_is_word 5 (omega arith, omega arith)) (letter_is_word 13 (omega arith, omega arith))
+    (some_by_first 1 []) (some_by_first 5 []) (some_by_first 13 [])
 
 -- words that begin with different letters are different
 other_first : (a b : ℕ) (left right : List ℕ) → a ≢ b → a ∷ left ≡ b ∷ right → ⊥

@@ -1,13 +1,13 @@
 -- Each front of an answer that has more may go on: its laws and tests are those of the answer's first steps, and the next
 -- form, which is not empty, has letters from a rule or from the line.
-use Rattle.std.proofs.Common.{◌≡◌, ◌⊎◌, true, inl, inr, List, [], ◌∷◌, ◌++◌, length, sym, ap, subst, refl, arith}
+use Rattle.std.proofs.Common.{true, inl, inr, List, [], ◌∷◌, ◌++◌, length, sym, ap, subst, refl, arith}
 use Rattle.std.specs.List.{AllByRecursion}
 use Rattle.std.proofs.lemmas.Bool.{cases_lt}
 use Rattle.std.proofs.lemmas.List.{map-append}
 use Rattle.text_definitions.specs.Lines.{Line}
-use Rattle.lexicon_definitions.specs.Lexicons.{Lexicon, RuleSet, IsLexicon, IsForm, IsPhaseWord}
+use Rattle.lexicon_definitions.specs.Lexicons.{Lexicon, IsLexicon, IsForm, IsPhaseWord}
 use Rattle.lexicon_definitions.proofs.GrammarLists.{all_right}
-use Rattle.segmentation_definitions.specs.Derivations.{Step, phases_of, IsRuleNumber, AreJoined, EndsWell}
+use Rattle.segmentation_definitions.specs.Derivations.{Step, phases_of}
 use Rattle.segmentation_definitions.specs.Items.{Choice, placed, placed_from, covered_from}
 use Rattle.segmentation_definitions.specs.Answers.{IsAnswer}
 use Rattle.segmentation_definitions.specs.LocalTests.{HasNoBlankInside, AllAllow}
@@ -18,14 +18,7 @@ use Rattle.segmentation_definitions.proofs.LocalBlanks.{locally_from_seams}
 use Rattle.segmentation_definitions.proofs.LocalChoices.{allowed_if_kept}
 use Rattle.answer_paths.specs.Fronts.{supplied, HasRoom, MayGoOn, IsLedTo}
 use Rattle.answer_paths.proofs.FrontParts.{all_left, joined_left, joined_right, goes_on_left, supplied_after, left_after, allow_split}
-
--- after the first of the steps there is no change or a rule
-has_rule : (rules : RuleSet) (step : Step) (steps : List Step) → AreJoined rules (step ∷ steps) → EndsWell rules (step ∷ steps)
-    → (step.rule ≡ 0) ⊎ IsRuleNumber rules step.rule
-has_rule rules step [] joined (inl none) = inl none
-has_rule rules step [] joined (inr rule) = inr rule.0
-has_rule rules step (next ∷ steps) (inl plain, joined) ends = inl plain.0
-has_rule rules step (next ∷ steps) (inr inner, joined) ends = inr inner.0.0
+use Rattle.segmentation_definitions.proofs.KeyFronts.{has_rule}
 
 module _ (lexicon : Lexicon) (line : Line) (choices : List Choice) (front : List Step) (next : Step) (rest : List Step) (is : IsLexicon lexicon)
     (answer : IsAnswer lexicon line choices (front ++ next ∷ rest)) where

@@ -5,11 +5,8 @@ use Rattle.std.proofs.lemmas.List.{map-append}
 use Rattle.std.specs.List.{Contains}
 use Rattle.lexicon_definitions.specs.Grammars.{Grammar, Accepts, Mark, State, Opening, After, IsStateAfter, IsLiveState, IsPositionAfter, phases_of}
 use Rattle.lexicon_definitions.proofs.GrammarPositions.{reads_accepts, front_of, position_of}
-use Rattle.lexicon_definitions.proofs.GrammarStates.{in_nil, in_head}
-
-nil_not : (phases : List ℕ) (phase : ℕ) → phases ++ phase ∷ [] ≢ []
-nil_not [] phase e = cc
-nil_not (first ∷ phases) phase e = cc
+use Rattle.list_laws.proofs.Elements.{some_by_last}
+use Rattle.list_laws.proofs.Sorted.{not_Contains-nil, Contains-first}
 
 -- where there is a position after the phases, they go on
 goes_on_at : (grammar : Grammar) (phases : List ℕ) (position : ℕ) → IsPositionAfter grammar phases position
@@ -25,7 +22,7 @@ goes_on_at grammar phases position (front, last, rest, reads, phases_is, at) =
 pub goes_on_if_live : (grammar : Grammar) (phases : List ℕ) (phase : ℕ) (state : State) → IsStateAfter grammar (phases ++ phase ∷ []) state
     → IsLiveState state → (rest : List ℕ) × Accepts grammar (phases ++ phase ∷ rest)
 goes_on_if_live grammar phases phase state is live =
-    let some = from (phases ++ phase ∷ []) state (nil_not phases phase) is live in
+    let some = from (phases ++ phase ∷ []) state (some_by_last phases phase) is live in
     (some.0, subst (Accepts grammar) (append_assoc phases (phase ∷ []) some.0) some.1)
   where
     from : (read : List ℕ) (state : State) → read ≢ [] → IsStateAfter grammar read state → IsLiveState state
@@ -34,7 +31,7 @@ goes_on_if_live grammar phases phase state is live =
     from (first ∷ read) Opening some is live = absurd is
     from (first ∷ read) (After []) some is live = absurd (live refl)
     from (first ∷ read) (After (position ∷ positions)) some is live =
-        goes_on_at grammar (first ∷ read) position ((is.1 position).0 (in_head position positions))
+        goes_on_at grammar (first ∷ read) position ((is.1 position).0 (Contains-first position positions))
 
 -- after a front of a word the state is live
 pub live_if_front : (grammar : Grammar) (read rest : List ℕ) (state : State) → IsStateAfter grammar read state → Accepts grammar (read ++ rest)
@@ -48,7 +45,7 @@ live_if_front grammar (first ∷ read) rest (After positions) is word e =
     let nothing : positions ≡ [] = cc in
     let front = front_of grammar (first ∷ read) rest some word in
     let position = position_of grammar (first ∷ read) rest front in
-    in_nil _ (subst (λ positions. Contains positions front.last.position) nothing ((is.1 front.last.position).1 position))
+    not_Contains-nil _ (subst (λ positions. Contains positions front.last.position) nothing ((is.1 front.last.position).1 position))
 
 pub live_if_goes_on : (grammar : Grammar) (phases : List ℕ) (phase : ℕ) (state : State) → IsStateAfter grammar (phases ++ phase ∷ []) state
     → (rest : List ℕ) → Accepts grammar (phases ++ phase ∷ rest) → IsLiveState state

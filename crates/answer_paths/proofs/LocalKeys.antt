@@ -3,7 +3,7 @@
 use Rattle.std.proofs.Common.{◌≡◌, ℕ, ◌+◌, ◌<◌, ◌⊎◌, ◌↔◌, inl, inr, true, List, [], ◌∷◌, ◌++◌, length, take, drop, slice_index, refl, sym, ap, subst, ◌∙◌, append_assoc, length-drop, arith}
 use Rattle.std.specs.List.{AllByRecursion}
 use Rattle.std.proofs.lemmas.Bool.{cases_lt}
-use Rattle.std.proofs.lemmas.List.{map-append, take-append-drop, drop-drop, length-take-le}
+use Rattle.std.proofs.lemmas.List.{map-append, drop-drop, length-take-le, nil_from_length}
 use Rattle.std.proofs.Math.Seq.{take-append_seam, drop-append_seam}
 use Rattle.text_definitions.specs.Lines.{Line, IsLine}
 use Rattle.lexicon_definitions.specs.Rules.{HasPhase, IsInner}
@@ -25,19 +25,9 @@ use Rattle.answer_paths.specs.Following.{step_at, placed_at, is_start, MayEnter,
 use Rattle.answer_paths.proofs.FrontParts.{same_last, covered-append, supplied_after, keys-append, left_after, goes_on_last, goes_on_join, allow_split, allow_join, first_by_entrance, blanks_before_last, no_blank_after_last}
 use Rattle.answer_paths.proofs.AnswerFronts.{led_lawful}
 use Rattle.answer_paths.proofs.OrderlyWays.{lead_of_last}
+use Rattle.list_laws.proofs.Elements.{parts_from}
 
 -- ---- letters
-
--- the letters from a place on are those taken, the w after them, and the rest
-parts_after : (letters w : List ℕ) (at taken : ℕ) → take (length w) (drop (at + taken) letters) ≡ w
-    → drop at letters ≡ take taken (drop at letters) ++ w ++ drop (at + taken + length w) letters
-parts_after letters w at taken here =
-    let following : drop (at + taken) letters ≡ w ++ drop (at + taken + length w) letters =
-    sym (take-append-drop (length w) (drop (at + taken) letters)) ∙ ap (λ v. v ++ drop (length w) (drop (at + taken) letters)) here
-    ∙ ap (λ rest. w ++ rest) (drop-drop (length w) (at + taken) letters) in
-    let all : drop at letters ≡ take taken (drop at letters) ++ drop (at + taken) letters =
-    sym (take-append-drop taken (drop at letters)) ∙ ap (λ rest. take taken (drop at letters) ++ rest) (drop-drop taken at letters) in
-    all ∙ ap (λ rest. take taken (drop at letters) ++ rest) following ∙ sym (append_assoc (take taken (drop at letters)) w (drop (at + taken + length w) letters))
 
 -- and where the letters from a place on are such parts, they stand at these places
 record AreCut (letters : List ℕ) (at count : ℕ) (taken w rest : List ℕ) : Type 0 where
@@ -267,10 +257,6 @@ may_end_if_ends lexicon line choices front key is (steps, adds, answer) =
 
 -- ---- from the step to the longer front
 
-nothing_left : (xs : List ℕ) → length xs ≡ 0 → xs ≡ []
-nothing_left [] e = refl
-nothing_left (x ∷ xs) e = absurd (omega (arith, e))
-
 -- a front that is lawful and passes the tests, with a step that may stand where it ends
 pub record Longer (lexicon : Lexicon) (line : Line) (choices : List Choice) (front : List Step) (key : Key) (step : Step) : Type 0 where
   pub next : IsNextStep lexicon.rules line front key step
@@ -304,7 +290,7 @@ module _ (lexicon : Lexicon) (line : Line) (choices : List Choice) (front : List
       let next : IsNextStep rules line front key step =
       record { step_is = refl; key_is = λ i. record { phase = key.phase; taken = count i; rule = key.rule } } in
       let left = left_after rules front line.letters lawful.rest lawful.covers in
-      let parts = parts_after line.letters w at key.taken stands.written in
+      let parts = parts_from line.letters w at key.taken stands.written in
       let rest = drop (at + key.taken + length w) line.letters in
       let some = form_not_empty lexicon key.phase step.form is stands.form in
       record {
@@ -372,7 +358,7 @@ module _ (lexicon : Lexicon) (line : Line) (choices : List Choice) (front : List
       let taken : taken_by rules (lead_after rules [] front) step ≡ key.taken = ap (λ (k : Key). k.taken) long.next.key_is in
       let whole = covered_length rules 0 [] (front ++ step ∷ []) line.letters long.rest long.covers in
       let covered = covered-append rules 0 [] front (step ∷ []) in
-      let none = nothing_left long.rest (omega (arith, whole, covered, taken, ends.all)) in
+      let none = nil_from_length long.rest (omega (arith, whole, covered, taken, ends.all)) in
       let rule : EndsWell rules (step ∷ []) = elim long.rule [
         | inl none ↦ inl none
         | inr some ↦ inr (some.0, ends.final_rule some.0.0, some.1)

@@ -5,9 +5,8 @@ use Rattle.std.specs.List.Sorted.{IsStrictlySortedBy}
 use Rattle.std.specs.declared.cmp.Ordering.{Ordering}
 use Rattle.std.specs.declared.cmp.Ordering.TheVariants.{Less, Equal, Greater}
 use Rattle.std.proofs.lemmas.Bool.{false≢true}
-use Rattle.std.proofs.lemmas.List.Elements.{All-nil, All-cons, All-head, All-tail, All-append, Contains-append_left, Contains-append_right, Contains-append_cases}
-use Rattle.std.proofs.lemmas.Map.Keys.{sorted_tail}
-use Rattle.list_laws.proofs.Sorted.{Contains-first, Contains-cons_cases, not_Contains-nil, Less-from_later, sorted_append}
+use Rattle.std.proofs.lemmas.List.Elements.{All-nil, All-cons, All-append, Contains-append_left, Contains-append_right, Contains-append_cases}
+use Rattle.list_laws.proofs.Sorted.{Contains-first, Contains-cons_cases, not_Contains-nil, sorted_append}
 use Rattle.text_definitions.specs.Lines.{Line}
 use Rattle.lexicon_definitions.specs.Lexicons.{Lexicon, RuleSet}
 use Rattle.segmentation_definitions.specs.Derivations.{Step}
@@ -15,32 +14,12 @@ use Rattle.segmentation_definitions.specs.Items.{Choice}
 use Rattle.segmentation_definitions.specs.Answers.{IsAnswer}
 use Rattle.segmentation_definitions.specs.Listings.{compare_answers, Position, AtAnswer, position_after, IsAbove, IsNext, ComesAfter, IsPage}
 use Rattle.segmentation_definitions.proofs.KeyLists.{compare_answers_total, compare_key_lists_exact, same_steps}
-use Rattle.segmentation_definitions.proofs.Listings.{IsAbove-trans}
+use Rattle.segmentation_definitions.proofs.Listings.{above_last, from_above_last}
 use Rattle.answer_paths.specs.Pages.{AreFirstAnswers}
 
 pub position_after_last : (position : Position) (answers : List (List Step)) (next : List Step) → position_after position (answers ++ next ∷ []) ≡ AtAnswer next
 position_after_last position [] next = refl
 position_after_last position (first ∷ answers) next = position_after_last (AtAnswer first) answers next
-
--- what is above a position and after answers is above the last of them
-above_last : (rules : RuleSet) (answers : List (List Step)) (position : Position) (steps : List Step) → IsAbove rules position steps
-    → ComesAfter rules answers steps → IsAbove rules (position_after position answers) steps
-above_last rules [] position steps above later = above
-above_last rules (first ∷ answers) position steps above later =
-    above_last rules answers (AtAnswer first) steps (All-head (λ before. compare_answers rules before steps ≡ Less) first answers later)
-    (All-tail (λ before. compare_answers rules before steps ≡ Less) first answers later)
-
--- what is above the last of rising answers above a position is above the position and after all of them
-from_above_last : (rules : RuleSet) (answers : List (List Step)) (position : Position) (steps : List Step)
-    → ((before : List Step) → Contains answers before → IsAbove rules position before) → IsStrictlySortedBy (compare_answers rules) answers
-    → IsAbove rules (position_after position answers) steps → IsAbove rules position steps × ComesAfter rules answers steps
-from_above_last rules [] position steps are rising above = (above, All-nil (λ before. compare_answers rules before steps ≡ Less))
-from_above_last rules (first ∷ answers) position steps are rising above =
-    let later = λ (before : List Step) (of : Contains answers before). Less-from_later (compare_answers_total rules) first answers before rising of in
-    let rest = from_above_last rules answers (AtAnswer first) steps later (sorted_tail (compare_answers rules) first answers rising) above in (
-      IsAbove-trans rules position first steps (are first (Contains-first first answers)) rest.0,
-      All-cons (λ before. compare_answers rules before steps ≡ Less) first answers rest.0 rest.1,
-    )
 
 one_sorted : (rules : RuleSet) (next : List Step) → IsStrictlySortedBy (compare_answers rules) (next ∷ [])
 unfolding IsStrictlySortedBy

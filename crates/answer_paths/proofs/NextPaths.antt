@@ -18,6 +18,8 @@ use Rattle.listing_laws.specs.Positions.{IsAbove as IsPathAbove, IsFirst, IsList
 use Rattle.answer_paths.specs.Fronts.{ways_of}
 use Rattle.answer_paths.specs.Positions.{path_position}
 use Rattle.answer_paths.proofs.AnswerPaths.{path_of_answer, answer_after}
+use Rattle.list_laws.proofs.FirstOnes.{Contains-map, Contains-map_cases}
+use Rattle.list_laws.proofs.Elements.{all_of_map}
 
 -- an answer is above a position where its keys are
 pub path_above : (rules : RuleSet) (position : Position) (steps : List Step) → IsAbove rules position steps
@@ -100,10 +102,6 @@ all_map : {X Y : Type 0} (P : Y → Type 0) (f : X → Y) (xs : List X) → AllB
 all_map P f [] h = tt
 all_map P f (x ∷ xs) h = (h.0, all_map P f xs h.1)
 
-all_unmap : {X Y : Type 0} (P : Y → Type 0) (f : X → Y) (xs : List X) → AllByRecursion P (map f xs) → AllByRecursion (λ x. P (f x)) xs
-all_unmap P f [] h = tt
-all_unmap P f (x ∷ xs) h = (h.0, all_unmap P f xs h.1)
-
 -- a list rises by what is told of its elements where the list of what is told rises
 sorted_map : {X Y : Type 0} (R : Y → Y → Ordering) (f : X → Y) (xs : List X) → IsStrictlySortedBy (λ x y. R (f x) (f y)) xs
     → IsStrictlySortedBy R (map f xs)
@@ -115,21 +113,7 @@ sorted_unmap : {X Y : Type 0} (R : Y → Y → Ordering) (f : X → Y) (xs : Lis
     → IsStrictlySortedBy (λ x y. R (f x) (f y)) xs
 unfolding IsStrictlySortedBy
 sorted_unmap R f [] h = tt
-sorted_unmap R f (x ∷ xs) h = (all_unmap (λ y. R (f x) y ≡ Less) f xs h.0, sorted_unmap R f xs h.1)
-
-in_map : {X Y : Type 0} (f : X → Y) (xs : List X) (x : X) → Contains xs x → Contains (map f xs) (f x)
-in_map f [] x h = absurd (not_Contains-nil x h)
-in_map f (first ∷ xs) x h = elim (Contains-cons_cases first xs x h) [
-  | inl here ↦ subst (λ y. Contains (map f (first ∷ xs)) (f y)) here (Contains-first (f first) (map f xs))
-  | inr later ↦ Contains-later (f first) (map f xs) (f x) (in_map f xs x later)
-]
-
-from_map : {X Y : Type 0} (f : X → Y) (xs : List X) (y : Y) → Contains (map f xs) y → (x : X) × Contains xs x × (f x ≡ y)
-from_map f [] y h = absurd (not_Contains-nil y h)
-from_map f (first ∷ xs) y h = elim (Contains-cons_cases (f first) (map f xs) y h) [
-  | inl here ↦ (first, Contains-first first xs, here)
-  | inr later ↦ let found = from_map f xs y later in (found.0, Contains-later first xs found.0 found.1, found.2)
-]
+sorted_unmap R f (x ∷ xs) h = (all_of_map (λ y. R (f x) y ≡ Less) f xs h.0, sorted_unmap R f xs h.1)
 
 pub path_listing : (lexicon : Lexicon) (line : Line) (choices : List Choice) (position : Position) (answers : List (List Step)) → IsLexicon lexicon
     → IsListingAbove lexicon line choices position answers
@@ -137,7 +121,7 @@ pub path_listing : (lexicon : Lexicon) (line : Line) (choices : List Choice) (po
 path_listing lexicon line choices position answers is listing = record {
   rising = sorted_map (slice_cmp compare_keys) (keys_of lexicon.rules) answers listing.rising;
   only = λ path of.
-      let found = from_map (keys_of lexicon.rules) answers path of in
+      let found = Contains-map_cases (keys_of lexicon.rules) answers path of in
       subst (λ path. IsPath (ways_of lexicon line choices) [] path × IsPathAbove compare_keys (path_position lexicon.rules position) path) found.2 (
         path_of_answer lexicon line choices found.0 is (listing.only_answers found.0 found.1),
         path_above lexicon.rules position found.0 (listing.only_above found.0 found.1),
@@ -148,7 +132,7 @@ path_listing lexicon line choices position answers is listing = record {
       let above = answer_above lexicon.rules position found.rest
       (subst (IsPathAbove compare_keys (path_position lexicon.rules position)) (sym keys) wanted.1) in
       subst (Contains (map (keys_of lexicon.rules) answers)) keys
-      (in_map (keys_of lexicon.rules) answers found.rest (listing.complete found.rest found.answer above));
+      (Contains-map (keys_of lexicon.rules) answers found.rest (listing.complete found.rest found.answer above));
 }
 
 -- the answers whose keys are these paths
@@ -194,11 +178,11 @@ listing_of_paths lexicon line choices position paths is all =
             (subst (IsStrictlySortedBy (slice_cmp compare_keys)) (sym keys) all.rising);
         only_answers = found.are;
         only_above = λ steps of. answer_above lexicon.rules position steps
-            (all.only (key_lists steps) (subst (λ paths. Contains paths (key_lists steps)) keys (in_map key_lists found.answers steps of))).1;
+            (all.only (key_lists steps) (subst (λ paths. Contains paths (key_lists steps)) keys (Contains-map key_lists found.answers steps of))).1;
         complete = λ steps answer above.
             let there = all.complete (key_lists steps)
             (path_of_answer lexicon line choices steps is answer, path_above lexicon.rules position steps above) in
-            let other = from_map key_lists found.answers (key_lists steps) (subst (λ paths. Contains paths (key_lists steps)) (sym keys) there) in
+            let other = Contains-map_cases key_lists found.answers (key_lists steps) (subst (λ paths. Contains paths (key_lists steps)) (sym keys) there) in
             let same : other.0 ≡ steps = same_steps lexicon.rules other.0 steps 0 0 [] [] line.letters line.letters [] [] refl refl
             (found.are other.0 other.1).derives.covers answer.derives.covers other.2 in
             subst (Contains found.answers) same other.1;

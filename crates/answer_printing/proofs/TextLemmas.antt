@@ -1,6 +1,6 @@
 -- Spelling goes letter by letter, so it goes over parts of a word and over words that are put together.
-use Rattle.std.proofs.Common.{◌≡◌, ℕ, List, [], ◌∷◌, ◌++◌, length, take, drop, refl, sym, ap, ◌∙◌, append_assoc, codes}
-use Rattle.std.proofs.lemmas.List.{map-append, take-map, drop-map, length-map}
+use Rattle.std.proofs.Common.{◌≡◌, ℕ, List, [], ◌∷◌, ◌++◌, take, drop, refl, sym, ap, ◌∙◌, append_assoc, codes}
+use Rattle.std.proofs.lemmas.List.{map-append, take-map, drop-map}
 use Rattle.text_definitions.specs.Spellings.{byte_of_letter}
 use Rattle.text_definitions.specs.Slp1.{slp1_of_word, slp1_table}
 use Rattle.lexicon_definitions.specs.Lexicons.{RuleSet, rule_of}
@@ -51,11 +51,6 @@ word_appended rules texts letters before step old first second third v taken u s
     ∙ sym (ap (λ w. w ++ taken ++ u) v_is ∙ ap (λ w. slp1_of_word (rule_of texts before).v ++ w ++ u) taken_is
     ∙ ap (λ w. slp1_of_word (rule_of texts before).v ++ slp1_of_word (letters_taken letters step) ++ w) u_is) in
     third_is ∙ ap (λ w. w ++ u) second_is ∙ ap (λ w. w ++ taken ++ u) first_is ∙ three_appended old v taken u ∙ ap (λ w. old ++ w) (sym form)
-
--- a text has a byte for each letter
-pub spelled_length : (letters : List ℕ) → length (slp1_of_word letters) ≡ length letters
-unfolding slp1_of_word
-spelled_length letters = length-map letters (byte_of_letter slp1_table)
 
 -- an answer's line is appended in three parts
 pub answer_appended : (rules : RuleSet) (number : ℕ) (steps : List Step) (old first second third start text : List ℕ)

@@ -1,6 +1,6 @@
 -- Replies are appended line after line: whatever completes those to the lines that are left completes those to all of them.
 use Rattle.std.proofs.Common.{◌≡◌, ℕ, ◌+◌, ◌<◌, List, [], ◌∷◌, ◌++◌, length, drop, get_or, Option, Some, None, refl, sym, ◌∙◌, ap, subst, append_assoc, append-nil, drop-cons, suc, add-one}
-use Rattle.std.specs.Prelude.{codes, Result, Ok, Err, IfOk}
+use Rattle.std.specs.Prelude.{codes}
 use Rattle.std.specs.Fmt.{decimal}
 use Rattle.text_definitions.specs.Lines.{Line}
 use Rattle.text_definitions.specs.Schemes.{Scheme}
@@ -157,8 +157,3 @@ replied_next first number index all_faults all_pages pages others fault none bef
         let here : drop index all_faults ≡ None ∷ drop (index + 1) all_faults = cut ∙ ap (λ (x : Option LineFault). x ∷ drop (index + 1) all_faults) e in
         page_replied first number all_faults all_pages (drop (index + 1) all_faults) pages others before now after _
         (subst (λ (fs : List (Option LineFault)). HasRepliedSoFar first number all_faults all_pages fs pages before now) here so_far) refl (on_page e)
-
--- what follows of a value that was given
-pub if_ok_then : {A E : Type 0} (result : Result A E) (P Q : A → Type 0) → ((value : A) → P value → Q value) → IfOk result P → IfOk result Q
-if_ok_then (Ok value) P Q f p = f value p
-if_ok_then (Err error) P Q f p = tt

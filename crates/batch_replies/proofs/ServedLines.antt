@@ -1,6 +1,5 @@
 -- The replies to the lines of one block come after those to the lines before it, by induction on these.
 use Rattle.std.proofs.Common.{◌≡◌, ℕ, ◌+◌, ◌≤◌, List, [], ◌∷◌, ◌++◌, length, Option, Some, None, refl, sym, ◌∙◌, ap, subst, arith, append_assoc, append-nil, length-append}
-use Rattle.std.specs.Prelude.{Result, Ok, Err, OnErr}
 use Rattle.outside.specs.Told.{bytes_after, GrowsByPrefix}
 use Rattle.outside.proofs.ToldLemmas.{bytes_after-bytes_after, GrowsByPrefix-after, GrowsByPrefix-all}
 use Rattle.text_definitions.specs.Schemes.{Scheme}
@@ -105,8 +104,3 @@ module _ (lexicon : Lexicon) (scheme : Scheme) (count : ℕ) (text : List ℕ) (
       replies = record { lines = p.lines ++ read.lines; others = lines_of_bytes following; first = both_cut; replies = both };
       grown = GrowsByPrefix-after old now new p.output replies p.wrote grown;
     }
-
--- what holds holds where a call failed
-pub on_err : {A E : Type 0} (result : Result A E) (P : Type 0) → P → OnErr result P
-on_err (Ok value) P p = tt
-on_err (Err error) P p = p

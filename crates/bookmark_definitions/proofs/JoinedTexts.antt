@@ -1,31 +1,23 @@
 -- Texts with a mark between each two are cut at it again, by induction on the list; and so are lists that are read and
 -- written text by text.
-use Rattle.std.proofs.Common.{◌≡◌, ℕ, ◌<◌, true, false, cond, List, [], ◌∷◌, length, map, eqb, Option, Some, None, All, refl, sym, ◌∙◌, ap, subst, arith, length-append}
+use Rattle.std.proofs.Common.{◌≡◌, ℕ, ◌<◌, true, false, cond, List, [], ◌∷◌, length, map, eqb, Option, Some, None, refl, sym, ◌∙◌, ap, subst, arith, length-append}
 use Rattle.std.specs.Prelude.{option_map, option_and_then}
 use Rattle.std.specs.List.{AllByRecursion, slice_split, join_with_byte}
 use Rattle.std.proofs.lemmas.Bool.{eq-eqb}
-use Rattle.std.proofs.lemmas.List.Elements.{All-from_recursion}
 use Rattle.std.proofs.lemmas.List.Splits.{slice_split_at, slice_split_none, join_with_byte-slice_split}
-use Rattle.list_laws.proofs.Marks.{is_free, free_parts, free_append}
+use Rattle.list_laws.proofs.Marks.{is_free, free_append, bytes_apart_from}
 use Rattle.bookmark_definitions.specs.BookmarkReadings.{each_read, parts_of_list}
 
 -- ---- cutting what was joined
-
-bytes_apart : (mark : ℕ) (text : List ℕ) → is_free mark text ≡ true → AllByRecursion (λ byte. eqb byte mark ≡ false) text
-bytes_apart mark [] h = tt
-bytes_apart mark (byte ∷ text) h = let parts = free_parts mark byte text h in (parts.0, bytes_apart mark text parts.1)
-
-all_apart : (mark : ℕ) (text : List ℕ) → is_free mark text ≡ true → All (λ byte. eqb byte mark ≡ false) text
-all_apart mark text h = All-from_recursion (λ byte. eqb byte mark ≡ false) text (bytes_apart mark text h)
 
 abbrev pub AreFree : ℕ → List (List ℕ) → Type 0
 AreFree mark texts = AllByRecursion (λ text. is_free mark text ≡ true) texts
 
 split_more : (mark : ℕ) (first : List ℕ) (texts : List (List ℕ)) → AreFree mark (first ∷ texts)
     → slice_split (λ byte. eqb byte mark) (join_with_byte mark (first ∷ texts)) ≡ first ∷ texts
-split_more mark first [] h = slice_split_none (λ byte. eqb byte mark) first (all_apart mark first h.0)
+split_more mark first [] h = slice_split_none (λ byte. eqb byte mark) first (bytes_apart_from mark first h.0)
 split_more mark first (next ∷ texts) h =
-    slice_split_at (λ byte. eqb byte mark) first mark (join_with_byte mark (next ∷ texts)) (all_apart mark first h.0) (eq-eqb mark mark refl)
+    slice_split_at (λ byte. eqb byte mark) first mark (join_with_byte mark (next ∷ texts)) (bytes_apart_from mark first h.0) (eq-eqb mark mark refl)
     ∙ ap (◌∷◌ first) (split_more mark next texts h.1)
 
 -- where there is a text and none has the mark
@@ -53,7 +45,7 @@ some_parts : (text : List ℕ) → 0 < length text → parts_of_list text ≡ sl
 some_parts [] some = absurd (omega (arith, some))
 some_parts (byte ∷ text) some = refl
 
-some_joined : (first : List ℕ) (texts : List (List ℕ)) → 0 < length first → 0 < length (join_with_byte 44 (first ∷ texts))
+pub some_joined : (first : List ℕ) (texts : List (List ℕ)) → 0 < length first → 0 < length (join_with_byte 44 (first ∷ texts))
 some_joined first [] some = some
 some_joined first (next ∷ texts) some = omega (arith, some, length-append first (44 ∷ join_with_byte 44 (next ∷ texts)))
 

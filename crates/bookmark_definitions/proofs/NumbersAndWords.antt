@@ -1,7 +1,7 @@
 -- Numbers and words are read as they are written: digits without a 0 before others are the decimal of their value, and a
 -- word is spelled in one way.
-use Rattle.std.proofs.Common.{◌≡◌, ℕ, zero, suc, ◌+◌, ◌-◌, ◌^◌, ◌<◌, ◌≤◌, Bool, true, false, cond, not, ◌&&◌, Ok, Err, List, [], ◌∷◌, length, get_or, map, eqb, leb, Some, None, refl, sym, ◌∙◌, ap, subst, arith}
-use Rattle.std.specs.List.{AllByRecursion}
+use Rattle.std.proofs.Common.{◌≡◌, ℕ, zero, suc, ◌^◌, ◌<◌, ◌≤◌, Bool, true, false, cond, not, ◌&&◌, Ok, Err, List, [], ◌∷◌, length, get_or, eqb, leb, Some, None, refl, sym, ◌∙◌, ap, subst, arith}
+use Rattle.std.specs.List.{list_all}
 use Rattle.std.specs.Fmt.{decimal}
 use Rattle.std.specs.Char.{is_ascii_digit}
 use Rattle.std.specs.Str.{all_ascii_digits}
@@ -12,21 +12,23 @@ use Rattle.std.proofs.lemmas.List.Elements.{recursion_from_All}
 use Rattle.std.proofs.lemmas.Str.Parse.{IsNumeralModel, numerals_by_value, tells_all_ascii_digits}
 use Rattle.text_definitions.specs.Letters.{IsLetter}
 use Rattle.text_definitions.specs.Words.{IsWord}
-use Rattle.text_definitions.specs.Spellings.{Reading, byte_of_letter}
+use Rattle.text_definitions.specs.Spellings.{Reading}
 use Rattle.text_definitions.specs.Slp1.{slp1_table, word_of_slp1, slp1_of_word}
-use Rattle.text_definitions.proofs.Tables.{passes_at}
-use Rattle.text_definitions.proofs.SpelledWords.{spelled_from_read, word_from_read, read_from_spelled, is_no_letter}
+use Rattle.text_definitions.proofs.SpelledWords.{spelled_from_read, word_from_read, read_from_spelled, is_no_letter, free_word}
 use Rattle.list_laws.proofs.Marks.{is_free}
 use Rattle.bookmark_definitions.specs.BookmarkReadings.{is_number, number_up_to, word_up_to}
-
-pub if_some : {A : Type 0} (test : Bool) (x y : A) → cond test (Some x) None ≡ Some y → (test ≡ true) × (x ≡ y)
-if_some true x y h = (refl, cc)
-if_some false x y h = absurd (cc)
+use Rattle.std.proofs.lemmas.Option.{cond_some}
 
 -- ---- numbers
 
-own : IsNumeralModel (λ ds. all_ascii_digits ds ≡ true) (digits_value 10)
-own = numerals_by_value (λ ds. all_ascii_digits ds ≡ true) tells_all_ascii_digits
+-- digits tell their value
+pub digits_tell : IsNumeralModel (λ ds. all_ascii_digits ds ≡ true) (digits_value 10)
+digits_tell = numerals_by_value (λ ds. all_ascii_digits ds ≡ true) tells_all_ascii_digits
+
+-- a test of each byte
+pub all_digits : (text : List ℕ) → list_all is_ascii_digit text ≡ all_ascii_digits text
+all_digits [] = refl
+all_digits (byte ∷ text) = ap (λ rest. is_ascii_digit byte && rest) (all_digits text)
 
 not_a_zero : (test : Bool) → not test ≡ true → test ≡ true → ⊥
 not_a_zero true h e = cc
@@ -53,12 +55,12 @@ to_test (first ∷ second ∷ rest) h =
 
 pub number_tells : (most : ℕ) → most < 2 ^ 64 → (text : List ℕ) (n : ℕ) → number_up_to most text ≡ Some n → (text ≡ decimal n) × (n ≤ most)
 number_tells most small text n h =
-    let found = if_some (is_number text && leb (digits_value 10 text) most) (digits_value 10 text) n h in
+    let found = cond_some (is_number text && leb (digits_value 10 text) most) (digits_value 10 text) n h in
     let parts = and_parts (is_number text) (leb (digits_value 10 text) most) found.0 in
     let numeral = from_test text parts.0 in
     let within : digits_value 10 text ≤ most = leb-true (digits_value 10 text) most parts.1 in
     let below : digits_value 10 text < 2 ^ 64 = omega (arith, within, small) in
-    let written = decimal-digits_value own text numeral.digits numeral.some numeral.no_zero below in
+    let written = decimal-digits_value digits_tell text numeral.digits numeral.some numeral.no_zero below in
     (sym written ∙ ap decimal found.1, subst (λ k. k ≤ most) found.1 within)
 
 no_zero_first : (n : ℕ) → n < 2 ^ 64 → get_or (decimal n) 0 0 ≡ 48 → length (decimal n) ≡ 1
@@ -68,8 +70,8 @@ no_zero_first (suc n) small e = absurd (omega (arith, first_decimal (suc n) (ome
 pub number_back : (most : ℕ) → most < 2 ^ 64 → (n : ℕ) → n ≤ most → number_up_to most (decimal n) ≡ Some n
 number_back most small n h =
     let below : n < 2 ^ 64 = omega (arith, small, h) in
-    let value : digits_value 10 (decimal n) ≡ n = digits_value-decimal own n below in
-    let test = to_test (decimal n) (record { digits = digits_decimal own n below; some = decimal_nonempty n below; no_zero = no_zero_first n below }) in
+    let value : digits_value 10 (decimal n) ≡ n = digits_value-decimal digits_tell n below in
+    let test = to_test (decimal n) (record { digits = digits_decimal digits_tell n below; some = decimal_nonempty n below; no_zero = no_zero_first n below }) in
     let within : leb (digits_value 10 (decimal n)) most ≡ true = le-leb (digits_value 10 (decimal n)) most (subst (λ k. k ≤ most) (sym value) h) in
     λ i. cond (test i && within i) (Some (value i)) None
 
@@ -82,7 +84,7 @@ digits_free mark (byte ∷ text) n h =
 
 -- a number is free of each byte that is no digit
 pub number_free : (mark : ℕ) → is_ascii_digit mark ≡ false → (n : ℕ) → n < 2 ^ 64 → is_free mark (decimal n) ≡ true
-number_free mark other n below = digits_free mark (decimal n) other (digits_decimal own n below)
+number_free mark other n below = digits_free mark (decimal n) other (digits_decimal digits_tell n below)
 
 -- ---- words
 
@@ -97,7 +99,7 @@ word_by : (most : ℕ) (reading : Reading) (word : List ℕ) → word_up_to most
 word_by most (Err fault) word h = absurd (cc)
 word_by most (Ok []) word h = absurd (cc)
 word_by most (Ok (letter ∷ letters)) word h =
-    let found = if_some (leb (length (letter ∷ letters)) most) (letter ∷ letters) word h in
+    let found = cond_some (leb (length (letter ∷ letters)) most) (letter ∷ letters) word h in
     let short : length (letter ∷ letters) ≤ most = leb-true (length (letter ∷ letters)) most found.0 in
     (ap (λ (w : List ℕ). Ok w) found.1, subst (λ (w : List ℕ). 0 < length w) found.1 (omega arith), subst (λ (w : List ℕ). length w ≤ most) found.1 short)
 
@@ -116,21 +118,7 @@ pub word_back : (most : ℕ) (word : List ℕ) → IsShortWord most word → wor
 word_back most word w =
     ap (word_up_to most) (read_from_spelled (slp1_of_word word) word w.word_itself refl) ∙ short_word most word w.not_empty w.short
 
-no_from_not : (test : Bool) → not test ≡ true → test ≡ false
-no_from_not true h = absurd (cc)
-no_from_not false h = refl
-
-spelled_free : (table : List ℕ) (mark : ℕ) → is_no_letter table mark ≡ true → (word : List ℕ) → AllByRecursion IsLetter word
-    → is_free mark (map (byte_of_letter table) word) ≡ true
-spelled_free table mark h [] w = refl
-spelled_free table mark h (letter ∷ word) w =
-    let below : letter - 1 < 50 = omega (arith, w.0.0, w.0.1) in
-    let at : letter - 1 + 1 ≡ letter = omega (arith, w.0.0) in
-    let test = passes_at 50 (λ k. not (eqb (byte_of_letter table (k + 1)) mark)) h (letter - 1) below in
-    let other : eqb (byte_of_letter table letter) mark ≡ false = subst (λ k. eqb (byte_of_letter table k) mark ≡ false) at (no_from_not _ test) in
-    ap (λ t. cond t false (is_free mark (map (byte_of_letter table) word))) other ∙ spelled_free table mark h word w.1
-
 -- the spelling of a word is free of each byte that no letter has
 pub word_free : (mark : ℕ) → is_no_letter slp1_table mark ≡ true → (word : List ℕ) → IsWord word → is_free mark (slp1_of_word word) ≡ true
 unfolding slp1_of_word
-word_free mark h word w = spelled_free slp1_table mark h word (recursion_from_All IsLetter word w)
+word_free mark h word w = free_word slp1_table mark h word (recursion_from_All IsLetter word w)

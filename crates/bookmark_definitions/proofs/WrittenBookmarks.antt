@@ -18,9 +18,10 @@ use Rattle.bookmark_definitions.specs.Bookmarks.{Bookmark, IsBookmark, IsKeyWith
 use Rattle.bookmark_definitions.specs.BookmarkTexts.{text_of_line, text_of_choice, text_of_key, text_of_bookmark}
 use Rattle.bookmark_definitions.specs.BookmarkReadings.{number_up_to, each_read, parts_of_list, line_of, choice_of, key_of_text, has_keys_if_printed, bookmark_with, bookmark_of_fields, bookmark_of_text}
 use Rattle.bookmark_definitions.proofs.JoinedTexts.{AreFree, split_joined, free_joined, parts_joined, parts_of_joined, each_tells, each_back, each_written}
-use Rattle.bookmark_definitions.proofs.NumbersAndWords.{if_some, number_tells, number_back, number_free}
+use Rattle.bookmark_definitions.proofs.NumbersAndWords.{number_tells, number_back, number_free}
 use Rattle.bookmark_definitions.proofs.WrittenLines.{line_tells, line_back, line_free}
 use Rattle.bookmark_definitions.proofs.WrittenParts.{IsChoiceWithinBounds, choice_tells, choice_back, choice_free, choice_some, key_tells, key_back, key_free, key_some}
+use Rattle.std.proofs.lemmas.Option.{cond_some}
 
 -- ---- no keys exactly where nothing was printed
 
@@ -54,7 +55,7 @@ mark_by line choices printed keys (Some l) None p k mark e f g i h = absurd (cc)
 mark_by line choices printed keys (Some l) (Some c) None k mark e f g i h = absurd (cc)
 mark_by line choices printed keys (Some l) (Some c) (Some p) None mark e f g i h = absurd (cc)
 mark_by line choices printed keys (Some l) (Some c) (Some p) (Some k) mark e f g h i =
-    let found = if_some (leb (length c) MOST_CHOICES && leb (length k) (2 * length l.letters) && has_keys_if_printed p k) (record { line = l; choices = c; printed = p; keys = k }) mark i in
+    let found = cond_some (leb (length c) MOST_CHOICES && leb (length k) (2 * length l.letters) && has_keys_if_printed p k) (record { line = l; choices = c; printed = p; keys = k }) mark i in
     let tests = and_parts (leb (length c) MOST_CHOICES && leb (length k) (2 * length l.letters)) (has_keys_if_printed p k) found.0 in
     let lengths = and_parts (leb (length c) MOST_CHOICES) (leb (length k) (2 * length l.letters)) tests.0 in
     let first = line_tells line l e in

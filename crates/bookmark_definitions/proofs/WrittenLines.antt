@@ -20,7 +20,8 @@ use Rattle.list_laws.proofs.Marks.{is_free}
 use Rattle.bookmark_definitions.specs.BookmarkTexts.{words_from, text_of_line}
 use Rattle.bookmark_definitions.specs.BookmarkReadings.{word_up_to, each_read, blanks_before, blanks_between, line_of_words, short_line, line_of}
 use Rattle.bookmark_definitions.proofs.JoinedTexts.{split_joined, free_joined, each_tells, each_back, each_written}
-use Rattle.bookmark_definitions.proofs.NumbersAndWords.{IsShortWord, word_tells, word_back, word_free, if_some}
+use Rattle.bookmark_definitions.proofs.NumbersAndWords.{IsShortWord, word_tells, word_back, word_free}
+use Rattle.std.proofs.lemmas.Option.{cond_some}
 
 -- ---- words that are put together are cut again
 
@@ -69,7 +70,7 @@ line_from_words : (words : List (List ℕ)) (line : Line) → 0 < length words �
     → short_line (line_of_words words) ≡ Some line → IsLineWith words line
 line_from_words [] line some w h = absurd (omega (arith, some))
 line_from_words (first ∷ rest) line some w h =
-    let found = if_some (leb (length (first ++ concat rest)) MOST_LINE_LETTERS) (line_of_words (first ∷ rest)) line h in
+    let found = cond_some (leb (length (first ++ concat rest)) MOST_LINE_LETTERS) (line_of_words (first ∷ rest)) line h in
     let short : length (first ++ concat rest) ≤ MOST_LINE_LETTERS = leb-true (length (first ++ concat rest)) MOST_LINE_LETTERS found.0 in
     let begun = words_begin first rest w in
     let positive : 0 < length first = w.0.not_empty in
@@ -89,7 +90,7 @@ line_from_words (first ∷ rest) line some w h =
 abbrev pieces_of : List ℕ → List (List ℕ)
 pieces_of text = slice_split (λ byte. eqb byte 95) text
 
-abbrev read_piece : List ℕ → Option (List ℕ)
+abbrev pub read_piece : List ℕ → Option (List ℕ)
 read_piece piece = word_up_to MOST_LINE_LETTERS (word_of_slp1 piece)
 
 some_piece : (text : List ℕ) → 0 < length (pieces_of text)

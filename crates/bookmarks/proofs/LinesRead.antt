@@ -6,14 +6,12 @@ use Rattle.std.specs.List.{AllByRecursion, concat}
 use Rattle.std.proofs.lemmas.Bool.{le-leb, lt-leb}
 use Rattle.text_definitions.specs.declared.limits.TheConstants.{MOST_LINE_LETTERS}
 use Rattle.text_definitions.specs.Lines.{Line}
-use Rattle.text_definitions.specs.Slp1.{word_of_slp1}
-use Rattle.bookmark_definitions.specs.BookmarkReadings.{word_up_to, each_read, blanks_before, blanks_between, line_of_words, short_line, line_of}
+use Rattle.bookmark_definitions.specs.BookmarkReadings.{each_read, blanks_before, blanks_between, line_of_words, short_line, line_of}
 use Rattle.bookmark_definitions.proofs.NumbersAndWords.{word_tells}
 use Rattle.bookmarks.specs.Parts.{parts_at, blank_after}
 use Rattle.bookmarks.proofs.ListsRead.{put_together, each_append, one_read, one_refused}
-
-abbrev pub read_piece : List ℕ → Option (List ℕ)
-read_piece piece = word_up_to MOST_LINE_LETTERS (word_of_slp1 piece)
+use Rattle.bookmark_definitions.proofs.WrittenLines.{read_piece}
+use Rattle.std.proofs.lemmas.List.Folds.{concat-append}
 
 -- the words of the pieces so far, with their letters and the blanks between them
 pub record HasWords (pieces : List (List ℕ)) (letters blanks : List ℕ) : Type 0 where
@@ -79,14 +77,10 @@ piece_refused text pieces piece more letters blanks has cut h =
     ap (λ (ps : List (List ℕ)). line_with (each_read read_piece ps)) (sym cut)
     ∙ ap line_with (one_refused read_piece pieces piece more has.words has.read h)
 
-concat_both : (words more : List (List ℕ)) → concat (words ++ more) ≡ concat words ++ concat more
-concat_both [] more = refl
-concat_both (first ∷ words) more = ap (λ (rest : List ℕ). first ++ rest) (concat_both words more) ∙ sym (append_assoc first (concat words) (concat more))
-
 too_long_by : (words : List (List ℕ)) (more : Option (List (List ℕ))) → MOST_LINE_LETTERS < length (concat words) → line_with (put_together (Some words) more) ≡ None
 too_long_by words None many = refl
 too_long_by words (Some others) many =
-    let size = ap length (concat_both words others) ∙ length-append (concat words) (concat others) in
+    let size = ap length (concat-append words others) ∙ length-append (concat words) (concat others) in
     ap (λ test. cond test (Some (line_of_words (words ++ others))) None)
     (lt-leb (length (concat (words ++ others))) MOST_LINE_LETTERS (omega (arith, size, many)))
 

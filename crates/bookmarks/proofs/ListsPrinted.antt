@@ -1,5 +1,5 @@
 -- Parts that are appended one after another, none of them empty, are joined by `,`: by induction on the parts so far.
-use Rattle.std.proofs.Common.{◌≡◌, ℕ, ◌+◌, ◌<◌, List, [], ◌∷◌, ◌++◌, length, get_or, take, map, refl, sym, ◌∙◌, ap, arith, append_assoc, length-append}
+use Rattle.std.proofs.Common.{◌≡◌, ℕ, ◌+◌, ◌<◌, List, [], ◌∷◌, ◌++◌, length, get_or, take, map, refl, sym, ◌∙◌, ap, arith, append_assoc}
 use Rattle.std.specs.List.{AllByRecursion, join_with_byte}
 use Rattle.std.proofs.lemmas.List.{map-append, take_more}
 use Rattle.derivation.specs.declared.step.Key.{Key as ProgramKey}
@@ -7,14 +7,11 @@ use Rattle.bookmark_definitions.specs.BookmarkTexts.{text_of_key}
 use Rattle.bookmark_definitions.proofs.WrittenParts.{key_some}
 use Rattle.bookmarks.specs.Parts.{with_part}
 use Rattle.bookmarks.specs.Values.{key_of, keys_of}
+use Rattle.bookmark_definitions.proofs.JoinedTexts.{some_joined}
 
 part_after : (list part : List ℕ) → 0 < length list → with_part list part ≡ list ++ 44 ∷ part
 part_after [] part some = absurd (omega (arith, some))
 part_after (byte ∷ list) part some = refl
-
-joined_some : (first : List ℕ) (parts : List (List ℕ)) → 0 < length first → 0 < length (join_with_byte 44 (first ∷ parts))
-joined_some first [] some = some
-joined_some first (next ∷ parts) some = omega (arith, some, length-append first (44 ∷ join_with_byte 44 (next ∷ parts)))
 
 joined_on : (first : List ℕ) (parts : List (List ℕ)) (part : List ℕ)
     → join_with_byte 44 (first ∷ parts) ++ 44 ∷ part ≡ join_with_byte 44 (first ∷ parts ++ part ∷ [])
@@ -27,7 +24,7 @@ pub joined_more : (parts : List (List ℕ)) (part : List ℕ) → AllByRecursion
     → with_part (join_with_byte 44 parts) part ≡ join_with_byte 44 (parts ++ part ∷ [])
 joined_more [] part some = refl
 joined_more (first ∷ parts) part some =
-    part_after (join_with_byte 44 (first ∷ parts)) part (joined_some first parts some.0) ∙ joined_on first parts part
+    part_after (join_with_byte 44 (first ∷ parts)) part (some_joined first parts some.0) ∙ joined_on first parts part
 
 module _ {X : Type 0} (text_of : X → List ℕ) (some : (x : X) → 0 < length (text_of x)) where
   all_some : (xs : List X) → AllByRecursion (λ text. 0 < length text) (map text_of xs)

@@ -5,7 +5,7 @@ use Rattle.std.specs.Prelude.{option_map, option_and_then}
 use Rattle.std.specs.Iterator.{Yields}
 use Rattle.std.proofs.lemmas.Iterator.{YieldsList}
 use Rattle.std.proofs.lemmas.Iterator.Consumers.{YieldsList-so_far, YieldsList-turn, YieldsList-end}
-use Rattle.std.proofs.lemmas.List.{map-append, take-append-drop}
+use Rattle.std.proofs.lemmas.List.{take-append-drop, map_push}
 use Rattle.std.proofs.Math.Seq.{drop-cons}
 use Rattle.bookmark_definitions.specs.BookmarkReadings.{each_read, parts_of_list}
 use Rattle.bookmarks.specs.Parts.{parts_at}
@@ -64,10 +64,6 @@ module _ {S B : Type 0} {steps : S → Option B → S → Type 0} {v : B → Lis
   pub parts_at_end : (r : Option B) (u : S) → r ≡ None → steps t r u → map v passed ≡ all
   parts_at_end r u is step = (YieldsList-end e passed t y r u is step).0
 
--- one part more
-pub passed_more : {B : Type 0} (v : B → List ℕ) (passed : List B) (part : B) → map v (passed ++ part ∷ []) ≡ map v passed ++ v part ∷ []
-passed_more v passed part = map-append v passed (part ∷ [])
-
 -- ---- a list with `,` between
 
 some_parts : (text : List ℕ) → 0 < length text → parts_of_list text ≡ parts_at 44 text
@@ -87,4 +83,4 @@ module _ {A : Type 0} (read : List ℕ → Option A) where
   pub part_read : {B : Type 0} (v : B → List ℕ) (passed : List B) (part : B) (xs ys : List A) (x : A) → each_read read (map v passed) ≡ Some xs → read (v part) ≡ Some x
       → ys ≡ xs ++ x ∷ [] → each_read read (map v (passed ++ part ∷ [])) ≡ Some ys
   part_read v passed part xs ys x h k is =
-      ap (each_read read) (passed_more v passed part) ∙ one_read read (map v passed) (v part) xs x h k ∙ ap (λ (zs : List A). Some zs) (sym is)
+      ap (each_read read) (map_push v passed part) ∙ one_read read (map v passed) (v part) xs x h k ∙ ap (λ (zs : List A). Some zs) (sym is)

@@ -1,17 +1,13 @@
 -- A text of digits is UTF-8 and is parsed as its value, or is too great for 64 bits and so for any limit below.
 use Rattle.std.proofs.Common.{◌≡◌, ℕ, ◌^◌, ◌<◌, Bool, true, false, cond, not, ◌&&◌, Err, List, [], ◌∷◌, length, eqb, leb, Some, None, refl, ◌∙◌, ap, subst, arith}
-use Rattle.std.specs.Char.{is_ascii_digit}
-use Rattle.std.specs.List.{list_all}
 use Rattle.std.specs.Str.{IsUtf8, all_ascii_digits}
 use Rattle.std.specs.Str.Parse.{digits_value, ParsesUnsigned}
 use Rattle.std.proofs.lemmas.Bool.{and_parts, lt-leb, leb-true, leb-false}
 use Rattle.std.proofs.lemmas.Str.{IsUtf8-from_ascii}
-use Rattle.std.proofs.lemmas.Str.Parse.{IsNumeralModel, numerals_by_value, tells_all_ascii_digits, parse_digits}
+use Rattle.std.proofs.lemmas.Str.Parse.{parse_digits}
 use Rattle.std.proofs.lemmas.Fmt.{IsAscii-from_digits}
 use Rattle.bookmark_definitions.specs.BookmarkReadings.{is_number, number_up_to}
-
-own : IsNumeralModel (λ ds. all_ascii_digits ds ≡ true) (digits_value 10)
-own = numerals_by_value (λ ds. all_ascii_digits ds ≡ true) tells_all_ascii_digits
+use Rattle.bookmark_definitions.proofs.NumbersAndWords.{digits_tell}
 
 -- a number has one digit or more, and digits alone
 pub record HasDigits (text : List ℕ) : Type 0 where
@@ -25,7 +21,7 @@ number_digits (first ∷ second ∷ rest) h =
     record { digits = (and_parts (not (eqb first 48)) (all_ascii_digits (first ∷ second ∷ rest)) h).1; some = omega arith }
 
 pub number_utf8 : (text : List ℕ) → is_number text ≡ true → IsUtf8 text
-number_utf8 text h = IsUtf8-from_ascii text (IsAscii-from_digits text (own.to text (number_digits text h).digits))
+number_utf8 text h = IsUtf8-from_ascii text (IsAscii-from_digits text (digits_tell.to text (number_digits text h).digits))
 
 never_both : (test : Bool) → (test && false) ≡ false
 never_both true = refl
@@ -48,10 +44,5 @@ pub not_parsed : {E : Type 0} (most : ℕ) (text digits : List ℕ) (error : E) 
 not_parsed {E} most text digits error parses same h small =
     let has = number_digits text h in
     let refused : ParsesUnsigned {E = E} 64 10 text (Err error) = subst (λ (bytes : List ℕ). ParsesUnsigned {E = E} 64 10 bytes (Err error)) same parses in
-    let iff = parse_digits own 64 text (Err error) refused has.digits in
+    let iff = parse_digits digits_tell 64 text (Err error) refused has.digits in
     too_great most text (not_held (digits_value 10 text) most (leb (digits_value 10 text) most) refl small (λ below. iff (has.some, below)))
-
--- a test of each byte
-pub all_digits : (text : List ℕ) → list_all is_ascii_digit text ≡ all_ascii_digits text
-all_digits [] = refl
-all_digits (byte ∷ text) = ap (λ rest. is_ascii_digit byte && rest) (all_digits text)

@@ -1,6 +1,5 @@
 -- What is drawn is the input of the number, and what is counted of it are the counts of the definitions.
-use Rattle.std.proofs.Common.{◌≡◌, ℕ, ◌*◌, ◌<◌, ◌≤◌, Result, Ok, Err, List, [], length, sym, ap, ◌∙◌, subst, arith}
-use Rattle.std.specs.Prelude.{IfOk}
+use Rattle.std.proofs.Common.{◌≡◌, ℕ, ◌*◌, ◌<◌, ◌≤◌, List, [], length, sym, ap, ◌∙◌, subst, arith}
 use Rattle.std.specs.List.{flat_map}
 use Rattle.std.proofs.lemmas.List.{length-map}
 use Rattle.text_definitions.specs.Lines.{Line}
@@ -74,8 +73,3 @@ counts_made number stems text contents lexicon line page forms letters input mad
           (subst (λ (l : Lexicon). IsPage l line [] BeforeFirst DEMO_PAGE counted.answers page.more) lexicon_is counted.is_page);
       are = λ i. record { stems = stems_are i; forms = forms_are i; letters = letters_is i; answers = answers_are i; more = page.more };
     }
-
--- what holds of an answer for each number holds for this one
-pub if_ok : {A E : Type 0} (P Q : A → Type 0) → ((value : A) → P value → Q value) → (result : Result A E) → IfOk result P → IfOk result Q
-if_ok P Q follows (Ok value) h = follows value h
-if_ok P Q follows (Err error) h = tt

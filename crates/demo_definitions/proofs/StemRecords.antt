@@ -1,9 +1,9 @@
 -- The records of the stem file are the stems with their class: the bytes of a stem are no marks of the format, so its record is
 -- written as csv writes it.
-use Rattle.std.proofs.Common.{◌≡◌, ℕ, zero, suc, ◌+◌, ◌*◌, ◌<◌, ◌≤◌, Bool, true, false, not, Some, None, List, [], ◌∷◌, ◌++◌, length, map, refl, sym, ap, subst, arith, append_assoc, length-append}
+use Rattle.std.proofs.Common.{◌≡◌, ℕ, zero, suc, ◌+◌, ◌*◌, ◌<◌, ◌≤◌, true, false, not, Some, None, List, [], ◌∷◌, ◌++◌, length, map, refl, sym, ap, subst, arith, append_assoc, length-append}
 use Rattle.std.specs.Prelude.{codes, ◌==◌}
 use Rattle.std.specs.List.{AllByRecursion, list_any, list_all, flat_map}
-use Rattle.std.proofs.lemmas.Bool.{and_parts}
+use Rattle.std.proofs.lemmas.Bool.{and_parts, not-true}
 use Rattle.csv.specs.Machine.{next_record}
 use Rattle.csv.specs.Reading.{default_config, records_from, strip_bom}
 use Rattle.csv.specs.Writing.{default_writer, needs_byte, row_text, fields_text, is_blank}
@@ -16,12 +16,8 @@ use Rattle.demo_definitions.proofs.DemoBytes.{is_demo_byte, passes}
 use Rattle.demo_definitions.proofs.StemTexts.{IsStemText, stems_are_texts}
 
 -- no byte calls for quotes
-not_true : (b : Bool) → not b ≡ true → b ≡ false
-not_true true h = cc
-not_true false h = refl
-
 no_mark : (byte : ℕ) → is_demo_byte byte ≡ true → needs_byte default_writer byte ≡ false
-no_mark byte h = not_true _ (passes (λ b. not (needs_byte default_writer b)) (codes "kgcjtdpbmyaiuAeHno") byte refl h)
+no_mark byte h = not-true _ (passes (λ b. not (needs_byte default_writer b)) (codes "kgcjtdpbmyaiuAeHno") byte refl h)
 
 no_marks : (text : List ℕ) → list_all is_demo_byte text ≡ true → list_any (needs_byte default_writer) text ≡ false
 no_marks [] h = refl
@@ -66,7 +62,7 @@ longer (stem ∷ stems) =
     omega (arith, length-append (stem_record stem) (flat_map stem_record stems), length-append stem (codes ",a\n"))
 
 no_mark_before : (byte : ℕ) → is_demo_byte byte ≡ true → (byte == 239) ≡ false
-no_mark_before byte h = not_true _ (passes (λ b. not (b == 239)) (codes "kgcjtdpbmyaiuAeHno") byte refl h)
+no_mark_before byte h = not-true _ (passes (λ b. not (b == 239)) (codes "kgcjtdpbmyaiuAeHno") byte refl h)
 
 no_bom : (stems : List (List ℕ)) → AllByRecursion IsStemText stems → strip_bom (flat_map stem_record stems) ≡ flat_map stem_record stems
 unfolding strip_bom

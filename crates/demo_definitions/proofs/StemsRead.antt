@@ -1,10 +1,9 @@
 -- The stem file is read as its stems: each passes every test of a record, since it has six letters and is none of those before it.
-use Rattle.std.proofs.Common.{◌≡◌, ℕ, suc, ◌+◌, ◌*◌, ◌<◌, ◌≤◌, true, false, Some, fold, nat_lt, Ok, List, [], ◌∷◌, ◌++◌, length, map, refl, sym, ◌∙◌, ap, inl, inr, arith, append_assoc, length-append}
+use Rattle.std.proofs.Common.{◌≡◌, ℕ, suc, ◌+◌, ◌*◌, ◌<◌, ◌≤◌, true, false, Some, fold, Ok, List, [], ◌∷◌, ◌++◌, length, map, refl, sym, ◌∙◌, ap, inl, inr, arith, append_assoc, length-append}
 use Rattle.std.specs.Prelude.{codes}
 use Rattle.std.specs.List.{AllByRecursion, list_any, list_all, position}
 use Rattle.std.specs.Str.{bytes_eq}
-use Rattle.std.proofs.lemmas.Bool.{cases_Bool, or_parts}
-use Rattle.std.proofs.lemmas.Bool.Decides.{nat_tests}
+use Rattle.std.proofs.lemmas.Bool.{cases_Bool, or_parts, le-ltb}
 use Rattle.std.proofs.lemmas.List.{append-nil, map-append, length-map}
 use Rattle.std.proofs.lemmas.Slice.Eq.{bytes_eq-Decides}
 use Rattle.text_definitions.specs.Slp1.{slp1_table, word_of_slp1, slp1_of_word}
@@ -62,9 +61,6 @@ five_each stems = from 0 stems ∙ omega arith
     from so_far [] = omega arith
     from so_far (stem ∷ rest) = from (so_far + 5) rest ∙ omega arith
 
-not_above : (bound n : ℕ) → n ≤ bound → nat_lt bound n ≡ false
-not_above bound n h = grind (arith, nat_tests)
-
 pub six_letters : (stem : List ℕ) (is : IsStemText stem)
     → letters_spelled stem ≡ code_of is.first ∷ code_of is.second ∷ code_of is.third ∷ code_of is.fourth ∷ code_of is.fifth ∷ code_of is.last ∷ []
 six_letters stem is = letters_are stem is.bytes ∙ ap (map code_of) is.is
@@ -84,9 +80,9 @@ module _ (number : ℕ) (before : List (List ℕ)) (stem : List ℕ) (is : IsSte
   no_limit : passes_stem_limits demo_classes number (map stem_spelled before) (stem_spelled stem) ≡ false
   unfolding demo_classes
   no_limit =
-      let short = not_above 64 (length (letters_spelled stem)) (let n = six in omega arith) in
-      let records = not_above MOST_STEM_RECORDS number (omega arith) in
-      let forms = not_above MOST_INFLECTIONS (count_inflections demo_classes (map stem_spelled before) + 5) (let five = five_each before in omega arith) in
+      let short = le-ltb 64 (length (letters_spelled stem)) (let n = six in omega arith) in
+      let records = le-ltb MOST_STEM_RECORDS number (omega arith) in
+      let forms = le-ltb MOST_INFLECTIONS (count_inflections demo_classes (map stem_spelled before) + 5) (let five = five_each before in omega arith) in
       rw (short, no_long, records, forms) refl
 
   spelled : some_word (word_of_slp1 stem) ≡ Some (letters_spelled stem)

@@ -1,6 +1,6 @@
 -- The program's tables agree with those of the script: by tests of each code point of the block that the prover computes.
 use Rattle.std.proofs.Common.{◌≡◌, ℕ, ◌+◌, ◌-◌, ◌<◌, ◌≤◌, Bool, true, false, cond, ◌&&◌, List, [], ◌∷◌, Some, None, inl, inr, nat_le, arith, ap, ◌∙◌, sym, refl}
-use Rattle.std.proofs.lemmas.Bool.{false≢true}
+use Rattle.std.proofs.lemmas.Bool.{false≢true, and_parts}
 use Rattle.std.proofs.lemmas.Bool.Decides.{nat_tests, eqb_tells}
 use Rattle.std.specs.List.{list_all}
 use Rattle.text_definitions.specs.Spellings.{entry_from}
@@ -40,15 +40,11 @@ sign_in_block point low high =
 abbrev in_block : ℕ → Bool
 in_block point = nat_le 0x0900 point && nat_le point 0x097F
 
-parts : (a b : Bool) → a && b ≡ true → (a ≡ true) × (b ≡ true)
-parts true b h = (refl, h)
-parts false b h = absurd (cc)
-
 -- a table whose entries all lie in the block has no other code point
 no_entry : (point code : ℕ) (table : List ℕ) → in_block point ≡ false → list_all in_block table ≡ true → entry_from code table point ≡ None
 no_entry point code [] outside inside = refl
 no_entry point code (entry ∷ table) outside inside =
-    let h = parts _ _ inside in
+    let h = and_parts _ _ inside in
     let rest = entry_from (code + 1) table point in
     elim (eqb_tells entry point) [
       | inl same ↦ absurd (false≢true (sym outside ∙ ap in_block (sym same.1) ∙ h.0))

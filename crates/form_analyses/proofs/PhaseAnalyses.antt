@@ -1,14 +1,12 @@
 -- The analyses of a form among the forms of a phase: by induction on the forms, they are just those that one of the forms has
 -- with these letters, since no two forms have the same letters. Each has a delta, so they are also what the deltas of a trie's
 -- node give, and two rising lists with the same elements are one.
-use Rattle.std.proofs.Common.{◌≡◌, ℕ, ◌≤◌, ◌↔◌, Bool, true, false, if◌then◌else◌, List, [], ◌∷◌, length, map, Some, None, Ordering, inl, inr, refl, sym, ◌∙◌, ap, subst}
+use Rattle.std.proofs.Common.{◌≡◌, ℕ, ◌≤◌, ◌↔◌, Bool, true, false, if◌then◌else◌, List, [], ◌∷◌, length, map, Some, None, inl, inr, refl, sym, ◌∙◌, ap, subst}
 use Rattle.std.specs.Prelude.{All, Contains, IsSome}
 use Rattle.std.specs.List.Sorted.{IsStrictlySortedBy}
-use Rattle.std.specs.Cmp.{IsTotalOrder}
-use Rattle.std.specs.Ordering.{on}
 use Rattle.std.specs.Str.{bytes_eq}
 use Rattle.std.specs.declared.cmp.Ordering.TheVariants.{Less}
-use Rattle.std.proofs.lemmas.Cmp.{nat_list_cmp_total, on_total}
+use Rattle.std.proofs.lemmas.Cmp.{nat_list_cmp_total}
 use Rattle.std.proofs.lemmas.List.{append-nil}
 use Rattle.std.proofs.lemmas.List.Elements.{All-head, All-tail}
 use Rattle.std.proofs.lemmas.Map.Keys.{sorted_tail}
@@ -22,26 +20,11 @@ use Rattle.lexicon_definitions.specs.Deltas.{Delta, analysis_by}
 use Rattle.lexicon_definitions.specs.FormEntries.{HasAnalysis}
 use Rattle.lexicon_definitions.specs.Lexicons.{Form, IsFormEntry, IsPhase}
 use Rattle.lexicon_definitions.specs.Tries.{Row, IsNodeAfter, HasDelta, BeginsForm, row_of, walk}
-use Rattle.lexicon_definitions.proofs.FormsWithEntry.{analyses_total}
+use Rattle.lexicon_definitions.proofs.FormsWithEntry.{analyses_total, has_later, by_letters, forms_total}
 use Rattle.form_lists.proofs.AnalysisOrder.{exact_analyses}
 use Rattle.search_frames.proofs.WalkDeltas.{delta_exists}
 use Rattle.session_definitions.specs.PrintedSummaries.{analyses_among}
-
--- the order of forms is total
-abbrev compare_forms : Form → Form → Ordering
-compare_forms = on (λ (form : Form). form.letters) compare_words
-
-forms_total : IsTotalOrder compare_forms
-forms_total = on_total (λ (form : Form). form.letters) nat_list_cmp_total
-
--- what is among a later form's analyses
-has_later : (form : Form) (forms : List Form) (letters : List ℕ) (analysis : Analysis) → HasAnalysis forms letters analysis → HasAnalysis (form ∷ forms) letters analysis
-has_later form forms letters analysis has = record {
-  form = has.form;
-  is_among = Contains-later form forms has.form has.is_among;
-  has_letters = has.has_letters;
-  is_analyzed = has.is_analyzed;
-}
+use Rattle.list_laws.proofs.FirstOnes.{Contains-map, Contains-map_cases}
 
 module _ (letters : List ℕ) where
   -- one of the forms has these letters and this analysis
@@ -62,7 +45,7 @@ module _ (letters : List ℕ) where
       in go (bytes_eq form.letters letters) refl inside
 
   -- the analysis is among those of the letters, where one of the forms has it
-  pub among_has : (forms : List Form) (analysis : Analysis) → IsStrictlySortedBy compare_forms forms → HasAnalysis forms letters analysis
+  pub among_has : (forms : List Form) (analysis : Analysis) → IsStrictlySortedBy by_letters forms → HasAnalysis forms letters analysis
       → Contains (analyses_among forms letters) analysis
   among_has [] analysis rising has = absurd (not_Contains-nil has.form has.is_among)
   among_has (form ∷ forms) analysis rising has =
@@ -80,7 +63,7 @@ module _ (letters : List ℕ) where
           | inl same ↦
               let one : bytes_eq form.letters letters ≡ true = (bytes_eq-Decides form.letters letters).1 (ap (λ (f : Form). f.letters) same ∙ has.has_letters) in
               absurd (cc)
-          | inr later ↦ among_has forms analysis (sorted_tail compare_forms form forms rising)
+          | inr later ↦ among_has forms analysis (sorted_tail by_letters form forms rising)
               (record { form = has.form; is_among = later; has_letters = has.has_letters; is_analyzed = has.is_analyzed })
         ]
       ]
@@ -109,21 +92,6 @@ module _ (letters : List ℕ) where
       ]
       in go (bytes_eq form.letters letters) refl
 
--- what is among the results of a function, and what is a result
-from_mapped : {X Y : Type 0} (f : X → Y) (xs : List X) (y : Y) → Contains (map f xs) y → (x : X) × Contains xs x × (f x ≡ y)
-from_mapped f [] y inside = absurd (not_Contains-nil y inside)
-from_mapped f (x ∷ xs) y inside = elim (Contains-cons_cases (f x) (map f xs) y inside) [
-  | inl same ↦ (x, Contains-first x xs, same)
-  | inr later ↦ let (z, there, same) = from_mapped f xs y later in (z, Contains-later x xs z there, same)
-]
-
-to_mapped : {X Y : Type 0} (f : X → Y) (xs : List X) (x : X) → Contains xs x → Contains (map f xs) (f x)
-to_mapped f [] x inside = absurd (not_Contains-nil x inside)
-to_mapped f (y ∷ xs) x inside = elim (Contains-cons_cases y xs x inside) [
-  | inl same ↦ subst (λ z. Contains (f y ∷ map f xs) (f z)) same (Contains-first (f y) (map f xs))
-  | inr later ↦ Contains-later (f y) (map f xs) (f x) (to_mapped f xs x later)
-]
-
 -- these are just the deltas of the form with these letters
 pub record AreDeltasOf (forms : List Form) (letters : List ℕ) (deltas : List Delta) : Type 0 where
   pub each : (delta : Delta) → Contains deltas delta ↔ HasDelta forms letters delta
@@ -150,7 +118,7 @@ found_analyses forms letters deltas phase are =
     (λ analysis inside. elim ((Contains-with_elements analyses_total exact_analyses [] given analysis).0 inside) [
       | inl none ↦ absurd (not_Contains-nil analysis none)
       | inr there ↦
-          let (delta, among, gives) = from_mapped (analysis_by letters) deltas analysis there in
+          let (delta, among, gives) = Contains-map_cases (analysis_by letters) deltas analysis there in
           let has = (are.each delta).0 among in
           among_has letters forms analysis phase.rising (record {
             form = has.form;
@@ -171,7 +139,7 @@ found_analyses forms letters deltas phase are =
       is_delta = is;
     }) in
     (Contains-with_elements analyses_total exact_analyses [] given analysis).1
-    (inr (subst (Contains given) is.gives (to_mapped (analysis_by letters) deltas delta among))))
+    (inr (subst (Contains given) is.gives (Contains-map (analysis_by letters) deltas delta among))))
 
 -- a form that leads nowhere is none of the forms
 pub not_found : (rows : List Row) (forms : List Form) (letters : List ℕ) (root : ℕ) → IsNodeAfter rows forms [] root

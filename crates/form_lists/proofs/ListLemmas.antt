@@ -1,5 +1,5 @@
 -- What holds of all form lists: of empty ones, and of those where one phase got an entry.
-use Rattle.std.proofs.Common.{◌≡◌, ◌≢◌, ℕ, zero, suc, ◌+◌, ◌<◌, ◌≤◌, ◌^◌, List, [], ◌∷◌, length, get_or, set, replicate, All, refl, sym, ap, arith}
+use Rattle.std.proofs.Common.{◌≡◌, ℕ, zero, suc, ◌+◌, ◌<◌, ◌≤◌, ◌^◌, List, [], ◌∷◌, length, get_or, set, replicate, All, refl, sym, ap, arith}
 use Rattle.std.proofs.lemmas.List.{length-set, length-replicate}
 use Rattle.std.proofs.lemmas.List.Elements.{All-nil, All-head, All-tail, All-set, All-replicate}
 use Rattle.std.proofs.lemmas.List.Sums.{sum_by-set, sum_by-cons, get_or-le-sum_by}
@@ -9,6 +9,7 @@ use Rattle.lexicon_definitions.specs.Limits.{count_lines}
 use Rattle.lexicon_definitions.specs.FormEntries.{IsListedForm, IsListedPhase}
 use Rattle.form_lists.specs.Views.{count_analyses}
 use Rattle.form_lists.specs.Lists.{AreFormLists}
+use Rattle.lexicon_definitions.proofs.FormsPlaced.{some_length}
 
 -- a phase without forms is listed
 pub no_forms : IsListedPhase []
@@ -49,10 +50,6 @@ AreFormLists-set lists phase new listed is_new few =
       phases = omega (arith, len, listed.phases);
       lines = few;
     }
-
-some_length : {A : Type 0} (xs : List A) → xs ≢ [] → 0 < length xs
-some_length [] h = absurd (h refl)
-some_length (x ∷ xs) h = omega arith
 
 -- each form has an analysis, so there are not more forms than lines
 few_forms : (forms : List Form) → All IsFormEntry forms → length forms ≤ count_analyses forms

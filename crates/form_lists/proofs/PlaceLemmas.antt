@@ -1,6 +1,6 @@
 -- A rising list has its last element above all others, so one comparison with it may tell the place; else std's search does,
 -- since an order that tells all keys apart puts one place at most at a key.
-use Rattle.std.proofs.Common.{◌≡◌, ℕ, ◌+◌, ◌-◌, ◌<◌, false, List, [], ◌∷◌, length, map, get_or, Result, Ok, Err, Ordering, ◌⊎◌, ◌↔◌, Contains, IsTrue, is_ok, ◌∙◌, sym, ap, subst, refl, arith, inl, inr}
+use Rattle.std.proofs.Common.{◌≡◌, ℕ, ◌+◌, ◌-◌, ◌<◌, List, [], ◌∷◌, length, map, get_or, Result, Ok, Err, Ordering, ◌⊎◌, ◌↔◌, Contains, IsTrue, is_ok, ◌∙◌, sym, ap, subst, refl, arith, inl, inr}
 use Rattle.std.specs.declared.cmp.Ordering.TheVariants.{Less, Equal, Greater}
 use Rattle.std.specs.Ordering.{is_lt, on, ordering_reverse, ordering_index}
 use Rattle.std.specs.Cmp.{IsTotalOrder}
@@ -13,11 +13,6 @@ use Rattle.std.proofs.lemmas.List.Sorted.{searchable_from_sorted}
 use Rattle.std.proofs.lemmas.Map.Keys.{Less-from_sorted}
 use Rattle.std.proofs.lemmas.Map.Lookups.{CmpEqualImpliesEq}
 use Rattle.form_lists.specs.Places.{IsPlaceOf}
-
-not_less_back : (o : Ordering) → o ≡ Less → is_lt (ordering_reverse o) ≡ false
-not_less_back Less e = refl
-not_less_back Equal e = absurd (cc)
-not_less_back Greater e = absurd (cc)
 
 module _ {X K : Type 0} (R : K → K → Ordering) (key : X → K) where
   all_on : (k : K) (xs : List X) → AllByRecursion (λ y. R k y ≡ Less) (map key xs) → AllByRecursion (λ y. R k (key y) ≡ Less) xs
@@ -85,7 +80,7 @@ module _ {X K : Type 0} {R : K → K → Ordering} (total : IsTotalOrder R) (exa
   not_falling rising =
       searchable_from_sorted total key xs x
       (λ k d low high. rw (total.antisymm (key (get_or xs (k + 1) d)) (key (get_or xs k d)))
-      (not_less_back _ (Less-from_sorted (on key R) xs k (k + 1) d rising (omega arith) high)))
+      (ap (λ o. is_lt (ordering_reverse o)) (Less-from_sorted (on key R) xs k (k + 1) d rising (omega arith) high)))
 
   keyed : (y : X) (d : K) (i : ℕ) → i < length xs → get_or (map key xs) i d ≡ key (get_or xs i y)
   keyed y d i low = get_or-map key xs i y d low

@@ -3,3 +3,4 @@ pub mod DottedTexts
 pub mod TagOrder
 pub mod TagShapes
 pub mod TagsByText
+pub mod TagEquality

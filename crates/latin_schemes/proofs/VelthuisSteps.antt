@@ -4,13 +4,10 @@ use Rattle.std.proofs.lemmas.List.{take_rest}
 use Rattle.std.proofs.lemmas.Bool.Decides.{nat_tests}
 use Rattle.text_definitions.specs.Spellings.{with_front, NotLetter, with_letter}
 use Rattle.text_definitions.specs.Longest.{word_of_spellings}
-use Rattle.text_definitions.specs.Velthuis.{velthuis_table, velthuis_capital, velthuis_letter, velthuis_front, word_of_velthuis}
+use Rattle.text_definitions.specs.Velthuis.{velthuis_front, word_of_velthuis}
 use Rattle.text_definitions.proofs.Readings.{with_front_none, with_front_push}
 use Rattle.text_definitions.proofs.Longest.{at_begin, at_fault}
-
-no_separator : (rest : List ℕ) → velthuis_front (95 ∷ rest) ≡ None
-unfolding velthuis_table velthuis_capital velthuis_letter velthuis_front
-no_separator rest = refl
+use Rattle.text_definitions.proofs.VelthuisTable.{no_separator}
 
 -- before the first letter nothing was read
 pub reads_none : (text : List ℕ) → with_front [] (word_of_spellings velthuis_front 0 0 (ltb 0 0) text) ≡ word_of_velthuis text

@@ -1,5 +1,5 @@
 -- Entries in another order are the same set; and lists that have just the entries of sources are their lexicon, which has a text.
-use Rattle.std.proofs.Common.{◌≡◌, ◌≢◌, ℕ, ◌<◌, ◌≤◌, List, [], ◌∷◌, length, map, All, sym, ◌∙◌, ap, subst, arith}
+use Rattle.std.proofs.Common.{◌≡◌, ℕ, ◌<◌, ◌≤◌, List, length, map, All, sym, ◌∙◌, ap, subst, arith}
 use Rattle.std.specs.List.Sorted.{IsPermutation}
 use Rattle.std.proofs.lemmas.List.Sorted.{Contains-permutation, IsPermutation-sym, IsPermutation-map, length_permutation}
 use Rattle.std.proofs.lemmas.List.{length-map}
@@ -16,10 +16,7 @@ use Rattle.form_tags.specs.declared.entry.Entry.{Entry}
 use Rattle.form_lists.specs.Lists.{text_entry, AreFormLists}
 use Rattle.lexicon_builder.specs.Sources.{AreSources, IsListable, HaveTooManyLines}
 use Rattle.lexicon_builder.proofs.ListableEntries.{entries_listable, entries_few}
-
-some_by : (word : List ℕ) → 0 < length word → word ≢ []
-some_by [] h e = absurd (omega arith)
-some_by (letter ∷ word) h e = cc
+use Rattle.list_laws.proofs.Elements.{some_by_length}
 
 -- names are as many as the texts that hold them
 pub as_many : {X : Type 0} (name_of : X → List ℕ) (texts : List X) (names : List (List ℕ)) → map name_of texts ≡ names → length texts ≡ length names
@@ -90,5 +87,5 @@ module _ (rules : RuleSet) (classes : List Class) (stems : List Stem) (sources :
         unlimited = sources.unlimited;
         stems = λ k d below j e low i f l.
             let here : IsListedPhase _ = listed.each k d below in
-            (((here.phase.each j e low).analyses i f l).stem, some_by _ (((here.each j e low).stems i f l).not_empty));
+            (((here.phase.each j e low).analyses i f l).stem, some_by_length _ (((here.each j e low).stems i f l).not_empty));
       }

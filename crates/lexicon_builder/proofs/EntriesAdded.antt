@@ -14,6 +14,7 @@ use Rattle.lexicon_definitions.specs.Lexicons.{Form}
 use Rattle.lexicon_definitions.specs.Limits.{count_lines}
 use Rattle.list_laws.proofs.Sorted.{Contains-first, Contains-later, Contains-cons_cases, not_Contains-nil}
 use Rattle.form_lists.proofs.AnalysisOrder.{exact_analyses}
+use Rattle.lexicon_definitions.proofs.FormsWithEntry.{has_later}
 
 -- ---- analyses
 
@@ -77,11 +78,6 @@ has_first : (form : Form) (forms : List Form) (letters : List ℕ) (x : Analysis
     → HasAnalysis (form ∷ forms) letters x
 has_first form forms letters x same m =
     record { form = form; is_among = Contains-first form forms; has_letters = same; is_analyzed = m }
-
--- a later form has it
-has_later : (form : Form) (forms : List Form) (letters : List ℕ) (x : Analysis) → HasAnalysis forms letters x → HasAnalysis (form ∷ forms) letters x
-has_later form forms letters x h =
-    record { form = h.form; is_among = Contains-later form forms h.form h.is_among; has_letters = h.has_letters; is_analyzed = h.is_analyzed }
 
 -- one of the two has it
 has_cases : (form : Form) (forms : List Form) (letters : List ℕ) (x : Analysis) → HasAnalysis (form ∷ forms) letters x

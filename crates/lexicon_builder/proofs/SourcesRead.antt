@@ -18,7 +18,6 @@ use Rattle.lexicon_text_definitions.specs.FileReadings as lexicon_file
 use Rattle.lexicon_file.proofs.WriteLemmas.{read_has_text}
 use Rattle.lexicon_text_definitions.specs.FileContents.{is_tag_text}
 use Rattle.lexicon_text_definitions.specs.FileSteps.{some_word}
-use Rattle.lexicon_text_definitions.proofs.LineTests.{if_refused}
 use Rattle.morphology_definitions.specs.Inflection.{Row, Class, Stem, rows_of}
 use Rattle.paradigm_file_definitions.specs.declared.limits.TheConstants.{MOST_STEM_RECORDS, MOST_INFLECTIONS}
 use Rattle.paradigm_file_definitions.specs.Records.{read_on, read_records, records_of}
@@ -31,10 +30,8 @@ use Rattle.paradigm_file_definitions.proofs.StemsTaken.{all_inflectable_stems}
 use Rattle.rule_file_definitions.specs.RuleFileReadings.{IsReadAs}
 use Rattle.rule_file_definitions.proofs.SoundSets.{read_sound}
 use Rattle.lexicon_builder.specs.Sources.{HasPhases, IsShortStem, AreSources}
-
-some_length : {A : Type 0} (xs : List A) → xs ≢ [] → 0 < length xs
-some_length [] h = absurd (h refl)
-some_length (x ∷ xs) h = omega arith
+use Rattle.list_laws.proofs.Booleans.{if_refused}
+use Rattle.lexicon_definitions.proofs.FormsPlaced.{some_length}
 
 -- ---- records one after another
 

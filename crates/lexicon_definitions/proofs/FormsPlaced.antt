@@ -1,5 +1,5 @@
 -- What placing an element in a rising list does: by induction on the list, along the three cases of a step.
-use Rattle.std.proofs.Common.{◌≡◌, ℕ, zero, suc, ◌<◌, ◌≤◌, List, [], ◌∷◌, length, get_or, set, All, refl, sym, ap, ◌∙◌, arith, Ordering}
+use Rattle.std.proofs.Common.{◌≡◌, ◌≢◌, ℕ, zero, suc, ◌<◌, ◌≤◌, List, [], ◌∷◌, length, get_or, set, All, refl, sym, ap, ◌∙◌, arith, Ordering}
 use Rattle.std.specs.declared.cmp.Ordering.TheVariants.{Less, Equal, Greater}
 use Rattle.std.specs.List.{insert}
 use Rattle.std.specs.List.Sorted.{IsStrictlySortedBy}
@@ -72,3 +72,8 @@ module _ {X : Type 0} (side : X → Ordering) (new : X) (change : X → X) where
             (recursion_from_All (IsAbove new) (x ∷ xs) (All-cons (IsAbove new) x xs is_new (All-weaker (IsAbove x) (IsAbove new) (λ y h. total.trans (key new) (key x) (key y) is_new h) xs each)), rising)
       ]
       in go (side x) refl
+
+-- a list that is not empty has a length
+pub some_length : {A : Type 0} (xs : List A) → xs ≢ [] → 0 < length xs
+some_length [] h = absurd (h refl)
+some_length (x ∷ xs) h = omega arith

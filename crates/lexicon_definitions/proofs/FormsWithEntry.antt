@@ -9,9 +9,11 @@ use Rattle.std.proofs.lemmas.List.Elements.{All-nil, All-cons}
 use Rattle.text_definitions.specs.Words.{IsWord, compare_words}
 use Rattle.lexicon_definitions.specs.Analyses.{Analysis, compare_analyses}
 use Rattle.lexicon_definitions.specs.Lexicons.{Form, IsAnalysis, IsFormEntry, IsPhase}
-use Rattle.lexicon_definitions.specs.FormEntries.{placed, placed_at, with_analysis, with_form, IsListedStem, IsListedForm, IsListedPhase}
+use Rattle.lexicon_definitions.specs.FormEntries.{placed, placed_at, with_analysis, with_form, IsListedStem, IsListedForm, IsListedPhase, HasAnalysis}
 use Rattle.lexicon_definitions.specs.declared.limits.TheConstants.{MOST_FORM_LETTERS}
 use Rattle.lexicon_definitions.proofs.FormsPlaced.{All-placed, sorted_placed, placed_new}
+use Rattle.list_laws.proofs.Sorted.{Contains-later}
+use Rattle.std.specs.Ordering.{on}
 
 -- the list with one more has an element
 placed_not_empty : {X : Type 0} (side : X → Ordering) (new : X) (change : X → X) (xs : List X) → placed side new change xs ≢ []
@@ -24,6 +26,13 @@ placed_not_empty side new change (x ∷ xs) =
 pub analyses_total : IsTotalOrder compare_analyses
 analyses_total =
     then_total (on_total (λ (a : Analysis). a.stem) nat_list_cmp_total) (on_total (λ (a : Analysis). a.tag) nat_list_cmp_total)
+
+-- forms by their letters, which is a total order
+abbrev pub by_letters : Form → Form → Ordering
+by_letters = on (λ (form : Form). form.letters) compare_words
+
+pub forms_total : IsTotalOrder by_letters
+forms_total = on_total (λ (form : Form). form.letters) nat_list_cmp_total
 
 -- a rising list of analyses rises with one more
 pub sorted-with_analysis : (analysis : Analysis) (analyses : List Analysis) → IsStrictlySortedBy compare_analyses analyses → IsStrictlySortedBy compare_analyses (with_analysis analysis analyses)
@@ -98,3 +107,8 @@ module _ (letters : List ℕ) (analysis : Analysis) where
   with_form_last forms before =
       placed_new (λ (form : Form). compare_words form.letters letters) alone (more_analyzed analysis) forms (length forms) (omega arith) before (λ k d low high. absurd (omega (arith, low, high)))
       ∙ insert_end forms alone
+
+-- what a later form has is there with a form before it
+pub has_later : (form : Form) (forms : List Form) (letters : List ℕ) (x : Analysis) → HasAnalysis forms letters x → HasAnalysis (form ∷ forms) letters x
+has_later form forms letters x h =
+    record { form = h.form; is_among = Contains-later form forms h.form h.is_among; has_letters = h.has_letters; is_analyzed = h.is_analyzed }

@@ -1,7 +1,9 @@
 -- A text's first fault is told by its size and by the first fault of its bytes and names; only where it has none of these can
 -- it have too many states. By cases on both faults.
-use Rattle.std.proofs.Common.{◌≡◌, ℕ, Some, None, List, refl, sym, ap, ◌∙◌}
-use Rattle.lexicon_definitions.specs.GrammarFaults.{Fault, Long, Syntax, UnknownPhase, Places, States, fault_before_states, IsFirstFault, IsGrammarTextWithinLimits}
+use Rattle.std.proofs.Common.{◌≡◌, ℕ, Bool, true, false, nat_lt, Option, Some, None, List, length, refl, sym, ◌∙◌}
+use Rattle.lexicon_definitions.specs.GrammarFaults.{Fault, Long, Syntax, UnknownPhase, Places, States, fault_before_states, IsFirstFault, IsGrammarTextWithinLimits, first_fault_of, syntax_fault, first_unknown, names_from}
+use Rattle.lexicon_definitions.specs.declared.limits.TheConstants.{MOST_GRAMMAR_BYTES, MOST_GRAMMAR_NAMES}
+use Rattle.lexicon_definitions.specs.Lexicons.{IsGrammarOver}
 
 -- a first fault but for too many states is the one before the states
 earlier_fault : (names : List (List ℕ)) (text : List ℕ) (first second : Fault) → fault_before_states names text ≡ Some first
@@ -28,3 +30,15 @@ one_first_fault names text (Syntax at) second h k = earlier_fault names text (Sy
 one_first_fault names text (UnknownPhase at) second h k = earlier_fault names text (UnknownPhase at) second h k
 one_first_fault names text Places second h k = earlier_fault names text Places second h k
 one_first_fault names text States second h k = states_last names text second h.0 k
+
+over_by : (names : List (List ℕ)) (text : List ℕ) (long : Bool) (syntax unknown : Option ℕ) (places : Bool) → nat_lt MOST_GRAMMAR_BYTES (length text) ≡ long
+    → syntax_fault text ≡ syntax → first_unknown names (names_from 0 text) ≡ unknown → nat_lt MOST_GRAMMAR_NAMES (length (names_from 0 text)) ≡ places
+    → IsGrammarTextWithinLimits names text → (syntax ≡ None) × (unknown ≡ None)
+over_by names text true syntax unknown places a b c d h = absurd (h Long (λ i. first_fault_of (a i) (b i) (c i) (d i)))
+over_by names text false (Some at) unknown places a b c d h = absurd (h (Syntax at) (λ i. first_fault_of (a i) (b i) (c i) (d i)))
+over_by names text false None (Some at) places a b c d h = absurd (h (UnknownPhase at) (λ i. first_fault_of (a i) (b i) (c i) (d i)))
+over_by names text false None None places a b c d h = (refl, refl)
+
+-- a grammar text within the limits is one over its names
+pub grammar_over : (names : List (List ℕ)) (text : List ℕ) → IsGrammarTextWithinLimits names text → IsGrammarOver names text
+grammar_over names text h = over_by names text _ _ _ _ refl refl refl refl h

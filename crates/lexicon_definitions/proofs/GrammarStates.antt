@@ -1,66 +1,29 @@
--- Rising lists with the same elements are equal, by recursion on both; so lists of phases with the same positions after them
--- have the same state.
-use Rattle.std.proofs.Common.{◌≡◌, ◌⊎◌, inl, inr, ℕ, zero, suc, ◌<◌, ◌↔◌, List, [], ◌∷◌, length, get_or, refl, sym, ap, ◌∙◌, arith}
+-- Rising lists with the same elements are equal; so lists of phases with the same positions after them have the same state.
+use Rattle.std.proofs.Common.{◌≡◌, ◌⊎◌, inl, inr, ℕ, ◌↔◌, List, [], ◌∷◌, refl, sym, ap, ◌∙◌}
 use Rattle.std.specs.List.{Contains}
-use Rattle.std.specs.Ordering.{nat_cmp}
-use Rattle.std.specs.List.Sorted.{IsStrictlyIncreasing, IsStrictlySortedBy}
-use Rattle.std.proofs.lemmas.Map.Keys.{sorted_from_strictly_increasing, sorted_tail, below_from_sorted}
+use Rattle.std.specs.List.Sorted.{IsStrictlyIncreasing}
+use Rattle.std.proofs.lemmas.Map.Keys.{sorted_from_strictly_increasing}
 use Rattle.lexicon_definitions.specs.Grammars.{Grammar, State, Opening, After, IsStateAfter, HaveSamePositions}
+use Rattle.std.proofs.lemmas.Cmp.{nat_cmp_total}
+use Rattle.list_laws.proofs.Sorted.{Contains-first, Contains-later, Contains-cons_cases, not_Contains-nil, same_sorted}
 
+-- what a list of phases contains, for crates that know no other laws of lists
 pub in_cons : (x : ℕ) (xs : List ℕ) (y : ℕ) → Contains (x ∷ xs) y → (x ≡ y) ⊎ Contains xs y
-in_cons x xs y h = go h.0 h.1 h.2
-  where
-    go : (k : ℕ) → k < length (x ∷ xs) → get_or (x ∷ xs) k y ≡ y → (x ≡ y) ⊎ Contains xs y
-    go zero l e = inl e
-    go (suc k) l e = inr (k, omega (arith, l), e)
+in_cons x xs y h = Contains-cons_cases x xs y h
 
 pub in_head : (x : ℕ) (xs : List ℕ) → Contains (x ∷ xs) x
-in_head x xs = (zero, omega arith, refl)
+in_head x xs = Contains-first x xs
 
 pub in_tail : (x : ℕ) (xs : List ℕ) (y : ℕ) → Contains xs y → Contains (x ∷ xs) y
-in_tail x xs y h = (suc h.0, omega (arith, h.1), h.2)
+in_tail x xs y h = Contains-later x xs y h
 
 pub in_nil : (y : ℕ) → Contains [] y → ⊥
-in_nil y h = omega (arith, h.1)
-
--- the head of a rising list is below what stands after it
-head_below : (x : ℕ) (xs : List ℕ) (y : ℕ) → IsStrictlySortedBy nat_cmp (x ∷ xs) → Contains xs y → x < y
-head_below x xs y s h =
-    let below = below_from_sorted (x ∷ xs) 0 (suc h.0) y s (omega arith) (omega (arith, h.1)) in
-    omega (arith, below, h.2)
-
-sorted_same : (xs ys : List ℕ) → IsStrictlySortedBy nat_cmp xs → IsStrictlySortedBy nat_cmp ys
-    → ((z : ℕ) → Contains xs z ↔ Contains ys z) → xs ≡ ys
-sorted_same [] [] s t h = refl
-sorted_same [] (y ∷ ys) s t h = absurd (in_nil y ((h y).1 (in_head y ys)))
-sorted_same (x ∷ xs) [] s t h = absurd (in_nil x ((h x).0 (in_head x xs)))
-sorted_same (x ∷ xs) (y ∷ ys) s t h =
-    let heads : x ≡ y = elim (in_cons y ys x ((h x).0 (in_head x xs))) [
-      | inl e ↦ sym e
-      | inr below ↦ elim (in_cons x xs y ((h y).1 (in_head y ys))) [
-        | inl e ↦ e
-        | inr above ↦
-            let a = head_below y ys x t below in
-            let b = head_below x xs y s above in
-            absurd (omega (arith, a, b))
-      ]
-    ] in
-    let tails = sorted_same xs ys (sorted_tail nat_cmp x xs s) (sorted_tail nat_cmp y ys t) (λ z. (
-      (λ k. elim (in_cons y ys z ((h z).0 (in_tail x xs z k))) [
-        | inl e ↦ absurd (let below = head_below x xs z s k in omega (arith, below, e, heads))
-        | inr m ↦ m
-      ]),
-      (λ k. elim (in_cons x xs z ((h z).1 (in_tail y ys z k))) [
-        | inl e ↦ absurd (let below = head_below y ys z t k in omega (arith, below, e, heads))
-        | inr m ↦ m
-      ]),
-    )) in
-    cc (heads, tails)
+in_nil y h = not_Contains-nil y h
 
 pub increasing_same : (xs ys : List ℕ) → IsStrictlyIncreasing xs → IsStrictlyIncreasing ys
     → ((z : ℕ) → Contains xs z ↔ Contains ys z) → xs ≡ ys
 increasing_same xs ys s t h =
-    sorted_same xs ys (sorted_from_strictly_increasing xs s) (sorted_from_strictly_increasing ys t) h
+    same_sorted nat_cmp_total xs ys (sorted_from_strictly_increasing xs s) (sorted_from_strictly_increasing ys t) (λ z. (h z).0) (λ z. (h z).1)
 
 -- lists with the same positions after them have the same state
 pub same_positions_same_state : (g : Grammar) (p q : List ℕ) (s t : State) → HaveSamePositions g p q → IsStateAfter g p s

@@ -7,6 +7,7 @@ use Rattle.lexicon_definitions.specs.GrammarMarks.{IsLast, IsPair, IsPositionIn,
 use Rattle.lexicon_definitions.proofs.GrammarLists.{all_at, last_of}
 use Rattle.lexicon_definitions.proofs.GrammarPositions.{IsPositionOf, positions_within, reads_accepts, accepts_reads, exchange, front_of, position_of}
 use Rattle.lexicon_definitions.proofs.GrammarFollows.{some_reading}
+use Rattle.list_laws.proofs.Elements.{some_by_last}
 
 -- a position of a reading is above 0
 read_position : (g : Grammar) (front : List Mark) (m : Mark) (rest : List Mark) → Reads g 1 (front ++ m ∷ rest) → 0 < m.position
@@ -26,11 +27,6 @@ final_of : (g : Grammar) (position : ℕ) (m : Mark) → 0 < position → IsLast
 final_of g zero m h last e = absurd (omega (arith, h))
 final_of g (suc position) m h last e = (m, last, e)
 
--- a list with an element at its end is not empty
-push_is_not_nil : {A : Type 0} (xs : List A) (x : A) → xs ++ x ∷ [] ≡ [] → ⊥
-push_is_not_nil [] x e = cc
-push_is_not_nil (y ∷ xs) x e = cc
-
 phases_push : (marks : List Mark) (m : Mark) → phases_of (marks ++ m ∷ []) ≡ phases_of marks ++ m.phase ∷ []
 phases_push marks m = map-append (λ (mark : Mark). mark.phase) marks (m ∷ [])
 
@@ -43,7 +39,7 @@ first_step g k q = ((λ h. to h.0 h.1 h.2 h.3 h.4 h.5), (λ h. back h.0 h.1 h.2)
     to [] last rest reads e position = (0, refl, (last, (rest, reads), (cc), position))
     to (x ∷ front) last rest reads e position =
         let none : [] ≡ phases_of (front ++ last ∷ []) = cc in
-        absurd (push_is_not_nil (phases_of front) last.phase (sym (phases_push front last) ∙ sym none))
+        absurd (some_by_last (phases_of front) last.phase (sym (phases_push front last) ∙ sym none))
 
     back : (p : ℕ) → p ≡ 0 → IsLink g p k q → IsPositionIn g (k ∷ []) q
     back zero e h = ([], h.0, h.1.0, h.1.1, (let phase = h.2 in cc), h.3)
@@ -59,7 +55,7 @@ more_step g j js k q = ((λ h. to h.0 h.1 h.2 h.3 h.4 h.5), (λ h. back h.0 h.1 
         → (p : ℕ) × IsPositionIn g (j ∷ js) p × IsLink g p k q
     to [] last rest reads e position =
         let none : js ++ k ∷ [] ≡ [] = cc in
-        absurd (push_is_not_nil js k none)
+        absurd (some_by_last js k none)
     to (x ∷ front) last rest reads e position =
         let before = last_of x front in
         let same = same_from_push (j ∷ js) (phases_of (x ∷ front)) k last.phase (e ∙ phases_push (x ∷ front) last) in

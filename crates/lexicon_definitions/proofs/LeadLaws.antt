@@ -3,9 +3,7 @@ use Rattle.std.proofs.Common.{◌≡◌, ◌≢◌, ℕ, ◌≤◌, ◌⊎◌, �
 use Rattle.std.specs.List.{Contains}
 use Rattle.std.specs.List.Sorted.{IsStrictlySortedBy}
 use Rattle.std.specs.Cmp.{IsTotalOrder}
-use Rattle.std.specs.declared.cmp.Ordering.{Ordering}
-use Rattle.std.specs.declared.cmp.Ordering.TheVariants.{Less, Equal, Greater}
-use Rattle.std.specs.Ordering.{nat_cmp, ordering_then}
+use Rattle.std.specs.Ordering.{nat_cmp}
 use Rattle.std.proofs.lemmas.Cmp.{nat_cmp_total, nat_list_cmp_total, then_total, on_total}
 use Rattle.std.proofs.lemmas.Map.Lookups.{CmpEqualImpliesEq, exact_unsigned, exact_bytes}
 use Rattle.text_definitions.specs.Words.{compare_words}
@@ -14,15 +12,11 @@ use Rattle.lexicon_definitions.specs.Leads.{Lead, compare_leads, with_lead, with
 use Rattle.list_laws.specs.RisingSets.{with_element}
 use Rattle.list_laws.proofs.RisingSetLaws.{Contains-with_element, sorted-with_element, length-with_element}
 use Rattle.list_laws.proofs.Sorted.{Contains-first, Contains-later, Contains-cons_cases, not_Contains-nil}
+use Rattle.list_laws.proofs.Orderings.{equal_then_both}
 
 -- leads are totally ordered
 pub compare_leads_total : IsTotalOrder compare_leads
 compare_leads_total = then_total (on_total (λ (lead : Lead). lead.v) nat_list_cmp_total) (on_total (λ (lead : Lead). lead.after) nat_cmp_total)
-
-both_equal : (a b : Ordering) → ordering_then a b ≡ Equal → (a ≡ Equal) × (b ≡ Equal)
-both_equal Less b e = cc
-both_equal Equal b e = (refl, e)
-both_equal Greater b e = cc
 
 pub same_lead : (left right : Lead) → left.v ≡ right.v → left.after ≡ right.after → left ≡ right
 same_lead left right v after = λ i. record { v = v i; after = after i }
@@ -30,7 +24,7 @@ same_lead left right v after = λ i. record { v = v i; after = after i }
 -- leads that compare as equal are the same
 pub compare_leads_exact : CmpEqualImpliesEq compare_leads
 compare_leads_exact left right e =
-    let parts = both_equal (compare_words left.v right.v) (nat_cmp left.after right.after) e in
+    let parts = equal_then_both (compare_words left.v right.v) (nat_cmp left.after right.after) e in
     same_lead left right (exact_bytes _ _ parts.0) (exact_unsigned _ _ parts.1)
 
 -- a final rule adds none

@@ -15,3 +15,6 @@ pub mod TrieGrowth
 pub mod TrieSteps
 pub mod TrieSuffixes
 pub mod TrieWalks
+pub mod PlainPairs
+pub mod FirstPlaces
+pub mod WrittenRules

@@ -1,14 +1,12 @@
 -- What a letter finds among children: by induction on the list, the first pair with the letter, which in a rising list is the
 -- only one.
-use Rattle.std.proofs.Common.{◌≡◌, ℕ, zero, suc, ◌<◌, ◌==◌, ◌⊎◌, Bool, true, false, cond, Option, Some, None, List, [], ◌∷◌, length, refl, sym, ◌∙◌, ap, subst, arith}
-use Rattle.std.specs.Prelude.{find, All, Contains, IfSome}
+use Rattle.std.proofs.Common.{◌≡◌, ℕ, ◌<◌, ◌==◌, Bool, true, false, cond, Option, Some, None, List, [], ◌∷◌, length, refl, sym, subst}
+use Rattle.std.specs.Prelude.{find, Contains, IfSome}
 use Rattle.std.specs.Option.{option_map}
-use Rattle.std.specs.Ordering.{nat_cmp, on}
-use Rattle.std.specs.List.Sorted.{IsStrictlySortedBy}
 use Rattle.std.proofs.lemmas.Bool.{eqb-true}
 use Rattle.std.proofs.lemmas.List.Elements.{All-contains}
 use Rattle.list_laws.proofs.Sorted.{Contains-first, Contains-later}
-use Rattle.lexicon_definitions.specs.Tries.{Row, Trie, AreRows, IsChild, IsRow, IsTrie, child_among, child_in, row_of}
+use Rattle.lexicon_definitions.specs.Tries.{Row, AreRows, IsChild, child_among, child_in, row_of}
 
 -- what a letter finds is a child with the letter
 pub Contains-child_among : (letter child : ℕ) (children : List (ℕ × ℕ)) → child_among children letter ≡ Some child

@@ -1,13 +1,12 @@
 -- Rows that are added leave what is walked from the nodes before: children have smaller numbers, so a walk never leaves the
 -- rows that were there.
-use Rattle.std.proofs.Common.{◌≡◌, ◌≢◌, ℕ, zero, suc, ◌+◌, ◌<◌, ◌≤◌, ◌⊎◌, ◌↔◌, inl, inr, Option, Some, None, List, [], ◌∷◌, ◌++◌, length, get_or, refl, sym, ◌∙◌, ap, subst, arith, length-append}
-use Rattle.std.specs.Prelude.{option_and_then, All, AllPairs, Contains, IsSome}
+use Rattle.std.proofs.Common.{◌≡◌, ◌≢◌, ℕ, ◌+◌, ◌<◌, ◌≤◌, ◌⊎◌, ◌↔◌, inl, inr, Option, Some, None, List, [], ◌∷◌, ◌++◌, length, refl, sym, ◌∙◌, ap, subst, arith}
+use Rattle.std.specs.Prelude.{option_and_then, AllPairs, Contains, IsSome}
 use Rattle.std.proofs.lemmas.Bool.{cases_lt}
 use Rattle.std.proofs.lemmas.List.{get_or_append_left, get_or_push, length_push}
-use Rattle.std.proofs.lemmas.List.Elements.{All-weaker, All-contains}
-use Rattle.lexicon_definitions.specs.Deltas.{Delta}
+use Rattle.std.proofs.lemmas.List.Elements.{All-weaker}
 use Rattle.lexicon_definitions.specs.Lexicons.{Form}
-use Rattle.lexicon_definitions.specs.Tries.{Row, Trie, AreRows, IsChild, IsRow, IsTrie, IsHeight, IsNodeAfter, HasDelta, BeginsForm, child_among, child_in, row_of, walk, empty_row}
+use Rattle.lexicon_definitions.specs.Tries.{Row, AreRows, IsChild, IsRow, IsHeight, IsNodeAfter, HasDelta, BeginsForm, child_among, child_in, row_of, walk, empty_row}
 use Rattle.lexicon_definitions.proofs.TrieChildren.{IsChild-child_in}
 
 -- the row of a node that was there

@@ -1,9 +1,8 @@
 -- A node stands for what follows a front where its deltas are those of the front, and its children stand for what follows the
 -- front and their letters: a word is empty, or its first letter tells the child.
-use Rattle.std.proofs.Common.{◌≡◌, ◌≢◌, ℕ, zero, suc, ◌<◌, ◌==◌, ◌⊎◌, ◌↔◌, inl, inr, Bool, true, false, cond, Option, Some, None, List, [], ◌∷◌, ◌++◌, length, refl, sym, ◌∙◌, ap, subst, arith, append_assoc, append-nil, true≢false}
-use Rattle.std.specs.Prelude.{option_and_then, find, All, Contains, IsSome, is_some}
+use Rattle.std.proofs.Common.{◌≡◌, ℕ, ◌==◌, ◌⊎◌, ◌↔◌, inl, inr, Bool, true, false, cond, Option, Some, None, List, [], ◌∷◌, ◌++◌, refl, sym, ◌∙◌, ap, subst, append_assoc, append-nil, true≢false}
+use Rattle.std.specs.Prelude.{find, All, Contains, IsSome, is_some}
 use Rattle.std.specs.Option.{option_map}
-use Rattle.std.specs.declared.cmp.Ordering.{Ordering}
 use Rattle.std.specs.declared.cmp.Ordering.TheVariants.{Less}
 use Rattle.std.specs.Ordering.{nat_cmp, on}
 use Rattle.std.specs.List.Sorted.{IsStrictlySortedBy}
@@ -61,10 +60,6 @@ pub record IsRowAfter (rows : List Row) (forms : List Form) (front : List ℕ) (
   pub letters : (letter : ℕ) (word : List ℕ) → BeginsForm forms (front ++ letter ∷ word)
       → (child : ℕ) × Contains row.children (letter, child)
 
--- the front with a letter, before the rest of a word
-front_letter : (front : List ℕ) (letter : ℕ) (word : List ℕ) → (front ++ letter ∷ []) ++ word ≡ front ++ letter ∷ word
-front_letter front letter word = append_assoc front (letter ∷ []) word
-
 -- a node with such a row stands for what follows the front
 module _ (rows : List Row) (forms : List Form) (front : List ℕ) (node : ℕ) (is : IsRowAfter rows forms front (row_of rows node)) where
   -- what is known of a child that a letter finds
@@ -85,7 +80,7 @@ module _ (rows : List Row) (forms : List Form) (front : List ℕ) (node : ℕ) (
             let rest : IsSome (walk rows child word) = subst IsSome (walk-child rows node letter child word e) walks in
             elim ((child_is.walks word).0 rest) [
               | inl empty ↦ subst (λ (w : List ℕ). BeginsForm forms (front ++ letter ∷ w)) (sym empty) begins
-              | inr longer ↦ subst (BeginsForm forms) (front_letter front letter word) longer
+              | inr longer ↦ subst (BeginsForm forms) (append_assoc front (letter ∷ []) word) longer
             ]
       ]
       in inr (go (child_in rows node letter) refl)
@@ -96,7 +91,7 @@ module _ (rows : List Row) (forms : List Form) (front : List ℕ) (node : ℕ) (
   walk_from_begins (letter ∷ word) begins =
       let (child, among) = is.letters letter word begins in
       let e : child_in rows node letter ≡ Some child = child_among-Contains letter child (row_of rows node).children is.rising among in
-      let rest = ((known letter child e).0.walks word).1 (inr (subst (BeginsForm forms) (sym (front_letter front letter word)) begins)) in
+      let rest = ((known letter child e).0.walks word).1 (inr (subst (BeginsForm forms) (sym (append_assoc front (letter ∷ []) word)) begins)) in
       subst IsSome (sym (walk-child rows node letter child word e)) rest
 
   -- a word leads to a node with the deltas of the form that is the front and the word
@@ -111,7 +106,7 @@ module _ (rows : List Row) (forms : List Form) (front : List ℕ) (node : ℕ) (
       elim [
         | None ↦ λ e. let none = walk-none rows node letter word e in absurd cc
         | Some child ↦ λ e.
-            subst (λ (w : List ℕ). Contains (row_of rows reached).deltas delta ↔ HasDelta forms w delta) (front_letter front letter word)
+            subst (λ (w : List ℕ). Contains (row_of rows reached).deltas delta ↔ HasDelta forms w delta) (append_assoc front (letter ∷ []) word)
             ((known letter child e).0.deltas word reached (sym (walk-child rows node letter child word e) ∙ walked) delta)
       ]
       in go (child_in rows node letter) refl

@@ -1,17 +1,15 @@
 -- Nodes with the same suffixes are one: they have the same deltas, and by induction on their numbers their children are the
 -- same, so they have the same row, and no two rows are the same. A child that leads nowhere would break this, so each stands
 -- for some suffix.
-use Rattle.std.proofs.Common.{◌≡◌, ◌≢◌, ℕ, zero, suc, ◌+◌, ◌<◌, ◌≤◌, ◌⊎◌, ◌↔◌, inl, inr, Option, Some, None, List, [], ◌∷◌, ◌++◌, length, get_or, refl, sym, ◌∙◌, ap, subst, arith, append_assoc}
-use Rattle.std.specs.Prelude.{option_and_then, All, AllPairs, Contains, IsSome}
-use Rattle.std.specs.Ordering.{nat_cmp, on}
+use Rattle.std.proofs.Common.{◌≡◌, ◌≢◌, ℕ, zero, suc, ◌+◌, ◌<◌, ◌≤◌, inl, inr, Option, Some, None, List, [], ◌∷◌, length, refl, sym, ◌∙◌, subst, arith}
+use Rattle.std.specs.Prelude.{Contains}
 use Rattle.std.specs.Cmp.{IsTotalOrder}
 use Rattle.std.proofs.lemmas.Bool.{cases_order}
 use Rattle.std.proofs.lemmas.Cmp.{nat_cmp_total, nat_list_cmp_total, then_total, on_total}
 use Rattle.std.proofs.lemmas.List.Elements.{All-contains}
 use Rattle.list_laws.proofs.Sorted.{Contains-first, same_sorted}
 use Rattle.lexicon_definitions.specs.Deltas.{Delta, compare_deltas}
-use Rattle.lexicon_definitions.specs.Lexicons.{Form}
-use Rattle.lexicon_definitions.specs.Tries.{Row, AreRows, IsChild, IsNodeAfter, HasDelta, BeginsForm, HasSuffix, HaveSameSuffixes, IsHeight, child_in, row_of, walk, empty_row}
+use Rattle.lexicon_definitions.specs.Tries.{Row, AreRows, IsChild, HasSuffix, HaveSameSuffixes, child_in, row_of, empty_row}
 use Rattle.lexicon_definitions.proofs.TrieChildren.{Contains-child_among, IsChild-child_in}
 use Rattle.lexicon_definitions.proofs.TrieGrowth.{walk-child, walk-none}
 use Rattle.lexicon_definitions.proofs.TrieSteps.{child_among-Contains}

@@ -1,10 +1,8 @@
 -- A walk along two words is one along the first and then one along the second, so where a word leads, the node stands for what
 -- follows it; and a walk along a word that is not empty goes through a child, so heights are those of children and one more.
-use Rattle.std.proofs.Common.{◌≡◌, ◌≢◌, ℕ, zero, suc, ◌+◌, ◌-◌, ◌<◌, ◌≤◌, ◌⊎◌, ◌↔◌, inl, inr, Option, Some, None, List, [], ◌∷◌, ◌++◌, length, refl, sym, ◌∙◌, ap, subst, arith, append_assoc, true≢false}
-use Rattle.std.specs.Prelude.{All, Any, Contains, IsSome, is_some}
-use Rattle.std.proofs.lemmas.List.Elements.{All-contains}
+use Rattle.std.proofs.Common.{◌≡◌, ℕ, ◌+◌, ◌-◌, ◌<◌, ◌≤◌, ◌⊎◌, ◌↔◌, inl, inr, Option, Some, None, List, [], ◌∷◌, ◌++◌, length, refl, sym, ◌∙◌, ap, subst, arith, append_assoc, true≢false}
+use Rattle.std.specs.Prelude.{All, Contains, IsSome, is_some}
 use Rattle.list_laws.proofs.Sorted.{All-from_Contains}
-use Rattle.lexicon_definitions.specs.Deltas.{Delta}
 use Rattle.lexicon_definitions.specs.Lexicons.{Form}
 use Rattle.lexicon_definitions.specs.Tries.{Row, AreRows, IsNodeAfter, HasDelta, BeginsForm, IsHeight, child_in, row_of, walk}
 use Rattle.lexicon_definitions.proofs.TrieChildren.{Contains-child_among}

@@ -2,11 +2,10 @@
 -- goes to the end of its phase. Its phase is the last one afterwards.
 use Rattle.std.proofs.Common.{◌≡◌, ◌≢◌, ℕ, zero, suc, ◌+◌, ◌<◌, ◌≤◌, Bool, true, false, ◌||◌, nat_le, nat_lt, Option, Ok, Err, List, [], ◌∷◌, ◌++◌, length, map, get_or, refl, sym, ◌∙◌, ap, subst, arith}
 use Rattle.std.specs.List.{AllByRecursion}
-use Rattle.std.specs.Ordering.{nat_cmp, ordering_then}
+use Rattle.std.specs.Ordering.{nat_cmp}
 use Rattle.std.specs.declared.cmp.Ordering.{Ordering}
 use Rattle.std.specs.declared.cmp.Ordering.TheVariants.{Less, Equal, Greater}
 use Rattle.std.proofs.lemmas.Bool.{or_parts, leb-false}
-use Rattle.std.proofs.lemmas.Cmp.{ranked}
 use Rattle.std.proofs.lemmas.List.{length-set, get_or-set_same, get_or-set_other}
 use Rattle.std.proofs.lemmas.List.Elements.{recursion_from_All}
 use Rattle.list_laws.proofs.Sorted.{following_front, Contains-first}
@@ -22,16 +21,17 @@ use Rattle.lexicon_text_definitions.specs.FileFaults as faults
 use Rattle.lexicon_text_definitions.specs.FileLines as lines
 use Rattle.lexicon_text_definitions.specs.FileContents.{Told, compare_entries, compare_last, entry_with, phase_entries, entries_from}
 use Rattle.lexicon_text_definitions.specs.FileSteps.{Taken, if_rising, passes_form_limits, take_form_line}
-use Rattle.lexicon_text_definitions.proofs.LineTests.{when_true, when_false}
 use Rattle.lexicon_text_definitions.proofs.LineSteps.{with_line}
 use Rattle.lexicon_text_definitions.proofs.RisingLines.{lines_total, sorted_with_last}
 use Rattle.lexicon_text_definitions.proofs.FormLines.{lines_with, at_zero}
-use Rattle.lexicon_text_definitions.proofs.FormPhases.{IsLawfulForm, AreLawful, lines_rise, entry_placed, all_left, all_right}
+use Rattle.lexicon_text_definitions.proofs.FormPhases.{IsLawfulForm, AreLawful, lines_rise, entry_placed, all_left, all_right, line_itself}
 use Rattle.lexicon_text_definitions.proofs.WholeTexts.{counted}
 use Rattle.lexicon_file.specs.declared.line_error.LineError.{LineError}
 use Rattle.lexicon_file.specs.declared.line_error.LineError.TheVariants.{Why, Memory}
 use Rattle.lexicon_file.specs.Told.{IsLastPhase, IsBody, IsAnswer}
 use Rattle.lexicon_file.proofs.FormLemmas.{empty_after}
+use Rattle.list_laws.proofs.Booleans.{when_true, when_false}
+use Rattle.list_laws.proofs.Orderings.{le_from_then}
 
 -- ---- all entries are below
 
@@ -47,14 +47,9 @@ below_new lists entry lawful above =
     recursion_from_All (λ line. compare_entries line entry ≡ Less) lines
     (following_front lines_total lines (entry ∷ []) entry (sorted_with_last lines_total lines entry (lines_rise 0 lists lawful) above) (Contains-first entry []))
 
-phase_by : (m n : ℕ) (order : Ordering) → order ≡ nat_cmp m n → (rest : Ordering) → ordering_then order rest ≡ Less → m ≤ n
-phase_by m n Less e rest h = let below = ranked m n Less e in omega arith
-phase_by m n Equal e rest h = let same = ranked m n Equal e in omega arith
-phase_by m n Greater e rest h = absurd (cc)
-
 up_to : (entry : Entry) (lines : List Entry) → AreBelow lines entry → AreUpTo entry.phase lines
 up_to entry [] h = tt
-up_to entry (line ∷ lines) h = (phase_by line.phase entry.phase (nat_cmp line.phase entry.phase) refl _ h.0, up_to entry lines h.1)
+up_to entry (line ∷ lines) h = (le_from_then line.phase entry.phase (nat_cmp line.phase entry.phase) refl _ h.0, up_to entry lines h.1)
 
 -- ---- no phase after its own has a form
 
@@ -80,15 +75,12 @@ none_after lists entry lawful above phase after =
 
 -- ---- the entries with it
 
-entry_itself : (entry : Entry) → entry_with (0 + entry.phase) entry.letters entry.analysis ≡ entry
-entry_itself entry = let same : 0 + entry.phase ≡ entry.phase = omega arith in ap (λ phase. entry_with phase entry.letters entry.analysis) same
-
 pub entries_with : (lists new : List (List Form)) (entry : Entry) → AreLawful lists → entry.phase < length lists → compare_last compare_entries (entries_from 0 lists) entry ≡ Less
     → new ≡ with_entry lists entry → entries_from 0 new ≡ entries_from 0 lists ++ entry ∷ []
 entries_with lists new entry lawful within above e =
     let below = below_new lists entry lawful above in
     let placed = entry_placed 0 lists entry.phase entry.letters entry.analysis lawful
-    (subst (λ new. AllByRecursion (λ other. compare_entries other new ≡ Less) (entries_from 0 lists)) (sym (entry_itself entry)) below) in
+    (subst (λ new. AllByRecursion (λ other. compare_entries other new ≡ Less) (entries_from 0 lists)) (sym (line_itself entry)) below) in
     ap (entries_from 0) (e ∙ placed)
     ∙ lines_with 0 lists entry.phase entry.letters entry.analysis (empty_after lists entry.phase within (none_after lists entry lawful above))
     ∙ at_zero (entries_from 0 lists) entry

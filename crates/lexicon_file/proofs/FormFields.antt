@@ -12,11 +12,11 @@ use Rattle.lexicon_text_definitions.specs.FileFaults as faults
 use Rattle.lexicon_text_definitions.specs.FileLines.{fields_of}
 use Rattle.lexicon_text_definitions.specs.FileContents.{Told, is_tag_text}
 use Rattle.lexicon_text_definitions.specs.FileSteps.{Taken, some_word, take_form_line, take_analysis, take_entry, take_form}
-use Rattle.lexicon_text_definitions.proofs.LineTests.{when_true, when_false}
 use Rattle.lexicon_text_definitions.proofs.TagTests.{tag_from_test, test_from_tag}
 use Rattle.lexicon_file.specs.declared.line_error.LineError.{LineError}
 use Rattle.lexicon_file.specs.Fields.{four_of}
 use Rattle.lexicon_file.specs.Told.{IsAnswer}
+use Rattle.list_laws.proofs.Booleans.{when_true, when_false}
 
 -- ---- no field is longer than the text
 

@@ -13,7 +13,7 @@ use Rattle.lexicon_definitions.specs.FormEntries.{Entry, IsListedPhase}
 use Rattle.form_tags.specs.declared.analysis.Analysis.{Analysis as FormAnalysis}
 use Rattle.form_tags.specs.Analyses.{text_analysis}
 use Rattle.lexicon_text_definitions.specs.FileContents.{Told, compare_entries, compare_last, entry_with, phase_entries, entries_from}
-use Rattle.lexicon_text_definitions.proofs.FormLines.{EmptyAfter, AreEmpty}
+use Rattle.lexicon_text_definitions.proofs.FormLines.{EmptyAfter, AreEmpty, no_lines}
 use Rattle.lexicon_text_definitions.proofs.WholeTexts.{counted}
 use Rattle.phase_automaton.specs.Automata.{StateMachine}
 use Rattle.lexicon_text_definitions.specs.FileLines as lines
@@ -62,10 +62,6 @@ phase_ends phase (first ∷ front) form analyses analysis e =
     let lines = map (entry_with phase first.letters) first.analyses in
     (lines ++ before, ap (λ more. lines ++ more) is ∙ sym (append_assoc lines before (entry_with phase form.letters analysis ∷ [])))
 
-none_from : (phase : ℕ) (phases : List (List Form)) → AreEmpty phases → entries_from phase phases ≡ []
-none_from phase [] h = refl
-none_from phase (forms ∷ phases) h = (λ i. phase_entries phase (h.0 i) ++ none_from (phase + 1) phases h.1 i)
-
 entries_end : (start : ℕ) (lists : List (List Form)) (place : ℕ) (front : List Form) (form : Form) (analyses : List Analysis) (analysis : Analysis) → EmptyAfter lists place
     → get_or lists place [] ≡ front ++ form ∷ [] → form.analyses ≡ analyses ++ analysis ∷ []
     → (before : List Entry) × (entries_from start lists ≡ before ++ entry_with (start + place) form.letters analysis ∷ [])
@@ -73,7 +69,7 @@ entries_end start [] place front form analyses analysis h e f = absurd h
 entries_end start (forms ∷ lists) zero front form analyses analysis h e f =
     let (before, is) = phase_ends start front form analyses analysis f in
     let at : start ≡ start + 0 = omega arith in
-    let none = none_from (start + 1) lists h in (
+    let none = no_lines (start + 1) lists h in (
       before,
       (λ i. phase_entries start (e i) ++ none i) ∙ append-nil (phase_entries start (front ++ form ∷ [])) ∙ is ∙ ap (λ phase. before ++ entry_with phase form.letters analysis ∷ []) at,
     )

@@ -9,7 +9,6 @@ use Rattle.lexicon_text_definitions.specs.FileLines as lines
 use Rattle.lexicon_text_definitions.specs.FileLines.{Line, cut, Parts, parts_of, parts_or_all, fields_of, kind_named, may_follow}
 use Rattle.lexicon_text_definitions.specs.FileContents.{Told}
 use Rattle.lexicon_text_definitions.specs.FileSteps.{Taken, take_phase, take_grammar, take_plain, take_rule, take_form, take_end, take_kind, take_named, take_parts, take_head, take_bytes, is_last, take_line}
-use Rattle.lexicon_text_definitions.proofs.LineTests.{when_true, when_false, if_passed}
 use Rattle.lexicon_text_definitions.proofs.LineSteps.{took_phase, took_plain, took_rule, took_form, took_end}
 use Rattle.lexicon_file.specs.declared.kind.Kind.{Kind}
 use Rattle.lexicon_file.specs.declared.kind.Kind.TheVariants.{Opening, Head, Phase, Grammar, Plain, Rule, Form, End}
@@ -21,6 +20,7 @@ use Rattle.lexicon_file.specs.Fields.{text_of_rest}
 use Rattle.lexicon_file.specs.Kinds.{kind_of}
 use Rattle.lexicon_file.specs.Told.{IsAnswer, IsLineAnswer}
 use Rattle.lexicon_file.proofs.CutLemmas.{cut_shorter}
+use Rattle.list_laws.proofs.Booleans.{if_passed, when_true, when_false}
 
 -- ---- answers
 

@@ -1,5 +1,5 @@
 -- Form lists are built up again by their entries, since their phases are lawful; and what the end of the lines gives.
-use Rattle.std.proofs.Common.{◌≡◌, ◌≢◌, ℕ, ◌<◌, Option, List, [], ◌∷◌, ◌++◌, length, replicate, All, Some, IfSome, sym, ◌∙◌, ap, subst, arith}
+use Rattle.std.proofs.Common.{◌≡◌, ℕ, ◌<◌, Option, List, [], ◌∷◌, ◌++◌, length, replicate, All, Some, IfSome, sym, ◌∙◌, ap, subst, arith}
 use Rattle.std.specs.List.{AllByRecursion}
 use Rattle.std.specs.List.Sorted.{IsStrictlySortedBy}
 use Rattle.std.proofs.lemmas.List.{length-replicate}
@@ -15,16 +15,13 @@ use Rattle.lexicon_text_definitions.proofs.FormLines.{AreWithin, with_lines, no_
 use Rattle.lexicon_text_definitions.proofs.FormPhases.{IsLawfulForm, AreLawful, lines_rise, lines_lawful, phases_built, entries_placed}
 use Rattle.lexicon_text_definitions.proofs.WholeTexts.{empty_at_first, lawful_at_first, all_within}
 use Rattle.lexicon_file.specs.Told.{IsBody, IsStage, IsKept}
-
-some_by : (word : List ℕ) → 0 < length word → word ≢ []
-some_by [] h e = absurd (omega arith)
-some_by (letter ∷ word) h e = cc
+use Rattle.list_laws.proofs.Elements.{some_by_length}
 
 lawful_form : (form : Form) → IsFormEntry form → IsListedForm form → IsLawfulForm form
 lawful_form form entry listed = record {
   entry = entry;
   short = record { letters = listed.short; stems = λ k d below. (listed.stems k d below).short };
-  stems = λ k d below. ((entry.analyses k d below).stem, some_by _ (listed.stems k d below).not_empty);
+  stems = λ k d below. ((entry.analyses k d below).stem, some_by_length _ (listed.stems k d below).not_empty);
 }
 
 lawful_forms : (forms : List Form) → All IsFormEntry forms → All IsListedForm forms → AllByRecursion IsLawfulForm forms

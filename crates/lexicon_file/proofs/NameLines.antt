@@ -11,9 +11,10 @@ use Rattle.lexicon_text_definitions.specs.FileFaults as faults
 use Rattle.lexicon_text_definitions.specs.FileLines.{Phase}
 use Rattle.lexicon_text_definitions.specs.FileContents.{Told, is_phase_name}
 use Rattle.lexicon_text_definitions.specs.FileSteps.{take_phase, take_name}
-use Rattle.lexicon_text_definitions.proofs.LineTests.{when_true, when_false, name_from_test}
+use Rattle.lexicon_text_definitions.proofs.LineTests.{name_from_test}
 use Rattle.lexicon_text_definitions.proofs.CleanBytes.{clean_name, clean_utf8}
 use Rattle.lexicon_file.specs.Fields.{one_of}
+use Rattle.list_laws.proofs.Booleans.{when_true, when_false}
 
 -- not one field
 pub no_name : (told : Told) (fields : List (List ℕ)) → one_of fields ≡ None → take_phase told fields ≡ Err faults.Field

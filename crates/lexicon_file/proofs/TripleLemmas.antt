@@ -9,7 +9,6 @@ use Rattle.std.proofs.lemmas.List.{map-append}
 use Rattle.std.proofs.lemmas.Slice.Eq.{slice_eq-Decides}
 use Rattle.lexicon_definitions.specs.Rules.{Rule}
 use Rattle.lexicon_text_definitions.specs.FileContents.{has_triple}
-use Rattle.lexicon_text_definitions.proofs.LineTests.{bytes_itself, bytes_same}
 use Rattle.lexicon_file.specs.contracts.triple.TriplePartialEq.TheImpl.{eq-value as triple_eq}
 use Rattle.lexicon_file.specs.declared.error.FileWhy.TheVariants.{Twice}
 use Rattle.lexicon_file.specs.declared.line_error.LineError.{LineError}
@@ -17,27 +16,21 @@ use Rattle.lexicon_file.specs.declared.line_error.LineError.TheVariants.{Why}
 use Rattle.lexicon_file.specs.declared.triple.Triple.{Triple}
 use Rattle.lexicon_file.specs.Added.{IsAdded, has_twin}
 use Rattle.lexicon_file.specs.Triples.{triple_of}
-
-agree : (a b : Bool) → (a ≡ true → b ≡ true) → (b ≡ true → a ≡ true) → a ≡ b
-agree true b there back = sym (there refl)
-agree false true there back = back refl
-agree false false there back = refl
+use Rattle.list_laws.proofs.Texts.{bytes_same, bytes_itself}
+use Rattle.std.specs.Cmp.{both_ways}
+use Rattle.list_laws.proofs.Booleans.{not_of_each_other, and_regrouped}
 
 -- both tests of words say the same, whichever word is first
 same_words : (x y : List ℕ) → pointwise nat_eq x y ≡ bytes_eq y x
 same_words x y =
     let decides = slice_eq-Decides Decides-eqb x y (pointwise nat_eq x y) refl in
-    agree (pointwise nat_eq x y) (bytes_eq y x)
+    both_ways (pointwise nat_eq x y) (bytes_eq y x)
     (λ e. subst (λ w. bytes_eq w x ≡ true) (decides.0 e) (bytes_itself x))
     (λ e. decides.1 (sym (bytes_same y x e)))
 
-regrouped : (a b c : Bool) → (a && (b && c)) ≡ (a && b && c)
-regrouped true b c = refl
-regrouped false b c = refl
-
 same_triple : (new rule : Rule) → triple_eq.it (triple_of new) (triple_of rule) ≡ has_triple new.u new.v new.w rule
 same_triple new rule =
-    regrouped (pointwise nat_eq new.u rule.u) (pointwise nat_eq new.v rule.v) (pointwise nat_eq new.w rule.w)
+    and_regrouped (pointwise nat_eq new.u rule.u) (pointwise nat_eq new.v rule.v) (pointwise nat_eq new.w rule.w)
     ∙ (λ i. same_words new.u rule.u i && same_words new.v rule.v i && same_words new.w rule.w i)
 
 -- the triples have the new one exactly where the rules do
@@ -47,16 +40,12 @@ any_triple new (rule ∷ rules) = λ i. same_triple new rule i || any_triple new
 
 -- ---- the rule's triple is put in the set of triples
 
-not_back : (b x : Bool) → x ≡ not b → b ≡ not x
-not_back true x e = ap not (sym e)
-not_back false x e = ap not (sym e)
-
 -- one of the rules has the triple exactly where it was not new
 pub twin_told : (old before : List Rule) (rule : Rule) (triples : List Triple) (triple : Triple) (is_new : Bool) → before ≡ old
     → triples ≡ map triple_of before → triple ≡ triple_of rule → is_new ≡ not (list_any (triple_eq.it triple) triples) → has_twin old rule ≡ not is_new
 twin_told old before rule triples triple is_new same alike is added =
     let all : triples ≡ map triple_of old = alike ∙ ap (map triple_of) same in
-    sym (any_triple rule old) ∙ sym (λ i. list_any (triple_eq.it (is i)) (all i)) ∙ not_back (list_any (triple_eq.it triple) triples) is_new added
+    sym (any_triple rule old) ∙ sym (λ i. list_any (triple_eq.it (is i)) (all i)) ∙ not_of_each_other (list_any (triple_eq.it triple) triples) is_new added
 
 -- a new one goes last, as its rule does
 pub triples_pushed : (before rules : List Rule) (rule : Rule) (triples after : List Triple) (triple : Triple) (is_new : Bool)
@@ -64,7 +53,7 @@ pub triples_pushed : (before rules : List Rule) (rule : Rule) (triples after : L
     → after ≡ (if list_any (triple_eq.it triple) triples then triples else triples ++ triple ∷ [])
     → is_new ≡ not (list_any (triple_eq.it triple) triples) → is_new ≡ true → rules ≡ before ++ rule ∷ [] → after ≡ map triple_of rules
 triples_pushed before rules rule triples after triple is_new alike is put added new pushed =
-    let absent : list_any (triple_eq.it triple) triples ≡ false = not_back (list_any (triple_eq.it triple) triples) is_new added ∙ ap not new in
+    let absent : list_any (triple_eq.it triple) triples ≡ false = not_of_each_other (list_any (triple_eq.it triple) triples) is_new added ∙ ap not new in
     put ∙ ap (λ (b : Bool). if b then triples else triples ++ triple ∷ []) absent ∙ (λ i. alike i ++ is i ∷ [])
     ∙ sym (ap (map triple_of) pushed ∙ map-append triple_of before (rule ∷ []))
 

@@ -10,14 +10,11 @@ use Rattle.lexicon_text_definitions.specs.LexiconTexts.{text_of, text_of_lines, 
 use Rattle.lexicon_text_definitions.specs.TextsOf.{HasText}
 use Rattle.lexicon_text_definitions.specs.FileReadings.{IsReadAs}
 use Rattle.lexicon_text_definitions.proofs.WholeTexts.{read_text}
+use Rattle.list_laws.proofs.Elements.{append_regrouped}
 
 -- a text of two lists of lines
 two_texts : (a b : List (List ℕ)) → text_of_lines (a ++ b) ≡ text_of_lines a ++ text_of_lines b
 two_texts a b = flat_map-append _ a b
-
--- what is appended in two parts
-regroup_two : (old a b : List ℕ) → old ++ (a ++ b) ≡ (old ++ a) ++ b
-regroup_two old a b = sym (append_assoc old a b)
 
 -- what stands for a form where there is none
 no_form : Form
@@ -29,7 +26,7 @@ one_form : (name : List ℕ) (form : Form) (forms : List Form) (old : List ℕ)
     ≡ (old ++ text_of_lines (map (form_line name form.letters) form.analyses)) ++ text_of_lines (phase_forms_lines name forms)
 one_form name form forms old =
     ap (λ text. old ++ text) (two_texts (map (form_line name form.letters) form.analyses) (phase_forms_lines name forms))
-    ∙ regroup_two old (text_of_lines (map (form_line name form.letters) form.analyses)) (text_of_lines (phase_forms_lines name forms))
+    ∙ append_regrouped old (text_of_lines (map (form_line name form.letters) form.analyses)) (text_of_lines (phase_forms_lines name forms))
 
 -- the first of the forms that are left
 first_left : (forms : List Form) (place : ℕ) → place < length forms → drop place forms ≡ get_or forms place no_form ∷ drop (place + 1) forms

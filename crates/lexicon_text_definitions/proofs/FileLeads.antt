@@ -15,10 +15,9 @@ use Rattle.lexicon_definitions.specs.Leads.{Lead, compare_leads, with_lead as wi
 use Rattle.lexicon_definitions.proofs.LeadLaws.{compare_leads_total, compare_leads_exact, sorted-with_lead}
 use Rattle.list_laws.specs.RisingSets.{put, with_element}
 use Rattle.list_laws.proofs.RisingSetLaws.{Contains-with_element, with_element_there}
-use Rattle.list_laws.proofs.Sorted.{Contains-first, Contains-later, Contains-cons_cases, not_Contains-nil}
+use Rattle.list_laws.proofs.Sorted.{Contains-first, Contains-later, Contains-cons_cases, not_Contains-nil, sorted_nil}
 use Rattle.lexicon_text_definitions.specs.FileContents.{is_empty, with_lead, leads_from, leads_of}
-use Rattle.lexicon_text_definitions.proofs.LineTests.{bytes_same, bytes_itself}
-use Rattle.lexicon_text_definitions.proofs.RisingLines.{sorted_nil}
+use Rattle.list_laws.proofs.Texts.{bytes_same, bytes_itself}
 
 -- ---- membership by a test
 

@@ -4,17 +4,16 @@ use Rattle.std.proofs.Common.{◌≡◌, ℕ, zero, suc, ◌+◌, ◌<◌, ◌�
 use Rattle.std.specs.List.{AllByRecursion}
 use Rattle.std.specs.Str.{bytes_eq}
 use Rattle.std.specs.List.Sorted.{IsStrictlySortedBy}
-use Rattle.std.specs.Ordering.{nat_cmp, ordering_then}
-use Rattle.std.specs.declared.cmp.Ordering.{Ordering}
-use Rattle.std.specs.declared.cmp.Ordering.TheVariants.{Less, Equal, Greater}
-use Rattle.std.proofs.lemmas.Cmp.{ranked}
+use Rattle.std.specs.Ordering.{nat_cmp}
+use Rattle.std.specs.declared.cmp.Ordering.TheVariants.{Less}
 use Rattle.std.proofs.lemmas.List.{append_assoc, append-nil, map-append}
 use Rattle.std.proofs.lemmas.Map.Keys.{sorted_head, sorted_tail}
 use Rattle.lexicon_definitions.specs.Analyses.{Analysis}
 use Rattle.lexicon_definitions.specs.Lexicons.{Form}
 use Rattle.lexicon_text_definitions.specs.FileContents.{compare_entries, entry_with, phase_entries, entries_from}
 use Rattle.lexicon_definitions.specs.FormEntries.{Entry}
-use Rattle.lexicon_text_definitions.proofs.LineTests.{bytes_same}
+use Rattle.list_laws.proofs.Texts.{bytes_same}
+use Rattle.list_laws.proofs.Orderings.{le_from_then}
 
 -- ---- one entry more at the end
 
@@ -74,7 +73,7 @@ EmptyAfter [] place = ⊥
 EmptyAfter (forms ∷ phases) zero = AreEmpty phases
 EmptyAfter (forms ∷ phases) (suc place) = EmptyAfter phases place
 
-no_lines : (phase : ℕ) (phases : List (List Form)) → AreEmpty phases → entries_from phase phases ≡ []
+pub no_lines : (phase : ℕ) (phases : List (List Form)) → AreEmpty phases → entries_from phase phases ≡ []
 no_lines phase [] h = refl
 no_lines phase (forms ∷ phases) h = (λ i. phase_entries phase (h.0 i) ++ no_lines (phase + 1) phases h.1 i)
 
@@ -126,13 +125,8 @@ no_lines_at_first phase count = no_lines phase (replicate count []) (none_at_fir
 
 -- ---- the lines of the phases that lines build up
 
-phase_by : (m n : ℕ) (order : Ordering) → order ≡ nat_cmp m n → (rest : Ordering) → ordering_then order rest ≡ Less → m ≤ n
-phase_by m n Less e rest h = let below = ranked m n Less e in omega arith
-phase_by m n Equal e rest h = let same = ranked m n Equal e in omega arith
-phase_by m n Greater e rest h = absurd (cc)
-
 phase_up : (left right : Entry) → compare_entries left right ≡ Less → left.phase ≤ right.phase
-phase_up left right h = phase_by left.phase right.phase (nat_cmp left.phase right.phase) refl _ h
+phase_up left right h = le_from_then left.phase right.phase (nat_cmp left.phase right.phase) refl _ h
 
 -- each line has a phase from this one on, below this count
 abbrev pub AreWithin : ℕ → ℕ → List Entry → Type 0

@@ -17,16 +17,18 @@ use Rattle.lexicon_definitions.specs.Analyses.{Analysis, compare_analyses}
 use Rattle.lexicon_definitions.specs.Tags.{IsTagText}
 use Rattle.lexicon_definitions.specs.Lexicons.{Form, IsFormEntry, IsAnalysis}
 use Rattle.lexicon_definitions.specs.Limits.{IsShortForm}
-use Rattle.list_laws.proofs.Sorted.{following_front, sorted_later, Contains-first}
+use Rattle.list_laws.proofs.Sorted.{following_front, sorted_later, Contains-first, sorted_nil}
 use Rattle.lexicon_text_definitions.specs.TextsOf.{HasSpelledStems}
 use Rattle.lexicon_text_definitions.specs.FileContents.{compare_entries, with_entries, entry_with, phase_entries, entries_from}
 use Rattle.lexicon_definitions.specs.FormEntries as entries
 use Rattle.lexicon_definitions.specs.FormEntries.{Entry, placed_at, with_entry}
 use Rattle.lexicon_text_definitions.proofs.FormLines.{new_form, with_analysis, with_form, with_lines}
-use Rattle.lexicon_text_definitions.proofs.LineTests.{bytes_same, bytes_itself, bytes_apart}
-use Rattle.lexicon_text_definitions.proofs.RisingLines.{words_total, analyses_total, lines_total, sorted_nil, sorted_one, sorted_cons, sorted_with_last, last_by}
+use Rattle.lexicon_text_definitions.proofs.RisingLines.{words_total, lines_total, sorted_one, sorted_cons, sorted_with_last, last_by}
 use Rattle.std.proofs.lemmas.Map.Lookups.{exact_bytes}
 use Rattle.lexicon_text_definitions.proofs.FormLines.{EmptyAfter, empty_later, empty_kept, length-with, AreWithin, rest_within, lines_with, at_zero}
+use Rattle.list_laws.proofs.Texts.{bytes_same, bytes_itself, bytes_apart}
+use Rattle.lexicon_definitions.proofs.FormsWithEntry.{analyses_total, by_letters}
+use Rattle.list_laws.proofs.Elements.{some_by_last}
 
 -- ---- a line that is lawful by itself
 
@@ -139,17 +141,13 @@ form_of_one letters analysis w n l a = record {
   stems = All-cons (λ (a : Analysis). IsWord a.stem × (a.stem ≢ [])) analysis [] (a.stem, a.some_stem) (All-nil _);
 }
 
-not_empty_push : {X : Type 0} (xs : List X) (x : X) → xs ++ x ∷ [] ≢ []
-not_empty_push [] x e = cc
-not_empty_push (y ∷ xs) x e = cc
-
 form_of_more : (form : Form) (analysis : Analysis) → IsLawfulForm form → IsLawfulAnalysis analysis → AllByRecursion (λ a. compare_analyses a analysis ≡ Less) form.analyses
     → IsLawfulForm (record { letters = form.letters; analyses = form.analyses ++ analysis ∷ [] })
 form_of_more form analysis f a below = record {
   entry = record {
     word = f.entry.word;
     not_empty = f.entry.not_empty;
-    analyzed = not_empty_push form.analyses analysis;
+    analyzed = some_by_last form.analyses analysis;
     analyses = All-push IsAnalysis form.analyses analysis f.entry.analyses (record { stem = a.stem; tag = a.tag });
     rising = sorted_with_last analyses_total form.analyses analysis f.entry.rising
         (last_by analyses_total form.analyses analysis (All-from_recursion (λ a. compare_analyses a analysis ≡ Less) form.analyses below));
@@ -157,9 +155,6 @@ form_of_more form analysis f a below = record {
   short = record { letters = f.short.letters; stems = All-push (λ (a : Analysis). length a.stem ≤ MOST_FORM_LETTERS) form.analyses analysis f.short.stems a.short_stem };
   stems = All-push (λ (a : Analysis). IsWord a.stem × (a.stem ≢ [])) form.analyses analysis f.stems (a.stem, a.some_stem);
 }
-
-abbrev by_letters : Form → Form → Ordering
-by_letters left right = on (λ (form : Form). form.letters) compare_words left right
 
 last_form : (phase : ℕ) (form : Form) (letters : List ℕ) (analysis : Analysis) (test : Bool) → bytes_eq form.letters letters ≡ test → IsLawfulForm form → IsLawfulForm (new_form letters analysis)
     → IsLawfulAnalysis analysis → AreBelow phase (map (entry_with phase form.letters) form.analyses) letters analysis
@@ -231,7 +226,7 @@ lawful_with start (forms ∷ phases) (suc place) letters analysis p n a below =
           (all_right (λ line. compare_entries line (entry_with (start + 1 + place) letters analysis) ≡ Less) (phase_entries start forms) (entries_from (start + 1) phases) there),
     )
 
-line_itself : (line : Entry) → entry_with (0 + line.phase) line.letters line.analysis ≡ line
+pub line_itself : (line : Entry) → entry_with (0 + line.phase) line.letters line.analysis ≡ line
 line_itself line = let same : 0 + line.phase ≡ line.phase = omega arith in ap (λ phase. entry_with phase line.letters line.analysis) same
 
 lawful_analysis : (count : ℕ) (line : Entry) → IsFormLine count line → IsLawfulAnalysis line.analysis

@@ -1,16 +1,15 @@
 -- How a line is cut: each cut is undone by putting the mark back, and a text that is free of the mark is cut where the mark
 -- comes first.
-use Rattle.std.proofs.Common.{◌≡◌, ℕ, Bool, true, false, cond, ◌||◌, Option, Some, None, List, [], ◌∷◌, ◌++◌, map, eqb, codes, refl, sym, ◌∙◌, ap, subst, All}
+use Rattle.std.proofs.Common.{◌≡◌, ℕ, Bool, true, false, cond, ◌||◌, Option, Some, None, List, [], ◌∷◌, ◌++◌, map, eqb, codes, refl, sym, ◌∙◌, ap, subst}
 use Rattle.std.specs.List.{AllByRecursion, slice_split, flat_map, join_with_byte}
 use Rattle.std.specs.Str.{bytes_eq}
 use Rattle.std.proofs.lemmas.Bool.{or_parts, eqb-true, eq-eqb}
 use Rattle.std.proofs.lemmas.List.{append_assoc}
-use Rattle.std.proofs.lemmas.List.Elements.{All-from_recursion}
 use Rattle.std.proofs.lemmas.List.Splits.{slice_split_at, slice_split_none, join_with_byte-slice_split}
 use Rattle.lexicon_text_definitions.specs.LexiconTexts.{text_of_lines}
 use Rattle.lexicon_text_definitions.specs.FileLines.{Line, with_byte, lines_of_bytes, before_parts, cut, parts_or_all, parts_of, Kind, Phase, Grammar, Plain, Rule, Form, End, kind_named, has_mark, Shape, shape_with, shape_after, shape_of}
-use Rattle.list_laws.proofs.Marks.{is_free, free_parts}
-use Rattle.lexicon_text_definitions.proofs.LineTests.{bytes_same}
+use Rattle.list_laws.proofs.Marks.{is_free, free_parts, bytes_apart_from}
+use Rattle.list_laws.proofs.Texts.{bytes_same}
 
 -- ---- cutting once
 
@@ -20,11 +19,8 @@ cut_free mark (byte ∷ text) h =
     let parts = free_parts mark byte text h in
     ap (λ test. cond test (Some ([], text)) (before_parts byte (cut mark text))) parts.0 ∙ ap (before_parts byte) (cut_free mark text parts.1)
 
-here : (mark : ℕ) → eqb mark mark ≡ true
-here mark = eq-eqb mark mark refl
-
 pub cut_at : (mark : ℕ) (front rest : List ℕ) → is_free mark front ≡ true → cut mark (front ++ mark ∷ rest) ≡ Some (front, rest)
-cut_at mark [] rest h = ap (λ test. cond test (Some ([], rest)) (before_parts mark (cut mark rest))) (here mark)
+cut_at mark [] rest h = ap (λ test. cond test (Some ([], rest)) (before_parts mark (cut mark rest))) (eq-eqb mark mark refl)
 cut_at mark (byte ∷ front) rest h =
     let parts = free_parts mark byte front h in
     ap (λ test. cond test (Some ([], front ++ mark ∷ rest)) (before_parts byte (cut mark (front ++ mark ∷ rest)))) parts.0
@@ -55,16 +51,9 @@ cut_as mark text parts e = subst (IsCut mark text) e (is_cut mark text)
 
 -- ---- cutting at each mark
 
-unfree : (mark : ℕ) (text : List ℕ) → is_free mark text ≡ true → AllByRecursion (λ byte. eqb byte mark ≡ false) text
-unfree mark [] h = tt
-unfree mark (byte ∷ text) h = let parts = free_parts mark byte text h in (parts.0, unfree mark text parts.1)
-
-pub bytes_apart_from : (mark : ℕ) (text : List ℕ) → is_free mark text ≡ true → All (λ byte. eqb byte mark ≡ false) text
-bytes_apart_from mark text h = All-from_recursion (λ byte. eqb byte mark ≡ false) text (unfree mark text h)
-
 pub split_at : (mark : ℕ) (front rest : List ℕ) → is_free mark front ≡ true
     → slice_split (λ byte. eqb byte mark) (front ++ mark ∷ rest) ≡ front ∷ slice_split (λ byte. eqb byte mark) rest
-split_at mark front rest h = slice_split_at (λ byte. eqb byte mark) front mark rest (bytes_apart_from mark front h) (here mark)
+split_at mark front rest h = slice_split_at (λ byte. eqb byte mark) front mark rest (bytes_apart_from mark front h) (eq-eqb mark mark refl)
 
 pub split_none : (mark : ℕ) (text : List ℕ) → is_free mark text ≡ true → slice_split (λ byte. eqb byte mark) text ≡ text ∷ []
 split_none mark text h = slice_split_none (λ byte. eqb byte mark) text (bytes_apart_from mark text h)

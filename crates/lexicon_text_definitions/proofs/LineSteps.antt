@@ -22,10 +22,12 @@ use Rattle.lexicon_text_definitions.specs.FileLines.{Phase, Grammar, Plain, Rule
 use Rattle.lexicon_text_definitions.specs.FileContents.{compare_entries, Told, is_empty, is_phase_name, is_tag_text, compare_last, rule_between, has_triple, with_lead, leads_of}
 use Rattle.lexicon_definitions.specs.FormEntries.{Entry}
 use Rattle.lexicon_text_definitions.specs.FileSteps.{if_rising, take_name, take_phase, take_grammar, one_letter, take_letters, take_plain, passes_rule_limits, take_triple, take_words, take_shape, take_rule, some_word, passes_form_limits, take_form_line, take_analysis, take_entry, take_form, take_end}
-use Rattle.lexicon_text_definitions.proofs.LineTests.{if_passed, if_refused, when_true, when_false, bytes_same, bytes_itself, bytes_apart, none_same, any_false, name_from_test, test_from_name, IsOther, others_from_test, test_from_others}
+use Rattle.lexicon_text_definitions.proofs.LineTests.{name_from_test, test_from_name, IsOther, others_from_test, test_from_others}
 use Rattle.lexicon_text_definitions.proofs.LineCuts.{field_with, field_from_shape, shape_of_field, unmarked}
 use Rattle.lexicon_text_definitions.proofs.TagTests.{tag_from_test, test_from_tag}
 use Rattle.lexicon_text_definitions.proofs.FormPhases.{IsFormLine}
+use Rattle.list_laws.proofs.Booleans.{if_passed, if_refused, when_true, when_false}
+use Rattle.list_laws.proofs.Texts.{bytes_same, bytes_itself, bytes_apart, none_same, any_false}
 
 -- what is told with a name, a grammar's text, a pair, a rule or a form's line more
 abbrev pub with_name : Told → List ℕ → Told

@@ -1,5 +1,5 @@
 -- The tests of a line's parts as facts, each by cases of the test or by induction on a list.
-use Rattle.std.proofs.Common.{◌≡◌, ◌≢◌, ℕ, ◌<◌, Bool, true, false, cond, ◌&&◌, ◌||◌, Result, Ok, Err, List, [], ◌∷◌, ◌++◌, length, get_or, All, AllPairs, refl, sym, ◌∙◌, ap, subst, arith, eqb}
+use Rattle.std.proofs.Common.{◌≡◌, ℕ, ◌<◌, true, false, cond, ◌&&◌, ◌||◌, List, [], ◌∷◌, ◌++◌, length, get_or, All, AllPairs, refl, ◌∙◌, ap, subst, arith, eqb}
 use Rattle.std.specs.List.{AllByRecursion, list_any, list_all}
 use Rattle.std.specs.Str.{bytes_eq}
 use Rattle.std.proofs.lemmas.Bool.{and_parts, or_parts, and_from, false_from_ne_true, leb-true, le-leb, eqb-true, or_left}
@@ -14,54 +14,7 @@ use Rattle.lexicon_definitions.specs.Lexicons.{IsPhaseName}
 use Rattle.lexicon_definitions.specs.Rules.{Rule, IsSameTriple}
 use Rattle.lexicon_text_definitions.specs.FileContents.{is_phase_name, has_triple}
 use Rattle.list_laws.proofs.Marks.{is_free}
-
--- ---- a choice whose outcome is known
-
-pub if_passed : {T E : Type 0} (b : Bool) (x : Result T E) (e : E) (y : T) → cond b x (Err e) ≡ Ok y → (b ≡ true) × (x ≡ Ok y)
-if_passed true x e y h = (refl, h)
-if_passed false x e y h = absurd (cc)
-
-pub if_refused : {T E : Type 0} (b : Bool) (x : Result T E) (e : E) (y : T) → cond b (Err e) x ≡ Ok y → (b ≡ false) × (x ≡ Ok y)
-if_refused true x e y h = absurd (cc)
-if_refused false x e y h = (refl, h)
-
-pub when_true : {A : Type 0} (b : Bool) (x y z : A) → b ≡ true → x ≡ z → cond b x y ≡ z
-when_true true x y z h e = e
-when_true false x y z h e = absurd (cc)
-
-pub when_false : {A : Type 0} (b : Bool) (x y z : A) → b ≡ false → y ≡ z → cond b x y ≡ z
-when_false true x y z h e = absurd (cc)
-when_false false x y z h e = e
-
--- ---- texts that are the same
-
-pub bytes_same : (left right : List ℕ) → bytes_eq left right ≡ true → left ≡ right
-bytes_same left right h = (bytes_eq-Decides left right).0 h
-
-pub bytes_itself : (text : List ℕ) → bytes_eq text text ≡ true
-bytes_itself text = (bytes_eq-Decides text text).1 refl
-
-pub bytes_apart : (left right : List ℕ) → left ≢ right → bytes_eq left right ≡ false
-bytes_apart left right n = false_from_ne_true (bytes_eq left right) (λ e. n (bytes_same left right e))
-
-none_by : (text : List ℕ) (texts : List (List ℕ)) → list_any (bytes_eq text) texts ≡ false → AllByRecursion (λ other. other ≢ text) texts
-none_by text [] h = tt
-none_by text (other ∷ texts) h =
-    let parts = or_parts (bytes_eq text other) (list_any (bytes_eq text) texts) h in
-    let apart : other ≢ text = λ e. let same = (bytes_eq-Decides text other).1 (sym e) in cc in
-    (apart, none_by text texts parts.1)
-
--- none of these texts is this one
-pub none_same : (text : List ℕ) (texts : List (List ℕ)) → list_any (bytes_eq text) texts ≡ false → All (λ other. other ≢ text) texts
-none_same text texts h = All-from_recursion (λ other. other ≢ text) texts (none_by text texts h)
-
-from_none : (text : List ℕ) (texts : List (List ℕ)) → AllByRecursion (λ other. other ≢ text) texts → list_any (bytes_eq text) texts ≡ false
-from_none text [] h = refl
-from_none text (other ∷ texts) h =
-    ap (λ test. test || list_any (bytes_eq text) texts) (bytes_apart text other (λ e. h.0 (sym e))) ∙ from_none text texts h.1
-
-pub any_false : (text : List ℕ) (texts : List (List ℕ)) → All (λ other. other ≢ text) texts → list_any (bytes_eq text) texts ≡ false
-any_false text texts h = from_none text texts (recursion_from_All (λ other. other ≢ text) texts h)
+use Rattle.list_laws.proofs.Texts.{bytes_same}
 
 -- ---- pairs of a list
 

@@ -1,5 +1,5 @@
 -- One more at the end of a rising list: the test compares it with the last, and the order makes it come after all before it.
-use Rattle.std.proofs.Common.{◌≡◌, ℕ, List, [], ◌∷◌, ◌++◌, refl, All}
+use Rattle.std.proofs.Common.{◌≡◌, List, [], ◌∷◌, ◌++◌, refl, All}
 use Rattle.std.specs.List.{AllByRecursion}
 use Rattle.std.specs.List.Sorted.{IsStrictlySortedBy}
 use Rattle.std.specs.Cmp.{IsTotalOrder}
@@ -9,31 +9,20 @@ use Rattle.std.proofs.lemmas.Cmp.{nat_cmp_total, nat_list_cmp_total, then_total,
 use Rattle.std.proofs.lemmas.List.Elements.{All-head, All-tail}
 use Rattle.std.proofs.lemmas.Map.Keys.{sorted_head, sorted_tail}
 use Rattle.text_definitions.specs.Words.{compare_words}
-use Rattle.lexicon_definitions.specs.Analyses.{Analysis, compare_analyses}
-use Rattle.lexicon_definitions.specs.Lexicons.{compare_pairs}
 use Rattle.lexicon_text_definitions.specs.FileContents.{compare_entries, compare_last}
 use Rattle.lexicon_definitions.specs.FormEntries.{Entry}
 use Rattle.list_laws.proofs.Sorted.{following_front, Contains-first}
+use Rattle.lexicon_definitions.proofs.FormsWithEntry.{analyses_total}
 
 -- ---- the orders
 
 pub words_total : IsTotalOrder compare_words
 words_total = nat_list_cmp_total
 
-pub pairs_total : IsTotalOrder compare_pairs
-pairs_total = then_total (on_total (λ (p : ℕ × ℕ). p.0) nat_cmp_total) (on_total (λ (p : ℕ × ℕ). p.1) nat_cmp_total)
-
-pub analyses_total : IsTotalOrder compare_analyses
-analyses_total = then_total (on_total (λ (a : Analysis). a.stem) nat_list_cmp_total) (on_total (λ (a : Analysis). a.tag) nat_list_cmp_total)
-
 pub lines_total : IsTotalOrder compare_entries
 lines_total =
     then_total (on_total (λ (l : Entry). l.phase) nat_cmp_total)
     (then_total (on_total (λ (l : Entry). l.letters) words_total) (on_total (λ (l : Entry). l.analysis) analyses_total))
-
-pub sorted_nil : {K : Type 0} (R : K → K → Ordering) → IsStrictlySortedBy R []
-unfolding IsStrictlySortedBy
-sorted_nil R = tt
 
 pub sorted_one : {K : Type 0} (R : K → K → Ordering) (x : K) → IsStrictlySortedBy R (x ∷ [])
 unfolding IsStrictlySortedBy

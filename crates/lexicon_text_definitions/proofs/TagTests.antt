@@ -7,8 +7,8 @@ use Rattle.std.proofs.lemmas.Slice.Eq.{bytes_eq-Decides}
 use Rattle.lexicon_definitions.specs.Tags.{IsOneOf, IsTagText, IsNominalText, IsVerbalText, genders, numbers, cases, tenses, voices, persons, lone_words}
 use Rattle.lexicon_text_definitions.specs.FileContents.{is_one_of, are_tag_words, is_tag_text}
 use Rattle.list_laws.proofs.Marks.{is_free, free_append}
-use Rattle.lexicon_text_definitions.proofs.LineTests.{bytes_same}
 use Rattle.lexicon_text_definitions.proofs.LineCuts.{split_at, split_none, one_part, three_parts, four_parts}
+use Rattle.list_laws.proofs.Texts.{bytes_same}
 
 -- ---- one of some words
 

@@ -4,8 +4,6 @@ use Rattle.std.proofs.Common.{◌≡◌, ℕ, true, false, cond, not, Option, So
 use Rattle.std.specs.Str.{bytes_eq, is_utf8}
 use Rattle.std.proofs.lemmas.Bool.{not-false}
 use Rattle.std.proofs.lemmas.List.{append_assoc}
-use Rattle.std.proofs.lemmas.List.Elements.{All-cons, All-nil}
-use Rattle.text_definitions.specs.Letters.{IsLetter}
 use Rattle.text_definitions.specs.Words.{IsWord}
 use Rattle.text_definitions.specs.Slp1.{slp1_of_word}
 use Rattle.text_definitions.proofs.SpelledWords.{free_of_blank}
@@ -19,10 +17,13 @@ use Rattle.lexicon_definitions.specs.FormEntries.{Entry}
 use Rattle.lexicon_text_definitions.specs.FileSteps.{take_phase, take_plain, take_rule, take_form, take_kind, take_named, take_parts, take_head, take_bytes, is_last, take_line}
 use Rattle.list_laws.proofs.Marks.{is_free, free_append}
 use Rattle.lexicon_text_definitions.proofs.CleanBytes.{clean_utf8}
-use Rattle.lexicon_text_definitions.proofs.LineTests.{if_passed, if_refused, when_true, when_false, bytes_same, free_name}
+use Rattle.lexicon_text_definitions.proofs.LineTests.{free_name}
 use Rattle.lexicon_text_definitions.proofs.LineCuts.{split_at, split_none, one_part, two_parts, four_parts, kind_name, named_kind, line_with, line_from_parts}
 use Rattle.lexicon_text_definitions.proofs.TagTests.{tag_free_of_blank}
 use Rattle.lexicon_text_definitions.proofs.LineSteps.{with_name, with_grammar, with_pair, with_rule, with_line, with_end, MayName, MayPair, MayRule, MayLine, rule_field, took_phase, takes_phase, took_grammar, takes_grammar, took_plain, takes_plain, took_rule, takes_rule, took_form, takes_form, took_end, takes_end}
+use Rattle.list_laws.proofs.Booleans.{if_passed, if_refused, when_true, when_false}
+use Rattle.list_laws.proofs.Texts.{bytes_same}
+use Rattle.text_definitions.proofs.WrittenWords.{letter_is_word}
 
 -- the line with these bytes is taken, where these told what was told before it and after it
 pub data Took (told after : Told) (bytes : List ℕ) : Type 0 where
@@ -38,9 +39,6 @@ pub data Took (told after : Told) (bytes : List ℕ) : Type 0 where
 
 -- ---- the lines in the form in which they are cut
 
-regroup_two : (a b : List ℕ) (m : ℕ) → (a ++ m ∷ []) ++ b ≡ a ++ m ∷ b
-regroup_two a b m = append_assoc a (m ∷ []) b
-
 regroup_three : (a b c : List ℕ) (m n : ℕ) → (((a ++ m ∷ []) ++ b) ++ n ∷ []) ++ c ≡ a ++ m ∷ (b ++ n ∷ c)
 regroup_three a b c m n = simp append_assoc
 
@@ -51,7 +49,7 @@ abbrev pair_fields : ℕ × ℕ → List ℕ
 pair_fields pair = slp1_of_word (pair.0 ∷ []) ++ 32 ∷ slp1_of_word (pair.1 ∷ [])
 
 plain_is : (pair : ℕ × ℕ) → plain_line pair ≡ line_with (codes "plain") (Some (pair_fields pair))
-plain_is pair = ap (λ fields. codes "plain " ++ fields) (regroup_two (slp1_of_word (pair.0 ∷ [])) (slp1_of_word (pair.1 ∷ [])) 32)
+plain_is pair = ap (λ fields. codes "plain " ++ fields) (append_assoc (slp1_of_word (pair.0 ∷ [])) (32 ∷ []) (slp1_of_word (pair.1 ∷ [])))
 
 rule_is : (u v w : List ℕ) → rule_line (rule_between 0 u v w) ≡ line_with (codes "rule") (Some (rule_field u v w))
 rule_is u v w = ap (λ field. codes "rule " ++ field) (regroup_three (slp1_of_word u) (slp1_of_word v) (slp1_of_word w) 124 62)
@@ -174,9 +172,6 @@ takes_grammar_line told text f u = taken_by told (with_grammar told text) (gramm
 pub takes_end_line : (told : Told) → may_follow told.last End ≡ true → take_line told (record { bytes = end_line; ended = true }) ≡ Ok (with_end told)
 takes_end_line told f = taken_by told (with_end told) end_line End None f end_utf8 refl refl (takes_end told)
 
-letter_word : (letter : ℕ) → IsLetter letter → IsWord (letter ∷ [])
-letter_word letter l = All-cons IsLetter letter [] l (All-nil IsLetter)
-
 pub takes_pair_line : (told : Told) (pair : ℕ × ℕ) → may_follow told.last Plain ≡ true → is_utf8 (plain_line pair) ≡ true → MayPair told pair
     → take_line told (record { bytes = plain_line pair; ended = true }) ≡ Ok (with_pair told pair)
 takes_pair_line told pair f u m =
@@ -185,8 +180,8 @@ takes_pair_line told pair f u m =
     let is = plain_is pair in
     ap (λ bytes. take_line told (record { bytes = bytes; ended = true })) is
     ∙ taken_by told (with_pair told pair) (line_with (codes "plain") (Some (pair_fields pair))) Plain (Some (pair_fields pair)) f (sym (ap is_utf8 is) ∙ u) refl refl
-    (ap (take_plain told) (split_at 32 left right (free_of_blank (pair.0 ∷ []) (letter_word pair.0 m.left))
-    ∙ ap (◌∷◌ left) (split_none 32 right (free_of_blank (pair.1 ∷ []) (letter_word pair.1 m.right)))) ∙ takes_plain told pair m)
+    (ap (take_plain told) (split_at 32 left right (free_of_blank (pair.0 ∷ []) (letter_is_word pair.0 m.left))
+    ∙ ap (◌∷◌ left) (split_none 32 right (free_of_blank (pair.1 ∷ []) (letter_is_word pair.1 m.right)))) ∙ takes_plain told pair m)
 
 blank_free_field : (u v w : List ℕ) → IsWord u → IsWord v → IsWord w → is_free 32 (rule_field u v w) ≡ true
 blank_free_field u v w a b c =

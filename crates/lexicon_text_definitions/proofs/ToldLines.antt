@@ -4,7 +4,7 @@ use Rattle.std.specs.List.{AllByRecursion}
 use Rattle.std.specs.List.Sorted.{IsStrictlySortedBy}
 use Rattle.std.proofs.lemmas.List.{append_assoc, append-nil, map-append, length_push}
 use Rattle.std.proofs.lemmas.List.Elements.{All-push, All-nil}
-use Rattle.std.proofs.Math.Pow.{pow-lt, ones_lt}
+use Rattle.std.proofs.Math.Pow.{ones_lt}
 use Rattle.std.proofs.lemmas.Nat.{pow_pos}
 use Rattle.text_definitions.specs.Letters.{IsLetter}
 use Rattle.lexicon_definitions.specs.declared.limits.TheConstants.{MOST_PHASES, MOST_RULES, MOST_LEADS, MOST_FORM_LINES}
@@ -17,11 +17,13 @@ use Rattle.lexicon_text_definitions.specs.FileLines.{Kind, Opening, Head, Phase,
 use Rattle.lexicon_text_definitions.specs.FileContents.{compare_entries, Told, phases_after, rule_between, leads_of}
 use Rattle.lexicon_definitions.specs.FormEntries.{Entry}
 use Rattle.lexicon_text_definitions.proofs.LineTests.{IsOther, pairs_push}
-use Rattle.lexicon_text_definitions.proofs.RisingLines.{pairs_total, lines_total, sorted_with_last}
+use Rattle.lexicon_text_definitions.proofs.RisingLines.{lines_total, sorted_with_last}
 use Rattle.lexicon_text_definitions.proofs.FileLeads.{leads_with}
 use Rattle.lexicon_text_definitions.proofs.FormPhases.{IsFormLine, all_both}
 use Rattle.lexicon_text_definitions.proofs.LineSteps.{with_name, with_grammar, with_pair, with_rule, with_line, with_end, MayName, MayPair, MayRule, MayLine, name_at}
 use Rattle.lexicon_text_definitions.proofs.TakenLines.{Took, a_head, a_name, a_grammar, a_pair, a_rule, a_form, the_end}
+use Rattle.lexicon_definitions.proofs.PlainPairs.{pairs_total}
+use Rattle.lexicon_definitions.proofs.WrittenRules.{some_phases}
 
 -- ---- what is lawful
 
@@ -276,9 +278,6 @@ module _ (told : Told) (h : IsLawful told) (n : NothingLater told.last told) whe
       }
 
 -- ---- a rule that a line tells
-
-some_phases : (count : ℕ) → 0 < count → 0 < all_phases count
-some_phases count n = let up = pow-lt {i = 0} {j = count} n in omega (arith, up)
 
 after_within_by : (count : ℕ) (v : List ℕ) → phases_after count v < 2 ^ count
 after_within_by count [] = pow_pos count

@@ -1,17 +1,15 @@
 -- Bytes that are read as a lexicon are its text: line by line what was told spells the lines so far, and at the end that is the
 -- lexicon's text, which is lawful by what each line was tested for.
-use Rattle.std.proofs.Common.{◌≡◌, ◌≢◌, ℕ, zero, suc, ◌+◌, ◌<◌, inl, inr, Bool, true, false, nat_lt, Option, Some, None, Ok, Err, List, [], ◌∷◌, ◌++◌, length, map, replicate, get_or, All, refl, sym, ◌∙◌, ap, subst, arith}
+use Rattle.std.proofs.Common.{◌≡◌, ◌≢◌, ℕ, zero, suc, ◌+◌, ◌<◌, inl, inr, true, Ok, Err, List, [], ◌∷◌, ◌++◌, length, map, replicate, get_or, All, refl, sym, ◌∙◌, ap, subst, arith}
 use Rattle.std.specs.List.{AllByRecursion, sum_by}
 use Rattle.std.specs.List.Sorted.{IsStrictlySortedBy}
 use Rattle.lexicon_definitions.specs.Analyses.{Analysis}
 use Rattle.std.proofs.lemmas.List.{append_assoc, append-nil, map-append, length-append, length-map, length-replicate, length_push, get_or_at}
 use Rattle.std.proofs.lemmas.List.Sums.{sum_by-cons}
 use Rattle.std.proofs.lemmas.List.Elements.{All-from_recursion, All-nil, All-weaker}
-use Rattle.lexicon_definitions.specs.declared.limits.TheConstants.{MOST_GRAMMAR_BYTES, MOST_GRAMMAR_NAMES}
 use Rattle.lexicon_definitions.specs.Rules.{IsRule, IsUnlimited}
-use Rattle.lexicon_definitions.specs.GrammarFaults as grammars
-use Rattle.lexicon_definitions.specs.GrammarFaults.{IsGrammarTextWithinLimits, IsFirstFault, first_fault_of, fault_before_states, syntax_fault, first_unknown, names_from}
-use Rattle.lexicon_definitions.specs.Lexicons.{Lexicon, Form, IsGrammarOver, IsPhase, IsFormEntry, IsLexicon}
+use Rattle.lexicon_definitions.specs.GrammarFaults.{IsGrammarTextWithinLimits}
+use Rattle.lexicon_definitions.specs.Lexicons.{Lexicon, Form, IsPhase, IsFormEntry, IsLexicon}
 use Rattle.lexicon_definitions.specs.Limits.{IsShortRule, IsShortForm, count_lines, IsWithinLimits}
 use Rattle.lexicon_text_definitions.specs.LexiconTexts.{head_line, phase_line, grammar_line, plain_line, rule_line, form_line, end_line, phase_forms_lines, forms_lines, lines_of, text_of, text_of_lines}
 use Rattle.lexicon_text_definitions.specs.FileLines.{Line, lines_of_bytes, Kind, Grammar, End}
@@ -22,12 +20,13 @@ use Rattle.lexicon_text_definitions.specs.FileSteps.{Taken, take_line}
 use Rattle.lexicon_text_definitions.specs.FileReadings.{Reading, asking, read_on, read_lines, at_end, reading_of, IsResult, IsReadAs}
 use Rattle.lexicon_text_definitions.specs.TextsOf.{HasSpelledStems, HasText, IsTextOf}
 use Rattle.lexicon_text_definitions.proofs.LineCuts.{text_from_lines}
-use Rattle.lexicon_text_definitions.proofs.RisingLines.{sorted_nil}
 use Rattle.lexicon_text_definitions.proofs.FileLeads.{leads_counted}
 use Rattle.lexicon_text_definitions.proofs.FormLines.{EmptyAfter, AreWithin, none_at_first, no_lines_at_first, lines_of_built}
 use Rattle.lexicon_text_definitions.proofs.FormPhases.{IsFormLine, IsLawfulForm, AreLawful, lawful_built, length-built, entries_placed}
 use Rattle.lexicon_text_definitions.proofs.TakenLines.{took_line}
 use Rattle.lexicon_text_definitions.proofs.ToldLines.{IsTextRule, IsLawful, NothingLater, HasGrammar, text_of_form, lines_so_far, goes_on}
+use Rattle.list_laws.proofs.Sorted.{sorted_nil}
+use Rattle.lexicon_definitions.proofs.GrammarFaultCases.{grammar_over}
 
 -- ---- reading to the end
 
@@ -161,19 +160,6 @@ counted phase [] = refl
 counted phase (forms ∷ phases) =
     sum_by-cons (λ forms. sum_by (λ (form : Form). length form.analyses) forms) forms phases
     ∙ (λ i. counted_phase phase forms i + counted (phase + 1) phases i) ∙ sym (length-append (phase_entries phase forms) (entries_from (phase + 1) phases))
-
--- ---- a grammar text within the limits is one over its names
-
-over_by : (names : List (List ℕ)) (text : List ℕ) (long : Bool) (syntax unknown : Option ℕ) (places : Bool) → nat_lt MOST_GRAMMAR_BYTES (length text) ≡ long
-    → syntax_fault text ≡ syntax → first_unknown names (names_from 0 text) ≡ unknown → nat_lt MOST_GRAMMAR_NAMES (length (names_from 0 text)) ≡ places
-    → IsGrammarTextWithinLimits names text → (syntax ≡ None) × (unknown ≡ None)
-over_by names text true syntax unknown places a b c d h = absurd (h grammars.Long (λ i. first_fault_of (a i) (b i) (c i) (d i)))
-over_by names text false (Some at) unknown places a b c d h = absurd (h (grammars.Syntax at) (λ i. first_fault_of (a i) (b i) (c i) (d i)))
-over_by names text false None (Some at) places a b c d h = absurd (h (grammars.UnknownPhase at) (λ i. first_fault_of (a i) (b i) (c i) (d i)))
-over_by names text false None None places a b c d h = (refl, refl)
-
-pub grammar_over : (names : List (List ℕ)) (text : List ℕ) → IsGrammarTextWithinLimits names text → IsGrammarOver names text
-grammar_over names text h = over_by names text _ _ _ _ refl refl refl refl h
 
 -- ---- the lexicon at the end
 

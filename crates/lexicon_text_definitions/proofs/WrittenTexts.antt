@@ -24,15 +24,18 @@ use Rattle.lexicon_text_definitions.specs.TextsOf.{HasSpelledStems, HasText}
 use Rattle.list_laws.proofs.Marks.{is_free}
 use Rattle.lexicon_text_definitions.proofs.LineTests.{IsOther, pairs_before}
 use Rattle.lexicon_text_definitions.proofs.LineCuts.{ended_line, lines_back}
-use Rattle.lexicon_text_definitions.proofs.RisingLines.{pairs_total, lines_total, last_below}
+use Rattle.lexicon_text_definitions.proofs.RisingLines.{lines_total, last_below}
 use Rattle.lexicon_text_definitions.proofs.FileLeads.{leads_with, leads_front, leads_counted}
 use Rattle.lexicon_text_definitions.proofs.FormPhases.{IsFormLine, IsLawfulForm, AreLawful, all_right, all_both, lines_rise, lines_lawful, phases_built, entries_placed}
 use Rattle.lexicon_text_definitions.proofs.CleanBytes.{IsClean, clean_append, clean_utf8, clean_free, clean_name, clean_word, clean_tag, clean_grammar}
 use Rattle.lexicon_text_definitions.proofs.LineSteps.{MayName, MayPair, MayRule, MayLine, place_of_name}
 use Rattle.lexicon_text_definitions.proofs.TakenLines.{takes_head, takes_name_line, takes_grammar_line, takes_pair_line, takes_rule_line, takes_form_line, takes_end_line}
 use Rattle.lexicon_text_definitions.proofs.ToldLines.{IsTextRule, text_of_form, lines_so_far}
-use Rattle.lexicon_text_definitions.proofs.WholeTexts.{lines_are, counted, grammar_over, empty_at_first, lawful_at_first, all_within}
+use Rattle.lexicon_text_definitions.proofs.WholeTexts.{lines_are, counted, empty_at_first, lawful_at_first, all_within}
 use Rattle.lexicon_text_definitions.proofs.FormLines.{AreWithin, no_lines_at_first}
+use Rattle.lexicon_definitions.proofs.PlainPairs.{pairs_total}
+use Rattle.lexicon_definitions.proofs.GrammarFaultCases.{grammar_over}
+use Rattle.list_laws.proofs.Elements.{six_regrouped}
 
 -- ---- parts of a lexicon that are lawful as a whole
 
@@ -253,9 +256,6 @@ lawful_phases (forms ∷ phases) p s t = (
   lawful_phases phases p.1 s.1 t.1,
 )
 
-regrouped : {A : Type 0} (a b c d e f : List A) → ((((a ++ b) ++ c) ++ d) ++ e) ++ f ≡ a ++ (b ++ (c ++ (d ++ (e ++ f))))
-regrouped a b c d e f = simp append_assoc
-
 mapped_each : {A B : Type 0} (g : A → B) (a b c d e f : List A)
     → map g (a ++ (b ++ (c ++ (d ++ (e ++ f))))) ≡ map g a ++ (map g b ++ (map g c ++ (map g d ++ (map g e ++ map g f))))
 mapped_each g a b c d e f = simp map-append
@@ -265,7 +265,7 @@ arranged : (first : List ℕ) (names : List (List ℕ)) (grammar : List ℕ) (pl
     → map ended_line (((((((first ∷ names) ++ grammar ∷ []) ++ plain) ++ rules) ++ forms) ++ last ∷ []))
     ≡ ended_line first ∷ (map ended_line names ++ (ended_line grammar ∷ (map ended_line plain ++ (map ended_line rules ++ (map ended_line forms ++ ended_line last ∷ [])))))
 arranged first names grammar plain rules forms last =
-    ap (map ended_line) (regrouped (first ∷ names) (grammar ∷ []) plain rules forms (last ∷ []))
+    ap (map ended_line) (six_regrouped (first ∷ names) (grammar ∷ []) plain rules forms (last ∷ []))
     ∙ mapped_each ended_line (first ∷ names) (grammar ∷ []) plain rules forms (last ∷ [])
 
 abbrev IsFree : List ℕ → Type 0

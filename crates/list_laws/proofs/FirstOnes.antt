@@ -6,14 +6,10 @@ use Rattle.std.specs.List.Sorted.{IsStrictlySortedBy}
 use Rattle.std.specs.declared.cmp.Ordering.{Ordering}
 use Rattle.std.specs.declared.cmp.Ordering.TheVariants.{Less}
 use Rattle.std.proofs.lemmas.List.{append-nil, append_assoc}
-use Rattle.std.proofs.lemmas.List.Elements.{All-append, All-from_recursion, recursion_from_All, All-contains, All-contains_itself, All-weaker, Contains-append_left, Contains-append_right, Contains-append_cases}
+use Rattle.std.proofs.lemmas.List.Elements.{All-append, All-from_recursion, recursion_from_All, All-contains, Contains-append_left, Contains-append_right, Contains-append_cases}
 use Rattle.std.proofs.lemmas.Map.Keys.{sorted_head, sorted_tail}
-use Rattle.list_laws.proofs.Sorted.{Contains-first, Contains-later, Contains-cons_cases, not_Contains-nil}
+use Rattle.list_laws.proofs.Sorted.{Contains-first, Contains-later, Contains-cons_cases, not_Contains-nil, All-from_Contains}
 use Rattle.list_laws.specs.Firsts.{ComesAfter, AreFirst, AreAll, AppendsAll}
-
--- a property of every element
-pub All-by : {X : Type 0} (P : X → Type 0) (xs : List X) → ((x : X) → Contains xs x → P x) → All P xs
-All-by P xs h = All-weaker (Contains xs) P h xs (All-contains_itself xs)
 
 module _ {X : Type 0} (R : X → X → Ordering) where
   pub sorted-cons : (x : X) (xs : List X) → All (λ y. R x y ≡ Less) xs → IsStrictlySortedBy R xs → IsStrictlySortedBy R (x ∷ xs)
@@ -26,7 +22,7 @@ module _ {X : Type 0} (R : X → X → Ordering) where
   sorted-append (x ∷ xs) ys s t h =
       let P : X → Type 0 = λ y. R x y ≡ Less in
       sorted-cons x (xs ++ ys)
-      (All-append P xs ys (All-from_recursion P xs (sorted_head R x xs s)) (All-by P ys (λ y m. h x y (Contains-first x xs) m)))
+      (All-append P xs ys (All-from_recursion P xs (sorted_head R x xs s)) (All-from_Contains P ys (λ y m. h x y (Contains-first x xs) m)))
       (sorted-append xs ys (sorted_tail R x xs s) t (λ a y m n. h a y (Contains-later x xs a m) n))
 
   -- nothing has the property
@@ -97,7 +93,7 @@ module _ {X : Type 0} (R : X → X → Ordering) where
       → ((x y : X) → P x → Q y → R x y ≡ Less) → AreFirst R (λ x. P x ⊎ Q x) (xs ++ ys) more
   first_of_both P Q xs ys more left right before =
       let following : (y : X) → Q y → ComesAfter R ys y → ComesAfter R (xs ++ ys) y =
-      λ y q h. All-append (λ x. R x y ≡ Less) xs ys (All-by (λ x. R x y ≡ Less) xs (λ x m. before x y (left.only x m) q)) h in
+      λ y q h. All-append (λ x. R x y ≡ Less) xs ys (All-from_Contains (λ x. R x y ≡ Less) xs (λ x m. before x y (left.only x m) q)) h in
       record {
         rising = sorted-append xs ys left.rising right.rising (λ x y m n. before x y (left.only x m) (right.only y n));
         only = λ x m. elim (Contains-append_cases xs ys x m) [ inl a ↦ inl (left.only x a) | inr b ↦ inr (right.only x b) ];
@@ -119,7 +115,7 @@ module _ {X : Type 0} (R : X → X → Ordering) where
     only = λ x m. inl (first.only x m);
     complete = λ x h. elim h [
       | inl p ↦ first.complete x p
-      | inr q ↦ inr (refl, All-by (λ y. R y x ≡ Less) xs (λ y m. before y x (first.only y m) q))
+      | inr q ↦ inr (refl, All-from_Contains (λ y. R y x ≡ Less) xs (λ y m. before y x (first.only y m) q))
     ];
     left = λ e. let l = first.left e in (l.0, inl l.1, l.2);
   }
@@ -165,7 +161,7 @@ module _ {X Y : Type 0} (R : X → X → Ordering) (S : Y → Y → Ordering) (f
     (rise : (x z : X) → P x → P z → R x z ≡ Less → S (f x) (f z) ≡ Less) where
   following-map : (xs : List X) (x : X) → ((z : X) → Contains xs z → P z) → P x → ComesAfter R xs x → ComesAfter S (map f xs) (f x)
   following-map xs x only p b =
-      All-by (λ y. S y (f x) ≡ Less) (map f xs) (λ y m.
+      All-from_Contains (λ y. S y (f x) ≡ Less) (map f xs) (λ y m.
       let h = Contains-map_cases f xs y m in
       subst (λ y. S y (f x) ≡ Less) h.2 (rise h.0 x (only h.0 h.1) p (All-contains (λ z. R z x ≡ Less) xs h.0 b h.1)))
 
@@ -174,7 +170,7 @@ module _ {X Y : Type 0} (R : X → X → Ordering) (S : Y → Y → Ordering) (f
   sorted-map [] only s = tt
   sorted-map (x ∷ xs) only s =
       sorted-cons S (f x) (map f xs)
-      (All-by (λ y. S (f x) y ≡ Less) (map f xs) (λ y m.
+      (All-from_Contains (λ y. S (f x) y ≡ Less) (map f xs) (λ y m.
       let h = Contains-map_cases f xs y m in
       subst (λ y. S (f x) y ≡ Less) h.2
       (rise x h.0 (only x (Contains-first x xs)) (only h.0 (Contains-later x xs h.0 h.1))

@@ -3,3 +3,7 @@ pub mod Marks
 pub mod Searches
 pub mod Sorted
 pub mod RisingSetLaws
+pub mod Booleans
+pub mod Orderings
+pub mod Elements
+pub mod Texts

@@ -1,9 +1,8 @@
 -- A text is cut at a mark in one way: where no front has the mark, by induction on both fronts.
-use Rattle.std.proofs.Common.{◌≡◌, ◌≢◌, ℕ, Bool, true, false, cond, List, [], ◌∷◌, ◌++◌, eqb, refl, ◌∙◌, ap, All, arith}
+use Rattle.std.proofs.Common.{◌≡◌, ◌≢◌, ℕ, Bool, true, false, cond, List, [], ◌∷◌, ◌++◌, eqb, refl, ◌∙◌, ap, All}
 use Rattle.std.specs.List.{AllByRecursion}
-use Rattle.std.proofs.lemmas.Bool.{eqb-true}
-use Rattle.std.proofs.lemmas.Bool.Decides.{nat_tests}
-use Rattle.std.proofs.lemmas.List.Elements.{recursion_from_All}
+use Rattle.std.proofs.lemmas.Bool.{eqb-true, eqb-false}
+use Rattle.std.proofs.lemmas.List.Elements.{recursion_from_All, All-from_recursion}
 
 -- the text does not have the mark
 abbrev pub is_free : ℕ → List ℕ → Bool
@@ -24,17 +23,14 @@ free_append mark (byte ∷ left) right h k =
     let parts = free_parts mark byte left h in
     ap (λ test. cond test false (is_free mark (left ++ right))) parts.0 ∙ free_append mark left right parts.1 k
 
-not_the_mark : (mark byte : ℕ) → eqb byte mark ≡ false → byte ≡ mark → ⊥
-not_the_mark mark byte h e = grind (arith, nat_tests)
-
 -- the cut at the first mark is one
 pub cut_once : (mark : ℕ) (left right other rest : List ℕ) → is_free mark left ≡ true → is_free mark other ≡ true
     → left ++ mark ∷ right ≡ other ++ mark ∷ rest → (left ≡ other) × (right ≡ rest)
 cut_once mark [] right [] rest h k e = (refl, cc)
 cut_once mark [] right (byte ∷ other) rest h k e =
-    absurd (not_the_mark mark byte (free_parts mark byte other k).0 (cc))
+    absurd (eqb-false byte mark (free_parts mark byte other k).0 (cc))
 cut_once mark (byte ∷ left) right [] rest h k e =
-    absurd (not_the_mark mark byte (free_parts mark byte left h).0 (cc))
+    absurd (eqb-false byte mark (free_parts mark byte left h).0 (cc))
 cut_once mark (byte ∷ left) right (first ∷ other) rest h k e =
     let tails : left ++ mark ∷ right ≡ other ++ mark ∷ rest = cc in
     let parts = cut_once mark left right other rest (free_parts mark byte left h).1 (free_parts mark first other k).1 tails in
@@ -44,7 +40,7 @@ cut_once mark (byte ∷ left) right (first ∷ other) rest h k e =
 pub no_cut : (mark : ℕ) (text left right : List ℕ) → is_free mark text ≡ true → text ≡ left ++ mark ∷ right → ⊥
 no_cut mark [] [] right h e = cc
 no_cut mark [] (byte ∷ left) right h e = cc
-no_cut mark (first ∷ text) [] right h e = not_the_mark mark first (free_parts mark first text h).0 (cc)
+no_cut mark (first ∷ text) [] right h e = eqb-false first mark (free_parts mark first text h).0 (cc)
 no_cut mark (first ∷ text) (byte ∷ left) right h e = no_cut mark text left right (free_parts mark first text h).1 (cc)
 
 free_by : (mark byte : ℕ) (test : Bool) → eqb byte mark ≡ test → byte ≢ mark → test ≡ false
@@ -59,3 +55,11 @@ from_recursion mark (byte ∷ text) h =
 -- where no byte is the mark, the text is free of it
 pub free_from_All : (mark : ℕ) (text : List ℕ) → All (λ byte. byte ≢ mark) text → is_free mark text ≡ true
 free_from_All mark text h = from_recursion mark text (recursion_from_All (λ byte. byte ≢ mark) text h)
+
+apart_by_recursion : (mark : ℕ) (text : List ℕ) → is_free mark text ≡ true → AllByRecursion (λ byte. eqb byte mark ≡ false) text
+apart_by_recursion mark [] h = tt
+apart_by_recursion mark (byte ∷ text) h = let parts = free_parts mark byte text h in (parts.0, apart_by_recursion mark text parts.1)
+
+-- where the text is free of the mark, no byte is tested as it
+pub bytes_apart_from : (mark : ℕ) (text : List ℕ) → is_free mark text ≡ true → All (λ byte. eqb byte mark ≡ false) text
+bytes_apart_from mark text h = All-from_recursion (λ byte. eqb byte mark ≡ false) text (apart_by_recursion mark text h)

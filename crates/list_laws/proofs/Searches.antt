@@ -1,6 +1,6 @@
 -- What a binary search says of a rising list: by what std's search says, since an order that tells all keys apart puts
 -- one place at most at the key.
-use Rattle.std.proofs.Common.{◌≡◌, ℕ, ◌+◌, ◌<◌, ◌↔◌, false, List, [], ◌∷◌, length, map, get_or, Result, Ok, Err, Ordering, Contains, IsTrue, IfOk, is_ok, ◌∙◌, sym, subst, refl, map-id, arith, inl, inr}
+use Rattle.std.proofs.Common.{◌≡◌, ℕ, ◌+◌, ◌<◌, ◌↔◌, List, [], ◌∷◌, length, map, get_or, Result, Ok, Err, Ordering, Contains, IsTrue, IfOk, is_ok, ◌∙◌, sym, ap, subst, refl, map-id, arith, inl, inr}
 use Rattle.std.specs.declared.cmp.Ordering.TheVariants.{Less, Equal, Greater}
 use Rattle.std.specs.Ordering.{is_lt, on, ordering_reverse, ordering_index}
 use Rattle.std.specs.Cmp.{IsTotalOrder}
@@ -11,11 +11,6 @@ use Rattle.std.proofs.lemmas.List.{get_or-map, length-map}
 use Rattle.std.proofs.lemmas.List.Sorted.{searchable_from_sorted}
 use Rattle.std.proofs.lemmas.Map.Keys.{Less-from_sorted}
 use Rattle.std.proofs.lemmas.Map.Lookups.{CmpEqualImpliesEq}
-
-not_less_back : (o : Ordering) → o ≡ Less → is_lt (ordering_reverse o) ≡ false
-not_less_back Less e = refl
-not_less_back Equal e = absurd (cc)
-not_less_back Greater e = absurd (cc)
 
 -- a list with a place has an element
 has_element : {X : Type 0} (xs : List X) (k : ℕ) → k < length xs → ((d : X) → ⊥) → ⊥
@@ -36,7 +31,7 @@ module _ {X K : Type 0} {R : K → K → Ordering} (total : IsTotalOrder R) (exa
   not_falling rising =
       searchable_from_sorted total key xs x
       (λ k d low high. rw (total.antisymm (key (get_or xs (k + 1) d)) (key (get_or xs k d)))
-      (not_less_back _ (Less-from_sorted (on key R) xs k (k + 1) d rising (omega arith) high)))
+      (ap (λ o. is_lt (ordering_reverse o)) (Less-from_sorted (on key R) xs k (k + 1) d rising (omega arith) high)))
 
   -- no element has the key, where those before a place are below it and those from there on above it
   pub absent : (i : ℕ) → IsPartitionPoint (λ y. R (key y) x ≡ Less) (λ y. R (key y) x ≡ Greater) xs i → Contains (map key xs) x → ⊥

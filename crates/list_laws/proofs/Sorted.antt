@@ -48,6 +48,10 @@ Contains-parts count xs x m =
 pub All-from_Contains : {X : Type 0} (P : X → Type 0) (xs : List X) → ((x : X) → Contains xs x → P x) → All P xs
 All-from_Contains P xs f = All-weaker (Contains xs) P f xs (All-contains_itself xs)
 
+pub sorted_nil : {K : Type 0} (R : K → K → Ordering) → IsStrictlySortedBy R []
+unfolding IsStrictlySortedBy
+sorted_nil R = tt
+
 -- z is an element of ys, or comes after ys, which is as long as xs at least
 abbrev IsInOrAfter : {K : Type 0} (R : K → K → Ordering) (xs ys : List K) (z : K) → Type 0
 IsInOrAfter R xs ys z = Contains ys z ⊎ ((length xs ≤ length ys) × All (λ y. R y z ≡ Less) ys)

@@ -10,8 +10,9 @@ use Rattle.list_laws.proofs.FirstOnes.{none_at_all, one_in_all, all_with, all_of
 use Rattle.listing_laws.specs.Ways.{Ways, AreOrderly, IsChoice, IsPath}
 use Rattle.listing_laws.specs.Positions.{Position, BeforeFirst, AtPath, PastLast, IsAbove, IsFirst, IsListingAbove}
 use Rattle.listing_laws.specs.Stacks.{Frame, taken_in, LeadTo, From, After, Nothing, IsToCome, StandsFor}
-use Rattle.listing_laws.proofs.Paths.{path_from_next, path_from_end, path_from_top, first_of_path, less_then_cases, same_path}
+use Rattle.listing_laws.proofs.Paths.{path_from_next, path_from_end, path_from_top, first_of_path, same_path}
 use Rattle.listing_laws.proofs.ToCome.{above_taken}
+use Rattle.list_laws.proofs.Orderings.{less_then_cases}
 
 -- a path that is not above another is that one or comes before it
 first_or_later : {Configuration Choice : Type 0} {ways : Ways Configuration Choice} → AreOrderly ways → (start : Configuration) (path other : List Choice)

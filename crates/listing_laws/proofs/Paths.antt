@@ -1,25 +1,12 @@
 -- Paths are taken apart at their first choice: where it leads on, what is after it is a path from there, and where it ends,
 -- nothing is after it. All else is by induction on the choices taken.
-use Rattle.std.proofs.Common.{◌≡◌, ◌⊎◌, ◌↔◌, inl, inr, List, [], ◌∷◌, ◌++◌, refl, sym, subst}
+use Rattle.std.proofs.Common.{◌≡◌, ◌↔◌, inl, inr, List, [], ◌∷◌, ◌++◌, refl, sym, subst}
 use Rattle.std.specs.Cmp.Lexicographic.{slice_cmp}
-use Rattle.std.specs.Ordering.{ordering_then}
-use Rattle.std.specs.declared.cmp.Ordering.{Ordering}
-use Rattle.std.specs.declared.cmp.Ordering.TheVariants.{Less, Equal, Greater}
+use Rattle.std.specs.declared.cmp.Ordering.TheVariants.{Equal}
 use Rattle.std.proofs.lemmas.List.{map-append}
 use Rattle.listing_laws.specs.Ways.{Ways, AreOrderly, IsChoice, IsPath}
 use Rattle.listing_laws.specs.Stacks.{Frame, taken_in, LeadTo}
-
--- one comparison after another gives Less where the first does, or the second where the first is Equal
-pub less_then_cases : (a b : Ordering) → ordering_then a b ≡ Less → (a ≡ Less) ⊎ ((a ≡ Equal) × (b ≡ Less))
-less_then_cases Less b e = inl refl
-less_then_cases Equal b e = inr (refl, e)
-less_then_cases Greater b e = cc
-
--- and Equal only where both do
-pub equal_then_both : (a b : Ordering) → ordering_then a b ≡ Equal → (a ≡ Equal) × (b ≡ Equal)
-equal_then_both Less b e = cc
-equal_then_both Equal b e = (refl, e)
-equal_then_both Greater b e = cc
+use Rattle.list_laws.proofs.Orderings.{equal_then_both}
 
 module _ {Configuration Choice : Type 0} {ways : Ways Configuration Choice} (orderly : AreOrderly ways) where
   -- a path begins with a choice of its configuration

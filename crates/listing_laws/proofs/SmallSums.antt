@@ -10,8 +10,8 @@ use Rattle.std.specs.declared.option.Option.{Option}
 use Rattle.std.proofs.lemmas.Bool.{cases_lt}
 use Rattle.std.proofs.lemmas.Cmp.{nat_cmp_total}
 use Rattle.std.proofs.lemmas.Map.Lookups.{exact_unsigned}
-use Rattle.list_laws.proofs.Sorted.{Contains-first, Contains-later, Contains-cons_cases, not_Contains-nil}
-use Rattle.list_laws.proofs.FirstOnes.{sorted-cons, All-by}
+use Rattle.list_laws.proofs.Sorted.{Contains-first, Contains-later, Contains-cons_cases, not_Contains-nil, All-from_Contains}
+use Rattle.list_laws.proofs.FirstOnes.{sorted-cons}
 use Rattle.listing_laws.specs.Ways.{AreOrderly, AreRanked}
 use Rattle.listing_laws.specs.Listings.{Turn, IsTurn, AreTurns}
 use Rattle.listing_laws.specs.SmallSums.{sums, turns_from, turns_missing, turns_of_sums}
@@ -74,7 +74,7 @@ unfolding IsStrictlySortedBy
 rising_from at summand zero = (tt, tt)
 rising_from at summand (suc more) =
     sorted-cons (on (λ (turn : Turn ℕ ℕ). turn.choice) nat_cmp) (record { choice = summand; next = Some (at + summand) }) (turns_from at (suc summand) more)
-    (All-by _ (turns_from at (suc summand) more) (λ turn m. sym (nat_cmp_is summand turn.choice Less (above turn.choice turn.next (from_contained at (suc summand) more turn m)))))
+    (All-from_Contains _ (turns_from at (suc summand) more) (λ turn m. sym (nat_cmp_is summand turn.choice Less (above turn.choice turn.next (from_contained at (suc summand) more turn m)))))
     (rising_from at (suc summand) more)
   where
     above : (choice : ℕ) (next : Option ℕ) → IsFrom at (suc summand) more choice next → summand < choice

@@ -8,13 +8,13 @@ use Rattle.std.proofs.lemmas.List.Quantifiers.{position-Some}
 use Rattle.text_definitions.specs.Slp1.{word_of_slp1}
 use Rattle.lexicon_definitions.specs.declared.limits.TheConstants.{MOST_FORM_LETTERS}
 use Rattle.lexicon_text_definitions.specs.FileSteps.{some_word}
-use Rattle.lexicon_text_definitions.proofs.LineTests.{if_refused}
 use Rattle.morphology_definitions.specs.Inflection.{Row, Class, Stem, rows_of, form_length, IsInflectable, IsInflectableStem}
 use Rattle.paradigm_file_definitions.specs.declared.limits.TheConstants.{MOST_STEM_RECORDS, MOST_INFLECTIONS}
 use Rattle.paradigm_file_definitions.specs.Records.{records_of, read_on, read_records}
 use Rattle.paradigm_file_definitions.specs.TableFiles.{has_name}
 use Rattle.paradigm_file_definitions.specs.StemFaults.{Short, Limit, Twice}
 use Rattle.paradigm_file_definitions.specs.StemFiles.{is_same_stem, is_too_short, is_too_long, count_inflections, TakenStem, passes_stem_limits, take_classed, take_class, take_letters, take_stem, stems_of}
+use Rattle.list_laws.proofs.Booleans.{if_refused}
 
 -- ---- one stem
 

@@ -5,13 +5,14 @@ use Rattle.std.specs.Cmp.Lexicographic.{pointwise}
 use Rattle.std.specs.Str.{bytes_eq}
 use Rattle.std.proofs.lemmas.Bool.{ltb-false, or_parts}
 use Rattle.std.proofs.lemmas.List.{length-map}
-use Rattle.lexicon_text_definitions.proofs.LineTests.{bytes_same, bytes_itself, bytes_apart, when_true, when_false}
 use Rattle.morphology_definitions.specs.Inflection.{Class, Row, rows_of}
 use Rattle.paradigm_file_definitions.specs.TableFaults as tables
 use Rattle.paradigm_file_definitions.specs.TableFiles.{has_name, has_row, is_same_row, with_row, with_last_row, passes_row_limits, take_row}
 use Rattle.paradigms.specs.Kept.{AreDistinct}
 use Rattle.paradigms.specs.Rows.{classes_of}
 use Rattle.paradigms.proofs.RowEquality.{same_words}
+use Rattle.list_laws.proofs.Booleans.{when_true, when_false}
+use Rattle.list_laws.proofs.Texts.{bytes_same, bytes_itself, bytes_apart}
 
 pub length-classes_of : (names : List (List ℕ)) (rows : List (List Row)) → length names ≡ length rows → length (classes_of names rows) ≡ length names
 length-classes_of [] rows h = refl

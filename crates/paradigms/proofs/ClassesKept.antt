@@ -18,12 +18,9 @@ use Rattle.paradigms.specs.Kept.{AreDistinct, AreKept}
 use Rattle.paradigms.specs.Rows.{classes_of, text_row}
 use Rattle.paradigms.proofs.RowEquality.{same_row, same_words}
 use Rattle.paradigms.proofs.ClassLemmas.{length-classes_of, added_at, twin_at, added_last, no_twin, absent_name, first_place_of, distinct_pushed, row_twice, row_added}
+use Rattle.list_laws.proofs.Booleans.{not_of_each_other}
 
 -- ---- sets of rows and of names
-
-not_back : (b x : Bool) → x ≡ not b → b ≡ not x
-not_back true x e = ap not (sym e)
-not_back false x e = ap not (sym e)
 
 any_row : (new : Row) (rows : List Row) → list_any (row_eq.it new) rows ≡ list_any (is_same_row (text_row new)) (map text_row rows)
 any_row new [] = refl
@@ -75,13 +72,13 @@ module _ {S : Type 0} (keys_of : S → List Row) (names : List (List ℕ)) (sets
         ∙ twin_at name (text_row row) names (map (λ set. map text_row (keys_of set)) sets) class (map text_row (keys_of set)) alike distinct place here ∙ sym (any_row row (keys_of set))
 
     pub class_twice : (is_new : Bool) → is_new ≡ not (list_any (row_eq.it row) (keys_of set)) → is_new ≡ false → take_row number classes name (text_row row) ≡ Err tables.Twice
-    class_twice is_new added new = row_twice number classes name (text_row row) limits (twin_told ∙ not_back (list_any (row_eq.it row) (keys_of set)) is_new added ∙ ap not new)
+    class_twice is_new added new = row_twice number classes name (text_row row) limits (twin_told ∙ not_of_each_other (list_any (row_eq.it row) (keys_of set)) is_new added ∙ ap not new)
 
     pub class_grown : (is_new : Bool) (after : S) → is_new ≡ not (list_any (row_eq.it row) (keys_of set))
         → keys_of after ≡ (cond (list_any (row_eq.it row) (keys_of set)) (keys_of set) (keys_of set ++ row ∷ [])) → is_new ≡ true
         → take_row number classes name (text_row row) ≡ Ok (classes_of names (map (λ set. map text_row (keys_of set)) (slice_set sets class after)))
     class_grown is_new after added keys new =
-        let absent : list_any (row_eq.it row) (keys_of set) ≡ false = not_back (list_any (row_eq.it row) (keys_of set)) is_new added ∙ ap not new in
+        let absent : list_any (row_eq.it row) (keys_of set) ≡ false = not_of_each_other (list_any (row_eq.it row) (keys_of set)) is_new added ∙ ap not new in
         let pushed : keys_of after ≡ keys_of set ++ row ∷ [] = keys ∙ ap (λ b. cond b (keys_of set) (keys_of set ++ row ∷ [])) absent in
         let rows : map text_row (keys_of after) ≡ map text_row (keys_of set) ++ text_row row ∷ [] = ap (map text_row) pushed ∙ map-append text_row (keys_of set) (row ∷ []) in
         let here = set_at (λ set. map text_row (keys_of set)) sets class set (class_inside name class at) is in

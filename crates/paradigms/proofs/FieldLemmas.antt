@@ -8,7 +8,7 @@ use Rattle.paradigm_file_definitions.specs.StemFaults as stems
 use Rattle.paradigm_file_definitions.specs.StemFiles.{take_stem, take_letters}
 use Rattle.text_definitions.specs.Slp1.{word_of_slp1}
 use Rattle.lexicon_text_definitions.specs.FileSteps.{some_word}
-use Rattle.lexicon_text_definitions.proofs.LineTests.{when_true, when_false}
+use Rattle.list_laws.proofs.Booleans.{when_true, when_false}
 
 -- ---- the fields of a record
 

@@ -13,7 +13,7 @@ use Rattle.morphology_definitions.specs.Inflection.{AreAllInflected, AreInflecte
 use Rattle.paradigms.specs.declared.row.Row.{Row}
 use Rattle.paradigms.specs.declared.stem.Stem.{Stem}
 use Rattle.paradigms.specs.Rows.{text_row, text_stem}
-use Rattle.paradigms.proofs.FirstPlaces.{mapped_at}
+use Rattle.lexicon_definitions.proofs.FirstPlaces.{mapped_at}
 
 -- ---- lists side by side
 

@@ -1,5 +1,4 @@
 pub mod RecordLemmas
-pub mod FirstPlaces
 pub mod FieldLemmas
 pub mod RowReads
 pub mod RowEquality

@@ -6,7 +6,6 @@ use Rattle.std.proofs.lemmas.Bool.{false_from_ne_true}
 use Rattle.text_definitions.specs.Spellings.{Reading, SpellingFault}
 use Rattle.lexicon_definitions.specs.Tags.{IsTagText}
 use Rattle.lexicon_text_definitions.specs.FileContents.{is_tag_text}
-use Rattle.lexicon_text_definitions.proofs.LineTests.{when_true, when_false}
 use Rattle.lexicon_text_definitions.proofs.TagTests.{tag_from_test, test_from_tag}
 use Rattle.morphology_definitions.specs.Inflection.{Class, Row}
 use Rattle.paradigm_file_definitions.specs.TableFaults as tables
@@ -17,6 +16,7 @@ use Rattle.paradigms.specs.declared.record_error.RecordError.{RecordError}
 use Rattle.paradigms.specs.declared.record_error.RecordError.TheVariants.{Why, Memory}
 use Rattle.paradigms.specs.Answers.{IsRead, IsSpelled, table_why}
 use Rattle.paradigms.specs.Rows.{text_row}
+use Rattle.list_laws.proofs.Booleans.{when_true, when_false}
 
 module _ (phases : List (List ℕ)) (number : ℕ) (classes : List Class) (name tag phase prefix ending : List ℕ) where
   pub no_cut : (cut : Option ℕ) → cut ≡ None → take_cut phases number classes name tag phase cut prefix ending ≡ Err tables.Fields

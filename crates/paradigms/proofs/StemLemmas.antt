@@ -3,7 +3,6 @@ use Rattle.std.proofs.Common.{◌≡◌, ℕ, ◌+◌, Bool, true, false, cond, 
 use Rattle.std.specs.List.{list_any}
 use Rattle.std.proofs.lemmas.List.{length-map, map-append}
 use Rattle.lexicon_definitions.specs.declared.limits.TheConstants.{MOST_FORM_LETTERS}
-use Rattle.lexicon_text_definitions.proofs.LineTests.{when_true, when_false}
 use Rattle.morphology_definitions.specs.Inflection as inflection
 use Rattle.morphology_definitions.specs.Inflection.{Class, rows_of}
 use Rattle.paradigm_file_definitions.specs.declared.limits.TheConstants.{MOST_STEM_RECORDS, MOST_INFLECTIONS}
@@ -14,6 +13,7 @@ use Rattle.paradigms.specs.declared.row.Row.{Row}
 use Rattle.paradigms.specs.declared.stem.Stem.{Stem}
 use Rattle.paradigms.specs.Rows.{text_row, text_stem}
 use Rattle.paradigms.proofs.RowEquality.{same_stem}
+use Rattle.list_laws.proofs.Booleans.{when_true, when_false, not_of_each_other}
 
 any-map : {X Y : Type 0} (p : Y → Bool) (f : X → Y) (xs : List X) → list_any (λ x. p (f x)) xs ≡ list_any p (map f xs)
 any-map p f [] = refl
@@ -22,10 +22,6 @@ any-map p f (x ∷ xs) = ap (λ b. p (f x) || b) (any-map p f xs)
 any_stem : (new : Stem) (keys : List Stem) → list_any (stem_eq.it new) keys ≡ list_any (is_same_stem (text_stem new)) (map text_stem keys)
 any_stem new [] = refl
 any_stem new (stem ∷ keys) = λ i. same_stem new stem i || any_stem new keys i
-
-not_back : (b x : Bool) → x ≡ not b → b ≡ not x
-not_back true x e = ap not (sym e)
-not_back false x e = ap not (sym e)
 
 module _ (classes : List Class) (number : ℕ) (told : List inflection.Stem) (new : inflection.Stem) (rows : List Row) (are : map text_row rows ≡ rows_of classes new.class) where
   pub short_told : list_any (λ row. is_too_short new.letters (text_row row)) rows ≡ list_any (is_too_short new.letters) (rows_of classes new.class)
@@ -69,12 +65,12 @@ module _ (new : Stem) (keys : List Stem) (told : List inflection.Stem) (is : map
   twin_told = ap (list_any (is_same_stem (text_stem new))) (sym is) ∙ sym (any_stem new keys)
 
   pub has_twin : is_new ≡ false → list_any (is_same_stem (text_stem new)) told ≡ true
-  has_twin h = twin_told ∙ not_back (list_any (stem_eq.it new) keys) is_new added ∙ ap not h
+  has_twin h = twin_told ∙ not_of_each_other (list_any (stem_eq.it new) keys) is_new added ∙ ap not h
 
   pub has_none : is_new ≡ true → list_any (is_same_stem (text_stem new)) told ≡ false
-  has_none h = twin_told ∙ not_back (list_any (stem_eq.it new) keys) is_new added ∙ ap not h
+  has_none h = twin_told ∙ not_of_each_other (list_any (stem_eq.it new) keys) is_new added ∙ ap not h
 
   pub stem_pushed : (after : List Stem) → is_new ≡ true → after ≡ (cond (list_any (stem_eq.it new) keys) keys (keys ++ new ∷ [])) → map text_stem after ≡ told ++ text_stem new ∷ []
   stem_pushed after h put =
-      let absent : list_any (stem_eq.it new) keys ≡ false = not_back (list_any (stem_eq.it new) keys) is_new added ∙ ap not h in
+      let absent : list_any (stem_eq.it new) keys ≡ false = not_of_each_other (list_any (stem_eq.it new) keys) is_new added ∙ ap not h in
       ap (map text_stem) (put ∙ ap (λ b. cond b keys (keys ++ new ∷ [])) absent) ∙ map-append text_stem keys (new ∷ []) ∙ ap (λ told. told ++ text_stem new ∷ []) is

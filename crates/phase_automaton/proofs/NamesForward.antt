@@ -7,6 +7,7 @@ use Rattle.lexicon_definitions.specs.GrammarFaults.{PlacedName, names_from, with
 use Rattle.phase_automaton.specs.declared.position.Position.{Position}
 use Rattle.phase_automaton.specs.Names.{first_name, position_of_name}
 use Rattle.phase_automaton.proofs.PhaseNumbers.{any_from_position, none_from_position}
+use Rattle.std.proofs.lemmas.Bool.{cond-true, cond-false}
 
 -- the names that begin in the rest of a text, at this place, where a name ends in front of it or none does
 abbrev pub names_after : Bool → ℕ → List ℕ → List PlacedName
@@ -15,14 +16,6 @@ names_after true at (byte ∷ text) =
     cond (is_name_byte byte) (names_after true (at + 1) text) (names_after false (at + 1) text)
 names_after false at (byte ∷ text) =
     cond (is_name_byte byte) (record { at = at; bytes = byte ∷ first_name text } ∷ names_after true (at + 1) text) (names_after false (at + 1) text)
-
-pub cond_true : {X : Type 0} (b : Bool) (x y : X) → b ≡ true → cond b x y ≡ x
-cond_true true x y e = refl
-cond_true false x y e = cc
-
-pub cond_false : {X : Type 0} (b : Bool) (x y : X) → b ≡ false → cond b x y ≡ y
-cond_false true x y e = cc
-cond_false false x y e = refl
 
 pub bool_cases : (b : Bool) {P : Type 0} → (b ≡ true → P) → (b ≡ false → P) → P
 bool_cases true f g = f refl
@@ -35,19 +28,19 @@ record Forward (at : ℕ) (text : List ℕ) : Type 0 where
 
 pub no_name : (text : List ℕ) → begins_with_name_byte text ≡ false → first_name text ≡ []
 no_name [] e = refl
-no_name (byte ∷ text) e = cond_false (is_name_byte byte) (byte ∷ first_name text) [] e
+no_name (byte ∷ text) e = cond-false (is_name_byte byte) (byte ∷ first_name text) [] e
 
 from_forward : (at : ℕ) (text : List ℕ) → Forward at text → names_after false at text ≡ names_from at text
 from_forward at [] f = refl
 from_forward at (byte ∷ text) f = bool_cases (is_name_byte byte)
     (λ e.
-    cond_true (is_name_byte byte) (record { at = at; bytes = byte ∷ first_name text } ∷ names_after true (at + 1) text) (names_after false (at + 1) text) e
+    cond-true (is_name_byte byte) (record { at = at; bytes = byte ∷ first_name text } ∷ names_after true (at + 1) text) (names_after false (at + 1) text) e
     ∙ sym (f.begun e
-    ∙ (ap (λ bytes. record { at = at; bytes = bytes } ∷ names_after true at (byte ∷ text)) (cond_true (is_name_byte byte) (byte ∷ first_name text) [] e)
-    ∙ ap (λ names. record { at = at; bytes = byte ∷ first_name text } ∷ names) (cond_true (is_name_byte byte) (names_after true (at + 1) text) (names_after false (at + 1) text) e))))
+    ∙ (ap (λ bytes. record { at = at; bytes = bytes } ∷ names_after true at (byte ∷ text)) (cond-true (is_name_byte byte) (byte ∷ first_name text) [] e)
+    ∙ ap (λ names. record { at = at; bytes = byte ∷ first_name text } ∷ names) (cond-true (is_name_byte byte) (names_after true (at + 1) text) (names_after false (at + 1) text) e))))
     (λ e.
-    cond_false (is_name_byte byte) (record { at = at; bytes = byte ∷ first_name text } ∷ names_after true (at + 1) text) (names_after false (at + 1) text) e
-    ∙ sym (f.none e ∙ cond_false (is_name_byte byte) (names_after true (at + 1) text) (names_after false (at + 1) text) e))
+    cond-false (is_name_byte byte) (record { at = at; bytes = byte ∷ first_name text } ∷ names_after true (at + 1) text) (names_after false (at + 1) text) e
+    ∙ sym (f.none e ∙ cond-false (is_name_byte byte) (names_after true (at + 1) text) (names_after false (at + 1) text) e))
 
 with_first : (at byte : ℕ) (text : List ℕ) → Forward (at + 1) text
     → with_first_byte at byte (begins_with_name_byte text) (names_from (at + 1) text)
@@ -62,14 +55,14 @@ forward (byte ∷ text) at =
     let inner = forward text (at + 1) in
     record {
       begun = λ e.
-          cond_true (is_name_byte byte) (with_first_byte at byte (begins_with_name_byte text) (names_from (at + 1) text)) (names_from (at + 1) text) e
+          cond-true (is_name_byte byte) (with_first_byte at byte (begins_with_name_byte text) (names_from (at + 1) text)) (names_from (at + 1) text) e
           ∙ (with_first at byte text inner
-          ∙ sym (ap (λ bytes. record { at = at; bytes = bytes } ∷ names_after true at (byte ∷ text)) (cond_true (is_name_byte byte) (byte ∷ first_name text) [] e)
-          ∙ ap (λ names. record { at = at; bytes = byte ∷ first_name text } ∷ names) (cond_true (is_name_byte byte) (names_after true (at + 1) text) (names_after false (at + 1) text) e)));
+          ∙ sym (ap (λ bytes. record { at = at; bytes = bytes } ∷ names_after true at (byte ∷ text)) (cond-true (is_name_byte byte) (byte ∷ first_name text) [] e)
+          ∙ ap (λ names. record { at = at; bytes = byte ∷ first_name text } ∷ names) (cond-true (is_name_byte byte) (names_after true (at + 1) text) (names_after false (at + 1) text) e)));
       none = λ e.
-          cond_false (is_name_byte byte) (with_first_byte at byte (begins_with_name_byte text) (names_from (at + 1) text)) (names_from (at + 1) text) e
+          cond-false (is_name_byte byte) (with_first_byte at byte (begins_with_name_byte text) (names_from (at + 1) text)) (names_from (at + 1) text) e
           ∙ (sym (from_forward (at + 1) text inner)
-          ∙ sym (cond_false (is_name_byte byte) (names_after true (at + 1) text) (names_after false (at + 1) text) e));
+          ∙ sym (cond-false (is_name_byte byte) (names_after true (at + 1) text) (names_after false (at + 1) text) e));
     }
 
 pub names_are : (text : List ℕ) (at : ℕ) → names_after false at text ≡ names_from at text
@@ -79,18 +72,18 @@ names_are text at = from_forward at text (forward text at)
 pub names_begin : (at byte : ℕ) (text : List ℕ) → is_name_byte byte ≡ true
     → names_after false at (byte ∷ text) ≡ record { at = at; bytes = first_name (byte ∷ text) } ∷ names_after true (at + 1) text
 names_begin at byte text e =
-    cond_true (is_name_byte byte) (record { at = at; bytes = byte ∷ first_name text } ∷ names_after true (at + 1) text) (names_after false (at + 1) text) e
-    ∙ sym (ap (λ bytes. record { at = at; bytes = bytes } ∷ names_after true (at + 1) text) (cond_true (is_name_byte byte) (byte ∷ first_name text) [] e))
+    cond-true (is_name_byte byte) (record { at = at; bytes = byte ∷ first_name text } ∷ names_after true (at + 1) text) (names_after false (at + 1) text) e
+    ∙ sym (ap (λ bytes. record { at = at; bytes = bytes } ∷ names_after true (at + 1) text) (cond-true (is_name_byte byte) (byte ∷ first_name text) [] e))
 
 pub names_go_on : (at byte : ℕ) (text : List ℕ) → is_name_byte byte ≡ true
     → names_after true at (byte ∷ text) ≡ names_after true (at + 1) text
-names_go_on at byte text e = cond_true (is_name_byte byte) (names_after true (at + 1) text) (names_after false (at + 1) text) e
+names_go_on at byte text e = cond-true (is_name_byte byte) (names_after true (at + 1) text) (names_after false (at + 1) text) e
 
 pub names_end : (at byte : ℕ) (text : List ℕ) (in_name : Bool) → is_name_byte byte ≡ false
     → names_after in_name at (byte ∷ text) ≡ names_after false (at + 1) text
-names_end at byte text true e = cond_false (is_name_byte byte) (names_after true (at + 1) text) (names_after false (at + 1) text) e
+names_end at byte text true e = cond-false (is_name_byte byte) (names_after true (at + 1) text) (names_after false (at + 1) text) e
 names_end at byte text false e =
-    cond_false (is_name_byte byte) (record { at = at; bytes = byte ∷ first_name text } ∷ names_after true (at + 1) text) (names_after false (at + 1) text) e
+    cond-false (is_name_byte byte) (record { at = at; bytes = byte ∷ first_name text } ∷ names_after true (at + 1) text) (names_after false (at + 1) text) e
 
 -- ---- the loop that reads the positions
 -- a name of a phase begins here
@@ -109,7 +102,7 @@ pub known_begin : (names : List (List ℕ)) (unknown : Option ℕ) (at byte phas
     → rest ≡ byte ∷ text → is_name_byte byte ≡ true → Some phase ≡ position (bytes_eq (first_name rest)) names
     → first_unknown names (names_after false at rest) ≡ unknown → first_unknown names (names_after true (at + 1) text) ≡ unknown
 known_begin names unknown at byte phase rest text is e found h =
-    sym (cond_true (list_any (bytes_eq (first_name (byte ∷ text))) names) (first_unknown names (names_after true (at + 1) text)) (Some at)
+    sym (cond-true (list_any (bytes_eq (first_name (byte ∷ text))) names) (first_unknown names (names_after true (at + 1) text)) (Some at)
     (subst (λ r. list_any (bytes_eq (first_name r)) names ≡ true) is (any_from_position (bytes_eq (first_name rest)) names phase [] found)))
     ∙ (ap (first_unknown names) (sym (names_begin at byte text e))
     ∙ (ap (λ r. first_unknown names (names_after false at r)) (sym is) ∙ h))
@@ -122,7 +115,7 @@ unknown_begins names unknown at byte rest text is e none h =
     sym h
     ∙ (ap (λ r. first_unknown names (names_after false at r)) is
     ∙ (ap (first_unknown names) (names_begin at byte text e)
-    ∙ cond_false (list_any (bytes_eq (first_name (byte ∷ text))) names) (first_unknown names (names_after true (at + 1) text)) (Some at)
+    ∙ cond-false (list_any (bytes_eq (first_name (byte ∷ text))) names) (first_unknown names (names_after true (at + 1) text)) (Some at)
     (subst (λ r. list_any (bytes_eq (first_name r)) names ≡ false) is (none_from_position (bytes_eq (first_name rest)) names [] none))))
 
 -- no name begins here

@@ -1,7 +1,7 @@
 -- A reader in the middle of a text without faults: by the byte that comes next, of those that may stand.
-use Rattle.std.proofs.Common.{◌≡◌, ◌≢◌, ℕ, zero, suc, ◌+◌, ◌<◌, ◌⊎◌, inl, inr, Bool, true, false, cond, nat_lt, Some, None, List, [], ◌∷◌, map, length, drop, get_or, refl, sym, ap, ◌∙◌, arith, subst}
+use Rattle.std.proofs.Common.{◌≡◌, ◌≢◌, ℕ, zero, suc, ◌+◌, ◌<◌, inl, inr, Bool, true, false, cond, nat_lt, Some, None, List, [], ◌∷◌, map, length, drop, get_or, refl, sym, ap, ◌∙◌, arith, subst}
 use Rattle.std.specs.Prelude.{◌&&◌, ◌||◌, ◌==◌, not, nat_le}
-use Rattle.std.proofs.lemmas.Bool.{false≢true, eqb-true, ltb-false, ltb-true, lt-ltb}
+use Rattle.std.proofs.lemmas.Bool.{false≢true, eqb-true, ltb-false, ltb-true, lt-ltb, and_parts, not-true, cond-true, cond-false, or_cases, or_parts, and_left}
 use Rattle.lexicon_definitions.specs.Grammars.{Grammar, Name, AnyTimes, OnceOrMore, AtMostOnce}
 use Rattle.lexicon_definitions.specs.GrammarTexts.{Level as OpenLevel, Word, is_name_byte, is_blank, symbol_of, tokens_of, empty_level, with_item, with_newest, after_token, after_tokens}
 use Rattle.lexicon_definitions.specs.GrammarFaults.{Walk, walk_start, is_small_letter, may_follow_item, may_stand, after_symbol, after_byte, fault_from, syntax_fault, PlacedName, names_from}
@@ -12,7 +12,7 @@ use Rattle.std.proofs.lemmas.Nat.Bits.{bit_at-zero}
 use Rattle.phase_automaton.specs.PositionSets.{HasPosition}
 use Rattle.phase_automaton.specs.Pieces.{position_at, Follows}
 use Rattle.phase_automaton.specs.Readers.{IsReader, CanRead}
-use Rattle.phase_automaton.proofs.NamesForward.{cond_true, cond_false, bool_cases, names_after, names_are, names_begin, names_go_on, names_end}
+use Rattle.phase_automaton.proofs.NamesForward.{bool_cases, names_after, names_are, names_begin, names_go_on, names_end}
 use Rattle.phase_automaton.proofs.TokensForward.{with_other_byte, tokens_after, tokens_are, tokens_begin, tokens_go_on, tokens_end}
 
 -- an item stands at the innermost level
@@ -39,8 +39,8 @@ pub record IsReading (names : List (List ℕ)) (all positions : List Position) (
 pub no_fault_step : (walk : Walk) (at byte : ℕ) (text : List ℕ) → fault_from walk at (byte ∷ text) ≡ None
     → (may_stand walk byte ≡ true) × (fault_from (after_byte walk byte) (at + 1) text ≡ None)
 no_fault_step walk at byte text e = bool_cases (may_stand walk byte)
-    (λ m. (m, sym (cond_true (may_stand walk byte) (fault_from (after_byte walk byte) (at + 1) text) (Some at) m) ∙ e))
-    (λ m. let never = sym (cond_false (may_stand walk byte) (fault_from (after_byte walk byte) (at + 1) text) (Some at) m) ∙ e in cc)
+    (λ m. (m, sym (cond-true (may_stand walk byte) (fault_from (after_byte walk byte) (at + 1) text) (Some at) m) ∙ e))
+    (λ m. let never = sym (cond-false (may_stand walk byte) (fault_from (after_byte walk byte) (at + 1) text) (Some at) m) ∙ e in cc)
 
 -- the bytes that may stand outside of names
 pub data Symbol : ℕ → Type 0 where
@@ -52,28 +52,12 @@ pub data Symbol : ℕ → Type 0 where
   plus : Symbol 43
   question : Symbol 63
 
-pub or_cases : (a b : Bool) → (a || b) ≡ true → (a ≡ true) ⊎ (b ≡ true)
-or_cases true b e = inl refl
-or_cases false b e = inr e
-
-pub and_both : (a b : Bool) → (a && b) ≡ true → (a ≡ true) × (b ≡ true)
-and_both true b e = (refl, e)
-and_both false b e = cc
-
-pub or_is_false : (a b : Bool) → (a || b) ≡ false → (a ≡ false) × (b ≡ false)
-or_is_false true b e = cc
-or_is_false false b e = (refl, e)
-
-and_false : (a b : Bool) → a ≡ false → (a && b) ≡ false
-and_false true b e = cc
-and_false false b e = refl
-
 pub as_symbol : (known byte : ℕ) → (byte == known) ≡ true → Symbol known → Symbol byte
 as_symbol known byte e s = subst (λ b. Symbol b) (sym (eqb-true byte known e)) s
 
 pub following : (walk : Walk) (byte : ℕ) → may_follow_item walk byte ≡ true → Symbol byte
 following walk byte h =
-    elim (or_cases (byte == 124 || byte == 42 || byte == 43 || byte == 63) (byte == 41 && nat_lt 0 walk.open_brackets) (and_both (not walk.needs_item) _ h).1) [
+    elim (or_cases (byte == 124 || byte == 42 || byte == 43 || byte == 63) (byte == 41 && nat_lt 0 walk.open_brackets) (and_parts (not walk.needs_item) _ h).1) [
       | inl a ↦ elim (or_cases (byte == 124 || byte == 42 || byte == 43) (byte == 63) a) [
         | inl b ↦ elim (or_cases (byte == 124 || byte == 42) (byte == 43) b) [
           | inl d ↦ elim (or_cases (byte == 124) (byte == 42) d) [
@@ -84,20 +68,20 @@ following walk byte h =
         ]
         | inr b ↦ as_symbol 63 byte b question
       ]
-      | inr a ↦ as_symbol 41 byte (and_both (byte == 41) (nat_lt 0 walk.open_brackets) a).0 close_bracket
+      | inr a ↦ as_symbol 41 byte (and_parts (byte == 41) (nat_lt 0 walk.open_brackets) a).0 close_bracket
     ]
 
 no_letter : (byte : ℕ) → is_name_byte byte ≡ false → is_small_letter byte ≡ true → ⊥
 no_letter byte n e =
-    let digits = (or_is_false ((nat_le 97 byte && nat_le byte 122) || (nat_le 48 byte && nat_le byte 57)) (byte == 95) n).0 in
-    let letters = (or_is_false (nat_le 97 byte && nat_le byte 122) (nat_le 48 byte && nat_le byte 57) digits).0 in
+    let digits = (or_parts ((nat_le 97 byte && nat_le byte 122) || (nat_le 48 byte && nat_le byte 57)) (byte == 95) n).0 in
+    let letters = (or_parts (nat_le 97 byte && nat_le byte 122) (nat_le 48 byte && nat_le byte 57) digits).0 in
     false≢true (sym letters ∙ e)
 
 pub symbol_from : (walk : Walk) (byte : ℕ) → is_name_byte byte ≡ false → may_stand walk byte ≡ true → Symbol byte
 symbol_from walk byte n m =
-    let outside = sym (cond_false (is_name_byte byte && nat_lt 0 walk.name_length) (nat_lt walk.name_length 16)
+    let outside = sym (cond-false (is_name_byte byte && nat_lt 0 walk.name_length) (nat_lt walk.name_length 16)
     (is_small_letter byte || is_blank byte || byte == 40 || may_follow_item walk byte)
-    (and_false (is_name_byte byte) (nat_lt 0 walk.name_length) n)) ∙ m in
+    (and_left (is_name_byte byte) (nat_lt 0 walk.name_length) n)) ∙ m in
     elim (or_cases (is_small_letter byte || is_blank byte || byte == 40) (may_follow_item walk byte) outside) [
       | inl a ↦ elim (or_cases (is_small_letter byte || is_blank byte) (byte == 40) a) [
         | inl b ↦ elim (or_cases (is_small_letter byte) (is_blank byte) b) [
@@ -110,10 +94,6 @@ symbol_from walk byte n m =
     ]
 
 -- ---- one symbol more
-pub not_is_true : (b : Bool) → not b ≡ true → b ≡ false
-not_is_true true e = cc
-not_is_true false e = refl
-
 kept_item : (change : Grammar → Grammar) (items : List Grammar) → items ≢ [] → with_newest change items ≢ []
 kept_item change [] h e = h refl
 kept_item change (item ∷ items) h e = cc
@@ -131,11 +111,11 @@ no_levels n e = absurd (omega (arith, e))
 
 pub close_parts : (walk : Walk) → may_stand walk 41 ≡ true → (walk.needs_item ≡ false) × (0 < walk.open_brackets)
 close_parts walk m =
-    let both = and_both (not walk.needs_item) (nat_lt 0 walk.open_brackets) m in
-    (not_is_true walk.needs_item both.0, ltb-true 0 walk.open_brackets both.1)
+    let both = and_parts (not walk.needs_item) (nat_lt 0 walk.open_brackets) m in
+    (not-true walk.needs_item both.0, ltb-true 0 walk.open_brackets both.1)
 
 pub needed_none : (walk : Walk) → not walk.needs_item && true ≡ true → walk.needs_item ≡ false
-needed_none walk m = not_is_true walk.needs_item (and_both (not walk.needs_item) true m).0
+needed_none walk m = not-true walk.needs_item (and_parts (not walk.needs_item) true m).0
 
 pub step_of : (names : List (List ℕ)) {byte : ℕ} (s : Symbol byte) (levels : List OpenLevel) (walk : Walk) (text : List ℕ)
     → (walk.needs_item ≡ false → HasItem levels) → length levels ≡ walk.open_brackets + 1 → may_stand walk byte ≡ true
@@ -192,7 +172,7 @@ symbol_reading names all old new before after in_name now byte text end now_is n
 pub name_walk : (walk : Walk) (byte : ℕ) → is_name_byte byte ≡ true
     → after_byte walk byte ≡ record { open_brackets = walk.open_brackets; needs_item = false; name_length = walk.name_length + 1 }
 name_walk walk byte e =
-    cond_true (is_name_byte byte) (record { open_brackets = walk.open_brackets; needs_item = false; name_length = walk.name_length + 1 })
+    cond-true (is_name_byte byte) (record { open_brackets = walk.open_brackets; needs_item = false; name_length = walk.name_length + 1 })
     (cond (is_blank byte) (record { open_brackets = walk.open_brackets; needs_item = walk.needs_item; name_length = 0 }) (after_symbol walk byte)) e
 
 pub longer : (n : ℕ) → nat_lt 0 (n + 1) ≡ true
@@ -308,7 +288,7 @@ pub end_reading : (names : List (List ℕ)) (all positions : List Position) (rea
     → IsReading names all positions reader in_name [] end → Ended all positions reader end
 end_reading names all positions reader in_name end r =
     let none = ended (r.walk.needs_item || nat_lt 0 r.walk.open_brackets) r.at r.no_fault in
-    let both = or_is_false r.walk.needs_item (nat_lt 0 r.walk.open_brackets) none in
+    let both = or_parts r.walk.needs_item (nat_lt 0 r.walk.open_brackets) none in
     go r.levels r.reads (r.item both.0) (omega (arith, r.depth, ltb-false 0 r.walk.open_brackets both.1)) (levels_end in_name r.levels r.goes_on)
   where
     ended : (b : Bool) (at : ℕ) → cond b (Some at) None ≡ None → b ≡ false

@@ -3,7 +3,7 @@ use Rattle.std.proofs.Common.{◌≡◌, ℕ, ◌+◌, ◌<◌, ◌↔◌, inl, 
 use Rattle.std.specs.Int.{bit_at}
 use Rattle.std.specs.List.{Contains, filter, range_with_len}
 use Rattle.std.specs.List.Sorted.{IsStrictlyIncreasing}
-use Rattle.std.proofs.lemmas.Bool.{eqb-true, eq-eqb, false≢true}
+use Rattle.std.proofs.lemmas.Bool.{eqb-true, eq-eqb, false≢true, cond-true, cond-false}
 use Rattle.std.proofs.lemmas.Bool.Decides.{eqb_tells}
 use Rattle.std.proofs.lemmas.List.FromFn.{length-range_with_len, get_or-range_with_len}
 use Rattle.std.proofs.lemmas.List.Kept.{IsStrictlyIncreasing-filter}
@@ -69,21 +69,13 @@ in_list n set small position = (
   (λ h. (in_filter (is_in set) (range_with_len 0 n) position).1 (in_range n position (small position h), eq-eqb (bit_at set.bits position) 1 h)),
 )
 
-chosen_first : {A : Type 0} (b : Bool) (x y : A) → b ≡ true → cond b x y ≡ x
-chosen_first true x y e = refl
-chosen_first false x y e = cc
-
-chosen_second : {A : Type 0} (b : Bool) (x y : A) → b ≡ false → cond b x y ≡ y
-chosen_second true x y e = cc
-chosen_second false x y e = refl
-
 opening_state : (n : ℕ) (set : PositionSet) → HasPosition set 0 → set_state n set ≡ Opening
 unfolding set_state is_in
-opening_state n set h = chosen_first (is_in set 0) Opening (After (list_of n set)) (eq-eqb (bit_at set.bits 0) 1 h)
+opening_state n set h = cond-true (is_in set 0) Opening (After (list_of n set)) (eq-eqb (bit_at set.bits 0) 1 h)
 
 later_state : (n : ℕ) (set : PositionSet) → (HasPosition set 0 → ⊥) → set_state n set ≡ After (list_of n set)
 unfolding set_state is_in
-later_state n set h = chosen_second (is_in set 0) Opening (After (list_of n set)) (elim (eqb_tells (bit_at set.bits 0) 1) [
+later_state n set h = cond-false (is_in set 0) Opening (After (list_of n set)) (elim (eqb_tells (bit_at set.bits 0) 1) [
   | inl y ↦ absurd (h y.1)
   | inr y ↦ y.0
 ])

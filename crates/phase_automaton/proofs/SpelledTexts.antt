@@ -4,7 +4,7 @@
 use Rattle.std.proofs.Common.{◌≡◌, ℕ, ◌+◌, ◌-◌, ◌≤◌, ◌⊎◌, inl, inr, Bool, true, false, nat_lt, Some, None, List, [], ◌∷◌, length, refl, sym, ap, ◌∙◌, arith, subst}
 use Rattle.std.specs.Prelude.{◌&&◌, ◌||◌, ◌==◌, not, All}
 use Rattle.std.specs.List.{AllByRecursion, list_all}
-use Rattle.std.proofs.lemmas.Bool.{false≢true, ltb-false, ltb-true, lt-ltb}
+use Rattle.std.proofs.lemmas.Bool.{false≢true, ltb-false, ltb-true, lt-ltb, and_parts, not-true, cond-true, cond-false, or_cases, and_right}
 use Rattle.std.proofs.lemmas.List.Elements.{All-from_recursion, recursion_from_All}
 use Rattle.lexicon_definitions.specs.Grammars.{Grammar}
 use Rattle.lexicon_definitions.specs.GrammarTexts.{Token, Other, is_name_byte, is_blank, symbol_of, tokens_of}
@@ -13,9 +13,9 @@ use Rattle.lexicon_definitions.specs.GrammarSyntax.{IsExpression}
 use Rattle.lexicon_definitions.specs.Lexicons.{IsPhaseName}
 use Rattle.lexicon_definitions.proofs.SpelledTokens.{tokens_stand, spelled_tokens_stand}
 use Rattle.phase_automaton.specs.Names.{first_name}
-use Rattle.phase_automaton.proofs.NamesForward.{cond_true, cond_false, bool_cases, names_after, names_are, names_begin, names_go_on, names_end}
+use Rattle.phase_automaton.proofs.NamesForward.{bool_cases, names_after, names_are, names_begin, names_go_on, names_end}
 use Rattle.phase_automaton.proofs.TokensForward.{with_other_byte, tokens_after, tokens_are, tokens_begin, tokens_go_on, tokens_end}
-use Rattle.phase_automaton.proofs.Readings.{Symbol, blank, open_bracket, close_bracket, bar, star, plus, question, and_both, or_cases, not_is_true, as_symbol, following, symbol_from, no_fault_step, name_walk, longer}
+use Rattle.phase_automaton.proofs.Readings.{Symbol, blank, open_bracket, close_bracket, bar, star, plus, question, as_symbol, following, symbol_from, no_fault_step, name_walk, longer}
 
 -- ---- bytes
 -- what a byte that is of no name may be: one that may stand somewhere, or another, which is a token by itself
@@ -49,23 +49,19 @@ symbol_is_no_name question = refl
 stands_outside : (walk : Walk) (byte : ℕ) → (is_name_byte byte && nat_lt 0 walk.name_length) ≡ false
     → may_stand walk byte ≡ (is_small_letter byte || is_blank byte || byte == 40 || may_follow_item walk byte)
 stands_outside walk byte e =
-    cond_false (is_name_byte byte && nat_lt 0 walk.name_length) (nat_lt walk.name_length 16)
+    cond-false (is_name_byte byte && nat_lt 0 walk.name_length) (nat_lt walk.name_length 16)
     (is_small_letter byte || is_blank byte || byte == 40 || may_follow_item walk byte) e
 
 stands_inside : (walk : Walk) (byte : ℕ) → is_name_byte byte ≡ true → nat_lt 0 walk.name_length ≡ true
     → may_stand walk byte ≡ nat_lt walk.name_length 16
 stands_inside walk byte n e =
-    cond_true (is_name_byte byte && nat_lt 0 walk.name_length) (nat_lt walk.name_length 16)
+    cond-true (is_name_byte byte && nat_lt 0 walk.name_length) (nat_lt walk.name_length 16)
     (is_small_letter byte || is_blank byte || byte == 40 || may_follow_item walk byte) (rw (n, e) refl)
-
-and_right : (a b : Bool) → b ≡ false → (a && b) ≡ false
-and_right true b e = e
-and_right false b e = refl
 
 no_fault_more : (walk : Walk) (at byte : ℕ) (text : List ℕ) → may_stand walk byte ≡ true
     → fault_from (after_byte walk byte) (at + 1) text ≡ None → fault_from walk at (byte ∷ text) ≡ None
 no_fault_more walk at byte text m e =
-    cond_true (may_stand walk byte) (fault_from (after_byte walk byte) (at + 1) text) (Some at) m ∙ e
+    cond-true (may_stand walk byte) (fault_from (after_byte walk byte) (at + 1) text) (Some at) m ∙ e
 
 -- ---- names
 -- a name of a phase, by its bytes
@@ -75,8 +71,8 @@ IsName name = IsPhaseName name.bytes
 name_bytes : (text : List ℕ) → list_all is_name_byte (first_name text) ≡ true
 name_bytes [] = refl
 name_bytes (byte ∷ text) = bool_cases (is_name_byte byte)
-    (λ n. rw (cond_true (is_name_byte byte) (byte ∷ first_name text) [] n, n) (name_bytes text))
-    (λ n. rw (cond_false (is_name_byte byte) (byte ∷ first_name text) [] n) refl)
+    (λ n. rw (cond-true (is_name_byte byte) (byte ∷ first_name text) [] n, n) (name_bytes text))
+    (λ n. rw (cond-false (is_name_byte byte) (byte ∷ first_name text) [] n) refl)
 
 -- of a byte of a name where none has begun, that may stand
 letter_begins : (walk : Walk) (byte : ℕ) → is_name_byte byte ≡ true → nat_lt 0 walk.name_length ≡ false → may_stand walk byte ≡ true
@@ -97,7 +93,7 @@ letter_begins walk byte n named m =
     no_symbol s = false≢true (sym (symbol_is_no_name s) ∙ n)
 
 first_is : (byte : ℕ) (text : List ℕ) → is_name_byte byte ≡ true → first_name (byte ∷ text) ≡ byte ∷ first_name text
-first_is byte text n = cond_true (is_name_byte byte) (byte ∷ first_name text) [] n
+first_is byte text n = cond-true (is_name_byte byte) (byte ∷ first_name text) [] n
 
 -- the walk after a byte of a name
 abbrev name_more : Walk → Walk
@@ -139,7 +135,7 @@ symbol_between : (in_name : Bool) (walk : Walk) (at byte : ℕ) (text : List ℕ
     → AllByRecursion IsName (names_after false (at + 1) text) → NamesStand in_name walk at (byte ∷ text)
 symbol_between in_name walk at byte text n short next = (
   subst (λ found. AllByRecursion IsName found) (sym (names_end at byte text in_name n)) next,
-  λ e. omega (arith, short, ap length (cond_false (is_name_byte byte) (byte ∷ first_name text) [] n)),
+  λ e. omega (arith, short, ap length (cond-false (is_name_byte byte) (byte ∷ first_name text) [] n)),
 )
 
 names_stand : (text : List ℕ) (walk : Walk) (at : ℕ) (in_name : Bool) → nat_lt 0 walk.name_length ≡ in_name → walk.name_length ≤ 16
@@ -233,25 +229,25 @@ symbol_stands : (walk : Walk) {byte : ℕ} (s : Symbol byte) (tokens : List Toke
     → (may_stand walk byte ≡ true) × (tokens_stand (after_byte walk byte).open_brackets (after_byte walk byte).needs_item tokens ≡ true)
 symbol_stands walk blank tokens h = (refl, h)
 symbol_stands walk open_bracket tokens h = (refl, h)
-symbol_stands walk close_bracket tokens h = and_both (not walk.needs_item && nat_lt 0 walk.open_brackets) (tokens_stand (walk.open_brackets - 1) false tokens) h
+symbol_stands walk close_bracket tokens h = and_parts (not walk.needs_item && nat_lt 0 walk.open_brackets) (tokens_stand (walk.open_brackets - 1) false tokens) h
 symbol_stands walk bar tokens h =
-    let both = and_both (not walk.needs_item) (tokens_stand walk.open_brackets true tokens) h in
+    let both = and_parts (not walk.needs_item) (tokens_stand walk.open_brackets true tokens) h in
     (and_true (not walk.needs_item) both.0, both.1)
 symbol_stands walk star tokens h =
-    let both = and_both (not walk.needs_item) (tokens_stand walk.open_brackets false tokens) h in
+    let both = and_parts (not walk.needs_item) (tokens_stand walk.open_brackets false tokens) h in
     (and_true (not walk.needs_item) both.0, both.1)
 symbol_stands walk plus tokens h =
-    let both = and_both (not walk.needs_item) (tokens_stand walk.open_brackets false tokens) h in
+    let both = and_parts (not walk.needs_item) (tokens_stand walk.open_brackets false tokens) h in
     (and_true (not walk.needs_item) both.0, both.1)
 symbol_stands walk question tokens h =
-    let both = and_both (not walk.needs_item) (tokens_stand walk.open_brackets false tokens) h in
+    let both = and_parts (not walk.needs_item) (tokens_stand walk.open_brackets false tokens) h in
     (and_true (not walk.needs_item) both.0, both.1)
 
 -- another byte is a token that may stand nowhere
 other_falls : (open_brackets : ℕ) (needs_item : Bool) (byte : ℕ) (tokens : List Token) → is_blank byte ≡ false → symbol_of byte ≡ Other byte
     → tokens_stand open_brackets needs_item (with_other_byte byte tokens) ≡ false
 other_falls open_brackets needs_item byte tokens no_blank other =
-    ap (tokens_stand open_brackets needs_item) (cond_false (is_blank byte) tokens (symbol_of byte ∷ tokens) no_blank)
+    ap (tokens_stand open_brackets needs_item) (cond-false (is_blank byte) tokens (symbol_of byte ∷ tokens) no_blank)
     ∙ ap (λ token. tokens_stand open_brackets needs_item (token ∷ tokens)) other
 
 byte_between : (in_name : Bool) (walk : Walk) (at byte : ℕ) (text : List ℕ) → is_name_byte byte ≡ false → Stands in_name walk at (byte ∷ text)
@@ -279,8 +275,8 @@ step_stands false walk at byte text n r = first_stands walk at byte text n r
 
 no_fault : (text : List ℕ) (in_name : Bool) (walk : Walk) (at : ℕ) → Stands in_name walk at text → fault_from walk at text ≡ None
 no_fault [] in_name walk at r =
-    cond_false (walk.needs_item || nat_lt 0 walk.open_brackets) (Some at) None
-    (not_is_true (walk.needs_item || nat_lt 0 walk.open_brackets) r.tokens)
+    cond-false (walk.needs_item || nat_lt 0 walk.open_brackets) (Some at) None
+    (not-true (walk.needs_item || nat_lt 0 walk.open_brackets) r.tokens)
 no_fault (byte ∷ text) in_name walk at r = bool_cases (is_name_byte byte)
     (λ n.
     let s = step_stands in_name walk at byte text n r in

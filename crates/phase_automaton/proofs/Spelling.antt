@@ -2,7 +2,7 @@
 use Rattle.std.proofs.Common.{◌≡◌, ℕ, ◌+◌, Bool, true, false, nat_lt, cond, Some, None, List, [], ◌∷◌, ◌++◌, length, refl, sym, ap, ◌∙◌, append_assoc, subst, arith}
 use Rattle.std.specs.Prelude.{◌||◌}
 use Rattle.std.proofs.lemmas.List.{append-nil}
-use Rattle.std.proofs.lemmas.Bool.{ltb-false}
+use Rattle.std.proofs.lemmas.Bool.{ltb-false, or_parts}
 use Rattle.lexicon_definitions.specs.Grammars.{Name, AnyTimes, OnceOrMore, AtMostOnce}
 use Rattle.lexicon_definitions.specs.GrammarTexts.{Level as OpenLevel, Token, Word, Open, Close, Bar, Star, Plus, Question, is_name_byte, symbol_of, tokens_of, phase_named, empty_level, with_item, outermost_tree, after_token, after_tokens, grammar_of}
 use Rattle.lexicon_definitions.specs.GrammarFaults.{Walk, walk_start, may_stand, after_byte, fault_from, syntax_fault}
@@ -11,7 +11,7 @@ use Rattle.lexicon_definitions.proofs.GrammarSpelling.{LevelsSpell, level_expres
 use Rattle.phase_automaton.specs.Names.{first_name}
 use Rattle.phase_automaton.proofs.NamesForward.{bool_cases}
 use Rattle.phase_automaton.proofs.TokensForward.{with_other_byte, tokens_after, tokens_are, tokens_begin, tokens_go_on, tokens_end}
-use Rattle.phase_automaton.proofs.Readings.{HasItem, Symbol, blank, open_bracket, close_bracket, bar, star, plus, question, symbol_from, no_fault_step, or_is_false, close_parts, needed_none, name_walk, step_of}
+use Rattle.phase_automaton.proofs.Readings.{HasItem, Symbol, blank, open_bracket, close_bracket, bar, star, plus, question, symbol_from, no_fault_step, close_parts, needed_none, name_walk, step_of}
 
 -- what is known in the middle of a text
 record IsSpelling (names : List (List ℕ)) (in_name : Bool) (rest : List ℕ) (end : List OpenLevel) (all : List Token) : Type 0 where
@@ -154,7 +154,7 @@ end_spells : (names : List (List ℕ)) (in_name : Bool) (end : List OpenLevel) (
     → IsSpelling names in_name [] end all → IsExpression names (outermost_tree end) all
 end_spells names in_name end all r =
     let none = not_open (r.walk.needs_item || nat_lt 0 r.walk.open_brackets) r.at r.no_fault in
-    let both = or_is_false r.walk.needs_item (nat_lt 0 r.walk.open_brackets) none in
+    let both = or_parts r.walk.needs_item (nat_lt 0 r.walk.open_brackets) none in
     go r.levels (r.item both.0) (omega (arith, r.depth, ltb-false 0 r.walk.open_brackets both.1)) r.spelled (sym (same in_name r.levels r.goes_on))
   where
     not_open : (b : Bool) (at : ℕ) → cond b (Some at) None ≡ None → b ≡ false

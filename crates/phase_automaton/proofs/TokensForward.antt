@@ -1,9 +1,9 @@
 -- The tokens of a text read from its front, against their definition from its end: by recursion on the text.
 use Rattle.std.proofs.Common.{◌≡◌, ℕ, Bool, true, false, cond, List, [], ◌∷◌, refl, sym, ap, ◌∙◌, subst}
-use Rattle.std.proofs.lemmas.Bool.{eqb-true}
+use Rattle.std.proofs.lemmas.Bool.{eqb-true, cond-true, cond-false}
 use Rattle.lexicon_definitions.specs.GrammarTexts.{is_name_byte, is_blank, begins_with_name_byte, Token, Word, symbol_of, with_name_byte, tokens_of}
 use Rattle.phase_automaton.specs.Names.{first_name}
-use Rattle.phase_automaton.proofs.NamesForward.{cond_true, cond_false, bool_cases, no_name}
+use Rattle.phase_automaton.proofs.NamesForward.{bool_cases, no_name}
 
 -- a byte that is none of a name, before these tokens
 abbrev pub with_other_byte : ℕ → List Token → List Token
@@ -44,13 +44,13 @@ from_forward : (text : List ℕ) → Forward text → tokens_after false text �
 from_forward [] f = refl
 from_forward (byte ∷ text) f = bool_cases (is_name_byte byte)
     (λ e.
-    cond_true (is_name_byte byte) (Word (byte ∷ first_name text) ∷ tokens_after true text) (with_other_byte byte (tokens_after false text)) e
+    cond-true (is_name_byte byte) (Word (byte ∷ first_name text) ∷ tokens_after true text) (with_other_byte byte (tokens_after false text)) e
     ∙ sym (f.begun e
-    ∙ (ap (λ bytes. Word bytes ∷ tokens_after true (byte ∷ text)) (cond_true (is_name_byte byte) (byte ∷ first_name text) [] e)
-    ∙ ap (λ tokens. Word (byte ∷ first_name text) ∷ tokens) (cond_true (is_name_byte byte) (tokens_after true text) (with_other_byte byte (tokens_after false text)) e))))
+    ∙ (ap (λ bytes. Word bytes ∷ tokens_after true (byte ∷ text)) (cond-true (is_name_byte byte) (byte ∷ first_name text) [] e)
+    ∙ ap (λ tokens. Word (byte ∷ first_name text) ∷ tokens) (cond-true (is_name_byte byte) (tokens_after true text) (with_other_byte byte (tokens_after false text)) e))))
     (λ e.
-    cond_false (is_name_byte byte) (Word (byte ∷ first_name text) ∷ tokens_after true text) (with_other_byte byte (tokens_after false text)) e
-    ∙ sym (f.none e ∙ cond_false (is_name_byte byte) (tokens_after true text) (with_other_byte byte (tokens_after false text)) e))
+    cond-false (is_name_byte byte) (Word (byte ∷ first_name text) ∷ tokens_after true text) (with_other_byte byte (tokens_after false text)) e
+    ∙ sym (f.none e ∙ cond-false (is_name_byte byte) (tokens_after true text) (with_other_byte byte (tokens_after false text)) e))
 
 with_first : (byte : ℕ) (text : List ℕ) → Forward text
     → with_name_byte byte (begins_with_name_byte text) (tokens_of text) ≡ Word (byte ∷ first_name text) ∷ tokens_after true text
@@ -65,15 +65,15 @@ forward (byte ∷ text) =
     record {
       begun = λ e.
           tokens_cons byte text
-          ∙ (cond_true (is_name_byte byte) (with_name_byte byte (begins_with_name_byte text) (tokens_of text)) (with_other_byte byte (tokens_of text)) e
+          ∙ (cond-true (is_name_byte byte) (with_name_byte byte (begins_with_name_byte text) (tokens_of text)) (with_other_byte byte (tokens_of text)) e
           ∙ (with_first byte text inner
-          ∙ sym (ap (λ bytes. Word bytes ∷ tokens_after true (byte ∷ text)) (cond_true (is_name_byte byte) (byte ∷ first_name text) [] e)
-          ∙ ap (λ tokens. Word (byte ∷ first_name text) ∷ tokens) (cond_true (is_name_byte byte) (tokens_after true text) (with_other_byte byte (tokens_after false text)) e))));
+          ∙ sym (ap (λ bytes. Word bytes ∷ tokens_after true (byte ∷ text)) (cond-true (is_name_byte byte) (byte ∷ first_name text) [] e)
+          ∙ ap (λ tokens. Word (byte ∷ first_name text) ∷ tokens) (cond-true (is_name_byte byte) (tokens_after true text) (with_other_byte byte (tokens_after false text)) e))));
       none = λ e.
           tokens_cons byte text
-          ∙ (cond_false (is_name_byte byte) (with_name_byte byte (begins_with_name_byte text) (tokens_of text)) (with_other_byte byte (tokens_of text)) e
+          ∙ (cond-false (is_name_byte byte) (with_name_byte byte (begins_with_name_byte text) (tokens_of text)) (with_other_byte byte (tokens_of text)) e
           ∙ (ap (with_other_byte byte) (sym (from_forward text inner))
-          ∙ sym (cond_false (is_name_byte byte) (tokens_after true text) (with_other_byte byte (tokens_after false text)) e)));
+          ∙ sym (cond-false (is_name_byte byte) (tokens_after true text) (with_other_byte byte (tokens_after false text)) e)));
     }
 
 pub tokens_are : (text : List ℕ) → tokens_after false text ≡ tokens_of text
@@ -83,14 +83,14 @@ tokens_are text = from_forward text (forward text)
 pub tokens_begin : (byte : ℕ) (text : List ℕ) → is_name_byte byte ≡ true
     → tokens_after false (byte ∷ text) ≡ Word (first_name (byte ∷ text)) ∷ tokens_after true text
 tokens_begin byte text e =
-    cond_true (is_name_byte byte) (Word (byte ∷ first_name text) ∷ tokens_after true text) (with_other_byte byte (tokens_after false text)) e
-    ∙ sym (ap (λ bytes. Word bytes ∷ tokens_after true text) (cond_true (is_name_byte byte) (byte ∷ first_name text) [] e))
+    cond-true (is_name_byte byte) (Word (byte ∷ first_name text) ∷ tokens_after true text) (with_other_byte byte (tokens_after false text)) e
+    ∙ sym (ap (λ bytes. Word bytes ∷ tokens_after true text) (cond-true (is_name_byte byte) (byte ∷ first_name text) [] e))
 
 pub tokens_go_on : (byte : ℕ) (text : List ℕ) → is_name_byte byte ≡ true → tokens_after true (byte ∷ text) ≡ tokens_after true text
-tokens_go_on byte text e = cond_true (is_name_byte byte) (tokens_after true text) (with_other_byte byte (tokens_after false text)) e
+tokens_go_on byte text e = cond-true (is_name_byte byte) (tokens_after true text) (with_other_byte byte (tokens_after false text)) e
 
 pub tokens_end : (byte : ℕ) (text : List ℕ) (in_name : Bool) → is_name_byte byte ≡ false
     → tokens_after in_name (byte ∷ text) ≡ with_other_byte byte (tokens_after false text)
-tokens_end byte text true e = cond_false (is_name_byte byte) (tokens_after true text) (with_other_byte byte (tokens_after false text)) e
+tokens_end byte text true e = cond-false (is_name_byte byte) (tokens_after true text) (with_other_byte byte (tokens_after false text)) e
 tokens_end byte text false e =
-    cond_false (is_name_byte byte) (Word (byte ∷ first_name text) ∷ tokens_after true text) (with_other_byte byte (tokens_after false text)) e
+    cond-false (is_name_byte byte) (Word (byte ∷ first_name text) ∷ tokens_after true text) (with_other_byte byte (tokens_after false text)) e

@@ -1,6 +1,6 @@
 -- Lines that are served one after another are served together: their replies are joined, and so is what was written.
 use Rattle.std.proofs.Common.{◌≡◌, ℕ, List, [], ◌∷◌, ◌++◌, refl, sym, ◌∙◌, ap, subst, append_assoc}
-use Rattle.std.specs.Prelude.{Option, None, Some, Result, Ok, Err, OnErr}
+use Rattle.std.specs.Prelude.{Option, None, Some}
 use Rattle.std.proofs.lemmas.List.{append-nil}
 use Rattle.outside.specs.Told.{bytes_after, GrowsByPrefix}
 use Rattle.outside.proofs.ToldLemmas.{bytes_after-bytes_after, GrowsByPrefix-after, GrowsByPrefix-all}
@@ -120,8 +120,3 @@ all_stopped lines old new before now after p = record {
   replies = p.replies;
   grown = GrowsByPrefix-all before now p.output p.wrote;
 }
-
--- what holds in any case holds where the result is an error
-pub on_err : {T E : Type 0} (result : Result T E) (P : Type 0) → P → OnErr result P
-on_err (Ok value) P holds = tt
-on_err (Err error) P holds = holds

@@ -1,7 +1,7 @@
 -- Of what was read as many bytes are served as are allowed; so either all of it is, or the input is too long.
-use Rattle.std.proofs.Common.{◌≡◌, ℕ, ◌+◌, ◌-◌, ◌<◌, ◌≤◌, min, List, [], ◌∷◌, ◌++◌, length, take, drop, refl, sym, ◌∙◌, ap, subst, arith, append_assoc}
+use Rattle.std.proofs.Common.{◌≡◌, ℕ, ◌+◌, ◌-◌, ◌<◌, ◌≤◌, min, List, [], ◌++◌, length, take, drop, refl, sym, ◌∙◌, ap, subst, arith, append_assoc}
 use Rattle.std.specs.Prelude.{Option, None, Some}
-use Rattle.std.proofs.lemmas.List.{append-nil, take-append-drop, length-append, length-take, length-drop}
+use Rattle.std.proofs.lemmas.List.{append-nil, take-append-drop, length-append, length-take, length-drop, nil_from_length}
 use Rattle.std.proofs.Math.Seq.{take-take}
 use Rattle.outside.specs.Told.{bytes_before, IsAtEnd}
 use Rattle.annotated_trie.specs.Searched.{SearchedLexicon}
@@ -26,10 +26,6 @@ pub record HasTaken (lexicon : SearchedLexicon) (input rest piece : List ℕ) (s
   pub allowed_is : length (taken ++ piece) + allowed ≡ MOST_INPUT_BYTES
   pub unread_is : length beyond ≡ unread
   pub served : HasServedTaken lexicon taken rest session start between Open
-
-length_zero : (xs : List ℕ) → length xs ≡ 0 → xs ≡ []
-length_zero [] e = refl
-length_zero (x ∷ xs) e = absurd (omega arith)
 
 regroup : (taken piece beyond others : List ℕ) → taken ++ ((piece ++ beyond) ++ others) ≡ (taken ++ piece) ++ (beyond ++ others)
 regroup taken piece beyond others =
@@ -95,7 +91,7 @@ module _ (lexicon : SearchedLexicon) (input rest piece : List ℕ) (session : Se
 
     pub piece_served : HasServedWithin (rest ++ piece) all session last between now Open → unread ≡ 0 → IsServing lexicon input last all allowed start left now
     piece_served p none =
-        let no_more : t.beyond ≡ [] = length_zero t.beyond (t.unread_is ∙ none) in
+        let no_more : t.beyond ≡ [] = nil_from_length t.beyond (t.unread_is ∙ none) in
         record {
           taken = t.taken ++ piece;
           others = t.others;

@@ -1,13 +1,9 @@
 -- A text is cut at the place of its first mark: what stands before it has none.
-use Rattle.std.proofs.Common.{◌≡◌, ◌≢◌, ℕ, ◌+◌, true, false, option_map, position, Some, None, List, [], ◌∷◌, ◌++◌, length, take, drop, get_or, eqb, All, refl, sym, ◌∙◌, ap, arith}
-use Rattle.std.proofs.lemmas.Bool.{false_from_ne_true, eqb-true}
-use Rattle.std.proofs.lemmas.Bool.Decides.{nat_tests}
+use Rattle.std.proofs.Common.{◌≡◌, ◌≢◌, ℕ, ◌+◌, false, option_map, position, Some, None, List, [], ◌∷◌, ◌++◌, length, take, drop, get_or, eqb, All, refl, sym, ◌∙◌, ap, arith}
+use Rattle.std.proofs.lemmas.Bool.{false_from_ne_true, eqb-true, eq-eqb}
 use Rattle.std.proofs.lemmas.List.{take_at, drop_at, get_or_at, get_or_append_left, append_assoc, length-append, length_push}
-use Rattle.phase_automaton.proofs.PhaseNumbers.{position_is, position_is_none}
 use Rattle.rule_file_definitions.specs.PlainEntries.{cut}
-
-eqb_itself : (n : ℕ) → eqb n n ≡ true
-eqb_itself n = grind (arith, nat_tests)
+use Rattle.lexicon_definitions.proofs.FirstPlaces.{position_is, position_is_none}
 
 apart : (byte mark : ℕ) → byte ≢ mark → eqb byte mark ≡ false
 apart byte mark n = false_from_ne_true (eqb byte mark) (λ e. n (eqb-true byte mark e))
@@ -21,7 +17,7 @@ first_mark : (mark : ℕ) (front rest : List ℕ) → All (λ byte. byte ≢ mar
 first_mark mark front rest h =
     let long = length-append front (mark ∷ rest) in
     position_is (λ byte. eqb byte mark) (front ++ mark ∷ rest) (length front) 0 (omega (arith, long))
-    (ap (λ byte. eqb byte mark) (get_or_at front mark rest 0 (length front) refl) ∙ eqb_itself mark)
+    (ap (λ byte. eqb byte mark) (get_or_at front mark rest 0 (length front) refl) ∙ eq-eqb mark mark refl)
     (λ k l. ap (λ byte. eqb byte mark) (get_or_append_left front (mark ∷ rest) 0 k l) ∙ apart (get_or front k 0) mark (h k 0 l))
 
 after_mark : (mark : ℕ) (front rest : List ℕ) → drop (length front + 1) (front ++ mark ∷ rest) ≡ rest

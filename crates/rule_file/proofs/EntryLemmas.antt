@@ -7,6 +7,7 @@ use Rattle.lexicon_definitions.specs.Rules.{Rule}
 use Rattle.rule_file_definitions.specs.EntryWhys.{Why, Shape, Spelling, Strict, Long}
 use Rattle.rule_file_definitions.specs.RuleNotations.{Notation, Pattern, notation_of, pattern_of}
 use Rattle.rule_file_definitions.specs.RuleEntries.{put_in, rule_with, fillings_of, is_empty, is_not_strict, is_long, strict_and_short, rules_filled, rules_of_pattern, rules_of_notation, rules_of_entry, add_rules, add_read, add_entry}
+use Rattle.std.proofs.lemmas.Bool.{or_left, or_right}
 
 -- ---- the rules of a pattern are alike
 
@@ -21,21 +22,13 @@ strict_alike : (count : ℕ) (pattern : Pattern) (a b : ℕ) → is_not_strict (
 strict_alike count pattern a b =
     ap (λ test. is_empty (pattern.x ++ pattern.u) || test) (same_empty pattern.x pattern.w.before pattern.w.after pattern.w.has_class a b)
 
-or_true : (first second : Bool) → first ≡ true → (first || second) ≡ true
-or_true true second e = refl
-or_true false second e = absurd (cc)
-
-or_later : (first second : Bool) → second ≡ true → (first || second) ≡ true
-or_later true second e = refl
-or_later false second e = e
-
 module _ (p : Rule → Bool) (make : Option ℕ → Rule) where
   any_at : (letters : List ℕ) (i letter : ℕ) → i < length letters → letter ≡ get_or letters i letter → p (make (Some letter)) ≡ true
       → list_any p (map make (map Some letters)) ≡ true
   any_at [] i letter l is h = absurd (omega arith)
-  any_at (first ∷ letters) zero letter l is h = or_true (p (make (Some first))) _ (ap (λ x. p (make (Some x))) (sym is) ∙ h)
+  any_at (first ∷ letters) zero letter l is h = or_left (p (make (Some first))) _ (ap (λ x. p (make (Some x))) (sym is) ∙ h)
   any_at (first ∷ letters) (suc i) letter l is h =
-      or_later (p (make (Some first))) _ (any_at letters i letter (omega arith) is h)
+      or_right (p (make (Some first))) _ (any_at letters i letter (omega arith) is h)
 
   none_alike : (letter : ℕ) (letters : List ℕ) → ((a b : ℕ) → p (make (Some a)) ≡ p (make (Some b))) → p (make (Some letter)) ≡ false
       → list_any p (map make (map Some letters)) ≡ false

@@ -11,18 +11,15 @@ use Rattle.list_laws.proofs.RisingSetLaws.{sorted-with_element, sorted-with_elem
 use Rattle.rule_file_definitions.specs.RuleFileFaults.{Fault}
 use Rattle.rule_file_definitions.specs.SoundClasses.{letters_named}
 use Rattle.rule_file_definitions.specs.PlainEntries.{cut, name_between, side_as, side_letters, pairs_between, pairs_with, pairs_of_sides, pairs_of, with_pairs, add_plain}
-use Rattle.rule_file_definitions.proofs.SoundEntries.{pairs_total, pairs_exact}
 use Rattle.rule_file.specs.Held.{word_of, AreAdded}
 use Rattle.rule_file.proofs.Turns.{left_first}
+use Rattle.lexicon_definitions.proofs.PlainPairs.{pairs_total, pairs_exact}
+use Rattle.list_laws.proofs.Sorted.{sorted_nil}
 
 -- ---- one pair, and the pairs of one letter
 
-none_rises : IsStrictlySortedBy compare_pairs []
-unfolding IsStrictlySortedBy
-none_rises = tt
-
 pub no_pair_rises : (pairs : List (ℕ × ℕ)) → pairs ≡ [] → IsStrictlySortedBy compare_pairs pairs
-no_pair_rises pairs e = subst (IsStrictlySortedBy compare_pairs) (sym e) none_rises
+no_pair_rises pairs e = subst (IsStrictlySortedBy compare_pairs) (sym e) (sorted_nil compare_pairs)
 
 pub rising_one : (pairs next : List (ℕ × ℕ)) (pair : ℕ × ℕ) → IsStrictlySortedBy compare_pairs pairs → next ≡ with_element compare_pairs pairs pair → IsStrictlySortedBy compare_pairs next
 rising_one pairs next pair s e = subst (IsStrictlySortedBy compare_pairs) (sym e) (sorted-with_element pairs_total pairs_exact pairs pair s)

@@ -1,5 +1,5 @@
 -- The set of the rules' triples has a triple exactly where some rule has it, rule by rule; a new one goes last with its rule.
-use Rattle.std.proofs.Common.{◌≡◌, Bool, true, false, not, if◌then◌else◌, ◌&&◌, ◌||◌, nat_eq, Ok, Err, List, [], ◌∷◌, ◌++◌, map, length, refl, sym, ◌∙◌, ap, subst, arith}
+use Rattle.std.proofs.Common.{◌≡◌, Bool, true, false, not, if◌then◌else◌, ◌||◌, nat_eq, Ok, Err, List, [], ◌∷◌, ◌++◌, map, refl, sym, ◌∙◌, ap, subst}
 use Rattle.std.specs.Cmp.Lexicographic.{pointwise}
 use Rattle.std.specs.List.{list_any}
 use Rattle.std.specs.List.Sorted.{IsStrictlySortedBy}
@@ -16,29 +16,23 @@ use Rattle.rule_file.specs.declared.entry_error.EntryError.TheVariants.{Why}
 use Rattle.rule_file.specs.declared.triple.Triple.{Triple}
 use Rattle.rule_file.specs.Faults.{IfWhy}
 use Rattle.rule_file.specs.Triples.{triple_of}
-
-regrouped : (a b c : Bool) → (a && (b && c)) ≡ (a && b && c)
-regrouped true b c = refl
-regrouped false b c = refl
+use Rattle.list_laws.proofs.Booleans.{not_of_each_other, and_regrouped}
+use Rattle.std.proofs.lemmas.Bool.{or_left}
 
 same_triple : (new rule : Rule) → triple_eq.it (triple_of new) (triple_of rule) ≡ is_twin new rule
-same_triple new rule = regrouped (pointwise nat_eq new.u rule.u) (pointwise nat_eq new.v rule.v) (pointwise nat_eq new.w rule.w)
+same_triple new rule = and_regrouped (pointwise nat_eq new.u rule.u) (pointwise nat_eq new.v rule.v) (pointwise nat_eq new.w rule.w)
 
 -- the triples have the new one exactly where the rules do
 any_triple : (new : Rule) (rules : List Rule) → list_any (triple_eq.it (triple_of new)) (map triple_of rules) ≡ list_any (is_twin new) rules
 any_triple new [] = refl
 any_triple new (rule ∷ rules) = λ i. same_triple new rule i || any_triple new rules i
 
-not_back : (b x : Bool) → x ≡ not b → b ≡ not x
-not_back true x e = ap not (sym e)
-not_back false x e = ap not (sym e)
-
 -- one of the rules has the triple exactly where it was not new
 pub twin_told : (old before : List Rule) (rule : Rule) (triples : List Triple) (triple : Triple) (is_new : Bool) → before ≡ old
     → triples ≡ map triple_of before → triple ≡ triple_of rule → is_new ≡ not (list_any (triple_eq.it triple) triples) → list_any (is_twin rule) old ≡ not is_new
 twin_told old before rule triples triple is_new same alike is added =
     let all : triples ≡ map triple_of old = alike ∙ ap (map triple_of) same in
-    sym (any_triple rule old) ∙ sym (λ i. list_any (triple_eq.it (is i)) (all i)) ∙ not_back (list_any (triple_eq.it triple) triples) is_new added
+    sym (any_triple rule old) ∙ sym (λ i. list_any (triple_eq.it (is i)) (all i)) ∙ not_of_each_other (list_any (triple_eq.it triple) triples) is_new added
 
 -- a new one goes last, as its rule does
 pub triples_pushed : (before rules : List Rule) (rule : Rule) (triples after : List Triple) (triple : Triple) (is_new : Bool)
@@ -46,7 +40,7 @@ pub triples_pushed : (before rules : List Rule) (rule : Rule) (triples after : L
     → after ≡ (if list_any (triple_eq.it triple) triples then triples else triples ++ triple ∷ [])
     → is_new ≡ not (list_any (triple_eq.it triple) triples) → is_new ≡ true → rules ≡ before ++ rule ∷ [] → after ≡ map triple_of rules
 triples_pushed before rules rule triples after triple is_new alike is put added new pushed =
-    let absent : list_any (triple_eq.it triple) triples ≡ false = not_back (list_any (triple_eq.it triple) triples) is_new added ∙ ap not new in
+    let absent : list_any (triple_eq.it triple) triples ≡ false = not_of_each_other (list_any (triple_eq.it triple) triples) is_new added ∙ ap not new in
     put ∙ ap (λ (b : Bool). if b then triples else triples ++ triple ∷ []) absent ∙ (λ i. alike i ++ is i ∷ [])
     ∙ sym (ap (map triple_of) pushed ∙ map-append triple_of before (rule ∷ []))
 
@@ -69,14 +63,10 @@ added_by : (earlier rules : List Rule) (twins limits : Bool) → have_twins earl
 unfolding add_rules
 added_by earlier rules twins limits t l = λ i. if t i then Err entries.Twice else if l i then Err entries.Limit else Ok (earlier ++ rules)
 
-or_true : (first second : Bool) → first ≡ true → (first || second) ≡ true
-or_true true second e = refl
-or_true false second e = absurd (cc)
-
 pub twice : (earlier more rules left : List Rule) (rule : Rule) → have_twins rules (rule ∷ left) ≡ have_twins earlier more → list_any (is_twin rule) rules ≡ true
     → add_rules earlier more ≡ Err entries.Twice
 twice earlier more rules left rule same t =
-    added_by earlier more true (pass_limits (earlier ++ more)) (sym same ∙ or_true (list_any (is_twin rule) rules) _ t) refl
+    added_by earlier more true (pass_limits (earlier ++ more)) (sym same ∙ or_left (list_any (is_twin rule) rules) _ t) refl
 
 pub twins_on : (rules left : List Rule) (rule : Rule) (next : List Rule) (whole : Bool) → list_any (is_twin rule) rules ≡ false → next ≡ rules ++ rule ∷ []
     → have_twins rules (rule ∷ left) ≡ whole → have_twins next left ≡ whole
@@ -92,7 +82,3 @@ pub all_added : (earlier more rules : List Rule) → have_twins rules [] ≡ hav
     → add_rules earlier more ≡ Ok rules
 all_added earlier more rules t all l =
     added_by earlier more false false (sym t) (ap pass_limits (sym all ∙ append-nil rules) ∙ l) ∙ ap Ok (sym all ∙ append-nil rules)
-
-pub none_to_come : (rules : List Rule) → length rules ≡ 0 → rules ≡ []
-none_to_come [] e = refl
-none_to_come (rule ∷ rules) e = absurd (omega arith)

@@ -1,9 +1,7 @@
 -- Tests as facts, each by cases of the test or by induction on a list.
-use Rattle.std.proofs.Common.{◌≡◌, ◌≢◌, ℕ, ◌≤◌, Bool, true, false, cond, not, ◌&&◌, nat_lt, Result, Ok, Err, List, [], ◌∷◌, length, All, refl, sym, arith}
+use Rattle.std.proofs.Common.{◌≡◌, ℕ, true, false, ◌&&◌, List, [], ◌∷◌, length, All, sym}
 use Rattle.std.specs.List.{AllByRecursion, list_any, list_all}
-use Rattle.std.specs.Str.{bytes_eq}
 use Rattle.std.proofs.lemmas.Bool.{and_parts, or_parts, and_from, leb-true}
-use Rattle.std.proofs.lemmas.Bool.Decides.{nat_tests}
 use Rattle.std.proofs.lemmas.List.Elements.{All-from_recursion}
 use Rattle.std.proofs.lemmas.Slice.Eq.{bytes_eq-Decides}
 use Rattle.lexicon_definitions.specs.declared.limits.TheConstants.{MOST_NAME_BYTES}
@@ -13,39 +11,6 @@ use Rattle.lexicon_definitions.specs.Lexicons.{IsPhaseName}
 use Rattle.lexicon_definitions.specs.Rules.{Rule, IsSameTriple}
 use Rattle.rule_file_definitions.specs.SoundClasses.{is_phase_name}
 use Rattle.rule_file_definitions.specs.RuleEntries.{is_twin}
-
--- ---- a choice whose outcome is known
-
-pub if_passed : {T E : Type 0} (b : Bool) (x : Result T E) (e : E) (y : T) → cond b x (Err e) ≡ Ok y → (b ≡ true) × (x ≡ Ok y)
-if_passed true x e y h = (refl, h)
-if_passed false x e y h = absurd (cc)
-
-pub if_refused : {T E : Type 0} (b : Bool) (x : Result T E) (e : E) (y : T) → cond b (Err e) x ≡ Ok y → (b ≡ false) × (x ≡ Ok y)
-if_refused true x e y h = absurd (cc)
-if_refused false x e y h = (refl, h)
-
-pub not_true : (b : Bool) → not b ≡ true → b ≡ false
-not_true true h = absurd (cc)
-not_true false h = refl
-
-pub not_below : (bound n : ℕ) → nat_lt bound n ≡ false → n ≤ bound
-not_below bound n h = grind (arith, nat_tests)
-
--- ---- texts that are the same
-
-pub bytes_same : (left right : List ℕ) → bytes_eq left right ≡ true → left ≡ right
-bytes_same left right h = (bytes_eq-Decides left right).0 h
-
-none_by : (text : List ℕ) (texts : List (List ℕ)) → list_any (bytes_eq text) texts ≡ false → AllByRecursion (λ other. other ≢ text) texts
-none_by text [] h = tt
-none_by text (other ∷ texts) h =
-    let parts = or_parts (bytes_eq text other) (list_any (bytes_eq text) texts) h in
-    let apart : other ≢ text = λ e. let same = (bytes_eq-Decides text other).1 (sym e) in cc in
-    (apart, none_by text texts parts.1)
-
--- none of these texts is this one
-pub none_same : (text : List ℕ) (texts : List (List ℕ)) → list_any (bytes_eq text) texts ≡ false → All (λ other. other ≢ text) texts
-none_same text texts h = All-from_recursion (λ other. other ≢ text) texts (none_by text texts h)
 
 -- the test of a phase's name
 pub name_from_test : (name : List ℕ) → is_phase_name name ≡ true → IsPhaseName name

@@ -3,17 +3,11 @@ use Rattle.std.proofs.Common.{◌≡◌, ◌≢◌, ℕ, ◌+◌, ◌<◌, ◌�
 use Rattle.std.specs.List.{AllByRecursion, Contains, list_any}
 use Rattle.std.specs.List.Sorted.{IsStrictlySortedBy}
 use Rattle.std.specs.Str.{bytes_eq}
-use Rattle.std.specs.Cmp.{IsTotalOrder}
-use Rattle.std.specs.declared.cmp.Ordering.{Ordering}
-use Rattle.std.specs.declared.cmp.Ordering.TheVariants.{Less, Equal, Greater}
-use Rattle.std.specs.Ordering.{ordering_then, nat_cmp}
-use Rattle.std.proofs.lemmas.Bool.{and_parts}
+use Rattle.std.proofs.lemmas.Bool.{and_parts, not-true}
 use Rattle.std.proofs.lemmas.Bool.Decides.{nat_tests}
-use Rattle.std.proofs.lemmas.Cmp.{nat_cmp_total, then_total, on_total}
 use Rattle.std.proofs.lemmas.List.{length_push}
 use Rattle.std.proofs.lemmas.List.Elements.{All-push, All-append, All-nil, All-from_recursion, recursion_from_All}
 use Rattle.std.proofs.lemmas.List.Quantifiers.{all_pairs_push}
-use Rattle.std.proofs.lemmas.Map.Lookups.{CmpEqualImpliesEq, exact_unsigned}
 use Rattle.list_laws.specs.RisingSets.{with_elements}
 use Rattle.list_laws.proofs.RisingSetLaws.{Contains-with_elements, sorted-with_elements}
 use Rattle.list_laws.proofs.Sorted.{All-from_Contains}
@@ -28,7 +22,10 @@ use Rattle.lexicon_definitions.specs.Lexicons.{IsPhaseName, compare_pairs}
 use Rattle.rule_file_definitions.specs.RuleFileFaults.{Phase}
 use Rattle.rule_file_definitions.specs.SoundClasses.{is_phase_name, may_come_next, name_phases, read_phases, are_new, different_letters, class_letters, is_class_name, letters_in, letters_named}
 use Rattle.rule_file_definitions.specs.PlainEntries.{cut, name_between, side_as, side_letters, pairs_between, pairs_with, pairs_of_sides, pairs_of, with_pairs, add_plain, read_plain}
-use Rattle.rule_file_definitions.proofs.SmallTests.{if_passed, not_true, none_same, name_from_test}
+use Rattle.rule_file_definitions.proofs.SmallTests.{name_from_test}
+use Rattle.list_laws.proofs.Booleans.{if_passed}
+use Rattle.list_laws.proofs.Texts.{none_same}
+use Rattle.lexicon_definitions.proofs.PlainPairs.{pairs_total, pairs_exact}
 
 -- ---- phases
 
@@ -43,7 +40,7 @@ named_next names name t h =
     let parts = and_parts (is_phase_name name && nat_lt (length names) MOST_PHASES) (not (list_any (bytes_eq name) names)) t in
     let first = and_parts (is_phase_name name) (nat_lt (length names) MOST_PHASES) parts.0 in
     let room : length names < MOST_PHASES = let test = first.1 in grind (arith, nat_tests) in
-    let new = none_same name names (not_true _ parts.1) in
+    let new = none_same name names (not-true _ parts.1) in
     record {
       each = All-push IsPhaseName names name h.each (name_from_test name first.0);
       apart = all_pairs_push (λ left right. left ≢ right) names name h.apart new;
@@ -146,19 +143,6 @@ sides_sound classes (Some sides) = with_sound _ _ (side_sound classes sides.0) (
 pairs_sound : (classes : Members) (entry : List ℕ) → ArePairs (pairs_of classes entry)
 unfolding pairs_of
 pairs_sound classes entry = sides_sound classes (cut 32 entry)
-
-pub pairs_total : IsTotalOrder compare_pairs
-pairs_total = then_total (on_total (λ (p : ℕ × ℕ). p.0) nat_cmp_total) (on_total (λ (p : ℕ × ℕ). p.1) nat_cmp_total)
-
-both_equal : (a b : Ordering) → ordering_then a b ≡ Equal → (a ≡ Equal) × (b ≡ Equal)
-both_equal Less b e = cc
-both_equal Equal b e = (refl, e)
-both_equal Greater b e = cc
-
-pub pairs_exact : CmpEqualImpliesEq compare_pairs
-pairs_exact left right e =
-    let parts = both_equal (nat_cmp left.0 right.0) (nat_cmp left.1 right.1) e in
-    λ i. (exact_unsigned left.0 right.0 parts.0 i, exact_unsigned left.1 right.1 parts.1 i)
 
 -- a rising set of pairs of letters
 pub record IsPairSet (pairs : List (ℕ × ℕ)) : Type 0 where

@@ -2,12 +2,12 @@
 -- induction on the entries, and on the rules of an entry.
 use Rattle.std.proofs.Common.{◌≡◌, ◌≢◌, ℕ, ◌+◌, ◌^◌, ◌<◌, ◌≤◌, ◌↔◌, Bool, true, false, cond, ◌||◌, nat_lt, Option, Some, None, Result, Ok, Err, List, [], ◌∷◌, ◌++◌, length, map, All, AllPairs, refl, sym, subst, arith}
 use Rattle.std.specs.List.{AllByRecursion, list_any}
-use Rattle.std.proofs.lemmas.Bool.{or_parts}
+use Rattle.std.proofs.lemmas.Bool.{or_parts, ltb-false}
 use Rattle.std.proofs.lemmas.List.{append-nil, append_assoc}
 use Rattle.std.proofs.lemmas.List.Elements.{All-append, All-nil, All-cons, All-from_recursion, recursion_from_All}
 use Rattle.std.proofs.lemmas.List.Quantifiers.{all_pairs_push}
 use Rattle.std.proofs.lemmas.Nat.{pow_pos}
-use Rattle.std.proofs.Math.Pow.{pow-lt, ones_lt}
+use Rattle.std.proofs.Math.Pow.{ones_lt}
 use Rattle.toml.specs.Data.{Members}
 use Rattle.text_definitions.specs.Letters.{IsLetter}
 use Rattle.text_definitions.specs.Words.{IsWord}
@@ -22,8 +22,10 @@ use Rattle.rule_file_definitions.specs.EntryWhys.{Why, Strict, Long, Twice, Limi
 use Rattle.rule_file_definitions.specs.SoundClasses.{letters_named}
 use Rattle.rule_file_definitions.specs.RuleNotations.{Part, Notation, Gap, Pattern, notation_of, is_some_class, gap_with, gap_of, pattern_with, pattern_of}
 use Rattle.rule_file_definitions.specs.RuleEntries.{put_in, filled, phases_after, unlimited_rule, rule_with, some_fillings, fillings_of, is_empty, is_not_strict, is_long, rules_filled, rules_of_pattern, rules_of_notation, rules_of_entry, is_twin, have_twins, pass_limits, add_rules, add_read, add_entry, with_entry, add_entries, read_entries}
-use Rattle.rule_file_definitions.proofs.SmallTests.{if_refused, not_below, IsOther, others_from_test}
+use Rattle.rule_file_definitions.proofs.SmallTests.{IsOther, others_from_test}
 use Rattle.rule_file_definitions.proofs.SoundEntries.{AreLetters, named_sound}
+use Rattle.list_laws.proofs.Booleans.{if_refused}
+use Rattle.lexicon_definitions.proofs.WrittenRules.{some_phases}
 
 -- ---- the words of a pattern
 
@@ -89,9 +91,6 @@ pub record IsFileRule (count : ℕ) (rule : Rule) : Type 0 where
   pub unlimited : IsUnlimited count rule
   pub short : IsShortRule rule
 
-some_phases : (count : ℕ) → 0 < count → 0 < all_phases count
-some_phases count n = let up = pow-lt {i = 0} {j = count} n in omega (arith, up)
-
 after_within_by : (count : ℕ) (v : List ℕ) → phases_after count v < 2 ^ count
 after_within_by count [] = pow_pos count
 after_within_by count (letter ∷ v) = ones_lt count
@@ -127,9 +126,9 @@ rule_sound count u v w n a b c s l =
       };
       unlimited = (refl, unlimited_by count v);
       short = record {
-        u = not_below MOST_RULE_LETTERS (length u) longs.0;
-        v = not_below MOST_RULE_LETTERS (length v) longs.1;
-        w = not_below MOST_RULE_LETTERS (length w) long.1;
+        u = ltb-false MOST_RULE_LETTERS (length u) longs.0;
+        v = ltb-false MOST_RULE_LETTERS (length v) longs.1;
+        w = ltb-false MOST_RULE_LETTERS (length w) long.1;
       };
     }
 
@@ -222,8 +221,8 @@ module _ (count : ℕ) (n : 0 < count) where
       subst AreFileRules same (record {
         each = All-append (IsFileRule count) earlier rules h.each (All-from_recursion (IsFileRule count) rules k);
         apart = apart_with earlier rules h.apart apart.0;
-        few = not_below MOST_RULES (length (earlier ++ rules)) parts.0;
-        leads = not_below MOST_LEADS (length (leads_of (earlier ++ rules))) parts.1;
+        few = ltb-false MOST_RULES (length (earlier ++ rules)) parts.0;
+        leads = ltb-false MOST_LEADS (length (leads_of (earlier ++ rules))) parts.1;
       })
 
   more_read : (earlier out : List Rule) (read : Result (List Rule) Why) → AreFileRules earlier → AreSound read → add_read earlier read ≡ Ok out → AreFileRules out

@@ -1,12 +1,10 @@
 -- What is read is a rule set within the limits: its parts are sound, and its grammar's text has no fault.
-use Rattle.std.proofs.Common.{◌≡◌, ℕ, Bool, true, false, nat_lt, Option, Some, None, Result, Ok, Err, inl, inr, List, length, All, refl, sym, subst}
+use Rattle.std.proofs.Common.{◌≡◌, ℕ, Result, Ok, Err, inl, inr, List, length, All, refl, sym, subst}
 use Rattle.toml.specs.Data.{Members}
-use Rattle.lexicon_definitions.specs.declared.limits.TheConstants.{MOST_GRAMMAR_BYTES, MOST_GRAMMAR_NAMES}
 use Rattle.lexicon_definitions.specs.Rules.{IsUnlimited}
-use Rattle.lexicon_definitions.specs.Lexicons.{RuleSet, IsRuleSet, IsGrammarOver}
+use Rattle.lexicon_definitions.specs.Lexicons.{RuleSet, IsRuleSet}
 use Rattle.lexicon_definitions.specs.Limits.{IsRuleSetWithinLimits}
-use Rattle.lexicon_definitions.specs.GrammarFaults as grammars
-use Rattle.lexicon_definitions.specs.GrammarFaults.{IsGrammarTextWithinLimits, first_fault_of, syntax_fault, first_unknown, names_from}
+use Rattle.lexicon_definitions.specs.GrammarFaults.{IsGrammarTextWithinLimits}
 use Rattle.rule_file_definitions.specs.RuleFileFaults.{Fault}
 use Rattle.rule_file_definitions.specs.RuleTexts.{RuleTexts, read_texts}
 use Rattle.rule_file_definitions.specs.SoundClasses.{read_phases, read_classes}
@@ -15,18 +13,7 @@ use Rattle.rule_file_definitions.specs.RuleEntries.{read_entries}
 use Rattle.rule_file_definitions.specs.RuleFileReadings.{FileResult, and_then, read_set, read_before_grammar, IsDecided, IsReadAs}
 use Rattle.rule_file_definitions.proofs.SoundEntries.{named, paired}
 use Rattle.rule_file_definitions.proofs.SoundRules.{ruled}
-
-over_by : (names : List (List ℕ)) (text : List ℕ) (long : Bool) (syntax unknown : Option ℕ) (places : Bool) → nat_lt MOST_GRAMMAR_BYTES (length text) ≡ long
-    → syntax_fault text ≡ syntax → first_unknown names (names_from 0 text) ≡ unknown → nat_lt MOST_GRAMMAR_NAMES (length (names_from 0 text)) ≡ places
-    → IsGrammarTextWithinLimits names text → (syntax ≡ None) × (unknown ≡ None)
-over_by names text true syntax unknown places a b c d h = absurd (h grammars.Long (λ i. first_fault_of (a i) (b i) (c i) (d i)))
-over_by names text false (Some at) unknown places a b c d h = absurd (h (grammars.Syntax at) (λ i. first_fault_of (a i) (b i) (c i) (d i)))
-over_by names text false None (Some at) places a b c d h = absurd (h (grammars.UnknownPhase at) (λ i. first_fault_of (a i) (b i) (c i) (d i)))
-over_by names text false None None places a b c d h = (refl, refl)
-
--- a grammar text within the limits is one over its names
-grammar_over : (names : List (List ℕ)) (text : List ℕ) → IsGrammarTextWithinLimits names text → IsGrammarOver names text
-grammar_over names text h = over_by names text _ _ _ _ refl refl refl refl h
+use Rattle.lexicon_definitions.proofs.GrammarFaultCases.{grammar_over}
 
 -- all that holds of a rule set that is read
 pub record IsFileSet (set : RuleSet) : Type 0 where

@@ -1,13 +1,10 @@
 -- Sources have one lexicon: phases that have the same entries have the same forms, since each form has an analysis by which the
 -- other phase has it too, and rising lists with the same elements are one.
-use Rattle.std.proofs.Common.{◌≡◌, ◌≢◌, ℕ, inl, inr, List, [], ◌∷◌, length, All, get_or, refl, sym, ◌∙◌, ap, subst, arith}
+use Rattle.std.proofs.Common.{◌≡◌, ℕ, inl, inr, List, [], ◌∷◌, length, All, get_or, refl, sym, ◌∙◌, ap, subst, arith}
 use Rattle.std.specs.Prelude.{Contains, slice_index_or}
 use Rattle.std.specs.List.Sorted.{IsStrictlySortedBy}
-use Rattle.std.specs.Cmp.{IsTotalOrder}
-use Rattle.std.specs.Ordering.{on}
-use Rattle.std.specs.declared.cmp.Ordering.{Ordering}
 use Rattle.std.specs.declared.cmp.Ordering.TheVariants.{Less}
-use Rattle.std.proofs.lemmas.Cmp.{on_total, nat_list_cmp_total, tied_itself}
+use Rattle.std.proofs.lemmas.Cmp.{nat_list_cmp_total, tied_itself}
 use Rattle.std.proofs.lemmas.List.{ext_get_or}
 use Rattle.std.proofs.lemmas.List.Elements.{All-contains}
 use Rattle.std.proofs.lemmas.Map.Keys.{sorted_tail}
@@ -15,20 +12,14 @@ use Rattle.text_definitions.specs.Words.{compare_words}
 use Rattle.lexicon_definitions.specs.Analyses.{Analysis}
 use Rattle.lexicon_definitions.specs.FormEntries.{Entry, HasAnalysis}
 use Rattle.lexicon_definitions.specs.Lexicons.{RuleSet, Form, Lexicon, IsFormEntry, IsPhase}
-use Rattle.lexicon_definitions.proofs.FormsWithEntry.{analyses_total}
-use Rattle.list_laws.proofs.Sorted.{Contains-first, Contains-cons_cases, Less-from_later, same_sorted}
+use Rattle.lexicon_definitions.proofs.FormsWithEntry.{analyses_total, by_letters, forms_total}
+use Rattle.list_laws.proofs.Sorted.{Contains-cons_cases, Less-from_later, same_sorted}
 use Rattle.morphology_definitions.specs.Inflection.{Class, Stem}
 use Rattle.morphology_definitions.proofs.Inflections.{all_inflected-once}
 use Rattle.run_definitions.specs.SourceLexicons.{HaveJust, IsLexiconOf}
+use Rattle.list_laws.proofs.Elements.{some_element}
 
 -- ---- the forms of a phase
-
--- forms by their letters
-abbrev by_letters : Form → Form → Ordering
-by_letters = on (λ (form : Form). form.letters) compare_words
-
-letters_total : IsTotalOrder by_letters
-letters_total = on_total (λ (form : Form). form.letters) nat_list_cmp_total
 
 -- a form is not below another with the same letters
 not_below : (left right : Form) → left.letters ≡ right.letters → by_letters left right ≡ Less → ⊥
@@ -45,18 +36,13 @@ one_form (form ∷ forms) left right s l r same =
     elim (Contains-cons_cases form forms left l) [
       | inl e ↦ elim (Contains-cons_cases form forms right r) [
         | inl f ↦ sym e ∙ f
-        | inr n ↦ absurd (not_below form right (ap (λ (x : Form). x.letters) e ∙ same) (Less-from_later letters_total form forms right s n))
+        | inr n ↦ absurd (not_below form right (ap (λ (x : Form). x.letters) e ∙ same) (Less-from_later forms_total form forms right s n))
       ]
       | inr m ↦ elim (Contains-cons_cases form forms right r) [
-        | inl f ↦ absurd (not_below form left (ap (λ (x : Form). x.letters) f ∙ sym same) (Less-from_later letters_total form forms left s m))
+        | inl f ↦ absurd (not_below form left (ap (λ (x : Form). x.letters) f ∙ sym same) (Less-from_later forms_total form forms left s m))
         | inr n ↦ one_form forms left right (sorted_tail by_letters form forms s) m n same
       ]
     ]
-
--- a list that is not empty has an element
-some_element : {X : Type 0} (xs : List X) → xs ≢ [] → (x : X) × Contains xs x
-some_element [] some = absurd (some refl)
-some_element (x ∷ xs) some = (x, Contains-first x xs)
 
 -- the one forms have what the other have
 abbrev HaveAllOf : List Form → List Form → Type 0
@@ -89,7 +75,7 @@ among_others forms others phase other_phase have have_back form is_among =
 -- phases that have the same are the same
 same_phase : (forms others : List Form) → IsPhase forms → IsPhase others → HaveAllOf others forms → HaveAllOf forms others → forms ≡ others
 same_phase forms others phase other_phase have have_back =
-    same_sorted letters_total forms others phase.rising other_phase.rising (among_others forms others phase other_phase have have_back)
+    same_sorted forms_total forms others phase.rising other_phase.rising (among_others forms others phase other_phase have have_back)
     (among_others others forms other_phase phase have_back have)
 
 -- ---- all phases

@@ -1,11 +1,8 @@
 -- The line of an overlap, with its line end put last; and the name of its phase.
-use Rattle.std.proofs.Common.{◌≡◌, ℕ, ◌<◌, List, [], ◌∷◌, ◌++◌, length, map, codes, sym, ap, ◌∙◌, arith, append_assoc}
+use Rattle.std.proofs.Common.{◌≡◌, ℕ, ◌<◌, List, [], ◌∷◌, ◌++◌, length, map, codes, sym, ap, ◌∙◌, arith}
 use Rattle.std.specs.Prelude.{slice_index_or}
 use Rattle.std.proofs.lemmas.List.{length-map, get_or-map}
-
--- what is put in front of each of two lists put together
-in_front : (x y rest : List ℕ) → x ++ (y ++ rest) ≡ (x ++ y) ++ rest
-in_front x y rest = sym (append_assoc x y rest)
+use Rattle.list_laws.proofs.Elements.{append_regrouped}
 
 pub overlap_line : (phase form before after : List ℕ)
     → codes "overlap " ++ (phase ++ (codes " " ++ (form ++ (codes " " ++ (before ++ (codes " " ++ (after ++ codes "\n")))))))
@@ -14,13 +11,13 @@ overlap_line p f b a =
     let o = codes "overlap " in
     let s = codes " " in
     let e : List ℕ = 10 ∷ [] in
-    in_front o p (s ++ (f ++ (s ++ (b ++ (s ++ (a ++ e))))))
-    ∙ in_front (o ++ p) s (f ++ (s ++ (b ++ (s ++ (a ++ e)))))
-    ∙ in_front ((o ++ p) ++ s) f (s ++ (b ++ (s ++ (a ++ e))))
-    ∙ in_front (((o ++ p) ++ s) ++ f) s (b ++ (s ++ (a ++ e)))
-    ∙ in_front ((((o ++ p) ++ s) ++ f) ++ s) b (s ++ (a ++ e))
-    ∙ in_front (((((o ++ p) ++ s) ++ f) ++ s) ++ b) s (a ++ e)
-    ∙ in_front ((((((o ++ p) ++ s) ++ f) ++ s) ++ b) ++ s) a e
+    append_regrouped o p (s ++ (f ++ (s ++ (b ++ (s ++ (a ++ e))))))
+    ∙ append_regrouped (o ++ p) s (f ++ (s ++ (b ++ (s ++ (a ++ e)))))
+    ∙ append_regrouped ((o ++ p) ++ s) f (s ++ (b ++ (s ++ (a ++ e))))
+    ∙ append_regrouped (((o ++ p) ++ s) ++ f) s (b ++ (s ++ (a ++ e)))
+    ∙ append_regrouped ((((o ++ p) ++ s) ++ f) ++ s) b (s ++ (a ++ e))
+    ∙ append_regrouped (((((o ++ p) ++ s) ++ f) ++ s) ++ b) s (a ++ e)
+    ∙ append_regrouped ((((((o ++ p) ++ s) ++ f) ++ s) ++ b) ++ s) a e
 
 -- what stands at a place of mapped elements
 pub mapped_at : {X : Type 0} (f : X → List ℕ) (xs : List X) (names : List (List ℕ)) (k : ℕ) (x : X) → map f xs ≡ names

@@ -1,19 +1,15 @@
 -- The lines in which files are refused, with their line end put last.
-use Rattle.std.proofs.Common.{◌≡◌, ℕ, List, [], ◌∷◌, ◌++◌, codes, sym, ap, ◌∙◌, append_assoc}
+use Rattle.std.proofs.Common.{◌≡◌, ℕ, List, [], ◌∷◌, ◌++◌, codes, sym, ap, append_assoc}
+use Rattle.list_laws.proofs.Elements.{six_regrouped}
 
 pub large_line : (name : List ℕ) → codes "bad file " ++ name ++ codes ": Large\n" ≡ (codes "bad file " ++ name ++ codes ": Large") ++ 10 ∷ []
 large_line name = ap (λ rest. codes "bad file " ++ rest) (sym (append_assoc name (codes ": Large") (10 ∷ [])))
-
-moved : (n b d c w e : List ℕ) → n ++ (b ++ (d ++ (c ++ (w ++ e)))) ≡ ((((n ++ b) ++ d) ++ c) ++ w) ++ e
-moved n b d c w e =
-    sym (append_assoc (((n ++ b) ++ d) ++ c) w e ∙ append_assoc ((n ++ b) ++ d) c (w ++ e)
-    ∙ append_assoc (n ++ b) d (c ++ (w ++ e)) ∙ append_assoc n b (d ++ (c ++ (w ++ e))))
 
 pub fault_line : (name number why : List ℕ)
     → codes "bad file " ++ (name ++ (codes " line " ++ (number ++ (codes ": " ++ (why ++ codes "\n")))))
     ≡ (codes "bad file " ++ name ++ codes " line " ++ number ++ codes ": " ++ why) ++ 10 ∷ []
 fault_line name number why =
-    ap (λ rest. codes "bad file " ++ rest) (moved name (codes " line ") number (codes ": ") why (10 ∷ []))
+    ap (λ rest. codes "bad file " ++ rest) (sym (six_regrouped name (codes " line ") number (codes ": ") why (10 ∷ [])))
 
 -- of a source file: what is said after its name
 pub source_line : (name rest : List ℕ) → codes "bad file " ++ (name ++ (rest ++ codes "\n")) ≡ (codes "bad file " ++ name ++ rest) ++ 10 ∷ []

@@ -18,6 +18,7 @@ use Rattle.annotated_trie.specs.Searched.{SearchedLexicon, IsSearchedLexicon}
 use Rattle.search_frames.specs.Standings.{Standing, IsPossible, rules_in}
 use Rattle.search_frames.specs.Frames.{changes_at}
 use Rattle.search_frames.proofs.WalkDeltas.{delta_exists}
+use Rattle.list_laws.proofs.Elements.{some_element, some_by_element}
 
 -- the letters by which a search that stands here comes to a form's u, where it takes so many letters of the line
 abbrev pub front_at : Line → Standing → ℕ → List ℕ
@@ -31,15 +32,6 @@ root_in searched phase = slice_index_or searched.tries.trie.roots phase 0
 pub some_there : (found : Option ℕ) → IsSome found → (x : ℕ) × (found ≡ Some x)
 some_there None there = absurd cc
 some_there (Some x) there = (x, refl)
-
--- a list that has an element is not empty
-not_empty : {X : Type 0} (xs : List X) (x : X) → Contains xs x → xs ≢ []
-not_empty xs x among e = not_Contains-nil x (subst (λ ys. Contains ys x) e among)
-
--- a list that is not empty has an element
-some_element : {X : Type 0} (xs : List X) → xs ≢ [] → (x : X) × Contains xs x
-some_element [] some = absurd (some refl)
-some_element (x ∷ xs) some = (x, Contains-first x xs)
 
 -- forms of no phase
 no_forms : (phases : List (List Form)) (phase : ℕ) (word : List ℕ) → Contains (map (λ (form : Form). form.letters) (get_or phases phase [])) word
@@ -114,7 +106,7 @@ module _ (searched : SearchedLexicon) (is : IsSearchedLexicon searched) where
       let (analysis, analyzed) = some_element form.analyses entry.analyzed in
       let (delta, is_delta) = delta_exists word analysis in
       let has_delta : HasDelta (forms_of searched.lexicon phase) word delta = record { form = form; is_among = has; has_letters = letters; analysis = analysis; is_analyzed = analyzed; is_delta = is_delta } in
-      record { reached = reached; walked = walked; ends = not_empty (row_of searched.tries.trie.rows reached).deltas delta ((root.deltas word reached walked delta).1 has_delta) }
+      record { reached = reached; walked = walked; ends = some_by_element (row_of searched.tries.trie.rows reached).deltas delta ((root.deltas word reached walked delta).1 has_delta) }
 
   -- what leads from a root to an end is a form of the phase
   walked_form : (phase : ℕ) (word : List ℕ) → phase < length (rules_in searched).names

@@ -1,7 +1,6 @@
 -- A search comes only to where the front of an answer ends: it begins at the empty front, and a key that leads on adds the
 -- step with this key. The machine's state is that after the front's phases, so it says which keys may follow.
 use Rattle.std.proofs.Common.{◌≡◌, ◌↔◌, ℕ, IsTrue, IsSome, Option, inl, inr, List, [], ◌∷◌, ◌++◌, refl, sym, ap, subst, ◌∙◌, append_assoc}
-use Rattle.std.proofs.lemmas.List.Sums.{fold-append}
 use Rattle.text_definitions.specs.Lines.{Line, IsLine}
 use Rattle.lexicon_definitions.specs.Lexicons.{IsPhaseWord}
 use Rattle.segmentation_definitions.specs.Derivations.{Step, phases_of}
@@ -11,22 +10,18 @@ use Rattle.answer_paths.specs.Fronts.{ways_of}
 use Rattle.answer_paths.specs.Following.{step_at, MayFollow, MayEnd}
 use Rattle.answer_paths.proofs.LocalKeys.{leads_locally, ends_locally}
 use Rattle.answer_paths.proofs.LeadingOn.{ends_after}
-use Rattle.phase_automaton.specs.Automata.{StateMachine, next_state, state_after, start_state, is_accepting}
+use Rattle.phase_automaton.specs.Automata.{next_state, state_after, is_accepting}
 use Rattle.annotated_trie.specs.Searched.{SearchedLexicon, IsSearchedLexicon}
 use Rattle.search_frames.specs.Standings.{Standing, rules_in, LeadsOn, Ends, after, opening}
 use Rattle.search_frames.specs.Reached.{IsReached}
+use Rattle.phase_automaton.proofs.NumberedStates.{state_after-push}
 
 -- ---- the machine's state
-
--- the state after one phase more
-pub state_one_more : (machine : StateMachine) (phases : List ℕ) (phase : ℕ)
-    → state_after machine (phases ++ phase ∷ []) ≡ next_state machine (state_after machine phases) phase
-state_one_more machine phases phase = fold-append (next_state machine) start_state phases (phase ∷ [])
 
 module _ (searched : SearchedLexicon) (is : IsSearchedLexicon searched) (phases : List ℕ) (phase : ℕ) (state : Option ℕ)
     (state_is : state ≡ state_after searched.machine phases) where
   pub next_state_is : next_state searched.machine state phase ≡ state_after searched.machine (phases ++ phase ∷ [])
-  next_state_is = ap (λ state. next_state searched.machine state phase) state_is ∙ sym (state_one_more searched.machine phases phase)
+  next_state_is = ap (λ state. next_state searched.machine state phase) state_is ∙ sym (state_after-push searched.machine phases phase)
 
   -- some list goes on from the phases and one more exactly where the state after these is not dead
   word_if_live : IsSome (next_state searched.machine state phase) → (rest : List ℕ) × IsPhaseWord (rules_in searched) (phases ++ phase ∷ rest)

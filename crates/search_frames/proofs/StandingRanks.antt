@@ -1,6 +1,6 @@
 -- The rank of a standing rises with each key that leads on, since a form and a rule's w are not empty, and is at most twice
 -- the letters of the line, since letters or a lead are left; and no key both leads on and ends.
-use Rattle.std.proofs.Common.{◌≡◌, ℕ, ◌+◌, ◌*◌, ◌<◌, ◌≤◌, inl, inr, List, [], ◌∷◌, length, take, drop, refl, sym, ap, length-take, length-drop, arith}
+use Rattle.std.proofs.Common.{◌≡◌, ◌+◌, ◌*◌, ◌<◌, ◌≤◌, inl, inr, List, [], ◌∷◌, length, take, drop, refl, sym, ap, length-drop, arith}
 use Rattle.std.proofs.lemmas.Bool.{cases_lt}
 use Rattle.std.proofs.lemmas.List.{length-take-le}
 use Rattle.text_definitions.specs.Lines.{Line}
@@ -18,6 +18,7 @@ use Rattle.annotated_trie.specs.Searched.{SearchedLexicon, IsSearchedLexicon}
 use Rattle.search_frames.specs.Standings.{Standing, rules_in, IsPossible, LeadsOn, Ends, after}
 use Rattle.search_frames.specs.LetterTests.{MayLeadOn, MayEndLine}
 use Rattle.search_frames.specs.Reached.{rank}
+use Rattle.list_laws.proofs.Elements.{written_within}
 
 -- a key that leads on may stand there, and so may one that ends
 pub possible_if_leads : (searched : SearchedLexicon) (line : Line) (choices : List Choice) (here : Standing) (key : Key)
@@ -94,11 +95,6 @@ rank_rises searched line choices here key is leads =
           let empty = unchanged_at_zero rules key.rule zero in
           omega (arith, letters, some, before, next, last, empty.u_empty, empty.v_empty, empty.w_empty)
     ]
-
--- the letters that stand somewhere in a list are not more than those from there on
-written_within : (letters w : List ℕ) (at : ℕ) → at ≤ length letters → take (length w) (drop at letters) ≡ w → at + length w ≤ length letters
-written_within letters w at within written =
-    omega (arith, length-drop at letters, length-take (length w) (drop at letters), ap length written)
 
 -- a key that leads on leaves letters of the line, or letters that its rule supplies
 pub rank_within : (searched : SearchedLexicon) (line : Line) (choices : List Choice) (here : Standing) (key : Key)

@@ -1,24 +1,19 @@
 -- The element at a place of a rising list is the first from there on, and just those after it follow: by induction on the list.
-use Rattle.std.proofs.Common.{◌≡◌, ℕ, zero, suc, ◌+◌, ◌<◌, ◌≤◌, ◌↔◌, inl, inr, Some, None, List, [], ◌∷◌, length, drop, sym, ap, subst, arith}
+use Rattle.std.proofs.Common.{◌≡◌, ℕ, zero, suc, ◌+◌, ◌<◌, ◌≤◌, ◌↔◌, inl, inr, Some, None, List, [], ◌∷◌, length, drop, ap, subst, arith}
 use Rattle.std.specs.Prelude.{slice_get}
 use Rattle.std.specs.List.{Contains}
-use Rattle.std.specs.Cmp.{ranked, nat_cmp_total}
 use Rattle.std.specs.Ordering.{nat_cmp}
 use Rattle.std.specs.List.Sorted.{IsStrictlySortedBy}
-use Rattle.std.specs.declared.cmp.Ordering.TheVariants.{Less}
 use Rattle.std.proofs.lemmas.Map.Keys.{sorted_tail}
 use Rattle.std.proofs.lemmas.Option.{same_Some}
-use Rattle.list_laws.proofs.Sorted.{Contains-first, Contains-later, Contains-cons_cases, Contains-from_drop, not_Contains-nil, Less-from_later}
+use Rattle.list_laws.proofs.Sorted.{Contains-first, Contains-later, Contains-cons_cases, Contains-from_drop, not_Contains-nil}
+use Rattle.list_laws.proofs.Orderings.{head_below}
 
 -- the number is the first of the list from the place on, and just the greater ones follow it
 pub record IsFirstFrom (numbers : List ℕ) (place number : ℕ) : Type 0 where
   pub there : Contains (drop place numbers) number
   pub first : (other : ℕ) → Contains (drop place numbers) other → number ≤ other
   pub after : (other : ℕ) → Contains numbers other → Contains (drop (suc place) numbers) other ↔ (number < other)
-
--- the later numbers of a rising list are greater than the first
-pub above_first : (first : ℕ) (later : List ℕ) (other : ℕ) → IsStrictlySortedBy nat_cmp (first ∷ later) → Contains later other → first < other
-above_first first later other rising among = ranked first other Less (sym (Less-from_later nat_cmp_total first later other rising among))
 
 -- the element at a place of a list is one of those from there on
 pub there_from : (numbers : List ℕ) (place number : ℕ) → slice_get numbers place ≡ Some number → Contains (drop place numbers) number
@@ -32,7 +27,7 @@ pub first_from : (numbers : List ℕ) (place number : ℕ) → IsStrictlySortedB
 first_from [] place number rising found = absurd cc
 first_from (first ∷ later) zero number rising found =
     let is : first ≡ number = same_Some first number found in
-    let greater = λ (other : ℕ) (among : Contains later other). above_first first later other rising among in
+    let greater = λ (other : ℕ) (among : Contains later other). head_below first later other rising among in
     record {
       there = there_from (first ∷ later) zero number found;
       first = λ other among. elim (Contains-cons_cases first later other among) [ inl e ↦ omega (arith, e, is) | inr m ↦ omega (arith, is, greater other m) ];
@@ -43,7 +38,7 @@ first_from (first ∷ later) zero number rising found =
     }
 first_from (first ∷ later) (suc place) number rising found =
     let rest = first_from later place number (sorted_tail nat_cmp first later rising) found in
-    let greater = λ (other : ℕ) (among : Contains later other). above_first first later other rising among in
+    let greater = λ (other : ℕ) (among : Contains later other). head_below first later other rising among in
     let among_later = Contains-from_drop place later number rest.there in
     record {
       there = rest.there;
@@ -62,7 +57,7 @@ place_below (first ∷ later) zero number low rising above found =
     omega (arith, same_Some first number found, above first (Contains-first first later))
 place_below (first ∷ later) (suc place) number low rising above found =
     let higher = λ (other : ℕ) (among : Contains later other).
-    let one : low + 1 ≤ other = omega (arith, above first (Contains-first first later), above_first first later other rising among) in one in
+    let one : low + 1 ≤ other = omega (arith, above first (Contains-first first later), head_below first later other rising among) in one in
     omega (arith, place_below later place number (low + 1) (sorted_tail nat_cmp first later rising) higher found)
 
 -- no element stands from a place past the end on

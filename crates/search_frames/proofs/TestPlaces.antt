@@ -1,5 +1,5 @@
 -- What a possible key tells of its form, and where it may lead, from what the parts of its test tell.
-use Rattle.std.proofs.Common.{◌≡◌, ℕ, ◌+◌, ◌<◌, ◌≤◌, List, length, take, drop, ap, arith, length-drop, length-take}
+use Rattle.std.proofs.Common.{◌≡◌, ℕ, ◌+◌, ◌<◌, List, length, ap, arith}
 use Rattle.text_definitions.specs.Lines.{Line}
 use Rattle.lexicon_definitions.specs.Leads.{leads_of}
 use Rattle.lexicon_definitions.specs.Rules.{IsInner}
@@ -15,16 +15,12 @@ use Rattle.annotated_trie.specs.Searched.{SearchedLexicon, IsSearchedLexicon}
 use Rattle.search_frames.specs.declared.place.Place.{Place}
 use Rattle.search_frames.specs.Frames.{standing_of}
 use Rattle.search_frames.specs.LetterTests.{MayLeadTo}
+use Rattle.list_laws.proofs.Elements.{written_within}
 
 -- a form has a letter
 pub some_letter : (searched : SearchedLexicon) (phase : ℕ) (form : List ℕ) → IsSearchedLexicon searched → IsForm searched.lexicon phase form
     → 0 < length form
 some_letter searched phase form is of_phase = form_not_empty searched.lexicon phase form is.lexicon of_phase
-
--- what stands in the letters after some of them ends in them
-ends_within : (letters w : List ℕ) (at : ℕ) → at ≤ length letters → take (length w) (drop at letters) ≡ w → at + length w ≤ length letters
-ends_within letters w at within here =
-    omega (arith, ap length here, length-take (length w) (drop at letters), length-drop at letters)
 
 -- what the parts of a test tell of where another form begins after a key at a place: with this w and entrance
 pub record IsFollowed (rules : RuleSet) (line : Line) (place : Place) (key : Key) (w : List ℕ) (entrance : ProgramEntrance) : Type 0 where
@@ -42,7 +38,7 @@ module _ (searched : SearchedLexicon) (line : Line) (choices : List Choice) (pla
       → IsFollowed searched.lexicon.rules line place key w entrance
       → MayLeadTo searched line choices (standing_of searched place) key (place.at + key.taken + length w) entrance
   may_lead_there w entrance stands followed =
-      let written = ends_within line.letters (rule_of searched.lexicon.rules key.rule).w (place.at + key.taken) stands.within stands.written in
+      let written = written_within line.letters (rule_of searched.lexicon.rules key.rule).w (place.at + key.taken) stands.within stands.written in
       let same = ap length followed.w_is in
       record {
         may = record { stands = stands; inner = followed.inner; left = followed.left };

@@ -1,9 +1,9 @@
 -- A frame that has walked along what is supplied and the letters of the line, and has tried no change yet, has all keys of its
 -- phase and of later ones to try: a possible key's front leads to a node that was walked to, and its change is among those there.
-use Rattle.std.proofs.Common.{◌≡◌, ℕ, ◌+◌, ◌*◌, ◌<◌, ◌≤◌, ◌⊎◌, inl, inr, Some, List, ◌++◌, length, take, drop, get_or, set, refl, sym, ◌∙◌, ap, subst, arith, length-set, length-drop}
+use Rattle.std.proofs.Common.{◌≡◌, ℕ, ◌+◌, ◌*◌, ◌<◌, ◌≤◌, ◌⊎◌, inl, inr, Some, List, ◌++◌, length, take, drop, get_or, set, sym, ◌∙◌, ap, subst, arith, length-set, length-drop}
 use Rattle.std.specs.Prelude.{IsSome, is_some, Contains}
 use Rattle.std.proofs.lemmas.Bool.{cases_lt}
-use Rattle.std.proofs.lemmas.List.{get_or-set_same, get_or_read_under}
+use Rattle.std.proofs.lemmas.List.{get_or-set_same}
 use Rattle.text_definitions.specs.Lines.{Line}
 use Rattle.lexicon_definitions.specs.Leads.{leads_of}
 use Rattle.lexicon_definitions.specs.Tries.{Row, walk}
@@ -18,8 +18,9 @@ use Rattle.resumption.specs.declared.state.Resumption.{Resumption}
 use Rattle.annotated_trie.specs.Searched.{SearchedLexicon, IsSearchedLexicon}
 use Rattle.search_frames.specs.declared.place.Place.{Place}
 use Rattle.search_frames.specs.Standings.{IsPossible, rules_in}
-use Rattle.search_frames.specs.Frames.{IsStack, IsPlaced, IsPlaceIn, IsFrame, IsUntried, HasPhasesFrom, step_of, frame_of, place_of, here_of, standing_of, node_of, changes_at}
+use Rattle.search_frames.specs.Frames.{IsPlaced, IsPlaceIn, IsFrame, IsUntried, HasPhasesFrom, step_of, frame_of, place_of, here_of, standing_of, node_of, changes_at}
 use Rattle.search_frames.proofs.PossibleKeys.{root_in, possible_walks, possible_change}
+use Rattle.search_frames.proofs.StepFrames.{frame_read, step_read}
 
 -- the nodes from the base on, so many, are all those to which the lead and then the first letters lead from the root
 pub record AreFronts (rows : List Row) (root : ℕ) (lead letters nodes : List ℕ) (base count : ℕ) : Type 0 where
@@ -103,18 +104,6 @@ module _ (searched : SearchedLexicon) (line : Line) (stack : Resumption) (level 
       ]
       in (forth, back)
 
--- the step and the frame that are read at a level
-pub read_step : (stack : Resumption) (level : ℕ) (step : Step) → IsStack stack → level < length stack.frames.items
-    → step ≡ get_or stack.steps.items level step → step ≡ step_of stack level
-read_step stack level step is here there =
-    let count = is.steps in
-    get_or_read_under stack.steps.items level (length stack.steps.items) step (record { phase = 0; rule = 0; at = 0; lead = 0; taken = 0 }) there (omega (arith, here, count)) refl
-
-pub read_frame : (stack : Resumption) (level : ℕ) (frame : Frame) → level < length stack.frames.items
-    → frame ≡ get_or stack.frames.items level frame → frame ≡ frame_of stack level
-read_frame stack level frame here there =
-    get_or_read_under stack.frames.items level (length stack.frames.items) frame (record { entrance = program.Start; state = Some 0; walked = 0; next = 0 }) there here refl
-
 -- fronts are told by where they are walked, and along which letters
 pub AreFronts-same : {rows rows' : List Row} {root root' : ℕ} {lead lead' letters letters' : List ℕ} (nodes : List ℕ) (base count : ℕ)
     → rows ≡ rows' → root ≡ root' → lead ≡ lead' → letters ≡ letters'
@@ -143,8 +132,8 @@ module _ (searched : SearchedLexicon) (line : Line) (old new : Resumption) (leve
       let here = placed.there in
       let count = placed.is_stack.steps in
       let here_step : level < length old.steps.items = omega (arith, here, count) in
-      let was_step : step ≡ step_of old level = read_step old level step placed.is_stack here step_there in
-      let was_frame : frame ≡ frame_of old level = read_frame old level frame here frame_there in
+      let was_step : step ≡ step_of old level = step_read old level step placed.is_stack here step_there in
+      let was_frame : frame ≡ frame_of old level = frame_read old level frame here frame_there in
       let new_step : step_of new level ≡ after_step = ap (λ (xs : List Step). get_or xs level any_step) steps ∙ get_or-set_same old.steps.items level after_step any_step here_step in
       let new_frame : frame_of new level ≡ after_frame = ap (λ (xs : List Frame). get_or xs level any_frame) frames ∙ get_or-set_same old.frames.items level after_frame any_frame here in
       let at : (step_of new level).at ≡ (step_of old level).at = ap (λ (s : Step). s.at) new_step ∙ ap (λ (s : Step). s.at) was_step in

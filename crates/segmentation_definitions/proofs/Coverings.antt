@@ -7,10 +7,10 @@ use Rattle.lexicon_definitions.specs.Rules.{Rule, IsRule, IsFinal, no_change}
 use Rattle.lexicon_definitions.specs.Lexicons.{Lexicon, RuleSet, Form, rule_of, forms_of, IsForm, IsRuleSet, IsFormEntry, IsLexicon}
 use Rattle.segmentation_definitions.specs.Derivations.{Step, rule_after, IsRuleNumber, Meets, AreForms, AreJoined, EndsWell, Covers, Derives}
 use Rattle.segmentation_definitions.specs.Items.{Placed, placed, placed_from, taken_by, next_at, covered_from}
+use Rattle.lexicon_definitions.proofs.FormsPlaced.{some_length}
 
 pub some_letters : {xs : List ℕ} → xs ≢ [] → 0 < length xs
-some_letters {xs = []} h = absurd (h refl)
-some_letters {xs = x ∷ xs} h = omega arith
+some_letters {xs = xs} h = some_length xs h
 
 -- a word that is made of three parts
 pub length_of_parts : (whole first second third : List ℕ) → whole ≡ first ++ second ++ third → length whole ≡ length first + length second + length third

@@ -10,7 +10,7 @@ use Rattle.segmentation_definitions.proofs.Coverings.{unchanged_at_zero, form_no
 use Rattle.segmentation_definitions.proofs.KeyLists.{same_cons, same_first_step}
 
 -- after a step there is no change or a rule
-has_rule : (rules : RuleSet) (z : Step) (zs : List Step) → AreJoined rules (z ∷ zs) → EndsWell rules (z ∷ zs)
+pub has_rule : (rules : RuleSet) (z : Step) (zs : List Step) → AreJoined rules (z ∷ zs) → EndsWell rules (z ∷ zs)
     → (z.rule ≡ 0) ⊎ IsRuleNumber rules z.rule
 has_rule rules z [] j (inl e) = inl e
 has_rule rules z [] j (inr f) = inr f.0

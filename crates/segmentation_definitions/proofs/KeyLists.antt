@@ -4,9 +4,8 @@
 use Rattle.std.proofs.Common.{◌≡◌, ℕ, List, [], ◌∷◌, ◌++◌, length, map, refl, sym, ◌∙◌, ap, arith}
 use Rattle.std.specs.Cmp.{IsTotalOrder}
 use Rattle.std.specs.Cmp.Lexicographic.{slice_cmp}
-use Rattle.std.specs.Ordering.{nat_cmp, ordering_then}
+use Rattle.std.specs.Ordering.{nat_cmp}
 use Rattle.std.specs.declared.cmp.Ordering.{Ordering}
-use Rattle.std.specs.declared.cmp.Ordering.TheVariants.{Less, Equal, Greater}
 use Rattle.std.proofs.lemmas.Cmp.{nat_cmp_total, lists_total, then_total, on_total, back_total}
 use Rattle.std.proofs.lemmas.Map.Lookups.{CmpEqualImpliesEq, exact_unsigned}
 use Rattle.std.proofs.lemmas.List.{append_assoc}
@@ -15,6 +14,7 @@ use Rattle.segmentation_definitions.specs.Derivations.{Step, rule_after, Covers}
 use Rattle.segmentation_definitions.specs.Items.{taken_by, placed_from}
 use Rattle.segmentation_definitions.specs.Listings.{Key, key_of, keys_of, compare_answers, compare_keys, compare_key_lists}
 use Rattle.segmentation_definitions.proofs.Coverings.{taken_length}
+use Rattle.list_laws.proofs.Orderings.{equal_then_both}
 
 -- the order of keys is total
 pub compare_keys_total : IsTotalOrder compare_keys
@@ -26,12 +26,6 @@ compare_keys_total =
 pub compare_answers_total : (rules : RuleSet) → IsTotalOrder (compare_answers rules)
 compare_answers_total rules = on_total (keys_of rules) (lists_total compare_keys_total)
 
--- one comparison after another gives Equal only where both do
-Equal_from_then : (a b : Ordering) → ordering_then a b ≡ Equal → (a ≡ Equal) × (b ≡ Equal)
-Equal_from_then Less b e = cc
-Equal_from_then Equal b e = (refl, e)
-Equal_from_then Greater b e = cc
-
 -- keys with the same phase, number of letters and rule are the same
 same_key : (left right : Key) → left.phase ≡ right.phase → left.taken ≡ right.taken → left.rule ≡ right.rule → left ≡ right
 same_key left right p t r = λ i. record { phase = p i; taken = t i; rule = r i }
@@ -39,8 +33,8 @@ same_key left right p t r = λ i. record { phase = p i; taken = t i; rule = r i 
 -- keys that compare as equal are the same
 pub compare_keys_exact : CmpEqualImpliesEq compare_keys
 compare_keys_exact left right e =
-    let f = Equal_from_then (nat_cmp left.phase right.phase) _ e in
-    let g = Equal_from_then (nat_cmp right.taken left.taken) _ f.1 in
+    let f = equal_then_both (nat_cmp left.phase right.phase) _ e in
+    let g = equal_then_both (nat_cmp right.taken left.taken) _ f.1 in
     same_key left right (exact_unsigned _ _ f.0) (sym (exact_unsigned _ _ g.0)) (exact_unsigned _ _ g.1)
 
 -- where elements that compare as equal are the same, so are lists
@@ -49,7 +43,7 @@ exact_lists R exact [] [] e = refl
 exact_lists R exact [] (y ∷ ys) e = cc
 exact_lists R exact (x ∷ xs) [] e = cc
 exact_lists R exact (x ∷ xs) (y ∷ ys) e =
-    let f = Equal_from_then (R x y) (slice_cmp R xs ys) e in
+    let f = equal_then_both (R x y) (slice_cmp R xs ys) e in
     let first : x ≡ y = exact x y f.0 in
     let later : xs ≡ ys = exact_lists R exact xs ys f.1 in
     cc

@@ -1,13 +1,13 @@
 -- The keys of an answer are read as the digits of a number, the first key the highest digit, and 0 where no key is left. A
 -- smaller list of keys is a smaller number, so strictly rising answers are strictly rising numbers below a power of the base:
 -- no more of them than that power.
-use Rattle.std.proofs.Common.{◌≡◌, ℕ, zero, suc, ◌+◌, ◌*◌, ◌-◌, ◌^◌, ◌<◌, ◌≤◌, ◌⊎◌, inl, inr, List, [], ◌∷◌, length, map, All, refl, sym, ap, arith}
+use Rattle.std.proofs.Common.{◌≡◌, ℕ, zero, suc, ◌+◌, ◌*◌, ◌-◌, ◌^◌, ◌<◌, ◌≤◌, ◌⊎◌, inl, inr, List, [], ◌∷◌, length, map, All, sym, ap, arith}
 use Rattle.std.specs.List.{Contains}
 use Rattle.std.specs.Cmp.{ranked, nat_cmp_is}
 use Rattle.std.specs.Ordering.{nat_cmp, ordering_then}
 use Rattle.std.specs.List.Sorted.{IsStrictlySortedBy}
 use Rattle.std.specs.declared.cmp.Ordering.{Ordering}
-use Rattle.std.specs.declared.cmp.Ordering.TheVariants.{Less, Equal, Greater}
+use Rattle.std.specs.declared.cmp.Ordering.TheVariants.{Less, Equal}
 use Rattle.std.proofs.Math.Nat.{one-le-pow, pow-succ', mul-le-mul_right}
 use Rattle.std.proofs.lemmas.List.{length-map}
 use Rattle.std.proofs.lemmas.List.Elements.{All-from_recursion, recursion_from_All, All-head, All-tail, All-map, All-weaker, All-contains}
@@ -24,16 +24,11 @@ use Rattle.segmentation_definitions.proofs.Coverings.{in_place}
 use Rattle.segmentation_definitions.proofs.KeyLists.{compare_keys_exact}
 use Rattle.segmentation_definitions.proofs.RisingRanks.{IsKeyWithin, keys_within, length_placed, steps_bounded}
 use Rattle.list_laws.proofs.Sorted.{All-from_Contains}
-
--- one comparison after another gives Less where the first does, or the second where the first is Equal
-Less_from_then : (a b : Ordering) → ordering_then a b ≡ Less → (a ≡ Less) ⊎ ((a ≡ Equal) × (b ≡ Less))
-Less_from_then Less b e = inl refl
-Less_from_then Equal b e = inr (refl, e)
-Less_from_then Greater b e = cc
+use Rattle.list_laws.proofs.Orderings.{less_then_cases}
 
 -- the same of two numbers that are compared first
 less_from_then : (x y : ℕ) (b : Ordering) → ordering_then (nat_cmp x y) b ≡ Less → (x < y) ⊎ ((x ≡ y) × (b ≡ Less))
-less_from_then x y b e = elim (Less_from_then (nat_cmp x y) b e) [
+less_from_then x y b e = elim (less_then_cases (nat_cmp x y) b e) [
   | inl l ↦ inl (ranked x y Less (sym l))
   | inr (q, l) ↦ inr (ranked x y Equal (sym q), l)
 ]
@@ -129,7 +124,7 @@ module _ (lexicon : Lexicon) (letters : ℕ) where
       let here = All-tail IsWithin x xs p in
       let there = All-tail IsWithin y ys q in
       smaller_digits (base ^ places) (digit x) (digit y) (number places xs) (number places ys) (number_within places xs here)
-      (elim (Less_from_then (compare_keys x y) _ less) [
+      (elim (less_then_cases (compare_keys x y) _ less) [
         | inl first ↦ inl (digit_rises x y (All-head IsWithin x xs p) (All-head IsWithin y ys q) first)
         | inr (same, later) ↦ inr (ap digit (compare_keys_exact x y same), number_rises places xs ys (omega arith) (omega arith) here there later)
       ])

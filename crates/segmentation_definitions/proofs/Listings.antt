@@ -16,7 +16,8 @@ use Rattle.segmentation_definitions.specs.Items.{Choice}
 use Rattle.segmentation_definitions.specs.Answers.{IsAnswer}
 use Rattle.segmentation_definitions.specs.Listings.{compare_answers, Position, BeforeFirst, AtAnswer, PastLast, IsAbove, IsListingAbove, ComesAfter, IsPage, Page, position_after, ArePages}
 use Rattle.segmentation_definitions.proofs.KeyLists.{compare_answers_total}
-use Rattle.list_laws.proofs.Sorted.{Contains-first, Contains-from_take, Contains-from_drop, Contains-parts, Less-from_later, not_Contains-nil, not_after, following_front, sorted_front, sorted_append, same_fronts, same_sorted}
+use Rattle.list_laws.proofs.Sorted.{Contains-first, Contains-from_take, Contains-from_drop, Contains-parts, Less-from_later, not_after, following_front, sorted_front, sorted_append, same_fronts, same_sorted}
+use Rattle.list_laws.proofs.Elements.{some_element, some_by_element}
 
 -- what is above an answer that is above a position is above the position
 pub IsAbove-trans : (rules : RuleSet) (position : Position) (x y : List Step) → IsAbove rules position x → compare_answers rules x y ≡ Less
@@ -37,21 +38,12 @@ is_more : {A : Type 0} (xs : List A) → (more : Bool) × (IsTrue more ↔ (xs �
 is_more [] = (false, ((λ e. cc), λ n. absurd (n refl)))
 is_more (x ∷ xs) = (true, ((λ e n. cc), λ n. refl))
 
--- a list other than the empty one has an element
-element_from_not : {A : Type 0} (xs : List A) → xs ≢ [] → (x : A) × Contains xs x
-element_from_not [] n = absurd (n refl)
-element_from_not (x ∷ xs) n = (x, Contains-first x xs)
-
--- a list that has an element is not the empty one
-not_from_element : {A : Type 0} (xs : List A) (x : A) → Contains xs x → xs ≢ []
-not_from_element xs x m e = not_Contains-nil x (subst (λ ys. Contains ys x) e m)
-
 -- a front after which there is an element is full
 full_front : {A : Type 0} (count : ℕ) (xs : List A) (x : A) → Contains (drop count xs) x → length (take count xs) ≡ count
 full_front count xs x (k, below, at) = omega (arith, length-take count xs, length-drop count xs)
 
 -- what is above a position and after a page at it is above the page's last answer
-above_last : (rules : RuleSet) (page : List (List Step)) (position : Position) (steps : List Step) → IsAbove rules position steps
+pub above_last : (rules : RuleSet) (page : List (List Step)) (position : Position) (steps : List Step) → IsAbove rules position steps
     → ComesAfter rules page steps → IsAbove rules (position_after position page) steps
 above_last rules [] position steps a b = a
 above_last rules (x ∷ page) position steps a b =
@@ -59,7 +51,7 @@ above_last rules (x ∷ page) position steps a b =
     (All-tail (λ before. compare_answers rules before steps ≡ Less) x page b)
 
 -- what is above the last answer of a page is above the page's position and after the page
-from_above_last : (rules : RuleSet) (page : List (List Step)) (position : Position) (steps : List Step)
+pub from_above_last : (rules : RuleSet) (page : List (List Step)) (position : Position) (steps : List Step)
     → ((before : List Step) → Contains page before → IsAbove rules position before) → IsStrictlySortedBy (compare_answers rules) page
     → IsAbove rules (position_after position page) steps → IsAbove rules position steps × ComesAfter rules page steps
 from_above_last rules [] position steps p s a = (a, All-nil (λ before. compare_answers rules before steps ≡ Less))
@@ -171,7 +163,7 @@ module _ (lexicon : Lexicon) (line : Line) (choices : List Choice) where
           | inr m ↦ inr (full_front count answers steps m, following_front o front rest steps rising m)
         ];
         left = (
-          λ t. let (steps, m) : (steps : List Step) × Contains rest steps = element_from_not rest (e.0 t) in (
+          λ t. let (steps, m) : (steps : List Step) × Contains rest steps = some_element rest (e.0 t) in (
             steps,
             p.only_answers steps (Contains-from_drop count answers steps m),
             p.only_above steps (Contains-from_drop count answers steps m),
@@ -179,7 +171,7 @@ module _ (lexicon : Lexicon) (line : Line) (choices : List Choice) where
           ),
           λ (steps, a, l, b). elim (Contains-parts count answers steps (p.complete steps a l)) [
             | inl m ↦ absurd (not_after o front steps m b)
-            | inr m ↦ e.1 (not_from_element rest steps m)
+            | inr m ↦ e.1 (some_by_element rest steps m)
           ],
         );
       }

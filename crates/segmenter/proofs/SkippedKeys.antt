@@ -9,13 +9,13 @@ use Rattle.segmentation_definitions.specs.Items.{Choice}
 use Rattle.segmentation_definitions.specs.Listings.{Key, compare_keys}
 use Rattle.segmentation_definitions.proofs.KeyLists.{compare_keys_total, compare_keys_exact, same_cons}
 use Rattle.listing_laws.specs.Ways.{IsPath}
-use Rattle.listing_laws.proofs.Paths.{less_then_cases}
 use Rattle.annotated_trie.specs.Searched.{SearchedLexicon}
 use Rattle.search_frames.specs.Standings.{Standing, after, ways_in}
 use Rattle.segmenter.specs.Chains.{ComesAfter}
 use Rattle.segmenter.proofs.StandingAnswers.{less_if_after}
 use Rattle.search_frames.proofs.StandingRanks.{not_both}
 use Rattle.segmenter.proofs.PathsFound.{first_of_path}
+use Rattle.list_laws.proofs.Orderings.{less_then_cases}
 
 -- ---- what comes after the first keys
 

@@ -1,11 +1,11 @@
 -- Where frames stand along a path from the opening, their steps stand in the line, cover its word, and have the path's keys, so
 -- they are the path's answer: by induction on the keys. The first path is the next answer, since both are compared by keys.
-use Rattle.std.proofs.Common.{◌≡◌, ℕ, zero, suc, ◌+◌, ◌<◌, ◌≤◌, ◌⊎◌, inl, inr, List, [], ◌∷◌, ◌++◌, length, take, drop, refl, sym, ap, ◌∙◌, subst, arith, append_assoc, length-take}
+use Rattle.std.proofs.Common.{◌≡◌, ℕ, zero, suc, ◌+◌, ◌<◌, ◌≤◌, ◌⊎◌, inl, inr, List, [], ◌∷◌, length, take, drop, refl, sym, ap, ◌∙◌, subst, arith, length-take}
 use Rattle.std.specs.declared.cmp.Ordering.TheVariants.{Less}
 use Rattle.std.specs.Ordering.{ordering_then}
 use Rattle.std.specs.Cmp.Lexicographic.{slice_cmp}
 use Rattle.std.proofs.lemmas.Cmp.{tied_itself}
-use Rattle.std.proofs.lemmas.List.{drop_more, drop_all, drop-drop, get_or-take, take-append-drop, length-map}
+use Rattle.std.proofs.lemmas.List.{drop_more, drop_all, get_or-take, length-map}
 use Rattle.text_definitions.specs.Lines.{Line, IsLine}
 use Rattle.lexicon_definitions.specs.Lexicons.{RuleSet, rule_of}
 use Rattle.segmentation_definitions.specs.Derivations.{Step, Covers}
@@ -15,7 +15,6 @@ use Rattle.segmentation_definitions.specs.Listings.{Key, keys_of, compare_keys, 
 use Rattle.segmentation_definitions.proofs.KeyLists.{compare_keys_total, compare_keys_exact}
 use Rattle.listing_laws.specs.Ways.{IsPath}
 use Rattle.listing_laws.specs.Positions.{IsFirst}
-use Rattle.listing_laws.proofs.Paths.{less_then_cases}
 use Rattle.answer_paths.specs.Fronts.{supplied, ways_of}
 use Rattle.answer_paths.specs.Following.{step_at, MayStand}
 use Rattle.answer_paths.proofs.FrontParts.{supplied_after}
@@ -34,6 +33,8 @@ use Rattle.segmenter.specs.Searches.{steps_in}
 use Rattle.search_frames.proofs.StandingPaths.{path_from_opening}
 use Rattle.search_frames.proofs.StandingRanks.{not_both}
 use Rattle.segmenter.proofs.PathsFound.{GoesOn, first_of_path}
+use Rattle.list_laws.proofs.Orderings.{less_then_cases}
+use Rattle.list_laws.proofs.Elements.{parts_from}
 
 -- ---- steps that stand from a place on to the end of the line
 
@@ -42,17 +43,6 @@ pub record StandToEnd (rules : RuleSet) (letters : List ℕ) (at : ℕ) (lead : 
   pub stand : StandFrom rules letters at lead steps
   pub covers : Covers rules lead (steps_from rules letters lead steps) (drop at letters) []
   pub same : program.keys_of steps ≡ keys
-
--- letters from a place on are those that are taken, those of a w that stands after them, and the rest
-parts_from : (letters w : List ℕ) (at taken : ℕ) → take (length w) (drop (at + taken) letters) ≡ w
-    → drop at letters ≡ take taken (drop at letters) ++ w ++ drop (at + taken + length w) letters
-parts_from letters w at taken here =
-    let following : drop (at + taken) letters ≡ w ++ drop (at + taken + length w) letters =
-    sym (take-append-drop (length w) (drop (at + taken) letters)) ∙ ap (λ v. v ++ drop (length w) (drop (at + taken) letters)) here
-    ∙ ap (λ rest. w ++ rest) (drop-drop (length w) (at + taken) letters) in
-    let all : drop at letters ≡ take taken (drop at letters) ++ drop (at + taken) letters =
-    sym (take-append-drop taken (drop at letters)) ∙ ap (λ rest. take taken (drop at letters) ++ rest) (drop-drop taken at letters) in
-    all ∙ ap (λ rest. take taken (drop at letters) ++ rest) following ∙ sym (append_assoc (take taken (drop at letters)) w (drop (at + taken + length w) letters))
 
 module _ (rules : RuleSet) (letters : List ℕ) where
   none_to_end : (at : ℕ) (lead : List ℕ) → length letters ≤ at → StandToEnd rules letters at lead [] []

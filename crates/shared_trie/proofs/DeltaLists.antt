@@ -10,14 +10,12 @@ use Rattle.std.proofs.lemmas.Bool.{cases_lt}
 use Rattle.form_tags.proofs.DeltaLaws.{IsDelta-once}
 use Rattle.lexicon_definitions.specs.Analyses.{Analysis, compare_analyses}
 use Rattle.lexicon_definitions.specs.Deltas.{Delta, IsDelta, analysis_by, compare_deltas}
-use Rattle.std.specs.Cmp.{IsTotalOrder}
 use Rattle.std.specs.declared.cmp.Ordering.{Ordering}
 use Rattle.std.specs.declared.cmp.Ordering.TheVariants.{Less, Equal, Greater}
 use Rattle.std.specs.Ordering.{nat_cmp, ordering_then, ordering_reverse, is_lt}
 use Rattle.std.specs.Cmp.Lexicographic.{slice_cmp}
 use Rattle.std.specs.Prelude.{IsSortedByKey}
 use Rattle.std.proofs.Common.{false, true≢false}
-use Rattle.std.proofs.lemmas.Cmp.{nat_list_cmp_total, then_total, on_total}
 use Rattle.std.proofs.lemmas.Map.Keys.{Less-from_sorted}
 use Rattle.std.proofs.lemmas.Map.Made.{AllPairs-from_IsDistinct, IsDistinct-from_AllPairs}
 use Rattle.std.proofs.lemmas.Map.Keys.{IsDistinct-IsPermutation}
@@ -33,6 +31,7 @@ use Rattle.form_tags.specs.contracts.delta.DeltaEq.TheImpl.Laws.{laws-law as del
 use Rattle.form_tags.specs.Analyses.{text_delta}
 use Rattle.shared_trie.proofs.RowEquality.{delta_decides, text_delta-once}
 use Rattle.shared_trie.specs.Runs.{IsDeltaAmong}
+use Rattle.lexicon_definitions.proofs.FormsWithEntry.{analyses_total}
 
 -- the deltas stand at the places of their analyses
 pub record AreDeltas (form : List ℕ) (analyses : List Analysis) (deltas : List Delta) : Type 0 where
@@ -43,11 +42,6 @@ pub record AreDeltas (form : List ℕ) (analyses : List Analysis) (deltas : List
 pub some_element : {X : Type 0} (xs : List X) (k : ℕ) → k < length xs → X
 some_element [] k l = absurd (omega (arith, l))
 some_element (x ∷ xs) k l = x
-
--- analyses are totally ordered
-compare_analyses-total : IsTotalOrder compare_analyses
-compare_analyses-total =
-    then_total (on_total (λ (a : Analysis). a.stem) nat_list_cmp_total) (on_total (λ (a : Analysis). a.tag) nat_list_cmp_total)
 
 -- what is among the deltas is the delta of one of the analyses, and back
 pub Contains-deltas : (form : List ℕ) (analyses : List Analysis) (deltas : List Delta) → AreDeltas form analyses deltas
@@ -81,7 +75,7 @@ deltas_apart form analyses deltas are rising i j d l h e =
     let second = (are.each j any d low).gives in
     let one : get_or analyses i any ≡ get_or analyses j any = sym first ∙ ap (analysis_by form) e ∙ second in
     let less = Less-from_sorted compare_analyses analyses i j any rising l low in
-    not_Less-itself compare_analyses-total (get_or analyses j any) (subst (λ (a : Analysis). compare_analyses a (get_or analyses j any) ≡ Less) one less)
+    not_Less-itself analyses_total (get_or analyses j any) (subst (λ (a : Analysis). compare_analyses a (get_or analyses j any) ≡ Less) one less)
 
 -- one more analysis, with its delta
 pub AreDeltas-push : (form : List ℕ) (analyses : List Analysis) (deltas : List Delta) (analysis : Analysis) (delta : Delta)

@@ -3,7 +3,7 @@ use Rattle.std.proofs.Common.{◌≡◌, ℕ, ◌+◌, ◌-◌, ◌*◌, ◌<◌
 use Rattle.std.proofs.lemmas.List.{take_more, length-append}
 use Rattle.std.proofs.Math.Nat.{add-mul, mul-add, mul-le-mul_right}
 use Rattle.std.proofs.lemmas.Option.{get_or_from_slice_get}
-use Rattle.std.specs.Prelude.{Result, Ok, Err, OnOk, IfOk}
+use Rattle.std.specs.Prelude.{Result, Ok, Err, OnOk}
 use Rattle.lexicon_definitions.specs.Tries.{Row}
 use Rattle.shared_trie.specs.Growth.{Grows}
 use Rattle.shared_trie.proofs.Partial.{letter_after}
@@ -75,16 +75,12 @@ one_more count width some =
     let sum = mul-add count width 1 in
     omega (arith, sum, some)
 
--- fewer words add no more
-pub fewer : (a b width : ℕ) → a ≤ b → a * width ≤ b * width
-fewer a b width small = mul-le-mul_right width small
-
 -- a child's run fits: what was added so far, and what its words may add, is no more than the whole run may add
 pub child_room : (old rows start at next stop width limit : ℕ) → old + (stop - start) * (width + 1) < limit → rows ≤ old + (at - start) * width
     → start ≤ at → at ≤ next → next ≤ stop → rows + (next - at) * width < limit
 child_room old rows start at next stop width limit room grown low high within =
     let parts = two_parts start at next width low high in
-    let most = fewer (next - start) (stop - start) width (omega (arith, within)) in
+    let most : (next - start) * width ≤ (stop - start) * width = mul-le-mul_right width (omega (arith, within)) in
     let sum = mul-add (stop - start) width 1 in
     omega (arith, room, grown, parts, most, sum)
 
@@ -121,8 +117,3 @@ Grows-node old rows new start stop depth small some first second =
 pub on_ok : {T E : Type 0} (P : Type 0) (r : Result T E) → P → OnOk r P
 on_ok P (Ok x) p = p
 on_ok P (Err e) p = tt
-
--- what follows from a fact of a success
-pub if_ok : {T E : Type 0} (P Q : T → Type 0) (r : Result T E) → IfOk r P → ((x : T) → P x → Q x) → IfOk r Q
-if_ok P Q (Ok x) p f = f x p
-if_ok P Q (Err e) p f = tt

@@ -5,13 +5,12 @@ use Rattle.std.proofs.Common.{◌≡◌, ◌≢◌, ℕ, ◌+◌, ◌<◌, ◌�
 use Rattle.std.specs.Prelude.{All, Contains}
 use Rattle.std.specs.declared.cmp.Ordering.TheVariants.{Less}
 use Rattle.std.specs.Ordering.{nat_cmp, on}
-use Rattle.std.specs.Cmp.{nat_cmp_is}
 use Rattle.std.specs.List.Sorted.{IsStrictlySortedBy}
 use Rattle.std.proofs.lemmas.Bool.{cases_lt, cases_order}
 use Rattle.std.proofs.lemmas.Cmp.{nat_cmp_total, on_total}
 use Rattle.std.proofs.lemmas.List.{get_or-append-add, length-append, length-map}
 use Rattle.std.proofs.lemmas.List.Elements.{All-nil, All-push, All-weaker, All-contains, Contains-append_left, Contains-push, Contains-get_or}
-use Rattle.std.proofs.lemmas.Option.{slice_get_read}
+use Rattle.std.proofs.lemmas.Option.{slice_get_read, same_Some}
 use Rattle.text_definitions.specs.Letters.{IsLetter}
 use Rattle.text_definitions.specs.Words.{compare_words}
 use Rattle.lexicon_definitions.specs.Deltas.{Delta, IsDelta, compare_deltas}
@@ -24,6 +23,7 @@ use Rattle.list_laws.proofs.Sorted.{Contains-cons_cases, not_Contains-nil, sorte
 use Rattle.shared_trie.proofs.DeltaLists.{some_element}
 use Rattle.shared_trie.proofs.FormFacts.{word_of_form}
 use Rattle.shared_trie.proofs.FrontOrder.{letters_rise, front_first}
+use Rattle.list_laws.proofs.Orderings.{nat_cmp-Less}
 
 -- the child stands for what follows the front and its letter, with which some form begins
 pub record IsKnownChild (rows : List Row) (forms : List Form) (front : List ℕ) (child : ℕ × ℕ) : Type 0 where
@@ -84,10 +84,6 @@ letter_after front rest word letter depth long e =
     slice_get_read word (length word) depth letter refl (omega (arith, all, same, long))
     (sym (ap (λ (w : List ℕ). get_or w depth letter) e ∙ ap (λ (n : ℕ). get_or (front ++ letter ∷ rest) n letter) (sym here) ∙ zero_more))
 
--- two letters after one front are one
-one_letter : (a b : ℕ) → Some a ≡ Some b → a ≡ b
-one_letter a b e = cc
-
 -- a form that begins with a word stands at some place
 pub place_of_form : (forms : List Form) (word : List ℕ) → BeginsForm forms word
     → (k : ℕ) × (k < length (words_of forms)) × HasFront word (word_at (words_of forms) k)
@@ -111,10 +107,6 @@ begins_form (first ∷ forms) word rest k low e =
       has_letters = sym (word_of_form all k first within) ∙ e;
     }
 
--- a smaller number is below
-below_from_less : (m n : ℕ) → m < n → nat_cmp m n ≡ Less
-below_from_less m n l = sym (nat_cmp_is m n Less l)
-
 -- children that rise, and one with a greater letter
 rising_push : (children : List (ℕ × ℕ)) (letter child : ℕ) → IsStrictlySortedBy (on (λ (c : ℕ × ℕ). c.0) nat_cmp) children
     → All (λ (c : ℕ × ℕ). c.0 < letter) children → IsStrictlySortedBy (on (λ (c : ℕ × ℕ). c.0) nat_cmp) (children ++ (letter, child) ∷ [])
@@ -122,7 +114,7 @@ unfolding IsStrictlySortedBy
 rising_push children letter child rising below =
     sorted_append (on_total (λ (c : ℕ × ℕ). c.0) nat_cmp_total) children ((letter, child) ∷ []) rising (one_rises (letter, child))
     (λ y m. elim (Contains-cons_cases (letter, child) [] y m) [
-      | inl e ↦ subst (λ (c : ℕ × ℕ). All (λ (x : ℕ × ℕ). nat_cmp x.0 c.0 ≡ Less) children) e (All-weaker (λ (c : ℕ × ℕ). c.0 < letter) (λ (x : ℕ × ℕ). nat_cmp x.0 letter ≡ Less) (λ x l. below_from_less x.0 letter l) children below)
+      | inl e ↦ subst (λ (c : ℕ × ℕ). All (λ (x : ℕ × ℕ). nat_cmp x.0 c.0 ≡ Less) children) e (All-weaker (λ (c : ℕ × ℕ). c.0 < letter) (λ (x : ℕ × ℕ). nat_cmp x.0 letter ≡ Less) (λ x l. nat_cmp-Less x.0 letter l) children below)
       | inr n ↦ absurd (not_Contains-nil y n)
     ])
   where
@@ -140,7 +132,7 @@ module _ (rows : List Row) (forms : List Form) (front : List ℕ) (start at stop
       → (rest : List ℕ) × (word_at (words_of forms) k ≡ front ++ letter ∷ rest) × All (λ (c : ℕ × ℕ). c.0 < letter) row.children
   goes_on k low high =
       let (b, rest, e, below) = is.later k low (omega (arith, high, within)) in
-      let one : b ≡ letter = one_letter b letter (sym (letter_after front rest (word_at (words_of forms) k) b depth long e) ∙ same k low high) in
+      let one : b ≡ letter = same_Some b letter (sym (letter_after front rest (word_at (words_of forms) k) b depth long e) ∙ same k low high) in
       (rest, subst (λ (n : ℕ). word_at (words_of forms) k ≡ front ++ n ∷ rest) one e, subst (λ (n : ℕ). All (λ (c : ℕ × ℕ). c.0 < n) row.children) one below)
 
   -- the words after those go on with greater letters
@@ -159,7 +151,7 @@ module _ (rows : List Row) (forms : List Form) (front : List ℕ) (start at stop
         | inr n ↦
             let here : next ≡ k = omega (arith, n, low) in
             let there : word_at (words_of forms) k ≡ front ++ c ∷ tail = sym (ap (word_at (words_of forms)) here) ∙ f in
-            let one = one_letter c b (sym (letter_after front tail (word_at (words_of forms) k) c depth long there) ∙ letter_after front rest (word_at (words_of forms) k) b depth long e) in
+            let one = same_Some c b (sym (letter_after front tail (word_at (words_of forms) k) c depth long there) ∙ letter_after front rest (word_at (words_of forms) k) b depth long e) in
             omega (arith, one)
       ] in
       let strict : letter < c =
@@ -190,7 +182,7 @@ module _ (rows : List Row) (forms : List Form) (front : List ℕ) (start at stop
               | inl l ↦ l
               | inr g ↦
                   let (b, tail, f, higher) = goes_higher k g before_stop in
-                  let one = one_letter letter b (sym (letter_after front rest (word_at (words_of forms) k) letter depth long here) ∙ letter_after front tail (word_at (words_of forms) k) b depth long f) in
+                  let one = same_Some letter b (sym (letter_after front rest (word_at (words_of forms) k) letter depth long here) ∙ letter_after front tail (word_at (words_of forms) k) b depth long f) in
                   absurd (omega (arith, higher, one))
             ] in
             (after_at, before_next);
@@ -215,7 +207,7 @@ module _ (rows : List Row) (forms : List Form) (front : List ℕ) (start at stop
                   (other_child, Contains-append_left row.children ((letter, child) ∷ []) (b, other_child) among)
               | inr g ↦
                   let (tail, h, _) = goes_on k g high in
-                  let one = one_letter letter b (sym (letter_after front tail (word_at (words_of forms) k) letter depth long h) ∙ letter_after front rest (word_at (words_of forms) k) b depth long f) in
+                  let one = same_Some letter b (sym (letter_after front tail (word_at (words_of forms) k) letter depth long h) ∙ letter_after front rest (word_at (words_of forms) k) b depth long f) in
                   (child, subst (λ (n : ℕ). Contains (row.children ++ (letter, child) ∷ []) (n, child)) one (Contains-push row.children (letter, child)))
             ];
         later = λ k low high.

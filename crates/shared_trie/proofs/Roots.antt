@@ -1,5 +1,5 @@
 -- The root of a phase: of all its forms, which begin with the empty front; or of no form, with the empty row.
-use Rattle.std.proofs.Common.{◌≡◌, ◌≢◌, ℕ, ◌<◌, ◌≤◌, List, [], ◌∷◌, ◌++◌, length, refl, sym, ap, subst, arith}
+use Rattle.std.proofs.Common.{◌≡◌, ℕ, ◌<◌, ◌≤◌, List, [], ◌∷◌, ◌++◌, length, refl, sym, ap, subst, arith}
 use Rattle.std.specs.Prelude.{All, Contains}
 use Rattle.std.specs.Ordering.{nat_cmp, on}
 use Rattle.std.specs.List.Sorted.{IsStrictlySortedBy}
@@ -17,6 +17,7 @@ use Rattle.lexicon_definitions.proofs.TrieSteps.{IsRowAfter, IsNodeAfter-row}
 use Rattle.lexicon_definitions.proofs.TrieGrowth.{IsNodeAfter-append}
 use Rattle.shared_trie.specs.Growth.{Grows}
 use Rattle.shared_trie.specs.Runs.{word_at, IsRootFor, IsRun}
+use Rattle.lexicon_definitions.proofs.FormsPlaced.{some_length}
 
 -- the empty row may stand anywhere
 pub IsRow-empty : (rows : List Row) (node : ℕ) (row : Row) → row.deltas ≡ [] → row.children ≡ [] → IsRow rows node row
@@ -46,11 +47,6 @@ IsNodeAfter-none rows forms node row none here no_deltas no_children =
     } in
     IsNodeAfter-row rows forms [] node (subst (IsRowAfter rows forms []) (sym here) after)
 
--- a list without elements
-pub none_from_length : {X : Type 0} (xs : List X) → length xs ≡ 0 → xs ≡ []
-none_from_length [] e = refl
-none_from_length (x ∷ xs) e = absurd (omega (arith, e))
-
 -- all forms of a phase are a run
 pub whole_run : (words : List (List ℕ)) (stop : ℕ) → stop ≡ length words → 0 < stop → IsRun words [] 0 stop
 whole_run words stop whole some =
@@ -60,11 +56,6 @@ whole_run words stop whole some =
       begins = λ k low high. (word_at words k, refl);
       only = λ k low has. (omega arith, omega (arith, low, whole));
     }
-
--- a list that is not empty
-some_length : {X : Type 0} (xs : List X) → xs ≢ [] → 1 ≤ length xs
-some_length [] not_empty = absurd (not_empty refl)
-some_length (x ∷ xs) not_empty = omega arith
 
 -- a phase has no more forms than lines
 forms_below_lines : (forms : List Form) → All IsFormEntry forms → length forms ≤ sum_by (λ (form : Form). length form.analyses) forms

@@ -3,7 +3,7 @@
 use Rattle.std.proofs.Common.{◌≡◌, ◌≢◌, ℕ, ◌<◌, Bool, true, false, ◌&&◌, List, [], ◌∷◌, length, map, get_or, refl, sym, ◌∙◌, ap, subst, arith, rules, nat_eq, true≢false, Decides}
 use Rattle.std.specs.Prelude.{AllPairs}
 use Rattle.std.specs.List.{IsDistinct}
-use Rattle.std.proofs.lemmas.Bool.{eqb-true}
+use Rattle.std.proofs.lemmas.Bool.{eqb-true, and_parts}
 use Rattle.std.proofs.lemmas.List.{get_or-map, length-map}
 use Rattle.std.proofs.lemmas.List.Elements.{All-from_recursion}
 use Rattle.std.proofs.lemmas.List.Kept.{AllPairs-cons}
@@ -12,29 +12,8 @@ use Rattle.std.proofs.lemmas.Slice.Eq.{slice_eq-Decides}
 use Rattle.std.proofs.lemmas.Bool.Decides.{Decides-eqb}
 use Rattle.std.specs.Cmp.Lexicographic.{pointwise}
 use Rattle.form_tags.specs.contracts.delta.DeltaEq.TheImpl.Laws.{laws-law as delta_laws}
-use denote.Enum.Bare.{same_true}
 use Rattle.lexicon_definitions.specs.Tries.{Row as TextRow}
 use Rattle.form_tags.specs.declared.delta.Delta.{Delta}
-use Rattle.form_tags.specs.declared.tag.Tag.{Tag}
-use Rattle.form_tags.specs.declared.tag.Tag.TheVariants.{Nominal, Verbal, Iic, Pv, Ind}
-use Rattle.form_tags.specs.declared.gender.Gender.{Gender}
-use Rattle.form_tags.specs.contracts.gender.Gender.{the_type as gender_type}
-use Rattle.form_tags.specs.contracts.gender.GenderPartialEq.TheImpl.{eq-value as gender_eq}
-use Rattle.form_tags.specs.declared.number.Number.{Number}
-use Rattle.form_tags.specs.contracts.number.Number.{the_type as number_type}
-use Rattle.form_tags.specs.contracts.number.NumberPartialEq.TheImpl.{eq-value as number_eq}
-use Rattle.form_tags.specs.declared.case.Case.{Case}
-use Rattle.form_tags.specs.contracts.case.Case.{the_type as case_type}
-use Rattle.form_tags.specs.contracts.case.CasePartialEq.TheImpl.{eq-value as case_eq}
-use Rattle.form_tags.specs.declared.tense.Tense.{Tense}
-use Rattle.form_tags.specs.contracts.tense.Tense.{the_type as tense_type}
-use Rattle.form_tags.specs.contracts.tense.TensePartialEq.TheImpl.{eq-value as tense_eq}
-use Rattle.form_tags.specs.declared.voice.Voice.{Voice}
-use Rattle.form_tags.specs.contracts.voice.Voice.{the_type as voice_type}
-use Rattle.form_tags.specs.contracts.voice.VoicePartialEq.TheImpl.{eq-value as voice_eq}
-use Rattle.form_tags.specs.declared.person.Person.{Person}
-use Rattle.form_tags.specs.contracts.person.Person.{the_type as person_type}
-use Rattle.form_tags.specs.contracts.person.PersonPartialEq.TheImpl.{eq-value as person_eq}
 use Rattle.form_tags.specs.contracts.tag.TagPartialEq.TheImpl.{eq-value as tag_eq}
 use Rattle.form_tags.specs.contracts.delta.DeltaPartialEq.TheImpl.{eq-value as delta_eq}
 use Rattle.form_tags.specs.Analyses.{text_delta}
@@ -43,50 +22,13 @@ use Rattle.lexicon_definitions.specs.Deltas.{Delta as TextDelta}
 use Rattle.shared_trie.specs.contracts.row.RowPartialEq.TheImpl.{eq-value as row_eq}
 use Rattle.shared_trie.specs.declared.row.Row.{Row}
 use Rattle.shared_trie.specs.Views.{text_row}
-
--- a conjunction that is true
-both : (a b : Bool) → (a && b) ≡ true → (a ≡ true) × (b ≡ true)
-both true b e = (refl, e)
-both false b e = absurd (true≢false (sym e))
-
-gender_one : (a b : Gender) → gender_eq.it a b ≡ true → a ≡ b
-gender_one a b e = same_true gender_type (search rules) a b e
-
-number_one : (a b : Number) → number_eq.it a b ≡ true → a ≡ b
-number_one a b e = same_true number_type (search rules) a b e
-
-case_one : (a b : Case) → case_eq.it a b ≡ true → a ≡ b
-case_one a b e = same_true case_type (search rules) a b e
-
-tense_one : (a b : Tense) → tense_eq.it a b ≡ true → a ≡ b
-tense_one a b e = same_true tense_type (search rules) a b e
-
-voice_one : (a b : Voice) → voice_eq.it a b ≡ true → a ≡ b
-voice_one a b e = same_true voice_type (search rules) a b e
-
-person_one : (a b : Person) → person_eq.it a b ≡ true → a ≡ b
-person_one a b e = same_true person_type (search rules) a b e
-
-tag_one : (a b : Tag) → tag_eq.it a b ≡ true → a ≡ b
-tag_one (Nominal g n c) (Nominal g' n' c') e =
-    let first = both (gender_eq.it g g') (number_eq.it n n' && case_eq.it c c') e in
-    let rest = both (number_eq.it n n') (case_eq.it c c') first.1 in
-    λ i. Nominal (gender_one g g' first.0 i) (number_one n n' rest.0 i) (case_one c c' rest.1 i)
-tag_one (Verbal t v p n) (Verbal t' v' p' n') e =
-    let first = both (tense_eq.it t t') (voice_eq.it v v' && (person_eq.it p p' && number_eq.it n n')) e in
-    let second = both (voice_eq.it v v') (person_eq.it p p' && number_eq.it n n') first.1 in
-    let rest = both (person_eq.it p p') (number_eq.it n n') second.1 in
-    λ i. Verbal (tense_one t t' first.0 i) (voice_one v v' second.0 i) (person_one p p' rest.0 i) (number_one n n' rest.1 i)
-tag_one Iic Iic e = refl
-tag_one Pv Pv e = refl
-tag_one Ind Ind e = refl
-tag_one a b e = absurd (true≢false (sym e))
+use Rattle.form_tags.proofs.TagEquality.{tag_one}
 
 -- deltas that are equal are one
 delta_one : (a b : Delta) → delta_eq.it a b ≡ true → a ≡ b
 delta_one a b e =
-    let first = both (nat_eq a.cut b.cut) (pointwise nat_eq a.append b.append && tag_eq.it a.tag b.tag) e in
-    let rest = both (pointwise nat_eq a.append b.append) (tag_eq.it a.tag b.tag) first.1 in
+    let first = and_parts (nat_eq a.cut b.cut) (pointwise nat_eq a.append b.append && tag_eq.it a.tag b.tag) e in
+    let rest = and_parts (pointwise nat_eq a.append b.append) (tag_eq.it a.tag b.tag) first.1 in
     let cut : a.cut ≡ b.cut = eqb-true a.cut b.cut first.0 in
     let append : a.append ≡ b.append = (slice_eq-Decides Decides-eqb a.append b.append (pointwise nat_eq a.append b.append) refl).0 rest.0 in
     let tag : a.tag ≡ b.tag = tag_one a.tag b.tag rest.1 in
@@ -99,7 +41,7 @@ delta_decides a b = (delta_one a b, λ e. subst (λ (d : Delta). delta_eq.it a d
 -- children are equal where they are one
 child_decides : (a b : ℕ × ℕ) → Decides (nat_eq a.0 b.0 && nat_eq a.1 b.1) (a ≡ b)
 child_decides a b = (
-  λ e. let two = both (nat_eq a.0 b.0) (nat_eq a.1 b.1) e in λ i. (eqb-true a.0 b.0 two.0 i, eqb-true a.1 b.1 two.1 i),
+  λ e. let two = and_parts (nat_eq a.0 b.0) (nat_eq a.1 b.1) e in λ i. (eqb-true a.0 b.0 two.0 i, eqb-true a.1 b.1 two.1 i),
   λ e. subst (λ (c : ℕ × ℕ). (nat_eq a.0 c.0 && nat_eq a.1 c.1) ≡ true) e (search rules),
 )
 
@@ -132,7 +74,7 @@ children_equal a b = pointwise (λ (l r : ℕ × ℕ). nat_eq l.0 r.0 && nat_eq 
 pub text_row-one : (a b : Row) → row_eq.it a b ≡ true → text_row a ≡ text_row b
 unfolding deltas_equal children_equal
 text_row-one a b e =
-    let two = both (deltas_equal a b) (children_equal a b) e in
+    let two = and_parts (deltas_equal a b) (children_equal a b) e in
     let deltas : a.deltas.items ≡ b.deltas.items = (slice_eq-Decides delta_decides a.deltas.items b.deltas.items (deltas_equal a b) refl).0 two.0 in
     let children : a.children.items ≡ b.children.items = (slice_eq-Decides child_decides a.children.items b.children.items (children_equal a b) refl).0 two.1 in
     λ i. record { deltas = map text_delta (deltas i); children = children i }

@@ -1,15 +1,15 @@
 -- The first overlaps of one property and then those of another, which come after them, are the first ones of both: where the
 -- first are as many as are wanted already, nothing more is appended.
-use Rattle.std.proofs.Common.{◌≡◌, ◌+◌, ◌⊎◌, inl, inr, List, [], ◌∷◌, ◌++◌, length, length-append, refl, sym, ap, subst, ◌∙◌, arith}
+use Rattle.std.proofs.Common.{◌≡◌, ◌+◌, ◌⊎◌, inl, inr, [], ◌∷◌, ◌++◌, length, length-append, refl, sym, ap, subst, ◌∙◌, arith}
 use Rattle.std.specs.List.{All, Contains}
 use Rattle.std.specs.List.Sorted.{IsStrictlySortedBy}
 use Rattle.std.specs.declared.cmp.Ordering.TheVariants.{Less}
 use Rattle.std.proofs.lemmas.Bool.{cases_eq}
-use Rattle.std.proofs.lemmas.List.{append-nil, append_assoc}
+use Rattle.std.proofs.lemmas.List.{append-nil, append_assoc, nil_from_length}
 use Rattle.std.proofs.lemmas.List.Elements.{All-nil, All-append, Contains-append_left, Contains-append_right, Contains-append_cases}
 use Rattle.list_laws.specs.Firsts.{ComesAfter}
-use Rattle.list_laws.proofs.FirstOnes.{All-by, sorted-append}
-use Rattle.list_laws.proofs.Sorted.{Contains-first, Contains-cons_cases, not_Contains-nil}
+use Rattle.list_laws.proofs.FirstOnes.{sorted-append}
+use Rattle.list_laws.proofs.Sorted.{Contains-first, Contains-cons_cases, not_Contains-nil, All-from_Contains}
 use Rattle.strictness.specs.Overlaps.{compare_overlaps}
 use Rattle.strictness.specs.Appending.{IsFull, Takes, AppendsFirst}
 use Rattle.strictness.specs.declared.overlap.Overlap.{Overlap}
@@ -77,10 +77,6 @@ appends_with P Q old new to from appends = record {
   first = λ x q. appends.first x (from x q);
 }
 
-no_element : (xs : List Overlap) → length xs ≡ 0 → xs ≡ []
-no_element [] e = refl
-no_element (x ∷ xs) e = absurd (omega arith)
-
 -- nothing more is appended where no more are wanted
 nothing_more : (P : Overlap → Type 0) (old new : Found) (appends : AppendsFirst P old new) → IsFull old → (appends.added ≡ []) × IsFull new
 nothing_more P old new appends full =
@@ -88,7 +84,7 @@ nothing_more P old new appends full =
     ap length appends.is ∙ length-append old.overlaps.items appends.added in
     let most : new.most ≡ old.most = appends.most in
     let below = appends.at_most (omega arith) in (
-      no_element appends.added (omega (arith, below)),
+      nil_from_length appends.added (omega (arith, below)),
       omega (arith, below),
     )
 
@@ -123,7 +119,7 @@ appends_both P Q before between after left right less =
           | inr (full, b) ↦ inr (
             full,
             All-append (λ y. compare_overlaps y x ≡ Less) left.added right.added
-                (All-by (λ y. compare_overlaps y x ≡ Less) left.added (λ y m. less y x (left.only y m) q)) b,
+                (All-from_Contains (λ y. compare_overlaps y x ≡ Less) left.added (λ y m. less y x (left.only y m) q)) b,
           )
         ]
       ];

@@ -1,8 +1,8 @@
 -- Four total orders, one after the other. So the first overlaps are told by which they are: one that a list of them has and
 -- another has not comes after the other, which is then as long.
-use Rattle.std.proofs.Common.{◌≡◌, ℕ, inl, inr, List, refl, sym, subst, arith}
+use Rattle.std.proofs.Common.{◌≡◌, ℕ, inl, inr, List, refl, subst, arith}
 use Rattle.std.specs.Ordering.{nat_cmp}
-use Rattle.std.specs.Cmp.{nat_cmp_is, IsTotalOrder}
+use Rattle.std.specs.Cmp.{IsTotalOrder}
 use Rattle.std.specs.declared.cmp.Ordering.TheVariants.{Less, Equal}
 use Rattle.std.proofs.lemmas.Cmp.{nat_cmp_total, nat_list_cmp_total, then_total, on_total, tied_itself}
 use Rattle.text_definitions.specs.Words.{compare_words}
@@ -10,6 +10,7 @@ use Rattle.lexicon_definitions.specs.Lexicons.{Lexicon}
 use Rattle.list_laws.proofs.Sorted.{same_fronts}
 use Rattle.strictness.specs.Overlaps.{compare_overlaps, AreFirstOverlaps}
 use Rattle.strictness.specs.declared.overlap.Overlap.{Overlap}
+use Rattle.list_laws.proofs.Orderings.{nat_cmp-Equal}
 
 -- the order of overlaps is total
 pub compare_overlaps_total : IsTotalOrder compare_overlaps
@@ -25,9 +26,6 @@ one_list lexicon most left right l r =
     (λ x m. elim (r.first x (l.only x m)) [ inl n ↦ inl n | inr (e, b) ↦ inr (omega (arith, l.at_most), b) ])
     (λ x m. elim (l.first x (r.only x m)) [ inl n ↦ inl n | inr (e, b) ↦ inr (omega (arith, r.at_most), b) ])
 
-equal_if : (m n : ℕ) → m ≡ n → nat_cmp m n ≡ Equal
-equal_if m n h = sym (nat_cmp_is m n Equal h)
-
 same_words : (left right : List ℕ) → left ≡ right → compare_words left right ≡ Equal
 same_words left right e = subst (λ word. compare_words left word ≡ Equal) e (tied_itself nat_list_cmp_total left)
 
@@ -35,12 +33,12 @@ pub less_by_phase : (x y : Overlap) → nat_cmp x.phase y.phase ≡ Less → com
 less_by_phase x y h = rw h refl
 
 pub less_by_form : (x y : Overlap) → x.phase ≡ y.phase → compare_words x.form y.form ≡ Less → compare_overlaps x y ≡ Less
-less_by_form x y p h = rw (equal_if x.phase y.phase p, h) refl
+less_by_form x y p h = rw (nat_cmp-Equal x.phase y.phase p, h) refl
 
 pub less_by_before : (x y : Overlap) → x.phase ≡ y.phase → x.form ≡ y.form → nat_cmp x.before y.before ≡ Less → compare_overlaps x y ≡ Less
-less_by_before x y p f h = rw (equal_if x.phase y.phase p, same_words x.form y.form f, h) refl
+less_by_before x y p f h = rw (nat_cmp-Equal x.phase y.phase p, same_words x.form y.form f, h) refl
 
 pub less_by_after : (x y : Overlap) → x.phase ≡ y.phase → x.form ≡ y.form → x.before ≡ y.before → nat_cmp x.after y.after ≡ Less
     → compare_overlaps x y ≡ Less
 less_by_after x y p f b h =
-    rw (equal_if x.phase y.phase p, same_words x.form y.form f, equal_if x.before y.before b, h) refl
+    rw (nat_cmp-Equal x.phase y.phase p, same_words x.form y.form f, nat_cmp-Equal x.before y.before b, h) refl

@@ -25,6 +25,7 @@ use Rattle.summary_chart.specs.Tables.{IsIn}
 use Rattle.summary_chart.specs.Charts.{IsReachedBefore, HasReached, IsAlive, set_count}
 use Rattle.summary_chart.proofs.ProgramPlaces.{place_of_reached}
 use Rattle.summary_chart.proofs.TableStates.{index_within}
+use Rattle.list_laws.proofs.Elements.{some_by_first}
 
 -- where a search stands after a front
 abbrev pub standing_after : SearchedLexicon → List Step → Standing
@@ -33,10 +34,6 @@ standing_after searched front = record {
   entrance = entrance_after (rules_in searched) Start front;
   state = state_after searched.machine (phases_of front);
 }
-
--- some steps are left where others stand before them
-some_more : (step : Step) (rest : List Step) → step ∷ rest ≢ []
-some_more step rest e = cc
 
 some_after : (rest more : List Step) → more ≢ [] → rest ++ more ≢ []
 some_after [] more some e = some e
@@ -91,7 +88,7 @@ module _ (searched : SearchedLexicon) (line : Line) (choices : List Choice) (tab
       let same : longer ++ (rest ++ more) ≡ front ++ (step ∷ rest ++ more) = append_assoc front (step ∷ []) (rest ++ more) in
       let answer' = subst (IsAnswer searched.lexicon line choices) (sym same) answer in
       let led : IsLedTo searched.lexicon line choices front =
-      inr (goes_on searched line choices front (step ∷ rest ++ more) is (some_more step (rest ++ more)) answer) in
+      inr (goes_on searched line choices front (step ∷ rest ++ more) is (some_by_first step (rest ++ more)) answer) in
       let goes = goes_on searched line choices longer (rest ++ more) is (some_after rest more some) answer' in
       subst HasEnd (append_assoc front (step ∷ []) rest) (along rest longer more some answer' (one_more front step led goes has))
 

@@ -11,8 +11,8 @@ use Rattle.segmentation_definitions.specs.Listings.{compare_items}
 use Rattle.segmentation_definitions.proofs.ItemOrder.{compare_items_total}
 use Rattle.list_laws.specs.RisingSets.{with_element}
 use Rattle.list_laws.proofs.RisingSetLaws.{Contains-with_element, sorted-with_element}
-use Rattle.listing_laws.proofs.Paths.{equal_then_both}
 use Rattle.summary_chart.specs.Summaries.{AddsItems}
+use Rattle.list_laws.proofs.Orderings.{equal_then_both}
 
 -- items that compare as equal are the same
 pub compare_items_exact : CmpEqualImpliesEq compare_items

@@ -4,7 +4,7 @@ use Rattle.std.specs.Str.{chars, all_scalars}
 use Rattle.std.specs.Str.Lossy.{utf8_valid_len}
 use Rattle.std.specs.List.{AllByRecursion}
 use Rattle.std.proofs.lemmas.Str.{chars-encodes, is_utf8-from_IsUtf8}
-use Rattle.std.proofs.lemmas.Bool.{eqb-true}
+use Rattle.std.proofs.lemmas.Bool.{eqb-true, and_parts}
 use Rattle.std.proofs.lemmas.Bool.Decides.{nat_tests}
 use Rattle.text_definitions.specs.Letters.{IsLetter}
 use Rattle.text_definitions.specs.Spellings.{NotUtf8, with_letter}
@@ -57,22 +57,18 @@ virama_kind : kind_of_point 0x094D ≡ Virama
 unfolding kind_of_point
 virama_kind = refl
 
-parts : (a b : Bool) → a && b ≡ true → (a ≡ true) × (b ≡ true)
-parts true b h = (refl, h)
-parts false b h = absurd (cc)
-
 -- the code point of a letter is read as this letter, and is one
 letter_point : (n : ℕ) → IsLetter n → (kind_of_point (slice_index devanagari_table (n - 1)) ≡ Letter n) × (all_scalars (slice_index devanagari_table (n - 1) ∷ []) ≡ true)
 letter_point n l =
     let at : n - 1 + 1 ≡ n = omega arith in
-    let h = parts _ _ (passes_at 50 reads_letter letters_pass (n - 1) (omega arith)) in
+    let h = and_parts _ _ (passes_at 50 reads_letter letters_pass (n - 1) (omega arith)) in
     (letter_from _ _ h.0 ∙ ap (λ m. Letter m) at, h.1)
 
 -- so is the sign of a vowel other than a
 sign_point : (n : ℕ) → 2 ≤ n → n ≤ 13 → (kind_of_point (slice_index devanagari_signs (n - 2)) ≡ Sign n) × (all_scalars (slice_index devanagari_signs (n - 2) ∷ []) ≡ true)
 sign_point n low high =
     let at : n - 2 + 2 ≡ n = omega arith in
-    let h = parts _ _ (passes_at 12 reads_sign signs_pass (n - 2) (omega arith)) in
+    let h = and_parts _ _ (passes_at 12 reads_sign signs_pass (n - 2) (omega arith)) in
     (sign_from _ _ h.0 ∙ ap (λ m. Sign m) at, h.1)
 
 -- a letter that stands after no bare consonant
@@ -131,7 +127,7 @@ reads_points (n ∷ word) ls place true = following place n word (is_vowel n) re
 -- what is printed are code points that have a UTF-8 form
 scalars_join : (xs ys : List ℕ) → all_scalars xs ≡ true → all_scalars ys ≡ true → all_scalars (xs ++ ys) ≡ true
 scalars_join [] ys h k = k
-scalars_join (x ∷ xs) ys h k = let p = parts _ _ h in ap (λ b. b && all_scalars (xs ++ ys)) p.0 ∙ scalars_join xs ys p.1 k
+scalars_join (x ∷ xs) ys h k = let p = and_parts _ _ h in ap (λ b. b && all_scalars (xs ++ ys)) p.0 ∙ scalars_join xs ys p.1 k
 
 scalars_of_sign : (n : ℕ) (a : Bool) → eqb n 1 ≡ a → IsLetter n → n ≤ 13 → all_scalars (cond a [] (slice_index devanagari_signs (n - 2) ∷ [])) ≡ true
 scalars_of_sign n true e l vowel = refl

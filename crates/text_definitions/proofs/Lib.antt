@@ -11,3 +11,4 @@ pub mod SpelledWords
 pub mod WordSearches
 pub mod SpelledLines
 pub mod FaultPlaces
+pub mod WrittenWords

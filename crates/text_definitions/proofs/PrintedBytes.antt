@@ -4,15 +4,13 @@ use Rattle.std.specs.List.{AllByRecursion}
 use Rattle.std.proofs.lemmas.Bool.Decides.{eqb_tells}
 use Rattle.text_definitions.specs.Letters.{IsLetter}
 use Rattle.text_definitions.specs.Spellings.{Reading, letter_at, entry_from, letter_of_byte, word_of_bytes, byte_of_letter}
+use Rattle.std.proofs.lemmas.Option.{same_Some}
 
 -- the place of an entry that is found, and the entry
 pub record IsEntry (code : ℕ) (table : List ℕ) (byte n : ℕ) : Type 0 where
   pub low : code ≤ n
   pub high : n < code + length table
   pub is : get_or table (n - code) 0 ≡ byte
-
-pub some_same : (m n : ℕ) → Some m ≡ Some n → m ≡ n
-some_same m n h = cc
 
 first_entry : (code entry : ℕ) (table : List ℕ) (byte n : ℕ) → code ≡ n → entry ≡ byte → IsEntry code (entry ∷ table) byte n
 first_entry code entry table byte n at same =
@@ -28,7 +26,7 @@ pub entry_found : (code : ℕ) (table : List ℕ) (byte n : ℕ) → entry_from 
 entry_found code [] byte n h = absurd (cc)
 entry_found code (entry ∷ table) byte n h =
     elim (eqb_tells entry byte) [
-      | inl same ↦ first_entry code entry table byte n (some_same code n (sym (ap (λ b. cond b (Some code) (entry_from (code + 1) table byte)) same.0) ∙ h)) same.1
+      | inl same ↦ first_entry code entry table byte n (same_Some code n (sym (ap (λ b. cond b (Some code) (entry_from (code + 1) table byte)) same.0) ∙ h)) same.1
       | inr other ↦ later_entry code entry table byte n (entry_found (code + 1) table byte n (sym (ap (λ b. cond b (Some code) (entry_from (code + 1) table byte)) other.0) ∙ h))
     ]
 

@@ -9,7 +9,8 @@ use Rattle.text_definitions.specs.Spellings.{Reading, NotUtf8, with_letter, entr
 use Rattle.text_definitions.specs.Longest.{spelling_from, or_shorter, front_letter, word_at, word_of_spellings}
 use Rattle.text_definitions.specs.Velthuis.{velthuis_table, velthuis_capital, or_else, velthuis_letter, velthuis_front, word_of_velthuis}
 use Rattle.text_definitions.specs.Devanagari.{devanagari_table, devanagari_signs, is_consonant, PointKind, Joiner, Virama, Letter, Sign, Foreign, letter_or_sign, kind_of_point, close_with_a, reading_at, word_of_points, word_of_devanagari}
-use Rattle.text_definitions.proofs.PrintedBytes.{some_same, entry_found}
+use Rattle.text_definitions.proofs.PrintedBytes.{entry_found}
+use Rattle.std.proofs.lemmas.Option.{same_Some}
 
 -- a reading that is a word has letters only
 abbrev Reads : Reading → Type 0
@@ -28,14 +29,14 @@ spelling_found code [] bytes n h = absurd (cc)
 spelling_found code (entry ∷ table) bytes n h =
     let rest = spelling_from (code + 1) table bytes in
     elim (cases_Bool (bytes_eq entry bytes)) [
-      | inl same ↦ let is : code ≡ n = some_same code n (sym (ap (λ b. cond b (Some code) rest) same) ∙ h) in (omega arith, omega arith)
+      | inl same ↦ let is : code ≡ n = same_Some code n (sym (ap (λ b. cond b (Some code) rest) same) ∙ h) in (omega arith, omega arith)
       | inr other ↦ let later = spelling_found (code + 1) table bytes n (sym (ap (λ b. cond b (Some code) rest) other) ∙ h) in (omega (arith, later), omega (arith, later))
     ]
 
 by_capital : (a i u : Bool) (n : ℕ) → cond a (Some 2) (cond i (Some 4) (cond u (Some 6) None)) ≡ Some n → IsLetter n
-by_capital true i u n h = let is = some_same 2 n h in (omega arith, omega arith)
-by_capital false true u n h = let is = some_same 4 n h in (omega arith, omega arith)
-by_capital false false true n h = let is = some_same 6 n h in (omega arith, omega arith)
+by_capital true i u n h = let is = same_Some 2 n h in (omega arith, omega arith)
+by_capital false true u n h = let is = same_Some 4 n h in (omega arith, omega arith)
+by_capital false false true n h = let is = same_Some 6 n h in (omega arith, omega arith)
 by_capital false false false n h = absurd (cc)
 
 of_either : (first second : Option ℕ) (n : ℕ) → or_else first second ≡ Some n → (first ≡ Some n → IsLetter n) → (second ≡ Some n → IsLetter n) → IsLetter n

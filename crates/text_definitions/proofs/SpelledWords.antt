@@ -2,7 +2,7 @@
 -- letter has, by a test of each letter that the prover computes.
 use Rattle.std.proofs.Common.{◌≡◌, ℕ, suc, ◌+◌, ◌-◌, ◌<◌, ◌<◌, ◌≤◌, Bool, true, false, cond, not, List, [], ◌∷◌, length, map, get_or, eqb, Option, Some, None, Ok, Err, arith, refl, sym, ◌∙◌, ap, subst}
 use Rattle.std.specs.List.{AllByRecursion}
-use Rattle.std.proofs.lemmas.Bool.{eqb-true}
+use Rattle.std.proofs.lemmas.Bool.{eqb-true, not-true}
 use Rattle.std.proofs.lemmas.List.{length-map}
 use Rattle.std.proofs.lemmas.List.Elements.{recursion_from_All, All-from_recursion}
 use Rattle.text_definitions.specs.Letters.{IsLetter}
@@ -120,17 +120,13 @@ length-spelling word = simp length-map
 abbrev pub is_no_letter : List ℕ → ℕ → Bool
 is_no_letter table mark = passes_below 50 (λ k. not (eqb (byte_of_letter table (k + 1)) mark))
 
-not_true : (b : Bool) → not b ≡ true → b ≡ false
-not_true true h = absurd (cc)
-not_true false h = refl
-
-free_word : (table : List ℕ) (mark : ℕ) → is_no_letter table mark ≡ true → (word : List ℕ) → AllByRecursion IsLetter word → is_free mark (map (byte_of_letter table) word) ≡ true
+pub free_word : (table : List ℕ) (mark : ℕ) → is_no_letter table mark ≡ true → (word : List ℕ) → AllByRecursion IsLetter word → is_free mark (map (byte_of_letter table) word) ≡ true
 free_word table mark h [] w = refl
 free_word table mark h (n ∷ word) w =
     let below : n - 1 < 50 = omega (arith, w.0.0, w.0.1) in
     let at : n - 1 + 1 ≡ n = omega (arith, w.0.0) in
     let test = passes_at 50 (λ k. not (eqb (byte_of_letter table (k + 1)) mark)) h (n - 1) below in
-    let other : eqb (byte_of_letter table n) mark ≡ false = subst (λ k. eqb (byte_of_letter table k) mark ≡ false) at (not_true _ test) in
+    let other : eqb (byte_of_letter table n) mark ≡ false = subst (λ k. eqb (byte_of_letter table k) mark ≡ false) at (not-true _ test) in
     ap (λ t. cond t false (is_free mark (map (byte_of_letter table) word))) other ∙ free_word table mark h word w.1
 
 -- the four bytes at which lines are cut stand in no spelling: LF, the blank, `|` and `>`

@@ -100,7 +100,7 @@ pub ends_with_first : (n : ℕ) (spelling : List ℕ) (byte : ℕ) (rest : List 
 ends_with_first n spelling byte rest h =
     ap (λ f. has_length f (length spelling)) (front_after n spelling byte rest h.short h.is_read) ∙ keeps_length _ n (length spelling)
 
-no_separator : (rest : List ℕ) → velthuis_front (95 ∷ rest) ≡ None
+pub no_separator : (rest : List ℕ) → velthuis_front (95 ∷ rest) ≡ None
 unfolding velthuis_table velthuis_capital velthuis_letter velthuis_front
 no_separator rest = refl
 

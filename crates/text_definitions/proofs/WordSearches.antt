@@ -1,5 +1,5 @@
 -- What a binary search for a word says of a rising list, by the laws on searches: the order of words tells all words apart.
-use Rattle.std.proofs.Common.{◌≡◌, ℕ, ◌<◌, ◌↔◌, List, length, map, get_or, Result, Contains, IsTrue, IfOk, is_ok}
+use Rattle.std.proofs.Common.{◌≡◌, ℕ, ◌↔◌, List, length, map, get_or, Result, Contains, IsTrue, IfOk, is_ok}
 use Rattle.std.specs.Ordering.{on}
 use Rattle.std.specs.List.Sorted.{IsStrictlySortedBy, IsBinarySearchResult, IsSearchInRange}
 use Rattle.std.proofs.lemmas.Cmp.{nat_list_cmp_total}

@@ -1,6 +1,6 @@
 -- What a text begins with: by a test of each third byte that the prover computes, and by the first byte elsewhere.
 use Rattle.std.proofs.Common.{◌≡◌, ℕ, ◌<◌, ◌≤◌, Bool, true, false, cond, ◌&&◌, List, [], ◌∷◌, ◌++◌, length, get_or, encode_utf8, eqb, ltb, arith, ap, ◌∙◌, sym, subst, ◌⊎◌, inl, inr, refl}
-use Rattle.std.proofs.lemmas.Bool.{eqb-true}
+use Rattle.std.proofs.lemmas.Bool.{eqb-true, and_parts}
 use Rattle.std.proofs.lemmas.Bool.Decides.{nat_tests}
 use Rattle.text_definitions.specs.Schemes.{Scheme, Slp1, Wx, Velthuis, Devanagari}
 use Rattle.text_line.specs.declared.scheme.Scheme as names
@@ -20,14 +20,10 @@ abbrev in_range : ℕ → Bool
 in_range third =
     eqb (front_length (gap_marks Devanagari) (0xE0 ∷ 0xA5 ∷ third ∷ [])) (gap_by_range third) && eqb (front_length (digits Devanagari) (0xE0 ∷ 0xA5 ∷ third ∷ [])) (digit_by_range third)
 
-both : (a b : Bool) → a && b ≡ true → (a ≡ true) × (b ≡ true)
-both true b h = (refl, h)
-both false b h = absurd (cc)
-
 block_front : (third : ℕ) (text : List ℕ) → third < 256 → front_of Devanagari (0xE0 ∷ 0xA5 ∷ third ∷ text) ≡ front_by (gap_by_range third) (digit_by_range third)
 unfolding front_of lib.Utf8.encode
 block_front third text h =
-    let same = both _ _ (passes_at 256 in_range refl third h) in
+    let same = and_parts _ _ (passes_at 256 in_range refl third h) in
     ap (λ n. front_by n (front_length (digits Devanagari) (0xE0 ∷ 0xA5 ∷ third ∷ text))) (eqb-true _ _ same.0) ∙ ap (front_by (gap_by_range third)) (eqb-true _ _ same.1)
 
 pub block_gap : (third : ℕ) (text : List ℕ) → third < 256 → 164 ≤ third → third < 166 → GapMark 2 ≡ front_of Devanagari (0xE0 ∷ 0xA5 ∷ third ∷ text)

@@ -15,6 +15,7 @@ use Rattle.segmentation_definitions.specs.Items.{Item, Choice, items_of}
 use Rattle.segmentation_definitions.specs.Answers.{IsAnswer}
 use Rattle.segmentation_definitions.specs.Listings.{compare_answers, IsListing, compare_items, IsSummary}
 use Rattle.segmentation_definitions.proofs.RisingRanks.{steps_bounded}
+use Rattle.list_laws.proofs.Elements.{all_of_map}
 
 -- what is left of the second list after the first
 abbrev pub following_front : List ℕ → List ℕ → Option (List ℕ)
@@ -70,11 +71,6 @@ at_number Q (suc n) k l h = elim (cases_eq k (suc n)) [
   | inl e ↦ subst Q (sym e) h.0
   | inr apart ↦ at_number Q n k (omega arith) h.1
 ]
-
-all_of_map : {A B : Type 0} (P : B → Type 0) (f : A → B) (xs : List A) → AllByRecursion P (map f xs)
-    → AllByRecursion (λ x. P (f x)) xs
-all_of_map P f [] h = tt
-all_of_map P f (x ∷ xs) h = (h.0, all_of_map P f xs h.1)
 
 all_of_flat_map : {A B : Type 0} (P : B → Type 0) (f : A → List B) (xs : List A) → AllByRecursion P (flat_map f xs)
     → AllByRecursion (λ x. AllByRecursion P (f x)) xs

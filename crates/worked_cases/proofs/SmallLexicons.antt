@@ -5,7 +5,9 @@ use Rattle.lexicon_definitions.specs.Tags.{IsTagText}
 use Rattle.std.specs.List.Sorted.{IsStrictlySortedBy}
 use Rattle.lexicon_definitions.specs.Lexicons.{IsLexicon}
 use Rattle.worked_cases.specs.WorkedLexicons.{ceti_lexicon, uvaaca_lexicon, preverb_lexicon, overlap_lexicon, naasti_lexicon, devadatta_lexicon, devah_lexicon, twofold_lexicon, vowel_lexicon, final_lexicon, limited_lexicon, limited_before_lexicon}
-use Rattle.worked_cases.proofs.WrittenLexicons.{first_differs, entry_is, inner_is, final_is, written_is_lexicon}
+use Rattle.worked_cases.proofs.WrittenLexicons.{entry_is, written_is_lexicon}
+use Rattle.list_laws.proofs.Elements.{first_differs}
+use Rattle.lexicon_definitions.proofs.WrittenRules.{inner_is, final_is}
 
 -- the tags of the small lexicons
 ind_is_tag : IsTagText (codes "ind")

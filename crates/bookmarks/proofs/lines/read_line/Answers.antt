@@ -6,9 +6,10 @@ use Rattle.std.proofs.lemmas.Iterator.Splits.{YieldsList-from_slice_split}
 use Rattle.text_definitions.specs.declared.limits.TheConstants.{MOST_LINE_LETTERS}
 use Rattle.bookmark_definitions.proofs.WrittenLines.{line_tells}
 use Rattle.bookmarks.proofs.HandedOn.{handed_on}
-use Rattle.bookmarks.proofs.ListsRead.{parts_in_turn, parts_at_end, passed_more}
+use Rattle.bookmarks.proofs.ListsRead.{parts_in_turn, parts_at_end}
 use Rattle.bookmarks.proofs.LinesRead.{HasWords, word_added, piece_refused, too_long, line_read}
 use Rattle.bookmarks.proofs.lines.read_line.Goals as goal
+use Rattle.std.proofs.lemmas.List.{map_push}
 
 pub returns-in_err-word : goal.returns-in_err-word
 returns-in_err-word c =
@@ -45,7 +46,7 @@ loop-piece-preserved c =
       can = search rules;
       finite = search rules;
       words = subst (λ (pieces : List (List ℕ)). HasWords pieces c.extend_from_slice.new.self c.push_blank.new.blanks.items)
-          (sym (passed_more (λ (x : Bor (List ℕ)). x.now) c.loop-piece.yielded c.in-Some.piece))
+          (sym (map_push (λ (x : Bor (List ℕ)). x.now) c.loop-piece.yielded c.in-Some.piece))
           (word_added (map (λ (x : Bor (List ℕ)). x.now) c.loop-piece.yielded) c.in-Some.piece.now c.in_ok-word.word c.loop-piece.letters c.extend_from_slice.new.self
           c.loop-piece.blanks.items c.push_blank.new.blanks.items c.loop-piece.invariant.words c.in_ok-word.ensures
           (c.in_ok-extend_from_slice.ensures.ok ∙ ap (λ (w : List ℕ). c.loop-piece.letters ++ w) c.as_slice.ensures.value) c.in_ok-push_blank.ensures.ok (omega (arith, size, test)));

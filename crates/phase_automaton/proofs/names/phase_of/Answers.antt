@@ -3,8 +3,8 @@ use Rattle.std.proofs.Common.{◌≡◌, ℕ, ◌<◌, Bool, map, get_or, [], Li
 use Rattle.std.proofs.lemmas.List.{length-map}
 use Rattle.std.specs.Str.{bytes_eq}
 use Rattle.std.specs.String.{string_bytes}
-use Rattle.phase_automaton.proofs.PhaseNumbers.{mapped_at, position_is, position_is_none}
 use Rattle.phase_automaton.proofs.names.phase_of.Goals as goal
+use Rattle.lexicon_definitions.proofs.FirstPlaces.{mapped_at, position_is, position_is_none}
 
 -- what the test says at a phase
 tested : (name known : List ℕ) (all : List (List ℕ)) (k : ℕ) (r : Bool) (bytes : List ℕ) → get_or all k [] ≡ known

@@ -2,9 +2,9 @@
 use Rattle.std.proofs.Common.{◌≡◌, ◌++◌, ◌∙◌, sym, subst}
 use Rattle.std.proofs.lemmas.List.Elements.{All-nil}
 use Rattle.reader_session.specs.Serving.{HasNoEnd}
-use Rattle.reader_session.proofs.ServedLines.{on_err}
 use Rattle.reader_session.proofs.ServedPieces.{stopped_here, stopped_at_line, over_at_line, on_after_line}
 use Rattle.reader_session.proofs.lines.serve_piece.Goals as goal
+use Rattle.list_laws.proofs.Booleans.{on_err}
 
 pub returns-in_err-extend_from_slice-clause-stopped : goal.returns-in_err-extend_from_slice-clause-stopped
 returns-in_err-extend_from_slice-clause-stopped g c =

@@ -5,8 +5,8 @@ use Rattle.std.specs.List.Sorted.{IsStrictlySortedBy}
 use Rattle.lexicon_definitions.specs.Lexicons.{compare_pairs}
 use Rattle.list_laws.specs.RisingSets.{with_element}
 use Rattle.list_laws.proofs.RisingSetLaws.{with_element_at, with_element_found}
-use Rattle.rule_file_definitions.proofs.SoundEntries.{pairs_total, pairs_exact}
 use Rattle.rule_file.proofs.plain.add_pair.Goals as goal
+use Rattle.lexicon_definitions.proofs.PlainPairs.{pairs_total, pairs_exact}
 
 pub returns-in_ok-insert : goal.returns-in_ok-insert
 returns-in_ok-insert c =

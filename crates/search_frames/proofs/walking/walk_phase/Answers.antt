@@ -17,8 +17,9 @@ use Rattle.resumption.specs.declared.frame.Frame.{Frame}
 use Rattle.resumption.specs.declared.state.Resumption.{Resumption}
 use Rattle.search_frames.specs.Frames.{step_of, frame_of, here_of}
 use Rattle.search_frames.proofs.PossibleKeys.{root_in, short_walks}
-use Rattle.search_frames.proofs.WalkFrames.{AreFronts, AreFronts-same, begun_frame, begun_phases, read_step, read_frame, written}
+use Rattle.search_frames.proofs.WalkFrames.{AreFronts, AreFronts-same, begun_frame, begun_phases, written}
 use Rattle.search_frames.proofs.walking.walk_phase.Goals as goal
+use Rattle.search_frames.proofs.StepFrames.{step_read, frame_read}
 
 pub walk_fronts-walked-requires-clause-short : goal.walk_fronts-walked-requires-clause-short
 walk_fronts-walked-requires-clause-short g c word walks =
@@ -38,8 +39,8 @@ returns g c =
     let old = c.args.stack.now in
     let level = c.args.level in
     let placed = c.requires.placed in
-    let step_is : c.index-2.result.now ≡ step_of old level = read_step old level c.index-2.result.now placed.is_stack placed.there c.index-2.ensures in
-    let frame_is : c.index.result.now ≡ frame_of old level = read_frame old level c.index.result.now placed.there c.index.ensures in
+    let step_is : c.index-2.result.now ≡ step_of old level = step_read old level c.index-2.result.now placed.is_stack placed.there c.index-2.ensures in
+    let frame_is : c.index.result.now ≡ frame_of old level = frame_read old level c.index.result.now placed.there c.index.ensures in
     let trie : c.store-store.result.now ≡ searched.tries.trie = c.store-store.ensures ∙ ap (λ (t : AnnotatedTrie). t.trie) c.tries.ensures.value in
     let root : c.root.result ≡ root_in searched c.args.phase = c.root.ensures.value ∙ ap (λ (t : Trie). get_or t.roots c.args.phase 0) trie in
     let lead : c.supplied_letters-lead.result.now ≡ supplied (here_of searched old level).entrance =

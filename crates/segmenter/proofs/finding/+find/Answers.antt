@@ -15,12 +15,12 @@ use Rattle.search_frames.specs.declared.testing.Test.TheVariants.{Refused, Ends,
 use Rattle.search_frames.specs.Tests.{IsTestOf, LeadsTo}
 use Rattle.search_frames.specs.Frames.{standing_of, here_of, place_of, step_of, key_at}
 use Rattle.search_frames.proofs.LeadingTo.{leads_from}
-use Rattle.search_frames.proofs.WalkFrames.{read_step}
 use Rattle.search_frames.specs.Reached.{rank}
 use Rattle.search_frames.specs.Costs.{steps_left, steps_of_frame}
 use Rattle.segmenter.proofs.LevelCosts.{left_kept, found_below}
 use Rattle.segmenter.specs.Chains.{HasFound, HasNone, Every}
 use Rattle.segmenter.proofs.finding.+find.Goals as goal
+use Rattle.search_frames.proofs.StepFrames.{step_read}
 
 pub find_first-live-requires : goal.find_first-live-requires
 find_first-live-requires g t c =
@@ -63,7 +63,7 @@ find_next-loop-stack-preserved-in-Refused g t c =
     let refused = under_way_refused c.args.lexicon.now c.args.line.now c.args.choices.now c.args.level c.args.stack.now c.loop-stack.stack c.go_on.new.stack
     c.loop-stack.invariant.under (c.loop-stack-test.ensures.went_on) c.go_on.ensures.changes
     (test_here c.args.lexicon.now c.args.line.now c.args.choices.now c.go_on.new.stack c.args.level c.of_frame-place.result c.index.result.now Refused
-    c.of_frame-place.ensures (read_step c.go_on.new.stack c.args.level c.index.result.now c.loop-stack-test.ensures.went_on.frame.placed.is_stack c.loop-stack-test.ensures.went_on.frame.placed.there c.index.ensures) c.in-Refused.ensures.exact) in
+    c.of_frame-place.ensures (step_read c.go_on.new.stack c.args.level c.index.result.now c.loop-stack-test.ensures.went_on.frame.placed.is_stack c.loop-stack-test.ensures.went_on.frame.placed.there c.index.ensures) c.in-Refused.ensures.exact) in
     record {
       under = under_way_skipped c.args.lexicon.now c.args.line.now c.args.choices.now c.args.level c.args.stack.now c.go_on.new.stack c.skip_unwritten.new.stack
           refused c.skip_unwritten.ensures.skipped c.skip_unwritten.ensures.changes;
@@ -83,7 +83,7 @@ find_next-returns-in-Ends-clause-found g t c =
     (other_depth c.args.lexicon.now c.args.line.now c.go_on.new.stack c.args.level (c.args.level + 1) went.frame)
     went.later refl refl refl
     (test_here c.args.lexicon.now c.args.line.now c.args.choices.now c.go_on.new.stack c.args.level c.of_frame-place.result c.index.result.now Ends
-    c.of_frame-place.ensures (read_step c.go_on.new.stack c.args.level c.index.result.now went.frame.placed.is_stack went.frame.placed.there c.index.ensures) c.in-Ends.ensures.exact)
+    c.of_frame-place.ensures (step_read c.go_on.new.stack c.args.level c.index.result.now went.frame.placed.is_stack went.frame.placed.there c.index.ensures) c.in-Ends.ensures.exact)
 
 pub find_next-find_first-requires : goal.find_next-find_first-requires
 find_next-find_first-requires g t c κs bounds =
@@ -95,7 +95,7 @@ find_next-find_first-requires g t c κs bounds =
     (key_at c.go_on.new.stack c.args.level) c.in-LeadsOn.next
     (subst (λ h. LeadsTo c.args.lexicon.now c.args.line.now c.args.choices.now h (key_at c.go_on.new.stack c.args.level) c.in-LeadsOn.next) here
     (test_here c.args.lexicon.now c.args.line.now c.args.choices.now c.go_on.new.stack c.args.level c.of_frame-place.result c.index.result.now (LeadsOn c.in-LeadsOn.next)
-    c.of_frame-place.ensures (read_step c.go_on.new.stack c.args.level c.index.result.now went.frame.placed.is_stack went.frame.placed.there c.index.ensures) c.in-LeadsOn.ensures.exact))
+    c.of_frame-place.ensures (step_read c.go_on.new.stack c.args.level c.index.result.now went.frame.placed.is_stack went.frame.placed.there c.index.ensures) c.in-LeadsOn.ensures.exact))
     c.requires.searched c.requires.reached in
     let rises = leads.rises in
     let within = leads.within in
@@ -135,7 +135,7 @@ find_next-returns-then-find_first-clause-found g t c =
     let went = c.loop-stack-test.ensures.went_on in
     let leads : LeadsTo c.args.lexicon.now c.args.line.now c.args.choices.now (here_of c.args.lexicon.now c.go_on.new.stack c.args.level) (key_at c.go_on.new.stack c.args.level) c.in-LeadsOn.next =
     test_here c.args.lexicon.now c.args.line.now c.args.choices.now c.go_on.new.stack c.args.level c.of_frame-place.result c.index.result.now (LeadsOn c.in-LeadsOn.next)
-    c.of_frame-place.ensures (read_step c.go_on.new.stack c.args.level c.index.result.now went.frame.placed.is_stack went.frame.placed.there c.index.ensures) c.in-LeadsOn.ensures.exact in
+    c.of_frame-place.ensures (step_read c.go_on.new.stack c.args.level c.index.result.now went.frame.placed.is_stack went.frame.placed.there c.index.ensures) c.in-LeadsOn.ensures.exact in
     found_deeper c.args.lexicon.now c.args.line.now c.args.choices.now c.args.level c.args.stack.now c.loop-stack.stack c.go_on.new.stack
     c.loop-stack.invariant.under went c.go_on.ensures.changes c.find_first.new.stack c.find_first.ensures.changes leads.leads_on
     (subst (HasFound c.args.lexicon.now c.args.line.now c.args.choices.now Every c.find_first.new.stack (c.args.level + 1)) leads.is c.if-find_first.ensures.found)
@@ -152,7 +152,7 @@ find_next-loop-stack-preserved g t c =
     let went = c.loop-stack-test.ensures.went_on in
     let leads : LeadsTo c.args.lexicon.now c.args.line.now c.args.choices.now (here_of c.args.lexicon.now c.go_on.new.stack c.args.level) (key_at c.go_on.new.stack c.args.level) c.in-LeadsOn.next =
     test_here c.args.lexicon.now c.args.line.now c.args.choices.now c.go_on.new.stack c.args.level c.of_frame-place.result c.index.result.now (LeadsOn c.in-LeadsOn.next)
-    c.of_frame-place.ensures (read_step c.go_on.new.stack c.args.level c.index.result.now went.frame.placed.is_stack went.frame.placed.there c.index.ensures) c.in-LeadsOn.ensures.exact in
+    c.of_frame-place.ensures (step_read c.go_on.new.stack c.args.level c.index.result.now went.frame.placed.is_stack went.frame.placed.there c.index.ensures) c.in-LeadsOn.ensures.exact in
     record {
       under = under_way_deeper c.args.lexicon.now c.args.line.now c.args.choices.now c.args.level c.args.stack.now c.loop-stack.stack c.go_on.new.stack
           c.loop-stack.invariant.under went c.go_on.ensures.changes c.find_first.new.stack c.find_first.ensures.changes leads.leads_on
@@ -198,7 +198,7 @@ find_next-returns-then-find_first-clause-steps_on g t c exact most few =
     (key_at c.go_on.new.stack c.args.level) c.in-LeadsOn.next
     (subst (λ h. LeadsTo c.args.lexicon.now c.args.line.now c.args.choices.now h (key_at c.go_on.new.stack c.args.level) c.in-LeadsOn.next) here
     (test_here c.args.lexicon.now c.args.line.now c.args.choices.now c.go_on.new.stack c.args.level c.of_frame-place.result c.index.result.now (LeadsOn c.in-LeadsOn.next)
-    c.of_frame-place.ensures (read_step c.go_on.new.stack c.args.level c.index.result.now went.frame.placed.is_stack went.frame.placed.there c.index.ensures) c.in-LeadsOn.ensures.exact))
+    c.of_frame-place.ensures (step_read c.go_on.new.stack c.args.level c.index.result.now went.frame.placed.is_stack went.frame.placed.there c.index.ensures) c.in-LeadsOn.ensures.exact))
     c.requires.searched c.requires.reached in
     found_below (steps_of_frame c.args.lexicon.now most) (2 * length c.args.line.now.letters) (rank (here_of c.args.lexicon.now c.args.stack.now c.args.level))
     (rank (standing_of c.args.lexicon.now c.in-LeadsOn.next)) c.args.steps.now c.loop-stack.steps c.go_on.new.steps c.find_first.new.steps

@@ -2,13 +2,14 @@
 use Rattle.std.proofs.Common.{◌≡◌, ◌+◌, ◌-◌, take, drop, length, ap, ◌∙◌, arith}
 use Rattle.text_definitions.specs.Slp1.{slp1_of_word}
 use Rattle.answer_printing.specs.Texts.{PrintedWith}
-use Rattle.answer_printing.proofs.TextLemmas.{spelled_part, spelled_length}
+use Rattle.answer_printing.proofs.TextLemmas.{spelled_part}
 use Rattle.answer_printing.proofs.answer_printer.AnswerPrinter.spelled_letters.Goals as goal
+use Rattle.text_definitions.proofs.SpelledWords.{length-spelling}
 
 pub slice_bounds-result-end : goal.slice_bounds-result-end
 slice_bounds-result-end c =
     let spelled = c.as_bytes.ensures.value ∙ c.self.invariant.0 ∙ ap (λ (v : PrintedWith). slp1_of_word v.letters) c.self.view_is in
-    omega (arith, c.requires, ap length spelled, spelled_length c.args.self.now.letters)
+    omega (arith, c.requires, ap length spelled, length-spelling c.args.self.now.letters)
 
 pub returns : goal.returns
 returns c =

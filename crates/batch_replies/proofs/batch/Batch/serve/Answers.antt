@@ -1,8 +1,9 @@
 -- Each block is served after those before it; where it stops, the blocks before are written, and a prefix of the next.
 use Rattle.std.proofs.Common.{ℕ, subst, arith, ◌∙◌}
 use Rattle.text_line.specs.Values.{scheme_of}
-use Rattle.batch_replies.proofs.ServedLines.{HasServedSoFar, served_more, stopped_before, stopped_within, on_err}
+use Rattle.batch_replies.proofs.ServedLines.{HasServedSoFar, served_more, stopped_before, stopped_within}
 use Rattle.batch_replies.proofs.batch.Batch.serve.Goals as goal
+use Rattle.list_laws.proofs.Booleans.{on_err}
 
 pub returns-in_err-block-clause-prefix : goal.returns-in_err-block-clause-prefix
 returns-in_err-block-clause-prefix g c =

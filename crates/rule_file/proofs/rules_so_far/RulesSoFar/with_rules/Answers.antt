@@ -9,8 +9,9 @@ use Rattle.rule_file_definitions.specs.RuleEntries.{is_twin, have_twins, add_rul
 use Rattle.rule_file.specs.declared.entry_error.EntryError.{EntryError}
 use Rattle.rule_file.specs.Faults.{IfWhy}
 use Rattle.rule_file.proofs.FaultLemmas.{with_why}
-use Rattle.rule_file.proofs.TripleLemmas.{none_to_come, twice, twins_on, over_limits, all_added}
+use Rattle.rule_file.proofs.TripleLemmas.{twice, twins_on, over_limits, all_added}
 use Rattle.rule_file.proofs.rules_so_far.RulesSoFar.with_rules.Goals as goal
+use Rattle.std.proofs.lemmas.List.{nil_from_length}
 
 pub loop-rule-preserved : goal.loop-rule-preserved
 loop-rule-preserved c =
@@ -39,7 +40,7 @@ returns-in_err-rules-clause-why c =
 pub returns-then-pass_limits-clause-why : goal.returns-then-pass_limits-clause-why
 returns-then-pass_limits-clause-why c =
     let at = c.loop-rule in
-    let none : into_iter_items at.rule-iterator ≡ [] = none_to_come (into_iter_items at.rule-iterator) (sym at.invariant.count ∙ c.in-None.ensures.steps.0) in
+    let none : into_iter_items at.rule-iterator ≡ [] = nil_from_length (into_iter_items at.rule-iterator) (sym at.invariant.count ∙ c.in-None.ensures.steps.0) in
     let twins = subst (λ (left : List Rule). have_twins at.rules left ≡ have_twins c.args.self (into_iter_items c.into_iter-rule-iterator.result)) none at.invariant.twins ∙ ap (have_twins c.args.self) c.into_iter-rule-iterator.ensures.into_iter_gives.0 in
     let all = subst (λ (left : List Rule). at.rules ++ left ≡ c.args.self ++ into_iter_items c.into_iter-rule-iterator.result) none at.invariant.all ∙ ap (λ (more : List Rule). c.args.self ++ more) c.into_iter-rule-iterator.ensures.into_iter_gives.0 in
     subst (λ (error : EntryError). IfWhy error (λ why. add_rules c.args.self c.args.more.items ≡ Err why)) (sym c.into.ensures)
@@ -48,7 +49,7 @@ returns-then-pass_limits-clause-why c =
 pub returns-clause-ok : goal.returns-clause-ok
 returns-clause-ok c =
     let at = c.loop-rule in
-    let none : into_iter_items at.rule-iterator ≡ [] = none_to_come (into_iter_items at.rule-iterator) (sym at.invariant.count ∙ c.in-None.ensures.steps.0) in
+    let none : into_iter_items at.rule-iterator ≡ [] = nil_from_length (into_iter_items at.rule-iterator) (sym at.invariant.count ∙ c.in-None.ensures.steps.0) in
     let twins = subst (λ (left : List Rule). have_twins at.rules left ≡ have_twins c.args.self (into_iter_items c.into_iter-rule-iterator.result)) none at.invariant.twins ∙ ap (have_twins c.args.self) c.into_iter-rule-iterator.ensures.into_iter_gives.0 in
     let all = subst (λ (left : List Rule). at.rules ++ left ≡ c.args.self ++ into_iter_items c.into_iter-rule-iterator.result) none at.invariant.all ∙ ap (λ (more : List Rule). c.args.self ++ more) c.into_iter-rule-iterator.ensures.into_iter_gives.0 in
     all_added c.args.self c.args.more.items at.rules twins all (sym c.pass_limits.ensures ∙ c.if-pass_limits.false)

@@ -10,12 +10,13 @@ use Rattle.shared_trie.specs.Runs.{words_of, word_at, IsNodeFor}
 use Rattle.shared_trie.specs.Views.{text_row}
 use Rattle.shared_trie.proofs.DeltaLists.{some_element}
 use Rattle.shared_trie.proofs.FormFacts.{listed_phase, short_form, words_rise, word_read, word_of_form}
-use Rattle.shared_trie.proofs.NextLetters.{longer_word, Grows-none, Grows-two, Grows-length, two_parts, room_below, room_for_node, Grows-node, on_ok, if_ok}
+use Rattle.shared_trie.proofs.NextLetters.{longer_word, Grows-none, Grows-two, Grows-length, two_parts, room_below, room_for_node, Grows-node, on_ok}
 use Rattle.shared_trie.proofs.Partial.{IsPartial, IsPartial-append, IsPartial-after_first, IsPartial-first, IsRow-partial, IsNodeFor-partial}
 use Rattle.text_definitions.specs.Letters.{IsLetter}
 use Rattle.shared_trie.proofs.RunSteps.{IsNext, next_after, next_deep, next_run, next_partial}
 use Rattle.shared_trie.proofs.store.Store.+add_node.Goals as goal
 use Rattle.shared_trie.proofs.store.Store.+add_node.Goals.{then-len-depth, else-len-depth}
+use Rattle.std.proofs.lemmas.Result.{IfOk-weaker}
 
 -- the depth is the length of the front
 front_long : (words : List (List ℕ)) (start depth : ℕ) → depth ≤ length (word_at words start) → length (take depth (word_at words start)) ≡ depth
@@ -262,5 +263,6 @@ returns-clause-ok t c =
     let later : IsPartial new forms front c.args.start c.args.end c.args.end row =
     subst (λ (rs : List TextRow). IsPartial rs forms front c.args.start c.args.end c.args.end row) (sym c.intern.ensures.grown.is)
     (IsPartial-append rows c.intern.ensures.grown.more forms front c.args.start c.args.end c.args.end row c.loop-at.invariant.trie.rows partial) in
-    if_ok (HasRow new row) (IsNodeFor new forms front) c.intern.result c.intern.ensures.ok
+    IfOk-weaker c.intern.result (HasRow new row) (IsNodeFor new forms front)
     (λ node has. IsNodeFor-partial new forms front c.args.start c.args.end node row later c.requires.run has.there has.is)
+    c.intern.ensures.ok

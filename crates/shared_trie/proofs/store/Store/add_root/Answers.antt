@@ -1,14 +1,14 @@
 -- A phase without forms has the empty row as its root; another has the node of all its forms, which begin with the empty front.
 use Rattle.std.proofs.Common.{◌≡◌, [], length, map, get_or, ap, arith}
-use Rattle.std.proofs.lemmas.List.{length-map}
+use Rattle.std.proofs.lemmas.List.{length-map, nil_from_length}
 use Rattle.lexicon_definitions.specs.Lexicons.{Form}
 use Rattle.shared_trie.specs.Growth.{HasRow}
 use Rattle.shared_trie.specs.Runs.{IsRootFor}
 use Rattle.shared_trie.specs.Views.{text_row}
 use Rattle.form_tags.specs.Analyses.{text_delta}
-use Rattle.shared_trie.proofs.NextLetters.{if_ok}
-use Rattle.shared_trie.proofs.Roots.{IsRow-empty, IsNodeAfter-none, none_from_length}
+use Rattle.shared_trie.proofs.Roots.{IsRow-empty, IsNodeAfter-none}
 use Rattle.shared_trie.proofs.store.Store.add_root.Goals as goal
+use Rattle.std.proofs.lemmas.Result.{IfOk-weaker}
 
 pub intern-requires-clause-row : goal.intern-requires-clause-row
 intern-requires-clause-row c =
@@ -21,6 +21,7 @@ returns-then-end-eq0-clause-ok c =
     let row = text_row c.new.result in
     let total = length-map forms (λ (form : Form). form.letters) in
     let same = ap length c.forms-end.ensures.value in
-    let none : forms ≡ [] = none_from_length forms (omega (arith, total, same, c.if-end-eq0.true)) in
-    if_ok (HasRow rows row) (IsRootFor rows forms) c.intern.result c.intern.ensures.ok
+    let none : forms ≡ [] = nil_from_length forms (omega (arith, total, same, c.if-end-eq0.true)) in
+    IfOk-weaker c.intern.result (HasRow rows row) (IsRootFor rows forms)
     (λ root has. record { there = has.there; after = IsNodeAfter-none rows forms root row none has.is (ap (map text_delta) c.new.ensures.deltas) c.new.ensures.children })
+    c.intern.ensures.ok
