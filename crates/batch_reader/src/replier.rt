@@ -7,7 +7,7 @@ use outside::{Gate, Steps};
 use page_printing::push_page;
 use phoneme::{Line, Memory};
 use reader_choices::Choices;
-use segmenter::{ExactGuide, Search};
+use segmenter::Search;
 use std::alloc::Global;
 use summary_chart::Chart;
 
@@ -30,8 +30,7 @@ impl<'a, G: Gate> Replier<'a, G> {
         let choices = Choices::new(alloc);
         let mut steps = Steps::<()>::new();
         let chart = Chart::build(alloc, self.lexicon, line, &choices, &mut steps)?;
-        let guide = ExactGuide { guide: &chart };
-        let mut search = Search::new(alloc, self.lexicon, line, &choices, &guide)?;
+        let mut search = Search::new(alloc, self.lexicon, line, &choices, &chart)?;
         let mut printer = AnswerPrinter::new(alloc, self.texts, line)?;
         let mut text = Vec::new(alloc);
         push_page(

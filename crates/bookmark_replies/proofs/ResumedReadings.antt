@@ -19,7 +19,8 @@ use Rattle.session_definitions.specs.Replies.{IsPositionOfKeys}
 use Rattle.search_frames.specs.Guided.{IsGuideOf, IsExactOf}
 use Rattle.segmenter.specs.GivenKeys.{keys_of_given}
 use Rattle.segmenter.specs.Searches.{SearchValue, AreNoKeys, StandsAtKeys, StandsWhere, position_of}
-use Rattle.summary_chart.specs.Charts.{IsChartTable, CoversPlace, says_of}
+use Rattle.summary_chart.specs.Charts.{CoversPlace, says_of}
+use Rattle.summary_chart.specs.PlaceWays.{IsChartOf}
 use Rattle.line_reading.specs.declared.reading.Reading.{Reading}
 use Rattle.line_reading.specs.Readings.{position_at_last, position_in}
 use Rattle.bookmark_replies.specs.Resumed.{HasPhases, IsLastOf, IsResumed, IsResumedAt}
@@ -112,9 +113,9 @@ module _ (searched : SearchedLexicon) (reading : Reading) (keys : List Key) (sum
       )
 
   resumed_at : (position : Position) → IsBookmark mark_of → HasPhases searched.lexicon reading.choices
-      → IsChartTable searched reading.line reading.choices reading.chart
-      → IsGuideOf searched reading.line reading.choices (CoversPlace reading.chart) (says_of reading.chart)
-      → IsExactOf searched reading.line reading.choices (says_of reading.chart)
+      → IsChartOf searched reading.line reading.choices reading.chart
+      → IsGuideOf searched reading.line reading.choices (CoversPlace reading.chart.table) (says_of reading.chart.table)
+      → IsExactOf searched reading.line reading.choices (says_of reading.chart.table)
       → StandsAtKeys (search_at position) keys → IsLastOf (search_at position) reading.last.items
       → StandsWhere (search_at position) reading.stand → IsResumedAt searched mark_of reading position
   resumed_at position mark phases chart guide exact at is_last stands =
@@ -147,9 +148,9 @@ module _ (searched : SearchedLexicon) (reading : Reading) (keys : List Key) (sum
 
   -- the line is read on where a search stands at the keys
   pub resumed : (search : SearchValue) → IsBookmark mark_of → HasPhases searched.lexicon reading.choices
-      → IsChartTable searched reading.line reading.choices reading.chart
-      → IsGuideOf searched reading.line reading.choices (CoversPlace reading.chart) (says_of reading.chart)
-      → IsExactOf searched reading.line reading.choices (says_of reading.chart)
+      → IsChartOf searched reading.line reading.choices reading.chart
+      → IsGuideOf searched reading.line reading.choices (CoversPlace reading.chart.table) (says_of reading.chart.table)
+      → IsExactOf searched reading.line reading.choices (says_of reading.chart.table)
       → search ≡ search_at search.position → StandsAtKeys search keys → IsLastOf search reading.last.items
       → StandsWhere search reading.stand → IsResumed searched mark_of (Some reading)
   resumed search mark phases chart guide exact over at is_last stands = (

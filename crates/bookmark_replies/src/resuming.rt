@@ -14,7 +14,8 @@ use line_reading::{Reading, add_choice, push_ok, refuse};
 use outside::Steps;
 use phoneme::{Line, Memory};
 use reader_choices::{ChoiceError, Choices};
-use segmenter::{ExactGuide, ResumeError, Search, SearchGuide};
+use search_frames::SearchGuide;
+use segmenter::{ResumeError, Search};
 use std::alloc::Global;
 use summary_chart::Chart;
 
@@ -69,8 +70,7 @@ fn resume_at(
 {
     let mut steps = Steps::<()>::new();
     let chart = Chart::build(alloc, lexicon, &line, &choices, &mut steps)?;
-    let guide = ExactGuide { guide: &chart };
-    let search = match Search::resume(alloc, lexicon, &line, &choices, &guide, keys) {
+    let search = match Search::resume(alloc, lexicon, &line, &choices, &chart, keys) {
         Ok(search) => search,
         Err(ResumeError::NotAnAnswer) => return Ok(None),
         Err(ResumeError::Memory) => return Err(Memory),

@@ -6,7 +6,8 @@ use demo_definitions::DEMO_PAGE;
 use outside::Steps;
 use phoneme::{Line, Memory};
 use reader_choices::Choices;
-use segmenter::{ExactGuide, Search, SearchGuide};
+use search_frames::SearchGuide;
+use segmenter::Search;
 use std::alloc::Global;
 use summary_chart::Chart;
 
@@ -61,7 +62,6 @@ pub(crate) fn count_answers(
     let choices = Choices::new(alloc);
     let mut steps = Steps::<()>::new();
     let chart = Chart::build(alloc, lexicon, line, &choices, &mut steps)?;
-    let guide = ExactGuide { guide: &chart };
-    let mut search = Search::new(alloc, lexicon, line, &choices, &guide)?;
+    let mut search = Search::new(alloc, lexicon, line, &choices, &chart)?;
     Ok(count_page(&mut search, DEMO_PAGE, &mut steps))
 }

@@ -16,7 +16,8 @@ use Rattle.derivation.specs.declared.step.Step.{Step as ProgramStep}
 use Rattle.annotated_trie.specs.Searched.{SearchedLexicon}
 use Rattle.search_frames.specs.Guided.{IsGuideOf, IsExactOf}
 use Rattle.segmenter.specs.Searches.{IsStackOf, position_of}
-use Rattle.summary_chart.specs.Charts.{IsChartTable, CoversPlace, says_of}
+use Rattle.summary_chart.specs.Charts.{CoversPlace, says_of}
+use Rattle.summary_chart.specs.PlaceWays.{IsChartOf}
 use Rattle.line_reading.specs.declared.reading.Reading.{Reading}
 
 -- the position of the answer with these steps, and that before the first where there are none
@@ -53,9 +54,9 @@ pub record AreAnswerSteps (searched : SearchedLexicon) (reading : Reading) : Typ
 -- printed; and what is kept is what the session may say of them
 pub record IsReading (searched : SearchedLexicon) (reading : Reading) : Type 0 where
   pub line : IsLine reading.line
-  pub chart : IsChartTable searched reading.line reading.choices reading.chart
-  pub guide : IsGuideOf searched reading.line reading.choices (CoversPlace reading.chart) (says_of reading.chart)
-  pub exact : IsExactOf searched reading.line reading.choices (says_of reading.chart)
+  pub chart : IsChartOf searched reading.line reading.choices reading.chart
+  pub guide : IsGuideOf searched reading.line reading.choices (CoversPlace reading.chart.table) (says_of reading.chart.table)
+  pub exact : IsExactOf searched reading.line reading.choices (says_of reading.chart.table)
   pub stack : IsStackOf searched reading.line reading.choices reading.stand
   pub above : (answer : List Step) → IsAnswer searched.lexicon reading.line reading.choices answer
       → IsAbove searched.lexicon.rules (position_of searched reading.line reading.stand) answer

@@ -9,7 +9,7 @@ use outside::Steps;
 use phoneme::{Line, Memory};
 use reader_choices::Choices;
 use resumption::Resumption;
-use segmenter::{ExactGuide, Search};
+use segmenter::Search;
 use std::alloc::Global;
 use summary_chart::Chart;
 
@@ -41,8 +41,7 @@ impl Reading {
     {
         let mut steps = Steps::<()>::new();
         let chart = Chart::build(alloc, lexicon, &line, &choices, &mut steps)?;
-        let guide = ExactGuide { guide: &chart };
-        let stand = Search::new(alloc, lexicon, &line, &choices, &guide)?.into_resumption();
+        let stand = Search::new(alloc, lexicon, &line, &choices, &chart)?.into_resumption();
         Ok(Reading {
             line,
             choices,

@@ -10,8 +10,9 @@ use answer_printing::AnswerPrinter;
 use derivation::Step;
 use outside::Steps;
 use phoneme::Memory;
+use search_frames::SearchGuide;
 use segmentation_definitions::LAST_ANSWER_NUMBER;
-use segmenter::{Search, SearchGuide};
+use segmenter::Search;
 use std::alloc::Global;
 
 /// Appends the line of the answer at which the search stands.

@@ -12,8 +12,9 @@ use outside::Steps;
 use page_printing::{push_answers, rest_line};
 use phoneme::Memory;
 use resumption::Resumption;
+use search_frames::SearchGuide;
 use segmentation_definitions::LAST_ANSWER_NUMBER;
-use segmenter::{ExactGuide, Search, SearchGuide};
+use segmenter::Search;
 use std::alloc::Global;
 
 /// Appends `more` where an answer is left after the one at which the search stands, else `end`; and answers where it stood.
@@ -58,9 +59,8 @@ fn push_next_page(
     let mut steps = Steps::<()>::new();
     let first = LAST_ANSWER_NUMBER.min(printed + 1);
     let (answers, stand) = {
-        let guide = ExactGuide { guide: &chart };
         let mut printer = AnswerPrinter::new(alloc, texts, &line)?;
-        let mut search = Search::go_on(lexicon, &line, &choices, &guide, stand);
+        let mut search = Search::go_on(lexicon, &line, &choices, &chart, stand);
         let answers = push_answers(
             alloc,
             output,

@@ -22,7 +22,7 @@ use page_printing::push_page;
 use phoneme::{Line, Memory};
 use reader_choices::Choices;
 use run_definitions::SEGMENT_PAGE;
-use segmenter::{ExactGuide, Search};
+use segmenter::Search;
 use std::alloc::Global;
 use summary_chart::Chart;
 use text_line::{LineError, Scheme, read_line};
@@ -106,8 +106,7 @@ fn list_answers(alloc: Global, lexicon: &Lexicon, line: &Line) -> Result<Vec<u8>
     let choices = Choices::new(alloc);
     let mut steps = Steps::<()>::new();
     let chart = Chart::build(alloc, lexicon, line, &choices, &mut steps)?;
-    let guide = ExactGuide { guide: &chart };
-    let mut search = Search::new(alloc, lexicon, line, &choices, &guide)?;
+    let mut search = Search::new(alloc, lexicon, line, &choices, &chart)?;
     let texts = RuleTexts::new(alloc, lexicon.rules())?;
     let mut printer = AnswerPrinter::new(alloc, &texts, line)?;
     let mut output = Vec::new(alloc);

@@ -19,3 +19,8 @@ pub mod ReachedStandings
 pub mod StandingPaths
 pub mod LeadingTo
 pub mod FrameCosts
+pub mod TriedKeys
+pub mod TriedWays
+pub mod PassedKeys
+pub mod ArrivedKeys
+pub mod TurnedKeys

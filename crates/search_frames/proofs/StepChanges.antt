@@ -15,7 +15,7 @@ use Rattle.lexicon_definitions.specs.Tries.{row_of}
 use Rattle.annotated_trie.specs.Choices.{AnnotatedTrie, AreChoices, choices_of}
 use Rattle.search_frames.specs.Frames.{changes_at}
 use Rattle.search_frames.specs.Changes.{MayBeMade, HasLaterFrom, IsChangeFrom, HasNoChangeFrom, IsPlaceAfter}
-use Rattle.search_frames.proofs.StepChoices.{first_from, place_below, none_from, from_earlier, place_of_element}
+use Rattle.search_frames.proofs.StepChoices.{first_from, place_below, none_from, from_earlier, place_of_element, later_there}
 
 -- rising numbers above 0 rise after it
 rising_from_none : (numbers : List ℕ) → IsStrictlySortedBy nat_cmp numbers → ((other : ℕ) → Contains numbers other → 0 < other)
@@ -44,6 +44,11 @@ module _ (rules : RuleSet) (tries : AnnotatedTrie) (node : ℕ) (are : AreChoice
   pub made_among : (other : ℕ) → MayBeMade tries node other → Contains (changes_at tries node) other
   made_among other (inl (none, ends)) = subst (Contains (changes_at tries node)) (sym none) (Contains-first 0 (choices_of tries node))
   made_among other (inr among) = Contains-later 0 (choices_of tries node) other among
+
+  -- a change that may be made stands from a place on where one before it does
+  pub made_later_there : (place low high : ℕ) → Contains (drop place (changes_at tries node)) low → MayBeMade tries node high → low < high
+      → Contains (drop place (changes_at tries node)) high
+  made_later_there place low high there made less = later_there (changes_at tries node) place low high changes_rise there (made_among high made) less
 
   -- one of the changes is none or a choice
   pub among_choices : (other : ℕ) → Contains (changes_at tries node) other → 0 < other → Contains (choices_of tries node) other

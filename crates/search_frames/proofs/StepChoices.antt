@@ -80,3 +80,13 @@ place_of_element (first ∷ later) number among = elim (Contains-cons_cases firs
   | inl e ↦ (0, omega arith, ap Some e)
   | inr m ↦ let (place, low, is) = place_of_element later number m in (suc place, omega arith, is)
 ]
+
+-- in a rising list a greater number stands from a place on where a smaller one does
+pub later_there : (numbers : List ℕ) (place low high : ℕ) → IsStrictlySortedBy nat_cmp numbers → Contains (drop place numbers) low → Contains numbers high
+    → low < high → Contains (drop place numbers) high
+later_there [] place low high rising there among less = absurd (not_Contains-nil high among)
+later_there (first ∷ later) zero low high rising there among less = among
+later_there (first ∷ later) (suc place) low high rising there among less = elim (Contains-cons_cases first later high among) [
+  | inl e ↦ let above = head_below first later low rising (Contains-from_drop place later low there) in absurd (omega (arith, e, above, less))
+  | inr m ↦ later_there later place low high (sorted_tail nat_cmp first later rising) there m less
+]

@@ -7,7 +7,6 @@ use Rattle.std.proofs.lemmas.List.{take_all}
 use Rattle.std.proofs.lemmas.Option.{same_Some}
 use Rattle.list_laws.proofs.Sorted.{Contains-cons_cases}
 use Rattle.text_definitions.specs.Lines.{Line}
-use Rattle.segmentation_definitions.specs.Listings.{Key}
 use Rattle.derivation.specs.declared.step.Step.{Step}
 use Rattle.annotated_trie.specs.Choices.{choices_of}
 use Rattle.annotated_trie.specs.Searched.{SearchedLexicon}
@@ -15,9 +14,9 @@ use Rattle.resumption.specs.declared.frame.TheConstants.{NODES_OF_FRAME}
 use Rattle.resumption.specs.declared.frame.Frame.{Frame}
 use Rattle.resumption.specs.declared.state.Resumption.{Resumption}
 use Rattle.search_frames.specs.Standings.{rules_in}
-use Rattle.search_frames.specs.Frames.{step_of, frame_of, place_of, node_of, changes_at, IsFrame, IsUntried, still_to_try}
+use Rattle.search_frames.specs.Frames.{step_of, frame_of, node_of, changes_at, IsFrame, still_to_try}
 use Rattle.search_frames.specs.Changes.{HasSet}
-use Rattle.search_frames.specs.Costs.{steps_of_node, steps_from_change, steps_of_phase, steps_left_in_phase, steps_left}
+use Rattle.search_frames.specs.Costs.{steps_from_change, steps_of_phase, steps_left_in_phase, steps_left}
 use Rattle.search_frames.specs.Skips.{IsUnwritten, HasSkipped, SkippedUnwritten}
 use Rattle.lexicon_definitions.specs.declared.limits.TheConstants.{MOST_RULES}
 use Rattle.search_frames.proofs.FrameCosts.{left_at_node}

@@ -7,3 +7,6 @@ pub mod Guided
 pub mod Costs
 pub mod LetterTests
 pub mod Skips
+pub mod Turns
+pub mod WaysFrom
+pub mod Arrivals

@@ -3,16 +3,20 @@
 //!
 //! Proved: `open_frame` makes a frame that has everything to try (`all`); `go_on` brings it to its next key, which is the first
 //! of those left, and leaves just those after it, and answers false only where none is left (`went_on`, `nothing`); `seek`
-//! brings it to a given key, or answers false where this is not possible there (`found`, `not_possible`); `skip_unwritten` leaves
-//! out only keys whose rule's `w` does not come next in the line (`skipped`); none of them changes
-//! what stands before its level (`changes`). `test_key` says whether a key leads on, and where to, or ends the line, or neither
-//! (`exact`), and `test_letters` says the same as far as the letters, the blanks and the choices tell, whatever the grammar says
-//! (`exact`). A frame takes at most `steps_of_frame` steps, one for each key that it comes to counted in (`steps` of `open_frame`,
-//! `steps_on` and `steps_end` of `go_on`, `steps` of `skip_unwritten`).
+//! brings it to a given key, or answers false where this is not possible there (`found`, `not_possible`); `go_to` brings it to a
+//! possible key that it has still to try (`at`); `skip_unwritten` leaves out only keys whose rule's `w` does not come next in the
+//! line (`skipped`); a guide's `turn` brings it to its next key that leads on or ends the line, leaves out only keys with which no
+//! path begins, and tells what the key does (`turn`); none of them changes what stands before its level (`changes`). `test_key` says
+//! whether a key leads on, and where to, or ends the line, or neither (`exact`), and `test_letters` says the same as far as the
+//! letters, the blanks and the choices tell, whatever the grammar says (`exact`). `push_ways` appends just the keys that do so at a
+//! place, in their order (`ok`). A frame takes at most `steps_of_frame` steps, one for each key that it comes to counted in (`steps`
+//! of `open_frame`, `steps_on` and `steps_end` of `go_on`, `steps` of `go_to`, `skip_unwritten`, `turn` and `push_ways`).
 #![tactic(auto)]
 
+mod arriving;
 mod entering;
 mod going_on;
+mod guiding;
 mod letter_testing;
 mod line_tests;
 mod opening;
@@ -23,8 +27,11 @@ mod skipping;
 mod stepping;
 mod testing;
 mod walking;
+mod ways;
 
+pub use arriving::go_to;
 pub use going_on::go_on;
+pub use guiding::{SearchGuide, Turn};
 pub use letter_testing::{LetterTest, test_letters};
 pub use opening::open_frame;
 pub use place::Place;
@@ -33,3 +40,4 @@ pub use seeking::seek;
 pub use skipping::skip_unwritten;
 pub use testing::{Test, test_key};
 pub use walking::supplied_letters;
+pub use ways::{Way, push_ways};

@@ -9,6 +9,15 @@ use phoneme::Memory;
 use resumption::{Frame, NODES_OF_FRAME, Resumption, Stand};
 use std::alloc::Global;
 
+/// So many copies of the value, which are written all at once.
+fn filled<T: Copy>(alloc: Global, value: T, count: usize) -> Result<Vec<T>, Memory>
+    ensures { IfOk result (λ filled. length filled.items ≡ count) }
+{
+    let mut filled = Vec::new(alloc);
+    filled.resize(count, value)?;
+    Ok(filled)
+}
+
 /// A stack with room for so many frames, of which none is in use; it stands before the first answer. Refused only for want of
 /// memory.
 pub fn new_stack(alloc: Global, lexicon: &Lexicon, room: usize) -> Result<Resumption, Memory>
@@ -33,15 +42,12 @@ pub fn new_stack(alloc: Global, lexicon: &Lexicon, room: usize) -> Result<Resump
         walked: 0,
         next: 0,
     };
+    let node = lexicon.tries().store().root(0);
     Ok(Resumption {
         stand: Stand::Before,
         depth: 0,
-        steps: Vec::from_elem(alloc, step, room)?,
-        frames: Vec::from_elem(alloc, frame, room)?,
-        nodes: Vec::from_elem(
-            alloc,
-            lexicon.tries().store().root(0),
-            room * NODES_OF_FRAME,
-        )?,
+        steps: filled(alloc, step, room)?,
+        frames: filled(alloc, frame, room)?,
+        nodes: filled(alloc, node, room * NODES_OF_FRAME)?,
     })
 }

@@ -14,14 +14,19 @@ use shared_trie::Node;
 
 /// A change that may be made at a node, and the place of the next one to try.
 #[derive(Clone, Copy)]
-struct Change {
-    rule: u32,
-    next: u32,
+pub(crate) struct Change {
+    pub(crate) rule: u32,
+    pub(crate) next: u32,
 }
 
 /// The first change from the place `next` on that may be made at the node: none, at place 0, where a form ends there, then the
 /// node's choices.
-fn change_from<L>(lexicon: &Lexicon, node: Node, next: u32, steps: &mut Steps<L>) -> Option<Change>
+pub(crate) fn change_from<L>(
+    lexicon: &Lexicon,
+    node: Node,
+    next: u32,
+    steps: &mut Steps<L>,
+) -> Option<Change>
     requires searched { IsSearchedLexicon lexicon.now }
     requires node { node < length lexicon.now.tries.trie.rows }
     ensures first { MatchOption result (HasNoChangeFrom lexicon.now.tries node next) (λ change. IsChangeFrom lexicon.now.tries node next change.rule change.next) }

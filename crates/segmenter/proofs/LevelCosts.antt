@@ -10,9 +10,11 @@ use Rattle.segmentation_definitions.specs.Listings.{Key}
 use Rattle.segmentation_definitions.specs.StepBounds.{looks_at_one, advance_bound}
 use Rattle.derivation.specs.declared.entrance.Entrance.{Entrance}
 use Rattle.annotated_trie.specs.Searched.{SearchedLexicon, IsSearchedLexicon}
+use Rattle.lexicon_definitions.specs.declared.limits.TheConstants.{MOST_RULES}
+use Rattle.resumption.specs.declared.frame.TheConstants.{NODES_OF_FRAME}
 use Rattle.resumption.specs.declared.state.Resumption.{Resumption}
 use Rattle.search_frames.specs.Standings.{Standing, after, opening, rules_in}
-use Rattle.search_frames.specs.Frames.{here_of}
+use Rattle.search_frames.specs.Frames.{here_of, still_to_try}
 use Rattle.search_frames.specs.Reached.{rank}
 use Rattle.search_frames.specs.Costs.{HasAtMostChoices, steps_of_phase, steps_left_in_phase, steps_left, steps_of_frame}
 use Rattle.search_frames.proofs.FrameCosts.{some_steps, steps_within}
@@ -67,6 +69,14 @@ left_kept searched most level old new kept =
     let step = kept.step in
     let frame = kept.frame in
     λ i. (length (rules_in searched).names - ((step i).phase + 1)) * steps_of_phase most + steps_left_in_phase most (frame i).walked (frame i).next
+
+-- a frame that is the same has as much still to try
+pub tries_kept : (searched : SearchedLexicon) (level : ℕ) (old new : Resumption) → FrameKept level old new
+    → still_to_try searched new level ≡ still_to_try searched old level
+tries_kept searched level old new kept =
+    let step = kept.step in
+    let frame = kept.frame in
+    λ i. ((length (rules_in searched).names - (step i).phase) * (NODES_OF_FRAME + 1) + (frame i).walked) * (MOST_RULES + 3) + (MOST_RULES + 2 - (frame i).next)
 
 module _ (searched : SearchedLexicon) (line : Line) (choices : List Choice) (is : IsSearchedLexicon searched) where
   -- the frame after the first stands at a higher rank

@@ -1,6 +1,6 @@
 -- What a search finds at a level, from its next key and what it found at the level after it: paths with a smaller first key come
 -- first, and those with one first key are in the order of their rests.
-use Rattle.std.proofs.Common.{◌≡◌, ◌≢◌, ℕ, ◌+◌, ◌⊎◌, inl, inr, Bool, true, false, List, [], ◌∷◌, length, take, drop, refl, sym, ap, ◌∙◌, subst}
+use Rattle.std.proofs.Common.{◌≡◌, ◌≢◌, ℕ, ◌+◌, ◌⊎◌, inl, inr, Bool, true, false, List, [], ◌∷◌, refl, sym, ap, ◌∙◌, subst}
 use Rattle.std.specs.Bool.{OnTrue, OnFalse}
 use Rattle.std.specs.declared.cmp.Ordering.{Ordering}
 use Rattle.std.specs.declared.cmp.Ordering.TheVariants.{Less, Greater}
@@ -12,17 +12,17 @@ use Rattle.segmentation_definitions.specs.Items.{Choice}
 use Rattle.segmentation_definitions.specs.Listings.{Key, compare_keys}
 use Rattle.segmentation_definitions.proofs.KeyLists.{compare_keys_total}
 use Rattle.listing_laws.specs.Ways.{IsPath}
-use Rattle.annotated_trie.specs.Searched.{SearchedLexicon}
+use Rattle.annotated_trie.specs.Searched.{SearchedLexicon, IsSearchedLexicon}
 use Rattle.resumption.specs.declared.state.Resumption.{Resumption}
-use Rattle.lexicon_definitions.specs.Lexicons.{rule_of}
-use Rattle.answer_paths.specs.Following.{MayStand}
 use Rattle.search_frames.specs.declared.place.Place.{Place}
-use Rattle.search_frames.specs.Standings.{Standing, IsPossible, LeadsOn, Ends, after, ways_in, rules_in}
-use Rattle.search_frames.specs.Skips.{IsUnwritten, SkippedUnwritten}
-use Rattle.search_frames.specs.Frames.{IsFrame, IsUntried, HasAllToTry, HasNothingToTry, HasLaterToTry, ChangesFrom, WentOn, here_of, place_of, key_at, standing_of, step_of}
-use Rattle.search_frames.specs.Tests.{IsRefused}
+use Rattle.search_frames.specs.Standings.{Standing, IsPossible, LeadsOn, Ends, after, ways_in}
+use Rattle.search_frames.specs.Frames.{IsFrame, IsUntried, HasAllToTry, HasLaterToTry, ChangesFrom, here_of, place_of, key_at, standing_of}
+use Rattle.search_frames.specs.Reached.{IsReached}
+use Rattle.search_frames.specs.Tests.{LeadsTo}
+use Rattle.search_frames.specs.Turns.{BeginsPath, HasTurned, HasNoTurn}
 use Rattle.segmenter.specs.Chains.{AreFrames, HasFound, HasNone, Every, BeginsUntried, ComesAfter, HasNoneBelow, KeepsBefore}
 use Rattle.segmenter.proofs.KeptFrames.{keeps_itself, keeps_if_changes, keeps_then, keeps_less, frame_kept, place_kept, key_kept, here_kept, FrameKept, is_frame_kept, later_kept, untried_kept, kept_back}
+use Rattle.search_frames.proofs.LeadingTo.{LedTo, leads_from}
 use Rattle.search_frames.proofs.StandingRanks.{not_both, possible_if_leads, possible_if_ends}
 
 -- ---- lists of keys by their first keys
@@ -85,22 +85,27 @@ module _ (searched : SearchedLexicon) (line : Line) (choices : List Choice) (lev
     only = λ key possible untried. untried;
   }
 
+  still_here : (stack : Resumption) → IsUnderWay searched line choices level first stack → here_of searched stack level ≡ here_of searched first level
+  still_here stack under_way = ap (standing_of searched) under_way.same_place
+
+  pub still_reached : (stack : Resumption) → IsUnderWay searched line choices level first stack → IsReached searched line choices (here_of searched first level)
+      → IsReached searched line choices (here_of searched stack level)
+  still_reached stack under_way reached = subst (IsReached searched line choices) (sym (still_here stack under_way)) reached
+
   -- the loop has come to a key of the frame
-  module _ (old mid : Resumption) (under_way : IsUnderWay searched line choices level first old) (went : WentOn searched line level old mid)
+  module _ (old mid : Resumption) (under_way : IsUnderWay searched line choices level first old) (went : HasTurned searched line choices level old mid)
       (changes : ChangesFrom level old mid) where
     here_old : here_of searched old level ≡ here_of searched first level
-    here_old = ap (standing_of searched) under_way.same_place
+    here_old = still_here old under_way
 
-    pub here_mid : here_of searched mid level ≡ here_of searched first level
+    here_mid : here_of searched mid level ≡ here_of searched first level
     here_mid = ap (standing_of searched) went.same_place ∙ here_old
 
     -- a path that is wanted begins with this key or a later one
     wanted_next : (x : Key) (xs : List Key) → IsPath (ways_in searched line choices) (here_of searched first level) (x ∷ xs)
         → IsUntried searched first level x → (key_at mid level ≡ x) ⊎ (compare_keys (key_at mid level) x ≡ Less)
     wanted_next x xs path wanted =
-        went.first x
-        (subst (λ here. IsPossible searched line here x) (sym here_old) (first_possible searched line choices (here_of searched first level) x xs path))
-        (under_way.left (x ∷ xs) path wanted)
+        went.first x (subst (λ here. BeginsPath searched line choices here x) (sym here_old) (xs, path)) (under_way.left (x ∷ xs) path wanted)
 
     key_wanted : IsUntried searched first level (key_at mid level)
     key_wanted = under_way.only (key_at mid level) (subst (λ here. IsPossible searched line here (key_at mid level)) here_old went.possible) went.untried
@@ -135,20 +140,13 @@ module _ (searched : SearchedLexicon) (line : Line) (choices : List Choice) (lev
           | inr less ↦ later_left x (first_possible searched line choices (here_of searched first level) x xs path) less
         ]
 
-    pub under_way_refused : IsRefused searched line choices (here_of searched mid level) (key_at mid level) → IsUnderWay searched line choices level first mid
-    under_way_refused refused = under_way_passed (λ keys path.
-        elim (first_of_path searched line choices (here_of searched first level) (key_at mid level) keys path) [
-          | inl ends ↦ refused.ends (subst (λ here. Ends searched line choices here (key_at mid level)) (sym here_mid) ends.0)
-          | inr goes ↦ refused.leads_on (subst (λ here. LeadsOn searched line choices here (key_at mid level)) (sym here_mid) goes.leads)
-        ])
-
     -- the key ends the line: it alone is the first path
     pub found_end : (last : Resumption) → IsFrame searched line last level → HasLaterToTry searched line last level
         → here_of searched last level ≡ here_of searched mid level → key_at last level ≡ key_at mid level → level + 1 ≡ last.depth
-        → Ends searched line choices (here_of searched mid level) (key_at mid level)
+        → Ends searched line choices (here_of searched old level) (key_at mid level)
         → HasFound searched line choices (BeginsUntried searched first level) last level (here_of searched first level)
-    found_end last frame later here_same key_same depth ends_mid =
-        let ends = subst (λ here. Ends searched line choices here (key_at mid level)) here_mid ends_mid in
+    found_end last frame later here_same key_same depth ends_old =
+        let ends = subst (λ here. Ends searched line choices here (key_at mid level)) here_old ends_old in
         record {
           keys = key_at mid level ∷ [];
           frames = (frame, here_same ∙ here_mid, later, key_same, depth);
@@ -170,16 +168,23 @@ module _ (searched : SearchedLexicon) (line : Line) (choices : List Choice) (lev
           ]
         ]
 
+    -- the key leads on to a place of higher rank
+    pub led_deeper : (next : Place) → LeadsTo searched line choices (here_of searched old level) (key_at mid level) next → IsSearchedLexicon searched
+        → IsReached searched line choices (here_of searched first level) → LedTo searched line choices (here_of searched first level) next
+    led_deeper next leads is reached =
+        leads_from searched line choices (here_of searched first level) (key_at mid level) next
+        (subst (λ here. LeadsTo searched line choices here (key_at mid level) next) here_old leads) is reached
+
     -- the key leads on, and the first path after it was found
     pub found_deeper : (deep : Resumption) → KeepsBefore (level + 1) mid deep
-        → LeadsOn searched line choices (here_of searched mid level) (key_at mid level)
-        → HasFound searched line choices Every deep (level + 1) (after searched line (here_of searched mid level) (key_at mid level))
+        → LeadsOn searched line choices (here_of searched old level) (key_at mid level)
+        → HasFound searched line choices Every deep (level + 1) (after searched line (here_of searched old level) (key_at mid level))
         → HasFound searched line choices (BeginsUntried searched first level) deep level (here_of searched first level)
-    found_deeper deep keeps leads_mid found_mid =
+    found_deeper deep keeps leads_old found_old =
         let here = here_of searched first level in
         let key = key_at mid level in
-        let leads = subst (λ here. LeadsOn searched line choices here key) here_mid leads_mid in
-        let found = subst (λ here. HasFound searched line choices Every deep (level + 1) (after searched line here key)) here_mid found_mid in
+        let leads = subst (λ here. LeadsOn searched line choices here key) here_old leads_old in
+        let found = subst (λ here. HasFound searched line choices Every deep (level + 1) (after searched line here key)) here_old found_old in
         let kept = frame_kept level mid deep keeps in
         record {
           keys = key ∷ found.keys;
@@ -216,16 +221,16 @@ module _ (searched : SearchedLexicon) (line : Line) (choices : List Choice) (lev
 
     -- the key leads on, and no path was found after it
     pub under_way_deeper : (deep : Resumption) → KeepsBefore (level + 1) mid deep
-        → LeadsOn searched line choices (here_of searched mid level) (key_at mid level)
-        → HasNone searched line choices Every (after searched line (here_of searched mid level) (key_at mid level))
+        → LeadsOn searched line choices (here_of searched old level) (key_at mid level)
+        → HasNone searched line choices Every (after searched line (here_of searched old level) (key_at mid level))
         → IsUnderWay searched line choices level first deep
     under_way_deeper deep keeps leads none =
         let passed = under_way_passed (λ keys path.
         elim (first_of_path searched line choices (here_of searched first level) (key_at mid level) keys path) [
           | inl ends ↦ not_both searched line choices (here_of searched first level) (key_at mid level) ends.0
-              (subst (λ here. LeadsOn searched line choices here (key_at mid level)) here_mid leads)
+              (subst (λ here. LeadsOn searched line choices here (key_at mid level)) here_old leads)
           | inr goes ↦ none keys
-              (subst (λ here. IsPath (ways_in searched line choices) (after searched line here (key_at mid level)) keys) (sym here_mid) goes.path) tt
+              (subst (λ here. IsPath (ways_in searched line choices) (after searched line here (key_at mid level)) keys) (sym here_old) goes.path) tt
         ]) in
         let kept = frame_kept level mid deep keeps in
         let few = (is_frame_kept searched line level mid deep keeps went.frame).few in
@@ -242,42 +247,13 @@ module _ (searched : SearchedLexicon) (line : Line) (choices : List Choice) (lev
         begins_kept deep kept [] wanted = absurd wanted
         begins_kept deep kept (x ∷ xs) wanted = untried_kept searched line level mid deep x kept went.frame.few wanted
 
-  -- the loop left out keys whose w does not come next, with which no path begins
-  pub under_way_skipped : (old new : Resumption) → IsUnderWay searched line choices level first old → SkippedUnwritten searched line level old new
-      → ChangesFrom level old new → IsUnderWay searched line choices level first new
-  under_way_skipped old new under_way skipped changes = record {
-    frame = skipped.frame;
-    same_place = skipped.same_place ∙ under_way.same_place;
-    keeps = keeps_then level first old new under_way.keeps (keeps_if_changes level old new changes);
-    left = left;
-    only = λ key possible untried. under_way.only key possible (skipped.only key untried);
-  }
-    where
-      written : (x : Key) → MayStand searched.lexicon line choices (here_of searched first level).at (here_of searched first level).entrance x
-          → IsUnwritten searched (drop ((step_of old level).at + x.taken) line.letters) x.rule → ⊥
-      written x stands unwritten =
-          unwritten (subst (λ (place : Place). take (length (rule_of (rules_in searched) x.rule).w) (drop (place.at + x.taken) line.letters) ≡ (rule_of (rules_in searched) x.rule).w)
-          (sym under_way.same_place) stands.written)
-
-      left : (keys : List Key) → IsPath (ways_in searched line choices) (here_of searched first level) keys
-          → BeginsUntried searched first level keys → BeginsUntried searched new level keys
-      left [] path wanted = absurd wanted
-      left (x ∷ xs) path wanted = elim (skipped.left x (under_way.left (x ∷ xs) path wanted)) [
-        | inl untried ↦ untried
-        | inr unwritten ↦ absurd (elim (first_of_path searched line choices (here_of searched first level) x xs path) [
-          | inl ends ↦ written x ends.0.stands unwritten
-          | inr goes ↦ written x goes.leads.stands unwritten
-        ])
-      ]
-
-  -- the frame has nothing left to try: no path is wanted
-  pub none_left : (old : Resumption) → IsUnderWay searched line choices level first old → HasNothingToTry searched line old level
+  -- no path begins with a key that the frame has still to try: no path is wanted
+  pub none_left : (old : Resumption) → IsUnderWay searched line choices level first old → HasNoTurn searched line choices level old
       → HasNone searched line choices (BeginsUntried searched first level) (here_of searched first level)
   none_left old under_way nothing [] path wanted = absurd wanted
   none_left old under_way nothing (x ∷ xs) path wanted =
       nothing x
-      (subst (λ here. IsPossible searched line here x) (sym (ap (standing_of searched) under_way.same_place))
-      (first_possible searched line choices (here_of searched first level) x xs path))
+      (subst (λ here. BeginsPath searched line choices here x) (sym (still_here old under_way)) (xs, path))
       (under_way.left (x ∷ xs) path wanted)
 
 -- ---- a frame that has everything to try

@@ -11,16 +11,15 @@ ghost use Rattle.segmenter.specs.MoveCosts.{steps_of_levels, levels_from, levels
 ghost use Rattle.segmenter.specs.Chains.{AreFrames, HasFound, HasNone, Every, BeginsUntried, ComesAfter, LeadAlong, HasNoneBelow, HasRoom, KeepsBefore};
 
 use annotated_trie::Lexicon;
-use derivation::Guide;
 use outside::Steps;
 use phoneme::Line;
 use reader_choices::Choices;
 use resumption::Resumption;
-use search_frames::{Place, Test, go_on, open_frame, skip_unwritten, test_key};
+use search_frames::{Place, SearchGuide, Turn, open_frame};
 
 /// Finds the first path from the place, with the frames from the level on. False where there is none.
 #[cycle(find)]
-pub(crate) fn find_first<D: Guide, L>(
+pub(crate) fn find_first<D: SearchGuide, L>(
     lexicon: &Lexicon,
     line: &Line,
     choices: &Choices,
@@ -33,6 +32,7 @@ pub(crate) fn find_first<D: Guide, L>(
     requires searched { IsSearchedLexicon lexicon.now }
     requires line { IsLine line.now }
     requires guide { IsGuideOf lexicon.now line.now choices.now (D.covers guide.now) (D.says guide.now) }
+    requires known { D.known guide.now lexicon.now line.now choices.now }
     requires stack { IsStack stack.old }
     requires place { IsPlaceIn lexicon.now line.now place }
     requires reached { IsReached lexicon.now line.now choices.now (standing_of lexicon.now place) }
@@ -55,7 +55,7 @@ pub(crate) fn find_first<D: Guide, L>(
 /// Finds the first path from where the frame at the level stands that begins with a key that the frame has still to try. False
 /// where there is none.
 #[cycle(find)]
-pub(crate) fn find_next<D: Guide, L>(
+pub(crate) fn find_next<D: SearchGuide, L>(
     lexicon: &Lexicon,
     line: &Line,
     choices: &Choices,
@@ -67,6 +67,7 @@ pub(crate) fn find_next<D: Guide, L>(
     requires searched { IsSearchedLexicon lexicon.now }
     requires line { IsLine line.now }
     requires guide { IsGuideOf lexicon.now line.now choices.now (D.covers guide.now) (D.says guide.now) }
+    requires known { D.known guide.now lexicon.now line.now choices.now }
     requires frame { IsFrame lexicon.now line.now stack.old level }
     requires reached { IsReached lexicon.now line.now choices.now (here_of lexicon.now stack.old level) }
     requires room { HasRoom line.now stack.old level (here_of lexicon.now stack.old level) }
@@ -78,28 +79,26 @@ pub(crate) fn find_next<D: Guide, L>(
     ensures steps_end { IsExactOf lexicon.now line.now choices.now (D.says guide.now) → (most : ℕ) → HasAtMostChoices lexicon.now.tries most
         → OnFalse result (steps.new ≤ steps.old + steps_left lexicon.now most stack.old level) }
 {
-    while go_on(lexicon, line, stack, level, steps) {
-        let place = Place::of_frame(stack, level);
-        match test_key(lexicon, line, choices, &place, &stack.steps[level]) {
-            Test::Refused => skip_unwritten(lexicon, line, stack, level, steps),
-            Test::Ends => {
+    loop {
+        match guide.turn(lexicon, line, choices, stack, level, steps) {
+            Turn::Nothing => return false,
+            Turn::Ends => {
                 stack.depth = level as u32 + 1;
                 return true;
             }
-            Test::LeadsOn(next) => {
+            Turn::LeadsOn(next) => {
                 if find_first(lexicon, line, choices, guide, stack, level + 1, next, steps) {
                     return true;
                 }
             }
         }
     }
-    false
 }
 
 /// Finds the first path that comes after the keys along which the frames from the level on stand, and does not begin with all of
 /// them. False where there is none.
 #[cycle(later)]
-pub(crate) fn find_later<D: Guide, L>(
+pub(crate) fn find_later<D: SearchGuide, L>(
     lexicon: &Lexicon,
     line: &Line,
     choices: &Choices,
@@ -111,6 +110,7 @@ pub(crate) fn find_later<D: Guide, L>(
     requires searched { IsSearchedLexicon lexicon.now }
     requires line { IsLine line.now }
     requires guide { IsGuideOf lexicon.now line.now choices.now (D.covers guide.now) (D.says guide.now) }
+    requires known { D.known guide.now lexicon.now line.now choices.now }
     requires stack { IsStack stack.old }
     requires below { level < stack.old.depth }
     requires reached { IsReached lexicon.now line.now choices.now (here_of lexicon.now stack.old level) }
@@ -136,7 +136,7 @@ pub(crate) fn find_later<D: Guide, L>(
 
 /// The same among those that share the first key with these, where there is another frame in use after this one.
 #[cycle(later)]
-fn find_deeper<D: Guide, L>(
+fn find_deeper<D: SearchGuide, L>(
     lexicon: &Lexicon,
     line: &Line,
     choices: &Choices,
@@ -148,6 +148,7 @@ fn find_deeper<D: Guide, L>(
     requires searched { IsSearchedLexicon lexicon.now }
     requires line { IsLine line.now }
     requires guide { IsGuideOf lexicon.now line.now choices.now (D.covers guide.now) (D.says guide.now) }
+    requires known { D.known guide.now lexicon.now line.now choices.now }
     requires stack { IsStack stack.old }
     requires below { level < stack.old.depth }
     requires reached { IsReached lexicon.now line.now choices.now (here_of lexicon.now stack.old level) }

@@ -7,18 +7,16 @@
 //! position (`answer`). `save` and `into_resumption` keep the position (`ok`), and `go_on` stands there again (`ok`). `resume`
 //! stands at the answer with the given keys, or before the first where there are none (`over`, `at`), and answers `NotAnAnswer`
 //! only where no answer has them (`not_an_answer`). `skip` moves to the least later answer whose first keys are others (`moved`),
-//! or past the last exactly where there is none (`ended`). Under a guide that is known to be exact
-//! (`SearchGuide`, `ExactGuide`), `advance` and `skip` take at most `advance_bound` steps (`steps`), dead ends or not: twelve times
-//! the letters of the line, times the phases, times the at most 65 nodes on the way along a form, times one more than the most
-//! choices at a node. A step is a child looked up in a trie, a choice looked at, or a question to the guide.
+//! or past the last exactly where there is none (`ended`). Under a guide that is known to be exact, as a chart is (`known` of
+//! `SearchGuide`), `advance` and `skip` take at most `advance_bound` steps (`steps`), dead ends or not: twelve times the letters of
+//! the line, times the phases, times the at most 65 nodes on the way along a form, times one more than the most choices at a node.
+//! A step is a child looked up in a trie, a choice looked at, or a question to the guide.
 #![tactic(auto)]
 
 mod finding;
-mod guiding;
 mod keyed;
 mod resuming;
 mod search;
 
-pub use guiding::{ExactGuide, SearchGuide};
 pub use resuming::ResumeError;
 pub use search::Search;

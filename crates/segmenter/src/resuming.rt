@@ -15,15 +15,15 @@ ghost use Rattle.segmenter.specs.Searches.{IsStackOf, AreNoKeys, StandsAtKeys, S
 ghost use Rattle.segmenter.specs.Skips.{HasNonePast, StandsPast, HasSkipped, HasSkippedOut, value_of};
 
 use super::finding::find_later;
-use super::guiding::SearchGuide;
 use super::keyed::find_keys;
 use super::search::{Search, empty_stack, opening};
 use annotated_trie::Lexicon;
-use derivation::{Guide, Key};
+use derivation::Key;
 use outside::Steps;
 use phoneme::{Line, Memory};
 use reader_choices::Choices;
 use resumption::{Resumption, Stand};
+use search_frames::SearchGuide;
 use std::alloc::Global;
 use thiserror::Error;
 
@@ -119,7 +119,7 @@ fn go_to_keys(
 }
 
 /// Finds the least answer past the first keys of the one at which the stack stands. False where there is none.
-fn find_past<D: Guide, L>(
+fn find_past<D: SearchGuide, L>(
     lexicon: &Lexicon,
     line: &Line,
     choices: &Choices,
@@ -130,6 +130,7 @@ fn find_past<D: Guide, L>(
 ) -> bool
     requires searched { IsSearchedLexicon lexicon.now }
     requires guide { IsGuideOf lexicon.now line.now choices.now (D.covers guide.now) (D.says guide.now) }
+    requires known { D.known guide.now lexicon.now line.now choices.now }
     requires stack { IsStackOf lexicon.now line.now choices.now stack.old }
     requires at { stack.old.stand ≡ stand.At }
     requires depth { 1 ≤ depth }
@@ -144,7 +145,7 @@ fn find_past<D: Guide, L>(
 
 /// Moves the stack to the least answer past the first keys of the one at which it stands. False where there is none; then it
 /// stands past the last.
-fn skip_on<D: Guide, L>(
+fn skip_on<D: SearchGuide, L>(
     lexicon: &Lexicon,
     line: &Line,
     choices: &Choices,
@@ -155,6 +156,7 @@ fn skip_on<D: Guide, L>(
 ) -> bool
     requires searched { IsSearchedLexicon lexicon.now }
     requires guide { IsGuideOf lexicon.now line.now choices.now (D.covers guide.now) (D.says guide.now) }
+    requires known { D.known guide.now lexicon.now line.now choices.now }
     requires stack { IsStackOf lexicon.now line.now choices.now stack.old }
     requires at { stack.old.stand ≡ stand.At }
     requires depth { 1 ≤ depth }

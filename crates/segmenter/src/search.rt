@@ -16,14 +16,13 @@ ghost use Rattle.segmenter.specs.Moves.{StandsAtNext, HasNoNext, HasMoved, HasRu
 ghost use Rattle.segmenter.specs.Searches.{IsStackOf, position_of, MovedOn, HasEnded, IsCurrent, StandsWhere};
 
 use super::finding::{find_first, find_later};
-use super::guiding::SearchGuide;
 use annotated_trie::Lexicon;
-use derivation::{Entrance, Guide, Step};
+use derivation::{Entrance, Step};
 use outside::Steps;
 use phoneme::{Line, Memory};
 use reader_choices::Choices;
 use resumption::{Resumption, Stand};
-use search_frames::{Place, new_stack};
+use search_frames::{Place, SearchGuide, new_stack};
 use std::alloc::Global;
 use std::marker::Model;
 
@@ -138,7 +137,7 @@ impl<'a, D: SearchGuide> Search<'a, D> {
 }
 
 /// Finds the next answer after where the stack stands, and brings its frames there. False where none is left.
-fn find_next_answer<D: Guide, L>(
+fn find_next_answer<D: SearchGuide, L>(
     lexicon: &Lexicon,
     line: &Line,
     choices: &Choices,
@@ -148,6 +147,7 @@ fn find_next_answer<D: Guide, L>(
 ) -> bool
     requires searched { IsSearchedLexicon lexicon.now }
     requires guide { IsGuideOf lexicon.now line.now choices.now (D.covers guide.now) (D.says guide.now) }
+    requires known { D.known guide.now lexicon.now line.now choices.now }
     requires stack { IsStackOf lexicon.now line.now choices.now stack.old }
     ensures found { OnTrue result (StandsAtNext lexicon.now line.now choices.now stack.old stack.new) }
     ensures none { OnFalse result (HasNoNext lexicon.now line.now choices.now stack.old) }
@@ -171,7 +171,7 @@ fn find_next_answer<D: Guide, L>(
 }
 
 /// Moves the stack to the next answer. False where none is left; then it stands past the last.
-fn move_on<D: Guide, L>(
+fn move_on<D: SearchGuide, L>(
     lexicon: &Lexicon,
     line: &Line,
     choices: &Choices,
@@ -181,6 +181,7 @@ fn move_on<D: Guide, L>(
 ) -> bool
     requires searched { IsSearchedLexicon lexicon.now }
     requires guide { IsGuideOf lexicon.now line.now choices.now (D.covers guide.now) (D.says guide.now) }
+    requires known { D.known guide.now lexicon.now line.now choices.now }
     requires stack { IsStackOf lexicon.now line.now choices.now stack.old }
     ensures stack { IsStackOf lexicon.now line.now choices.now stack.new }
     ensures moved { OnTrue result (HasMoved lexicon.now line.now choices.now stack.old stack.new) }

@@ -24,7 +24,8 @@ use Rattle.search_frames.specs.Reached.{IsReached}
 use Rattle.search_frames.proofs.StandingPaths.{path_above_is_path}
 use Rattle.summary_chart.specs.declared.table.Table.{Table}
 use Rattle.summary_chart.specs.Spreading.{leads_in}
-use Rattle.summary_chart.specs.Charts.{IsAlive, IsChartTable, IsStateNumber, CoversPlace, says_of}
+use Rattle.summary_chart.specs.Charts.{IsAlive, IsChartTable, CoversPlace, says_of}
+use Rattle.summary_chart.specs.Tables.{IsStateNumber}
 use Rattle.summary_chart.proofs.ChartAnswers.{says_if_in, in_if_says}
 use Rattle.summary_chart.proofs.LivingReached.{goes_on}
 use Rattle.summary_chart.proofs.TablePlaces.{has_set}

@@ -1,17 +1,16 @@
--- After each key of a frame the items of its step are in the list, and no key before it is left; at the end no key is left.
-use Rattle.std.proofs.Common.{◌≡◌, ℕ, ◌⊎◌, inl, inr, List, length, Contains, sym, ap, subst, ◌∙◌, refl}
-use Rattle.std.specs.declared.cmp.Ordering.TheVariants.{Less}
+-- One way adds its item where some state goes further by it; so after each way the items of the ways so far are in the list, and at
+-- the end those of all.
+use Rattle.std.proofs.Common.{◌≡◌, ℕ, ◌+◌, ◌≤◌, inl, inr, List, length, sym, subst, ◌∙◌, refl}
 use Rattle.std.specs.List.Sorted.{IsStrictlySortedBy}
 use Rattle.text_definitions.specs.Lines.{Line}
 use Rattle.segmentation_definitions.specs.Items.{Item, Choice}
 use Rattle.segmentation_definitions.specs.Listings.{Key, compare_items}
 use Rattle.derivation.specs.declared.entrance.Entrance.{Entrance}
 use Rattle.annotated_trie.specs.Searched.{SearchedLexicon}
-use Rattle.resumption.specs.declared.state.Resumption.{Resumption}
 use Rattle.search_frames.specs.declared.place.Place.{Place}
-use Rattle.search_frames.specs.Standings.{Standing, IsPossible}
-use Rattle.search_frames.specs.Frames.{IsFrame, IsUntried, HasAllToTry, HasNothingToTry, WentOn, place_of, key_at, here_of, standing_of}
-use Rattle.search_frames.proofs.StandingRanks.{possible_if_leads, possible_if_ends}
+use Rattle.search_frames.specs.declared.ways.Way.{Way}
+use Rattle.search_frames.specs.Frames.{standing_of}
+use Rattle.search_frames.specs.WaysFrom.{AreWaysFrom, key_of_way}
 use Rattle.summary_chart.specs.declared.state_set.StateSet.{StateSet}
 use Rattle.summary_chart.specs.declared.table.Table.{Table}
 use Rattle.summary_chart.specs.StateSets.{HasState}
@@ -19,6 +18,7 @@ use Rattle.summary_chart.specs.Spreading.{AreGoingFurther, GoesFurtherBy, OnlyKe
 use Rattle.summary_chart.specs.Summaries.{IsItemBy, IsItemFrom, AddsItems, item_with}
 use Rattle.list_laws.specs.RisingSets.{with_element}
 use Rattle.summary_chart.proofs.RisingItems.{adds_one, adds_none}
+use Rattle.summary_chart.proofs.WayKeys.{IsAmongFirst, IsWayAt, none_at_first, one_more, and_more, among_if_further}
 
 -- ---- one step
 
@@ -51,84 +51,52 @@ module _ (searched : SearchedLexicon) (line : Line) (choices : List Choice) (tab
       adds_one (IsItemBy searched line choices table at entrance set key) items new item rising put (item_of_state number has item is)
       (λ other by. is ∙ sym by.is)
 
--- ---- one key after another
+-- ---- one way after another
 
--- the list has what it had and the items of the keys that are no longer to try, and no others of keys
-pub record HasTriedKeys (searched : SearchedLexicon) (line : Line) (choices : List Choice) (table : Table) (place : Place) (set : StateSet)
-    (old : List Item) (stack : Resumption) (items : List Item) : Type 0 where
-  pub frame : IsFrame searched line stack 0
-  pub same_place : place_of stack 0 ≡ place
-  pub rising : IsStrictlySortedBy compare_items items
-  pub keeps : (item : Item) → Contains old item → Contains items item
-  pub only : (item : Item) → Contains items item → Contains old item ⊎ IsItemFrom searched line choices table place.at place.entrance set item
-  pub tried : (key : Key) → IsPossible searched line (standing_of searched place) key → IsUntried searched stack 0 key
-      ⊎ ((item : Item) → IsItemBy searched line choices table place.at place.entrance set key item → Contains items item)
+-- the item of one of the first so many ways by which some state goes further
+abbrev pub IsItemAmongFirst : SearchedLexicon → Line → List Choice → Table → Place → StateSet → List Way → ℕ → Item → Type 0
+IsItemAmongFirst searched line choices table place set ways count item =
+    (key : Key) × IsAmongFirst count ways key × IsItemBy searched line choices table place.at place.entrance set key item
 
--- a key that goes further from some state is possible
-possible_if_further : (searched : SearchedLexicon) (line : Line) (choices : List Choice) (table : Table) (place : Place) (number : ℕ) (key : Key)
-    → GoesFurtherBy searched line choices table (standing_with searched place.at place.entrance number) key
-    → IsPossible searched line (standing_of searched place) key
-possible_if_further searched line choices table place number key (inl ends) =
-    record { number = ends.stands.number; within = ends.stands.within; form = ends.stands.form }
-possible_if_further searched line choices table place number key (inr (next, leads, inside)) =
-    record { number = leads.leads_on.stands.number; within = leads.leads_on.stands.within; form = leads.leads_on.stands.form }
+module _ (searched : SearchedLexicon) (line : Line) (choices : List Choice) (table : Table) (place : Place) (set : StateSet) (ways : List Way) where
+  -- at first there is none
+  pub items_at_first : (items : List Item) → IsStrictlySortedBy compare_items items
+      → AddsItems (IsItemAmongFirst searched line choices table place set ways 0) items items
+  items_at_first items rising = adds_none (IsItemAmongFirst searched line choices table place set ways 0) items rising
+      (λ item (key, among, by). none_at_first ways key among)
 
-module _ (searched : SearchedLexicon) (line : Line) (choices : List Choice) (table : Table) (place : Place) (set : StateSet) (old : List Item) where
-  -- at first every key is to try
-  pub nothing_tried : (stack : Resumption) → IsFrame searched line stack 0 → place_of stack 0 ≡ place → HasAllToTry searched line stack 0
-      → IsStrictlySortedBy compare_items old → HasTriedKeys searched line choices table place set old stack old
-  nothing_tried stack frame same all rising = record {
-    frame = frame;
-    same_place = same;
-    rising = rising;
-    keeps = λ item there. there;
-    only = λ item there. inl there;
-    tried = λ key possible. inl (all key (subst (λ (p : Place). IsPossible searched line (standing_of searched p) key) (sym same) possible));
+  -- one way more
+  pub items_more : (count : ℕ) (way : Way) → IsWayAt ways count way → (old items new : List Item)
+      → AddsItems (IsItemAmongFirst searched line choices table place set ways count) old items
+      → AddsItems (IsItemBy searched line choices table place.at place.entrance set (key_of_way way)) items new
+      → AddsItems (IsItemAmongFirst searched line choices table place set ways (count + 1)) old new
+  items_more count way way_at old items new so_far one = record {
+    rising = one.rising;
+    keeps = λ item there. one.keeps item (so_far.keeps item there);
+    adds = λ item (key, among, by). elim (one_more ways count way way_at key among) [
+      | inl before ↦ one.keeps item (so_far.adds item (key, before, by))
+      | inr same ↦ one.adds item (subst (λ (k : Key). IsItemBy searched line choices table place.at place.entrance set k item) same by)
+    ];
+    only = λ item there. elim (one.only item there) [
+      | inl before ↦ elim (so_far.only item before) [
+        | inl was ↦ inl was
+        | inr (key, among, by) ↦ inr (key, and_more ways count way way_at key (inl among), by)
+      ]
+      | inr by ↦ inr (key_of_way way, and_more ways count way way_at (key_of_way way) (inr refl), by)
+    ];
   }
 
-  module _ (stack : Resumption) (items : List Item) (so_far : HasTriedKeys searched line choices table place set old stack items) where
-    -- what is possible at the place is so where the frame stands
-    possible_there : (key : Key) → IsPossible searched line (standing_of searched place) key → IsPossible searched line (here_of searched stack 0) key
-    possible_there key possible = subst (λ (p : Place). IsPossible searched line (standing_of searched p) key) (sym so_far.same_place) possible
-
-    -- one key more
-    pub one_key_tried : (next : Resumption) (more : List Item) → WentOn searched line 0 stack next
-        → AddsItems (IsItemBy searched line choices table place.at place.entrance set (key_at next 0)) items more
-        → HasTriedKeys searched line choices table place set old next more
-    one_key_tried next more went added = record {
-      frame = went.frame;
-      same_place = went.same_place ∙ so_far.same_place;
-      rising = added.rising;
-      keeps = λ item there. added.keeps item (so_far.keeps item there);
-      only = λ item there. elim (added.only item there) [
-        | inl before ↦ so_far.only item before
-        | inr by ↦ inr (key_at next 0, by)
-      ];
-      tried = λ key possible. elim (so_far.tried key possible) [
-        | inl untried ↦ elim (went.first key (possible_there key possible) untried) [
-          | inl same ↦ inr (λ item by. added.adds item
-              (subst (λ (k : Key). IsItemBy searched line choices table place.at place.entrance set k item) (sym same) by))
-          | inr less ↦ inl ((went.later key (possible_next key possible)).1 less)
-        ]
-        | inr done ↦ inr (λ item by. added.keeps item (done item by))
-      ];
-    }
-      where
-        possible_next : (key : Key) → IsPossible searched line (standing_of searched place) key → IsPossible searched line (here_of searched next 0) key
-        possible_next key possible =
-            subst (λ (p : Place). IsPossible searched line (standing_of searched p) key) (sym (went.same_place ∙ so_far.same_place)) possible
-
-    -- where none is left, every item is there
-    pub all_tried : HasNothingToTry searched line stack 0
-        → AddsItems (IsItemFrom searched line choices table place.at place.entrance set) old items
-    all_tried nothing = record {
-      rising = so_far.rising;
-      keeps = so_far.keeps;
-      adds = λ item (key, by).
-          let possible = possible_if_further searched line choices table place by.number key by.further in
-          elim (so_far.tried key possible) [
-            | inl untried ↦ absurd (nothing key (possible_there key possible) untried)
-            | inr done ↦ done item by
-          ];
-      only = so_far.only;
-    }
+  -- at the end every item is there
+  pub items_at_last : (count : ℕ) → length ways ≤ count → AreWaysFrom searched line choices (standing_of searched place) ways → (old items : List Item)
+      → AddsItems (IsItemAmongFirst searched line choices table place set ways count) old items
+      → AddsItems (IsItemFrom searched line choices table place.at place.entrance set) old items
+  items_at_last count enough are old items so_far = record {
+    rising = so_far.rising;
+    keeps = so_far.keeps;
+    adds = λ item (key, by).
+        so_far.adds item (key, among_if_further searched line choices place set ways count enough are table key by.number by.further, by);
+    only = λ item there. elim (so_far.only item there) [
+      | inl was ↦ inl was
+      | inr (key, among, by) ↦ inr (key, by)
+    ];
+  }

@@ -16,7 +16,7 @@ use Rattle.search_frames.specs.LetterTests.{MayLeadOn, MayEndLine, MayNeither, M
 use Rattle.search_frames.proofs.StandingRanks.{possible_if_leads, possible_if_ends, may_if_leads, may_if_ends, not_both_ways}
 use Rattle.summary_chart.specs.declared.state_set.StateSet.{StateSet}
 use Rattle.summary_chart.specs.declared.table.Table.{Table}
-use Rattle.summary_chart.specs.StateSets.{HasState, IsStateOf, IsAcceptedBy, LeadsInto}
+use Rattle.summary_chart.specs.StateSets.{HasState, IsStateOf, LeadsInto}
 use Rattle.summary_chart.specs.Tables.{IsEntrance, set_at}
 use Rattle.summary_chart.specs.Spreading.{AreGoingFurther, GoesFurtherBy, OnlyKey, standing_with}
 use Rattle.summary_chart.proofs.TableStates.{numbered_in}
@@ -85,6 +85,13 @@ module _ (searched : SearchedLexicon) (line : Line) (choices : List Choice) (tab
       let may = may_if_ends searched line choices (standing_with searched place.at place.entrance number) key ends in
       record { stands = may.stands; final_rule = may.final_rule; all = may.all; blanks_before = may.blanks_before }
 
+  -- so a key by which a state goes further is not one that may do neither
+  pub not_neither : (key : Key) (number : ℕ)
+      → GoesFurtherBy searched line choices table (standing_with searched place.at place.entrance number) key
+      → MayNeither searched line choices (standing_of searched place) key → ⊥
+  not_neither key number (inl ends) neither = neither.ends (may_end key number ends)
+  not_neither key number (inr (next, leads, is)) neither = neither.leads_on (may_lead key number next leads)
+
   -- only one key is told
   only_one : (key : Key) (result : StateSet)
       → ((number : ℕ) → HasState result number
@@ -94,32 +101,6 @@ module _ (searched : SearchedLexicon) (line : Line) (choices : List Choice) (tab
     λ has. let goes = (are number).0 has in (goes.0, (key, refl, goes.1)),
     λ goes. (are number).1 (goes.0, subst (GoesFurtherBy searched line choices table (standing_with searched place.at place.entrance number)) goes.1.1 goes.1.2),
   )
-
-  -- from no state does a key go further that the letters refuse
-  pub further_refused : (key : Key) (result : StateSet) → ((number : ℕ) → HasState result number → ⊥)
-      → MayNeither searched line choices (standing_of searched place) key
-      → AreGoingFurther searched line choices table place.at place.entrance set (OnlyKey key) result
-  further_refused key result empty neither = only_one key result (λ number. (
-    λ has. absurd (empty number has),
-    λ goes. elim goes.1 [
-      | inl ends ↦ absurd (neither.ends (may_end key number ends))
-      | inr (next, leads, is) ↦ absurd (neither.leads_on (may_lead key number next leads))
-    ],
-  ))
-
-  -- where the line may end, the states that its phase leads to one that ends words go further
-  pub further_at_end : (key : Key) (result : StateSet) → MayEndLine searched line choices (standing_of searched place) key
-      → ((number : ℕ) → HasState result number ↔ IsAcceptedBy searched.machine set key.phase number)
-      → AreGoingFurther searched line choices table place.at place.entrance set (OnlyKey key) result
-  further_at_end key result may are = only_one key result (λ number. (
-    λ has.
-        let accepted = (are number).0 has in
-        (accepted.0, inl (record { stands = may.stands; final_rule = may.final_rule; all = may.all; blanks_before = may.blanks_before; accepted = accepted.1 })),
-    λ goes. elim goes.1 [
-      | inl ends ↦ (are number).1 (goes.0, ends.accepted)
-      | inr (next, leads, is) ↦ absurd (not_both_ways searched line choices (standing_of searched place) key may (may_lead key number next leads))
-    ],
-  ))
 
   -- where a key leads on to as the letters tell, the states go further that its phase leads to one of those there
   pub further_on : (key : Key) (at : ℕ) (entrance : Entrance) (targets result : StateSet)

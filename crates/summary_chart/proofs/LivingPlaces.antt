@@ -1,6 +1,6 @@
 -- One turn of the pass back: of the places at an index those stay from which a key ends the line or leads to a place of the
 -- table, which stands later and so is living; so those that stay are living, and each living one stays.
-use Rattle.std.proofs.Common.{◌≡◌, ◌≢◌, ℕ, ◌+◌, inl, inr, List, [], ◌∷◌, length, sym, ap, subst, ◌∙◌, arith}
+use Rattle.std.proofs.Common.{◌≡◌, ◌≢◌, ℕ, ◌+◌, ◌<◌, ◌≤◌, inl, inr, List, [], ◌∷◌, length, sym, ap, subst, ◌∙◌, arith}
 use Rattle.std.proofs.lemmas.Bool.{cases_lt}
 use Rattle.text_definitions.specs.Lines.{Line}
 use Rattle.segmentation_definitions.specs.Items.{Choice}
@@ -122,7 +122,7 @@ module _ (searched : SearchedLexicon) (line : Line) (choices : List Choice) (ind
         subst (IsIn new) (sym here.is)
         (stands_in searched line index at entrance new lawful_new indexed here.number (subst (λ (s : StateSet). HasState s here.number) (sym set) has))
 
-    old_if_new : (place : Place) → IsPlaceIn searched line place → IsIn new place → IsIn old place
+    pub old_if_new : (place : Place) → IsPlaceIn searched line place → IsIn new place → IsIn old place
     old_if_new place within inside = elim (cases_lt index (index_of_place searched place)) [
       | inl later ↦ old_there place (λ e. omega arith) inside
       | inr low ↦ elim (cases_lt (index_of_place searched place) index) [
@@ -162,17 +162,16 @@ module _ (searched : SearchedLexicon) (line : Line) (choices : List Choice) (ind
       ];
     }
 
--- where the set at the index is empty, nothing is to be done
-pub nothing_back : (searched : SearchedLexicon) (line : Line) (choices : List Choice) (index : ℕ) (table : Table)
-    → IsAliveFrom searched line choices (index + 1) table → ((number : ℕ) → HasState (set_of table index) number → ⊥)
-    → IsAliveFrom searched line choices index table
-nothing_back searched line choices index table from none = record {
+-- where no place stands between two indices, nothing is to be done there
+pub living_down : (searched : SearchedLexicon) (line : Line) (choices : List Choice) (low high : ℕ) (table : Table)
+    → IsAliveFrom searched line choices high table
+    → ((place : Place) → IsPlaceIn searched line place → IsIn table place → low ≤ index_of_place searched place → index_of_place searched place < high → ⊥)
+    → IsAliveFrom searched line choices low table
+living_down searched line choices low high table from none = record {
   has = from.has;
-  alive = λ place within low inside. elim (cases_lt index (index_of_place searched place)) [
-    | inl later ↦ from.alive place within (omega arith) inside
-    | inr same ↦
-        let here = numbered_at searched line index table place from.has.lawful inside (omega arith) in
-        absurd (none here.number here.has)
+  alive = λ place within above inside. elim (cases_lt (index_of_place searched place) high) [
+    | inl between ↦ absurd (none place within inside above between)
+    | inr beyond ↦ from.alive place within beyond inside
   ];
 }
 

@@ -51,7 +51,7 @@ module _ (searched : SearchedLexicon) (line : Line) (choices : List Choice) (ind
   module _ (new : Table) (lawful : IsTable (leads_in searched) (length line.letters) new)
       (spreads : Spreads searched line choices at entrance (set_of old index) EveryKey old new) where
     -- up to the index nothing new stands in the table
-    old_before : (place : Place) → IsPlaceIn searched line place → index_of_place searched place < index + 1 → IsIn new place → IsIn old place
+    pub old_before : (place : Place) → IsPlaceIn searched line place → index_of_place searched place < index + 1 → IsIn new place → IsIn old place
     old_before place within low inside = elim (spreads.only place within inside) [
       | inl was ↦ was
       | inr led ↦ (let later = (led_later led.0 place led.2).later in absurd (omega (arith, low, later)))

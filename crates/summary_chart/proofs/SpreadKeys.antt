@@ -26,16 +26,6 @@ use Rattle.summary_chart.proofs.TableStates.{IsNumbered, numbered_in, same_place
 use Rattle.summary_chart.proofs.TablePlaces.{IsGrown, same_entrance, same_index_in, had_or_added, still_in, in_with}
 
 module _ (searched : SearchedLexicon) (line : Line) (choices : List Choice) (place : Place) (set : StateSet) where
-  -- no key spreads nothing
-  pub spreads_nothing : (IsTold : Key → Type 0) (table : Table)
-      → ((key : Key) (next : Place) → IsTold key → IsLedOnTo searched line choices place.at place.entrance set key next → ⊥)
-      → Spreads searched line choices place.at place.entrance set IsTold table table
-  spreads_nothing IsTold table none = record {
-    keeps = λ other is. is;
-    adds = λ key next told led. absurd (none key next told led);
-    only = λ other within is. inl is;
-  }
-
   -- some keys and then others spread what all of them do
   pub spreads_both : (IsFirst IsSecond : Key → Type 0) (old mid new : Table)
       → Spreads searched line choices place.at place.entrance set IsFirst old mid
@@ -84,12 +74,6 @@ module _ (searched : SearchedLexicon) (line : Line) (choices : List Choice) (pla
   may_if_led key next (number, has, leads) =
       let may = may_if_leads searched line choices (standing_with searched place.at place.entrance number) key leads.leads_on in
       record { stands = may.stands; inner = may.inner; left = may.left }
-
-  -- a key that may not lead on as the letters tell spreads nothing
-  pub spreads_none : (key : Key) (table : Table) → (MayLeadOn searched line choices (standing_of searched place) key → ⊥)
-      → Spreads searched line choices place.at place.entrance set (OnlyKey key) table table
-  spreads_none key table not = spreads_nothing (OnlyKey key) table
-      (λ other next told led. not (may_if_led key next (subst (λ (k : Key). IsLedOnTo searched line choices place.at place.entrance set k next) told led)))
 
   -- where a key leads on to as the letters tell
   module _ (key : Key) (at : ℕ) (entrance : Entrance) (may : MayLeadTo searched line choices (standing_of searched place) key at entrance) where

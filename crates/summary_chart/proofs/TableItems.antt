@@ -93,16 +93,17 @@ module _ (searched : SearchedLexicon) (line : Line) (choices : List Choice) (tab
     ];
   }
 
-  -- where the set at the index is empty, nothing is to be added
-  pub items_same : (index : ℕ) (items : List Item) → ((number : ℕ) → HasState (set_of table index) number → ⊥)
-      → HasItemsBefore searched line choices table index items → HasItemsBefore searched line choices table (index + 1) items
-  items_same index items none so_far = record {
+  -- where no place stands between two indices, nothing is to be added
+  pub items_on : (low high : ℕ) (items : List Item) → low ≤ high
+      → ((place : Place) → IsPlaceIn searched line place → IsIn table place → low ≤ index_of_place searched place → index_of_place searched place < high → ⊥)
+      → HasItemsBefore searched line choices table low items → HasItemsBefore searched line choices table high items
+  items_on low high items more none so_far = record {
     rising = so_far.rising;
-    has = λ item (place, before, here). elim (before_or_at index place before) [
-      | inl low ↦ so_far.has item (place, low, here)
-      | inr same ↦ let there = numbered_at searched line index table place is here.there same in absurd (none there.number there.has)
+    has = λ item (place, before, here). elim (cases_lt (index_of_place searched place) low) [
+      | inl earlier ↦ so_far.has item (place, earlier, here)
+      | inr between ↦ absurd (none place here.within here.there between before)
     ];
-    only = λ item there. weaker index item (so_far.only item there);
+    only = λ item there. (let (place, before, here) = so_far.only item there in (place, omega (arith, before, more), here));
   }
 
 -- ---- the whole table

@@ -15,7 +15,7 @@ use Rattle.search_frames.specs.Costs.{steps_of_frame}
 use Rattle.search_frames.specs.Reached.{IsReached}
 use Rattle.summary_chart.specs.declared.state_set.StateSet.{StateSet}
 use Rattle.summary_chart.specs.declared.table.Table.{Table}
-use Rattle.summary_chart.specs.Tables.{IsTable, IsIn, HasSet, width_over, index_of, set_at}
+use Rattle.summary_chart.specs.Tables.{IsTable, IsIn, HasSet, IsStateNumber, width_over, index_of, set_at}
 use Rattle.summary_chart.specs.Spreading.{leads_in}
 
 -- a search comes to the place, and there is a path from it to an answer
@@ -72,11 +72,6 @@ steps_of_pass searched line most = set_count searched line * steps_of_frame sear
 pub record IsOpenTable (searched : SearchedLexicon) (line : Line) (table : Table) : Type 0 where
   pub lawful : IsTable (leads_in searched) (length line.letters) table
   pub exact : (place : Place) → IsPlaceIn searched line place → IsIn table place ↔ (standing_of searched place ≡ opening)
-
--- the number of a state is one of a set, as the dead state has none
-abbrev pub IsStateNumber : Option ℕ → Type 0
-IsStateNumber None = Unit {0}
-IsStateNumber (Some number) = number < 32
 
 -- the table can be asked of this place
 abbrev pub CoversPlace : Table → ℕ → Entrance → Option ℕ → Type 0

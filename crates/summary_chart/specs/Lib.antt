@@ -2,5 +2,7 @@ pub mod StateSets
 pub mod Tables
 pub mod Spreading
 pub mod Charts
+pub mod PlaceWays
 pub mod Summaries
+pub mod Turning
 pub mod SummaryRules

@@ -56,6 +56,11 @@ abbrev pub HasThisState : StateSet → Option ℕ → Type 0
 HasThisState set None = ⊥
 HasThisState set (Some number) = HasState set number
 
+-- the number of a state is one of a set, as the dead state has none
+abbrev pub IsStateNumber : Option ℕ → Type 0
+IsStateNumber None = Unit {0}
+IsStateNumber (Some number) = number < 32
+
 -- the place is in the table: its entrance is one of the program's, and its state is in the set there
 pub record IsIn (table : Table) (place : Place) : Type 0 where
   pub entrance : IsEntrance place.entrance

@@ -1,12 +1,15 @@
-ghost use Rattle.std.specs.Prelude.{◌≡◌, ◌+◌, ◌*◌, ◌≤◌, ℕ, length, IfOk};
+ghost use Rattle.std.specs.Prelude.{◌≡◌, ◌+◌, ◌*◌, ◌≤◌, ℕ, length, IfOk, MatchOption};
 ghost use Rattle.text_definitions.specs.Lines.{IsLine};
 ghost use Rattle.segmentation_definitions.specs.StepBounds.{chart_bound};
 ghost use Rattle.search_frames.specs.Costs.{HasAtMostChoices};
 ghost use Rattle.search_frames.specs.Guided.{IsGuideOf, IsExactOf};
-ghost use Rattle.summary_chart.specs.Charts.{IsChartTable, IsOpenTable, CoversPlace, says_of, steps_of_pass};
+ghost use Rattle.summary_chart.specs.Charts.{IsOpenTable, CoversPlace, says_of, steps_of_pass};
+ghost use Rattle.summary_chart.specs.PlaceWays.{IsChartOf, AreStops, AreWaysAt, HasStopAt};
+ghost use Rattle.summary_chart.specs.Tables.{IsIn, index_in};
 ghost use Rattle.summary_chart.specs.Spreading.{leads_in};
 
 use super::passes::{keep_living, reach};
+use super::place_ways::PlaceWays;
 use super::state_set::StateSet;
 use super::table::Table;
 use annotated_trie::Lexicon;
@@ -15,7 +18,7 @@ use outside::Steps;
 use phase_automaton::State;
 use phoneme::{Line, Memory};
 use reader_choices::Choices;
-use search_frames::new_stack;
+use search_frames::{Place, Way, new_stack};
 use std::alloc::Global;
 use std::marker::Model;
 
@@ -24,14 +27,15 @@ use std::marker::Model;
 #[derive(Debug, Drop)]
 pub struct Chart {
     pub(crate) table: Table,
+    pub(crate) ways: PlaceWays,
 }
 
 impl Model for Chart {
-    ghost use Rattle.summary_chart.specs.declared.table.Table.{Table};
+    ghost use Rattle.summary_chart.specs.PlaceWays.{ChartValue};
 
-    ghost Value = { Table };
+    ghost Value = { ChartValue };
 
-    ghost view = { λ c. c.table };
+    ghost view = { λ c. record { table = c.table; stops = c.ways.stops.items; ways = c.ways.ways.items } };
 }
 
 /// A table that has the opening alone.
@@ -47,8 +51,9 @@ fn open_table(alloc: Global, lexicon: &Lexicon, line: &Line) -> Result<Table, Me
 }
 
 impl Chart {
-    /// The chart of the line with these choices, over the lexicon. `steps` counts each letter that is walked and each look at a
-    /// choice, at most twice for each number of letters and each entrance. Refused only for want of memory.
+    /// The chart of the line with these choices, over the lexicon. `steps` counts each letter that is walked and each look at a choice,
+    /// at most what a frame takes for each number of letters and each entrance. Going over the ways that were found is not counted.
+    /// Refused only for want of memory.
     pub fn build<L>(
         alloc: Global,
         lexicon: &Lexicon,
@@ -56,10 +61,10 @@ impl Chart {
         choices: &Choices,
         steps: &mut Steps<L>,
     ) -> Result<Chart, Memory>
-        ensures guide { IfOk result (λ chart. IsGuideOf lexicon.now line.now choices.now (CoversPlace chart) (says_of chart)) }
-        ensures exact { IfOk result (λ chart. IsExactOf lexicon.now line.now choices.now (says_of chart)) }
-        ensures chart { IfOk result (λ chart. IsChartTable lexicon.now line.now choices.now chart) }
-        ensures steps { (most : ℕ) → HasAtMostChoices lexicon.now.tries most → steps.new ≤ steps.old + 2 * steps_of_pass lexicon.now line.now most }
+        ensures guide { IfOk result (λ chart. IsGuideOf lexicon.now line.now choices.now (CoversPlace chart.table) (says_of chart.table)) }
+        ensures exact { IfOk result (λ chart. IsExactOf lexicon.now line.now choices.now (says_of chart.table)) }
+        ensures chart { IfOk result (λ chart. IsChartOf lexicon.now line.now choices.now chart) }
+        ensures steps { (most : ℕ) → HasAtMostChoices lexicon.now.tries most → steps.new ≤ steps.old + steps_of_pass lexicon.now line.now most }
         ensures bound { (most : ℕ) → HasAtMostChoices lexicon.now.tries most → steps.new ≤ steps.old + chart_bound lexicon.now.lexicon most (length line.now.letters) (length (leads_in lexicon.now)) }
     {
         // The proof knows what holds of a line, a lexicon and an automaton only of those that are read.
@@ -68,24 +73,48 @@ impl Chart {
         let _states = lexicon.automaton().states();
         let mut walker = new_stack(alloc, lexicon, 1)?;
         let mut table = open_table(alloc, lexicon, line)?;
-        reach(lexicon, line, choices, &mut walker, &mut table, steps);
-        keep_living(lexicon, line, choices, &mut walker, &mut table, steps);
-        Ok(Chart { table })
+        let mut stops = Vec::new(alloc);
+        let mut ways = Vec::new(alloc);
+        reach(
+            lexicon,
+            line,
+            choices,
+            &mut walker,
+            &mut table,
+            &mut stops,
+            &mut ways,
+            steps,
+        )?;
+        let ways = PlaceWays { stops, ways };
+        keep_living(lexicon, line, choices, &ways, &mut table);
+        Ok(Chart { table, ways })
+    }
+}
+
+impl Chart {
+    /// The ways from the place. None where the chart does not have it, so that no answer goes on from there.
+    pub(crate) fn ways_from(&self, place: &Place) -> Option<&[Way]>
+        requires stops { AreStops self.now.stops (length self.now.ways) }
+        requires covers { CoversPlace self.now.table place.now.at place.now.entrance place.now.state }
+        ensures found { MatchOption result (IsIn self.now.table place.now → HasStopAt self.now.stops (index_in self.now.table place.now.at place.now.entrance) → ⊥)
+            (λ ways. IsIn self.now.table place.now × AreWaysAt self.now.stops self.now.ways (index_in self.now.table place.now.at place.now.entrance) ways.now) }
+    {
+        if !self.table.has(place.at, place.entrance, place.state) {
+            return None;
+        }
+        self.ways.at(self.table.index(place.at, place.entrance))
     }
 }
 
 impl Guide for Chart {
     ghost use Rattle.summary_chart.specs.Charts.{CoversPlace, says_of};
 
-    ghost covers = { λ chart at entrance state. CoversPlace chart at entrance state };
+    ghost covers = { λ chart at entrance state. CoversPlace chart.table at entrance state };
 
-    ghost says = { λ chart at entrance state. says_of chart at entrance state };
+    ghost says = { λ chart at entrance state. says_of chart.table at entrance state };
 
     fn live<L>(&self, at: u32, entrance: Entrance, state: State, steps: &mut Steps<L>) -> bool {
         steps.tick();
-        match state.number() {
-            Some(number) => self.table.get(at, entrance).has(number),
-            None => false,
-        }
+        self.table.has(at, entrance, state)
     }
 }

@@ -1,10 +1,7 @@
-ghost use Rattle.std.specs.Prelude.{◌≡◌, ◌<◌, ◌+◌, ◌≤◌, ℕ, length};
-ghost use Rattle.text_definitions.specs.Lines.{IsLine};
-ghost use Rattle.derivation.specs.Steps.{key_of};
-ghost use Rattle.answer_paths.specs.Fronts.{supplied};
-ghost use Rattle.search_frames.specs.Standings.{IsPossible};
-ghost use Rattle.search_frames.specs.Frames.{IsStack, IsPlaceIn, standing_of};
-ghost use Rattle.search_frames.specs.Costs.{HasAtMostChoices, steps_of_frame};
+ghost use Rattle.std.specs.Prelude.{length};
+ghost use Rattle.annotated_trie.specs.Searched.{IsSearchedLexicon};
+ghost use Rattle.search_frames.specs.Frames.{IsPlaceIn, standing_of};
+ghost use Rattle.search_frames.specs.WaysFrom.{AreWaysFrom, IsWayFrom, key_of_way};
 ghost use Rattle.summary_chart.specs.Tables.{IsTable};
 ghost use Rattle.summary_chart.specs.Spreading.{AreGoingFurther, EveryKey, OnlyKey, leads_in};
 
@@ -12,72 +9,58 @@ use super::state_set::StateSet;
 use super::state_steps::{accepted_states, states_into};
 use super::table::Table;
 use annotated_trie::Lexicon;
-use derivation::Step;
-use outside::Steps;
 use phoneme::Line;
 use reader_choices::Choices;
-use resumption::Resumption;
-use search_frames::{LetterTest, Place, go_on, open_frame, test_letters};
+use search_frames::{LetterTest, Place, Way};
 
-/// The states of the set from which the step, whose key is possible at the place, ends the line or leads on to a place of the
-/// table. The place's own state is not looked at.
+/// The states of the set from which the way ends the line or leads on to a place of the table. The place's own state is not looked
+/// at.
 pub(crate) fn states_going_further(
     lexicon: &Lexicon,
     line: &Line,
     choices: &Choices,
     place: &Place,
     states: StateSet,
-    step: &Step,
+    way: &Way,
     table: &Table,
 ) -> StateSet
-    requires line { IsLine line.now }
+    requires searched { IsSearchedLexicon lexicon.now }
     requires place { IsPlaceIn lexicon.now line.now place.now }
-    requires at { step.now.at ≡ place.now.at }
-    requires lead { step.now.lead ≡ length (supplied (standing_of lexicon.now place.now).entrance) }
-    requires possible { IsPossible lexicon.now line.now (standing_of lexicon.now place.now) (key_of step.now) }
+    requires way { IsWayFrom lexicon.now line.now choices.now (standing_of lexicon.now place.now) way.now }
     requires table { IsTable (leads_in lexicon.now) (length line.now.letters) table.now }
-    ensures { AreGoingFurther lexicon.now line.now choices.now table.now place.now.at place.now.entrance states (OnlyKey (key_of step.now)) result }
+    ensures { AreGoingFurther lexicon.now line.now choices.now table.now place.now.at place.now.entrance states (OnlyKey (key_of_way way.now)) result }
 {
-    // Its contract says that the lexicon can be searched.
-    lexicon.rules();
     let automaton = lexicon.automaton();
-    match test_letters(lexicon, line, choices, place, step) {
+    match way.test {
         LetterTest::Refused => StateSet::empty(),
-        LetterTest::Ends => accepted_states(automaton, states, step.phase),
+        LetterTest::Ends => accepted_states(automaton, states, way.phase),
         LetterTest::LeadsOn { at, entrance } => {
-            states_into(automaton, states, step.phase, table.get(at, entrance))
+            states_into(automaton, states, way.phase, table.get(at, entrance))
         }
     }
 }
 
-/// The states of the set from which some key ends the line, or leads on from the place to a place of the table. The place's own
-/// state is not looked at. `walker` has room for a frame.
-pub(crate) fn gather<L>(
+/// The states of the set from which one of the ways, which are all from the place, ends the line or leads on to a place of the table.
+/// The place's own state is not looked at.
+pub(crate) fn gather(
     lexicon: &Lexicon,
     line: &Line,
     choices: &Choices,
     place: Place,
     states: StateSet,
-    walker: &mut Resumption,
+    ways: &[Way],
     table: &Table,
-    steps: &mut Steps<L>,
 ) -> StateSet
-    requires line { IsLine line.now }
+    requires searched { IsSearchedLexicon lexicon.now }
     requires place { IsPlaceIn lexicon.now line.now place }
-    requires walker { IsStack walker.old }
-    requires room { 0 < length walker.old.frames.items }
+    requires ways { AreWaysFrom lexicon.now line.now choices.now (standing_of lexicon.now place) ways.now }
     requires table { IsTable (leads_in lexicon.now) (length line.now.letters) table.now }
     ensures gathers { AreGoingFurther lexicon.now line.now choices.now table.now place.at place.entrance states EveryKey result }
-    ensures walker { IsStack walker.new }
-    ensures room { length walker.new.frames.items ≡ length walker.old.frames.items }
-    ensures steps { (most : ℕ) → HasAtMostChoices lexicon.now.tries most → steps.new ≤ steps.old + steps_of_frame lexicon.now most }
 {
     let mut further = StateSet::empty();
-    open_frame(lexicon, line, walker, 0, place, steps);
-    while go_on(lexicon, line, walker, 0, steps) {
-        let step = &walker.steps[0];
+    for way in ways {
         further = further.union(states_going_further(
-            lexicon, line, choices, &place, states, step, table,
+            lexicon, line, choices, &place, states, way, table,
         ));
     }
     further

@@ -1,12 +1,13 @@
-ghost use Rattle.std.specs.Prelude.{◌≡◌, ◌^◌, ◌<◌, ◌≤◌, ◌⊎◌, ◌↔◌, ℕ, List, length, IfOk};
+ghost use Rattle.std.specs.Prelude.{◌≡◌, ◌^◌, ◌<◌, ◌≤◌, ◌⊎◌, ◌↔◌, ℕ, List, length, IfOk, IsTrue};
 ghost use Rattle.text_definitions.specs.Lines.{IsLine};
 ghost use Rattle.lexicon_definitions.specs.Leads.{Lead, leads_of};
 ghost use Rattle.lexicon_definitions.specs.declared.limits.TheConstants.{MOST_LEADS};
 ghost use Rattle.summary_chart.specs.StateSets.{HasState};
-ghost use Rattle.summary_chart.specs.Tables.{IsTable, AreEntrances, IsEntrance, HasSet, ChangesAt, IsIndexed, index_in, set_of, set_at};
+ghost use Rattle.summary_chart.specs.Tables.{IsTable, AreEntrances, IsEntrance, HasSet, HasThisState, ChangesAt, IsIndexed, IsStateNumber, index_in, set_of, set_at};
 
 use super::state_set::StateSet;
 use derivation::Entrance;
+use phase_automaton::State;
 use phoneme::{Letter, Line, Memory};
 use sandhi_rules::RuleSet;
 use std::alloc::Global;
@@ -51,14 +52,13 @@ impl Table {
         rules.rules();
         let entrances = entrances_over(alloc, rules.leads().len())?;
         let count = (line.letters.as_slice().len() + 1) * entrances.len();
-        Ok(Table {
-            entrances,
-            sets: Vec::from_elem(alloc, StateSet::empty(), count)?,
-        })
+        let mut sets = Vec::new(alloc);
+        sets.resize(count, StateSet::empty())?;
+        Ok(Table { entrances, sets })
     }
 
     /// Where the set of an entrance stands, after so many letters.
-    fn index(&self, at: u32, entrance: Entrance) -> usize
+    pub fn index(&self, at: u32, entrance: Entrance) -> usize
         requires { HasSet self.now at entrance }
         ensures index { result ≡ index_in self.now at entrance }
         ensures entrance { IsEntrance entrance }
@@ -79,6 +79,20 @@ impl Table {
         ensures entrance { IsEntrance entrance }
     {
         self.sets[self.index(at, entrance)]
+    }
+
+    /// Whether the table has the place after so many letters, entered so, with the state.
+    pub fn has(&self, at: u32, entrance: Entrance, state: State) -> bool
+        requires there { HasSet self.now at entrance }
+        requires state { IsStateNumber state }
+        ensures told { IsTrue result ↔ HasThisState (set_at self.now at entrance) state }
+        ensures entrance { IsEntrance entrance }
+    {
+        let set = self.get(at, entrance);
+        match state.number() {
+            Some(number) => set.has(number),
+            None => false,
+        }
     }
 
     /// Puts the states into the set after so many letters, at an entrance.

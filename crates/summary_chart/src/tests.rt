@@ -120,7 +120,7 @@ fn is_live(
     entrance: Entrance,
     state: State,
 ) -> bool
-    requires guide { IsGuideOf lexicon.now line.now choices.now (CoversPlace chart.now) (says_of chart.now) }
+    requires guide { IsGuideOf lexicon.now line.now choices.now (CoversPlace chart.now.table) (says_of chart.now.table) }
     requires over { (leads : List Lead) → IsEntranceOver leads entrance }
     requires state { IsStateIn lexicon.now.machine state }
 {

@@ -1,6 +1,6 @@
 -- What is read of the stack is its frame, its step and a node of this (`StepFrames`), so the keys with the changes that were skipped
 -- there are left out (`StepSkips`).
-use Rattle.std.proofs.Common.{◌≡◌, ◌<◌, ◌+◌, ◌-◌, ℕ, List, arith, ap, ◌∙◌}
+use Rattle.std.proofs.Common.{◌≡◌, ◌<◌, ◌+◌, ◌-◌, arith, ap, ◌∙◌}
 use Rattle.text_definitions.specs.Lines.{Line}
 use Rattle.derivation.specs.declared.step.Step.{Step}
 use Rattle.resumption.specs.declared.frame.TheConstants.{NODES_OF_FRAME}

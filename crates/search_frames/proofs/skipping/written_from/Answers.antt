@@ -1,6 +1,6 @@
 -- The choice at the place is one of the rising rules, so its place is no more than its number; where its w does not come first, it is
 -- skipped (`StepSkips`), and the look at it was paid for.
-use Rattle.std.proofs.Common.{◌≡◌, ◌+◌, ◌-◌, ◌<◌, ◌≤◌, ◌⊎◌, ℕ, Some, inr, List, length, take, refl, sym, ◌∙◌, ap, subst, arith}
+use Rattle.std.proofs.Common.{◌≡◌, ◌-◌, ◌≤◌, ℕ, Some, inr, List, length, take, refl, sym, ◌∙◌, ap, subst, arith}
 use Rattle.std.specs.Prelude.{slice_get}
 use Rattle.std.proofs.lemmas.Option.{slice_get_within}
 use Rattle.lexicon_definitions.specs.Lexicons.{RuleSet, rule_of}

@@ -27,12 +27,15 @@ find_deeper-find_later-requires g t c κs bounds =
               (
                 c.requires.guide,
                 (
-                  c.requires.stack,
+                  c.requires.known,
                   (
-                    more,
+                    c.requires.stack,
                     (
-                      there.reached,
-                      (there.room, (there.keys, there.frames, there.along)),
+                      more,
+                      (
+                        there.reached,
+                        (there.room, (there.keys, there.frames, there.along)),
+                      ),
                     ),
                   ),
                 ),

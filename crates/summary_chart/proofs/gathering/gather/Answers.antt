@@ -1,49 +1,22 @@
--- Each key that the frame goes on to tells which states go further by it, and then it is tried; at the end all possible keys are.
-use Rattle.std.proofs.Common.{◌∙◌, arith, subst}
-use Rattle.derivation.specs.Steps.{key_of}
-use Rattle.derivation.specs.declared.step.Step.{Step}
-use Rattle.search_frames.proofs.WalkFrames.{read_step}
-use Rattle.summary_chart.specs.Spreading.{AreGoingFurther, OnlyKey}
-use Rattle.summary_chart.proofs.TriedKeys.{further_at_first, further_more, further_at_last}
+-- Each way tells which states go further by its key; at the end the keys of all ways have, and none goes further by another key.
+use Rattle.summary_chart.proofs.FurtherKeys.{further_nothing}
+use Rattle.summary_chart.proofs.WayKeys.{IsAmongFirst, none_at_first, further_more, further_at_last}
 use Rattle.summary_chart.proofs.gathering.gather.Goals as goal
 
-pub loop-states-init : goal.loop-states-init
-loop-states-init g c = record {
-  frame = c.open_frame.ensures.frame;
-  here = c.open_frame.ensures.place;
-  room = c.open_frame.ensures.changes.room;
-  gathered = further_at_first c.args.lexicon.now c.args.line.now c.args.place c.args.choices.now c.args.states c.open_frame.new.stack c.args.table.now c.empty-further.result
-      c.open_frame.ensures.place c.open_frame.ensures.all c.empty-further.ensures.none;
-  spent = c.open_frame.ensures.steps;
+pub loop-way-init : goal.loop-way-init
+loop-way-init c =
+    further_nothing c.args.lexicon.now c.args.line.now c.args.choices.now c.args.table.now c.args.place c.args.states (IsAmongFirst 0 c.args.ways.now)
+    c.empty-further.result c.empty-further.ensures.none (λ key number among goes. none_at_first c.args.ways.now key among)
+
+pub loop-way-preserved : goal.loop-way-preserved
+loop-way-preserved c =
+    further_more c.args.lexicon.now c.args.line.now c.args.choices.now c.args.place c.args.states c.args.ways.now c.loop-way.way-index
+    c.way-item.result (record { below = c.loop-way-test.true; is = c.way-item.is })
+    c.args.table.now c.loop-way.further c.states_going_further.result c.union-further.result
+    c.loop-way.invariant c.states_going_further.ensures c.union-further.ensures
+
+pub returns : goal.returns
+returns c = record {
+  gathers = further_at_last c.args.lexicon.now c.args.line.now c.args.choices.now c.args.place c.args.states c.args.ways.now c.loop-way.way-index
+      c.loop-way-test.false c.requires.ways c.args.table.now c.loop-way.further c.loop-way.invariant;
 }
-
-pub loop-states-preserved : goal.loop-states-preserved
-loop-states-preserved g c =
-    let searched = c.args.lexicon.now in
-    let line = c.args.line.now in
-    let choices = c.args.choices.now in
-    let place = c.args.place in
-    let before = c.loop-states.invariant in
-    let went = c.loop-states-test.ensures.went_on in
-    let old = c.loop-states.walker in
-    let new = c.go_on.new.stack in
-    let step_is = read_step new 0 c.index-step.result.now went.frame.placed.is_stack went.frame.placed.there c.index-step.ensures in
-    let one = subst (λ (step : Step). AreGoingFurther searched line choices c.args.table.now place.at place.entrance c.args.states (OnlyKey (key_of step)) c.states_going_further.result)
-    step_is c.states_going_further.ensures in
-    record {
-      frame = went.frame;
-      here = went.same_place ∙ before.here;
-      room = c.go_on.ensures.changes.room ∙ before.room;
-      gathered = further_more searched line place choices c.args.states old new c.args.table.now c.loop-states.further c.states_going_further.result c.union-further.result
-          before.here went before.gathered one c.union-further.ensures;
-      spent = λ most few.
-          let so_far = before.spent most few in
-          let key = c.loop-states-test.ensures.steps_on most few in
-          omega (arith, so_far, key);
-    }
-
-pub returns-clause-gathers : goal.returns-clause-gathers
-returns-clause-gathers g c =
-    let before = c.loop-states.invariant in
-    further_at_last c.args.lexicon.now c.args.line.now c.args.place c.args.choices.now c.args.states c.loop-states.walker c.args.table.now c.loop-states.further
-    before.here c.loop-states-test.ensures.nothing before.gathered

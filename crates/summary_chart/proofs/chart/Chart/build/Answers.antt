@@ -1,9 +1,9 @@
--- The table that the passes leave is that of a guide; and two passes take fewer steps than the bound.
-use Rattle.std.proofs.Common.{subst, arith}
+-- The table that the passes leave is that of a guide; and a pass takes fewer steps than the bound.
+use Rattle.std.proofs.Common.{subst}
 use Rattle.text_definitions.specs.Lines.{IsLine}
 use Rattle.phase_automaton.specs.Automata.{IsStateMachine}
 use Rattle.summary_chart.proofs.ChartGuides.{chart_is_guide, chart_is_exact}
-use Rattle.summary_chart.proofs.PassCosts.{chart_within}
+use Rattle.summary_chart.proofs.SummarySteps.{bound_within}
 use Rattle.summary_chart.proofs.chart.Chart.build.Goals as goal
 
 pub returns-clause-guide : goal.returns-clause-guide
@@ -19,7 +19,8 @@ returns-clause-exact g c =
 
 pub returns-clause-bound : goal.returns-clause-bound
 returns-clause-bound g c most few =
-    let within = chart_within c.args.lexicon.now c.args.line.now most c.rules-rules.ensures.searched in
-    let reach = c.reach.ensures.steps most few in
-    let back = c.keep_living.ensures.steps most few in
-    omega (arith, within, reach, back)
+    bound_within c.args.lexicon.now c.args.line.now most c.args.steps.now c.reach.new.steps c.rules-rules.ensures.searched (c.reach.ensures.steps most few)
+
+pub returns-in_err-reach-clause-bound : goal.returns-in_err-reach-clause-bound
+returns-in_err-reach-clause-bound g c most few =
+    bound_within c.args.lexicon.now c.args.line.now most c.args.steps.now c.reach.new.steps c.rules-rules.ensures.searched (c.reach.ensures.steps most few)

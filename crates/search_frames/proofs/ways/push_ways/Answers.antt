@@ -1,0 +1,83 @@
+-- The way of each key that the frame goes on to is appended, unless it is refused, and then it is tried; at the end all possible keys are.
+use Rattle.std.proofs.Common.{◌∙◌, arith, ap, sym, subst}
+use Rattle.derivation.specs.Steps.{key_of}
+use Rattle.derivation.specs.declared.step.Step.{Step}
+use Rattle.search_frames.specs.declared.ways.Way.{Way}
+use Rattle.search_frames.specs.Standings.{IsPossible}
+use Rattle.search_frames.specs.Frames.{standing_of}
+use Rattle.search_frames.specs.LetterTests.{MayNeither}
+use Rattle.search_frames.specs.WaysFrom.{IsWayFrom}
+use Rattle.search_frames.proofs.StepFrames.{step_read}
+use Rattle.search_frames.proofs.TriedKeys.{possible_at}
+use Rattle.search_frames.proofs.TriedWays.{none_at_first, all_at_last, way_appended, none_appended}
+use Rattle.search_frames.proofs.ways.push_ways.Goals as goal
+
+pub loop-place-init : goal.loop-place-init
+loop-place-init g c = record {
+  frame = c.open_frame.ensures.frame;
+  here = c.open_frame.ensures.place;
+  room = c.open_frame.ensures.changes.room;
+  appends = none_at_first c.args.lexicon.now c.args.line.now c.args.choices.now c.args.place c.open_frame.new.stack c.args.ways.now.items
+      c.open_frame.ensures.place c.open_frame.ensures.all;
+  spent = c.open_frame.ensures.steps;
+}
+
+pub loop-place-preserved-in-Refused : goal.loop-place-preserved-in-Refused
+loop-place-preserved-in-Refused g c =
+    let searched = c.args.lexicon.now in
+    let line = c.args.line.now in
+    let choices = c.args.choices.now in
+    let place = c.args.place in
+    let before = c.loop-place.invariant in
+    let went = c.loop-place-test.ensures.went_on in
+    let mid = c.go_on.new.stack in
+    let step_is = step_read mid 0 c.index.result.now went.frame.placed.is_stack went.frame.placed.there c.index.ensures in
+    let refused = subst (λ (step : Step). MayNeither searched line choices (standing_of searched place) (key_of step)) step_is c.in-Refused.ensures.exact in
+    let skipped = c.skip_unwritten.ensures.skipped in
+    record {
+      frame = skipped.frame;
+      here = skipped.same_place ∙ went.same_place ∙ before.here;
+      room = c.skip_unwritten.ensures.changes.room ∙ c.go_on.ensures.changes.room ∙ before.room;
+      appends = none_appended searched line choices place c.loop-place.walker mid before.here went c.skip_unwritten.new.stack skipped refused
+          c.args.ways.now.items c.loop-place.ways.items before.appends;
+      spent = λ most few.
+          let so_far = before.spent most few in
+          let key = c.loop-place-test.ensures.steps_on most few in
+          let looked = c.skip_unwritten.ensures.steps most few in
+          omega (arith, so_far, key, looked);
+    }
+
+pub loop-place-preserved : goal.loop-place-preserved
+loop-place-preserved g c =
+    let searched = c.args.lexicon.now in
+    let line = c.args.line.now in
+    let choices = c.args.choices.now in
+    let place = c.args.place in
+    let before = c.loop-place.invariant in
+    let went = c.loop-place-test.ensures.went_on in
+    let mid = c.go_on.new.stack in
+    let step_is = step_read mid 0 c.index.result.now went.frame.placed.is_stack went.frame.placed.there c.index.ensures in
+    let step : Step = c.index.result.now in
+    let way : Way = record { phase = step.phase; taken = step.taken; rule = step.rule; test = c.test_letters.result } in
+    let key_is = ap key_of step_is in
+    let is : IsWayFrom searched line choices (standing_of searched place) way = record {
+      possible = subst (λ (s : Step). IsPossible searched line (standing_of searched place) (key_of s)) (sym step_is) (possible_at searched line place c.loop-place.walker mid before.here went);
+      test = c.test_letters.ensures.exact;
+      goes = c.in_default.not-Refused;
+    } in
+    record {
+      frame = went.frame;
+      here = went.same_place ∙ before.here;
+      room = c.go_on.ensures.changes.room ∙ before.room;
+      appends = way_appended searched line choices place c.loop-place.walker mid before.here went way
+          c.args.ways.now.items c.loop-place.ways.items c.push.new.self.items key_is is c.in_ok-push-in_default.ensures.items before.appends;
+      spent = λ most few.
+          let so_far = before.spent most few in
+          let key = c.loop-place-test.ensures.steps_on most few in
+          omega (arith, so_far, key);
+    }
+
+pub returns-clause-ok : goal.returns-clause-ok
+returns-clause-ok g c =
+    all_at_last c.args.lexicon.now c.args.line.now c.args.choices.now c.args.place c.loop-place.walker c.args.ways.now.items c.loop-place.ways.items
+    c.loop-place.invariant.here c.loop-place-test.ensures.nothing c.loop-place.invariant.appends

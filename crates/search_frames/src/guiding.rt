@@ -1,0 +1,82 @@
+ghost use Rattle.std.specs.Prelude.{ℕ};
+ghost use Rattle.text_definitions.specs.Lines.{IsLine};
+ghost use Rattle.annotated_trie.specs.Searched.{IsSearchedLexicon};
+ghost use Rattle.search_frames.specs.Frames.{IsFrame, ChangesFrom, here_of};
+ghost use Rattle.search_frames.specs.Reached.{IsReached};
+ghost use Rattle.search_frames.specs.Costs.{HasAtMostChoices};
+ghost use Rattle.search_frames.specs.Turns.{IsTurn, HasFallen, HasPaid};
+
+use super::going_on::go_on;
+use super::place::Place;
+use super::skipping::skip_unwritten;
+use super::testing::{Test, test_key};
+use annotated_trie::Lexicon;
+use derivation::{Guide, OpenGuide};
+use outside::Steps;
+use phoneme::Line;
+use reader_choices::Choices;
+use resumption::Resumption;
+
+/// What the next key of a frame does: there is none; or it ends the line; or it leads on to another place.
+#[derive(Clone, Copy, Debug, PartialEq, Eq)]
+pub enum Turn {
+    Nothing,
+    Ends,
+    LeadsOn(Place),
+}
+
+/// A guide that brings the frames of a search from key to key, and leaves out keys that lead to no answer (own).
+pub trait SearchGuide: Guide {
+    ghost use Rattle.std.specs.Prelude.{List};
+    ghost use Rattle.text_definitions.specs.Lines.{Line};
+    ghost use Rattle.segmentation_definitions.specs.Items.{Choice};
+    ghost use Rattle.annotated_trie.specs.Searched.{SearchedLexicon};
+
+    /// What is known of it, where a search goes over this lexicon, this line and these choices.
+    ghost known: { Self → SearchedLexicon → Line → List Choice → Type 0 };
+
+    /// Brings the frame at the level, counted from 0, to its next key that leads on or ends the line, and tells which. It may leave out
+    /// keys with which no path to an answer begins.
+    fn turn<L>(
+        &self,
+        lexicon: &Lexicon,
+        line: &Line,
+        choices: &Choices,
+        stack: &mut Resumption,
+        level: usize,
+        steps: &mut Steps<L>,
+    ) -> Turn
+        requires known { known self.now lexicon.now line.now choices.now }
+        requires searched { IsSearchedLexicon lexicon.now }
+        requires line { IsLine line.now }
+        requires frame { IsFrame lexicon.now line.now stack.old level }
+        requires reached { IsReached lexicon.now line.now choices.now (here_of lexicon.now stack.old level) }
+        ensures turn { IsTurn lexicon.now line.now choices.now level stack.old stack.new result }
+        ensures falls { HasFallen lexicon.now level stack.old stack.new result }
+        ensures changes { ChangesFrom level stack.old stack.new }
+        ensures steps { (most : ℕ) → HasAtMostChoices lexicon.now.tries most → HasPaid lexicon.now most level stack.old stack.new steps.old steps.new result };
+}
+
+impl SearchGuide for OpenGuide {
+    ghost known = { λ _ searched line choices. Unit {0} };
+
+    fn turn<L>(
+        &self,
+        lexicon: &Lexicon,
+        line: &Line,
+        choices: &Choices,
+        stack: &mut Resumption,
+        level: usize,
+        steps: &mut Steps<L>,
+    ) -> Turn {
+        while go_on(lexicon, line, stack, level, steps) {
+            let place = Place::of_frame(stack, level);
+            match test_key(lexicon, line, choices, &place, &stack.steps[level]) {
+                Test::Refused => skip_unwritten(lexicon, line, stack, level, steps),
+                Test::Ends => return Turn::Ends,
+                Test::LeadsOn(next) => return Turn::LeadsOn(next),
+            }
+        }
+        Turn::Nothing
+    }
+}

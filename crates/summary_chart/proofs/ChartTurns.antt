@@ -1,0 +1,271 @@
+-- A chart turns a frame. Its place is reached, so where a path begins there it is living and stands in the chart, with all its ways;
+-- and a key with which a path begins goes further under the chart's table. So the first way from the next key on that goes further is
+-- what is asked for: no such key comes before it, and those that it leaves out begin no path.
+use Rattle.std.proofs.Common.{◌≡◌, inl, inr, ℕ, ◌+◌, ◌≤◌, eqb, not, ◌&&◌, true, false, List, [], ◌∷◌, length, get_or, refl, sym, ◌∙◌, ap, subst, arith}
+use Rattle.std.proofs.lemmas.Bool.{false≢true, not-false, and_parts, eqb-true, eq-eqb}
+use Rattle.std.proofs.lemmas.List.Elements.{All-contains}
+use Rattle.std.specs.declared.cmp.Ordering.TheVariants.{Less}
+use Rattle.text_definitions.specs.Lines.{Line}
+use Rattle.segmentation_definitions.specs.Items.{Choice}
+use Rattle.segmentation_definitions.specs.Listings.{Key, compare_keys}
+use Rattle.segmentation_definitions.proofs.KeyLists.{compare_keys_total}
+use Rattle.listing_laws.specs.Ways.{HasPath}
+use Rattle.phase_automaton.specs.Automata.{IsStateMachine}
+use Rattle.derivation.specs.Steps.{key_of}
+use Rattle.derivation.specs.declared.step.Key.{Key as ProgramKey}
+use Rattle.derivation.specs.declared.step.Step.{Step}
+use Rattle.annotated_trie.specs.Searched.{SearchedLexicon, IsSearchedLexicon}
+use Rattle.resumption.specs.declared.state.Resumption.{Resumption}
+use Rattle.search_frames.specs.declared.guiding.Turn.{Turn}
+use Rattle.search_frames.specs.declared.guiding.Turn.TheVariants.{Nothing, Ends as ToEnd, LeadsOn as ToPlace}
+use Rattle.search_frames.specs.declared.place.Place.{Place}
+use Rattle.search_frames.specs.declared.ways.Way.{Way}
+use Rattle.search_frames.specs.Standings.{Standing, IsPossible, Ends, ways_in}
+use Rattle.search_frames.specs.Tests.{LeadsTo}
+use Rattle.search_frames.specs.Frames.{IsFrame, IsPlaceIn, IsUntried, IsAtKey, WentOn, HasNothingToTry, standing_of, here_of, place_of, key_at}
+use Rattle.search_frames.specs.Reached.{IsReached}
+use Rattle.search_frames.specs.Turns.{BeginsPath, HasTurned, HasNoTurn, IsTurn, HasPaid}
+use Rattle.search_frames.specs.Costs.{steps_left}
+use Rattle.search_frames.specs.WaysFrom.{AreWaysFrom}
+use Rattle.search_frames.proofs.StepFrames.{step_read}
+use Rattle.search_frames.proofs.StandingRanks.{possible_if_leads, possible_if_ends}
+use Rattle.search_frames.proofs.ReachedStandings.{reached_after}
+use Rattle.summary_chart.specs.Tables.{IsIn, index_in}
+use Rattle.summary_chart.specs.Spreading.{GoesFurtherBy, leads_in}
+use Rattle.summary_chart.specs.Charts.{IsAlive, CoversPlace, index_of_place}
+use Rattle.summary_chart.specs.PlaceWays.{ChartValue, IsChartOf, HasAllWays, HasStopAt, AreWaysAt}
+use Rattle.summary_chart.specs.Turning.{key_for, IsFrom, IsTestUnder, IsFirstLiving, HasNoLiving}
+use Rattle.summary_chart.proofs.TableStates.{same_place, index_within}
+use Rattle.summary_chart.proofs.TablePlaces.{has_set}
+use Rattle.summary_chart.proofs.WayTests.{number_in_set}
+use Rattle.summary_chart.proofs.ProgramPlaces.{place_of_reached}
+
+-- ---- keys with which a path begins
+
+-- such a key is possible
+possible_if_begins : (searched : SearchedLexicon) (line : Line) (choices : List Choice) (here : Standing) (key : Key)
+    → BeginsPath searched line choices here key → IsPossible searched line here key
+possible_if_begins searched line choices here key ([], ends) = possible_if_ends searched line choices here key ends
+possible_if_begins searched line choices here key (later ∷ keys, (next, (leads, is), path)) =
+    possible_if_leads searched line choices here key leads
+
+module _ (searched : SearchedLexicon) (line : Line) (choices : List Choice) (chart : ChartValue) (chart_is : IsChartOf searched line choices chart) where
+  -- and goes further under the chart's table
+  further_if_begins : IsSearchedLexicon searched → (here : Standing) (key : Key) → IsReached searched line choices here → BeginsPath searched line choices here key
+      → GoesFurtherBy searched line choices chart.table here key
+  further_if_begins is here key reached ([], ends) = inl ends
+  further_if_begins is here key reached (later ∷ keys, (next, (leads, next_is), path)) =
+      let there = subst (IsReached searched line choices) (sym next_is) (reached_after searched line choices here key is reached leads) in
+      let found = place_of_reached searched line choices next is there in
+      let alive : IsAlive searched line choices found.place = record {
+        reached = subst (IsReached searched line choices) (sym found.is) there;
+        path = subst (HasPath (ways_in searched line choices)) (sym found.is) (later ∷ keys, path);
+      } in
+      inr (
+        found.place,
+        record { leads_on = leads; is = found.is ∙ next_is; within = found.within },
+        (chart_is.table.exact found.place found.within).1 alive,
+      )
+
+  -- ---- the ways of the place
+
+  module _ (place : Place) (within : IsPlaceIn searched line place) where
+    -- the table can be asked of it
+    pub covers_place : IsStateMachine searched.machine → CoversPlace chart.table place.at place.entrance place.state
+    covers_place machine = (
+      has_set (leads_in searched) (length line.letters) chart.table place.at place.entrance chart_is.table.lawful within.letters within.over,
+      number_in_set searched.machine place.state machine within.state_in,
+    )
+
+    -- it stands in the table's order at the same index
+    same_index_there : index_in chart.table place.at place.entrance ≡ index_of_place searched place
+    same_index_there = same_place (leads_in searched) (length line.letters) place.at place.entrance chart.table chart_is.table.lawful
+
+    -- a place of the chart has a stop
+    has_stop : IsIn chart.table place → HasStopAt chart.stops (index_in chart.table place.at place.entrance)
+    has_stop inside =
+        let low = index_within searched line place inside.entrance within in
+        let count = chart_is.table.lawful.count in
+        subst (HasStopAt chart.stops) (sym same_index_there) (chart_is.ways.there place within (omega (arith, low, count)) inside)
+
+    -- the ways of its stop are all from there
+    pub ways_there : (ways : List Way) → IsIn chart.table place → AreWaysAt chart.stops chart.ways (index_in chart.table place.at place.entrance) ways
+        → AreWaysFrom searched line choices (standing_of searched place) ways
+    ways_there ways inside (stop, among, index, found) =
+        let all = All-contains (HasAllWays searched line choices chart.ways) chart.stops stop chart_is.ways.each among in
+        subst (AreWaysFrom searched line choices (standing_of searched place)) (sym found)
+        (all place within inside.entrance (sym same_index_there ∙ sym index))
+
+-- ---- one turn
+
+-- the frame's place, at which the chart is asked
+pub record IsAsked (searched : SearchedLexicon) (line : Line) (choices : List Choice) (chart : ChartValue) (level : ℕ) (old : Resumption) (place : Place) : Type 0 where
+  pub searched_is : IsSearchedLexicon searched
+  pub chart_is : IsChartOf searched line choices chart
+  pub place_is : place ≡ place_of old level
+  pub frame : IsFrame searched line old level
+  pub reached : IsReached searched line choices (here_of searched old level)
+
+-- the key to which the frame went on
+pub record HasNext (searched : SearchedLexicon) (line : Line) (level : ℕ) (old new : Resumption) (from : Key) : Type 0 where
+  pub from_is : from ≡ key_at new level
+  pub went : WentOn searched line level old new
+
+-- the key that is read of a frame's step
+pub key_read : (searched : SearchedLexicon) (line : Line) (level : ℕ) (stack : Resumption) (step : Step) (key : ProgramKey) → IsFrame searched line stack level
+    → step ≡ get_or stack.steps.items level step → key ≡ record { phase = step.phase; taken = step.taken; rule = step.rule }
+    → key_for key ≡ key_at stack level
+key_read searched line level stack step key frame there is =
+    ap key_for is ∙ ap key_of (step_read stack level step frame.placed.is_stack frame.placed.there there)
+
+module _ (searched : SearchedLexicon) (line : Line) (choices : List Choice) (chart : ChartValue) (level : ℕ) (old : Resumption) (place : Place)
+    (asked : IsAsked searched line choices chart level old place) where
+  pub place_within : IsPlaceIn searched line place
+  place_within = subst (IsPlaceIn searched line) (sym asked.place_is) asked.frame.placed.within
+
+  -- without ways, no path begins there
+  pub no_ways : (IsIn chart.table place → HasStopAt chart.stops (index_in chart.table place.at place.entrance) → ⊥)
+      → HasNoTurn searched line choices level old
+  no_ways none key begins untried =
+      let there = sym asked.place_is in
+      let inside = (asked.chart_is.table.exact place place_within).1 (record {
+        reached = subst (λ (p : Place). IsReached searched line choices (standing_of searched p)) there asked.reached;
+        path = subst (λ (p : Place). HasPath (ways_in searched line choices) (standing_of searched p)) there (key ∷ begins.0, begins.1);
+      }) in
+      none inside (has_stop searched line choices chart asked.chart_is place place_within inside)
+
+  -- nor where nothing is left to try
+  pub nothing_left : HasNothingToTry searched line old level → HasNoTurn searched line choices level old
+  nothing_left nothing key begins untried =
+      nothing key (possible_if_begins searched line choices (here_of searched old level) key begins) untried
+
+  module _ (new : Resumption) (from : Key) (next : HasNext searched line level old new from) where
+    -- a key with which a path begins and that was untried is possible at the place, the next key or one after it, and goes further
+    record IsLiving (key : Key) : Type 0 where
+      possible : IsPossible searched line (standing_of searched place) key
+      is_from : IsFrom from key
+      further : GoesFurtherBy searched line choices chart.table (standing_of searched place) key
+
+    living : (key : Key) → BeginsPath searched line choices (here_of searched old level) key → IsUntried searched old level key → IsLiving key
+    living key begins untried =
+        let there = sym asked.place_is in
+        let possible = possible_if_begins searched line choices (here_of searched old level) key begins in
+        let further = further_if_begins searched line choices chart asked.chart_is asked.searched_is (here_of searched old level) key asked.reached begins in
+        record {
+          possible = subst (λ (p : Place). IsPossible searched line (standing_of searched p) key) there possible;
+          is_from = subst (λ (k : Key). IsFrom k key) (sym next.from_is) (next.went.first key possible untried);
+          further = subst (λ (p : Place). GoesFurtherBy searched line choices chart.table (standing_of searched p) key) there further;
+        }
+
+    -- so where no key from there on goes further, there is none
+    pub none_living : HasNoLiving searched line choices chart.table (standing_of searched place) from → HasNoTurn searched line choices level old
+    none_living none key begins untried =
+        let is_living = living key begins untried in
+        none key is_living.possible is_living.is_from is_living.further
+
+    module _ (found : Key) (turn : Turn) (first : IsFirstLiving searched line choices chart.table (standing_of searched place) from found turn) where
+      possible_old : IsPossible searched line (here_of searched old level) found
+      possible_old = subst (λ (p : Place). IsPossible searched line (standing_of searched p) found) asked.place_is first.possible
+
+      possible_new : IsPossible searched line (here_of searched new level) found
+      possible_new = subst (λ (p : Place). IsPossible searched line (standing_of searched p) found) (sym next.went.same_place) possible_old
+
+      -- what comes after the next key is still untried
+      untried_later : (key : Key) → IsPossible searched line (here_of searched old level) key → compare_keys from key ≡ Less
+          → IsUntried searched new level key
+      untried_later key possible later =
+          (next.went.later key (subst (λ (p : Place). IsPossible searched line (standing_of searched p) key) (sym next.went.same_place) possible)).1
+          (subst (λ (k : Key). compare_keys k key ≡ Less) next.from_is later)
+
+      -- so is the key that was found, unless it is the next one
+      pub untried_new : (from ≡ found → ⊥) → IsUntried searched new level found
+      untried_new other = elim first.is_from [ inl same ↦ absurd (other same) | inr later ↦ untried_later found possible_old later ]
+
+      untried_old : IsUntried searched old level found
+      untried_old = elim first.is_from [
+        | inl same ↦ subst (IsUntried searched old level) (sym next.from_is ∙ same) next.went.untried
+        | inr later ↦ next.went.left found possible_old (untried_later found possible_old later)
+      ]
+
+      after_found : (key : Key) → compare_keys found key ≡ Less → compare_keys from key ≡ Less
+      after_found key later = elim first.is_from [
+        | inl same ↦ subst (λ (k : Key). compare_keys k key ≡ Less) (sym same) later
+        | inr less ↦ compare_keys_total.trans from found key less later
+      ]
+
+      -- where it is the next one, the frame is there already
+      pub at_next : from ≡ found → IsAtKey searched line level found new new
+      at_next same = record {
+        frame = next.went.frame;
+        same_place = refl;
+        is_at = sym next.from_is ∙ same;
+        possible = possible_new;
+        later = next.went.later;
+      }
+
+      -- the frame was brought there
+      module _ (last : Resumption) (at : IsAtKey searched line level found new last) where
+        turned : HasTurned searched line choices level old last
+        turned =
+            let place_there : place_of last level ≡ place_of old level = at.same_place ∙ next.went.same_place in
+            record {
+              frame = at.frame;
+              same_place = place_there;
+              possible = subst (IsPossible searched line (here_of searched old level)) (sym at.is_at) possible_old;
+              untried = subst (IsUntried searched old level) (sym at.is_at) untried_old;
+              first = λ key begins untried.
+                  let is_living = living key begins untried in
+                  subst (λ (k : Key). IsFrom k key) (sym at.is_at) (first.first key is_living.possible is_living.is_from is_living.further);
+              left = λ key possible untried.
+                  let there = subst (λ (p : Place). IsPossible searched line (standing_of searched p) key) (sym place_there) possible in
+                  let later = subst (λ (k : Key). compare_keys k key ≡ Less) at.is_at ((at.later key there).0 untried) in
+                  next.went.left key possible (untried_later key possible (after_found key later));
+              later = at.later;
+            }
+
+        by_turn : (does : Turn) → turn ≡ does → IsTurn searched line choices level old last does
+        by_turn Nothing same = absurd (first.goes same)
+        by_turn ToEnd same = (
+          turned,
+          subst (Ends searched line choices (here_of searched old level)) (sym at.is_at)
+              (subst (λ (p : Place). Ends searched line choices (standing_of searched p) found) asked.place_is
+              (subst (IsTestUnder searched line choices chart.table (standing_of searched place) found) same first.test)),
+        )
+        by_turn (ToPlace to) same = (
+          turned,
+          subst (λ (k : Key). LeadsTo searched line choices (here_of searched old level) k to) (sym at.is_at)
+              (subst (λ (p : Place). LeadsTo searched line choices (standing_of searched p) found to) asked.place_is
+              (subst (IsTestUnder searched line choices chart.table (standing_of searched place) found) same first.test)),
+        )
+
+        -- and the turn says what the key does
+        pub is_turn : IsTurn searched line choices level old last turn
+        is_turn = by_turn turn refl
+
+-- ---- what a turn costs, and whether two keys are one
+
+-- a turn that finds a key has paid what a step to a key pays
+pub has_paid : (searched : SearchedLexicon) (most level : ℕ) (old last : Resumption) (before after : ℕ) (turn : Turn) → (turn ≡ Nothing → ⊥)
+    → after + 1 + steps_left searched most last level ≤ before + steps_left searched most old level
+    → HasPaid searched most level old last before after turn
+has_paid searched most level old last before after Nothing goes paid = absurd (goes refl)
+has_paid searched most level old last before after ToEnd goes paid = paid
+has_paid searched most level old last before after (ToPlace next) goes paid = paid
+
+-- what a test of two keys tells
+pub same_if_told : (left right : Key) → not (eqb left.phase right.phase && (eqb left.taken right.taken && eqb left.rule right.rule)) ≡ false → right ≡ left
+same_if_told left right told =
+    let all = not-false (eqb left.phase right.phase && (eqb left.taken right.taken && eqb left.rule right.rule)) told in
+    let parts = and_parts (eqb left.phase right.phase) (eqb left.taken right.taken && eqb left.rule right.rule) all in
+    let others = and_parts (eqb left.taken right.taken) (eqb left.rule right.rule) parts.1 in
+    let phase = sym (eqb-true left.phase right.phase parts.0) in
+    let taken = sym (eqb-true left.taken right.taken others.0) in
+    let rule = sym (eqb-true left.rule right.rule others.1) in
+    λ i. record { phase = phase i; taken = taken i; rule = rule i }
+
+pub differ_if_told : (left right : Key) → not (eqb left.phase right.phase && (eqb left.taken right.taken && eqb left.rule right.rule)) ≡ true → right ≡ left → ⊥
+differ_if_told left right told same =
+    let phase = eq-eqb left.phase right.phase (ap (λ (k : Key). k.phase) (sym same)) in
+    let taken = eq-eqb left.taken right.taken (ap (λ (k : Key). k.taken) (sym same)) in
+    let rule = eq-eqb left.rule right.rule (ap (λ (k : Key). k.rule) (sym same)) in
+    false≢true (rw (phase, taken, rule) at told)

@@ -1,0 +1,9 @@
+-- None of the ways so far is from the key on and goes further.
+use Rattle.search_frames.specs.Frames.{standing_of}
+use Rattle.summary_chart.specs.Turning.{key_for}
+use Rattle.summary_chart.proofs.LivingWays.{HasNoneBefore}
+use Rattle.summary_chart.proofs.turning.find_living.Given as goal
+
+abbrev pub invariant-loop-way : goal.invariant-loop-way
+invariant-loop-way l =
+    HasNoneBefore l.lexicon l.line l.choices l.table (standing_of l.lexicon l.place) (key_for l.from) l.ways l.way-index
