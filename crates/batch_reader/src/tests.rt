@@ -63,10 +63,13 @@ impl Gate for Meeting {
     }
 }
 
+/// The most lines that a `Counter` tells from each other.
+const MOST_COUNTED: usize = 40;
+
 /// A gate that counts how often each of the first pieces passes, and in its last place all others.
 #[derive(Drop)]
 struct Counter {
-    passed: [AtomicU64; 6],
+    passed: [AtomicU64; MOST_COUNTED + 1],
 }
 
 impl Counter {
@@ -85,7 +88,7 @@ impl Counter {
 
 impl Gate for Counter {
     fn pass(&self, piece: u64) {
-        let place = piece.min(5) as usize;
+        let place = piece.min(MOST_COUNTED as u64) as usize;
         self.passed[place].fetch_add(1, Ordering::SeqCst);
     }
 }
@@ -122,23 +125,32 @@ fn line<R: Abort + AllocGlobal>(rt: &R, text: &str) -> Line {
     }
 }
 
-/// Asserts that the rows' lines have the rows' pages, in their order.
+/// Asserts that the rows' lines, so many times over, have the rows' pages, in their order.
 fn assert_read<R: Abort + AllocGlobal + Threads + Sync, G: Gate + Sync>(
     rt: &R,
     rows: &[Row],
+    times: usize,
     gate: &G,
 ) -> Result<(), Fail> {
     let alloc = rt.alloc();
     let lexicon = lexicon(rt)?;
     let mut lines = Vec::new(alloc);
-    for (text, _page) in rows {
-        lines.push(line(rt, text))?;
+    for _ in 0..times {
+        for (text, _page) in rows {
+            lines.push(line(rt, text))?;
+        }
     }
     let replies = read_all(rt, alloc, &lexicon, lines.as_slice(), 2, gate)?;
-    assert_eq!(rt; replies.len(), rows.len());
-    for (reply, (text, page)) in replies.iter().zip(rows) {
-        assert!(rt; reply.as_slice() == page.as_bytes(), "{text}");
+    let mut left = replies.iter();
+    for _ in 0..times {
+        for (text, page) in rows {
+            match left.next() {
+                Some(reply) => assert!(rt; reply.as_slice() == page.as_bytes(), "{text}"),
+                None => panic!(rt; "no reply"),
+            }
+        }
     }
+    assert!(rt; left.next().is_none());
     Ok(())
 }
 
@@ -149,10 +161,19 @@ fn replies_come_in_the_order_of_the_lines(rt: HostRuntime) -> Result<(), Fail> {
     for from in 0..=ROWS.len() {
         for to in from..=ROWS.len() {
             let gate = Counter::new();
-            assert_read(&rt, &ROWS[from..to], &gate)?;
+            assert_read(&rt, &ROWS[from..to], 1, &gate)?;
             assert!(rt; gate.counts_each_once(to - from));
         }
     }
+    Ok(())
+}
+
+// Forty lines are answered in pieces of two and three lines: each line has its own reply, and passes the gate by its own number.
+#[test]
+fn lines_of_a_piece_are_answered_one_by_one(rt: HostRuntime) -> Result<(), Fail> {
+    let gate = Counter::new();
+    assert_read(&rt, &ROWS, 8, &gate)?;
+    assert!(rt; gate.counts_each_once(40));
     Ok(())
 }
 
@@ -162,7 +183,7 @@ fn two_lines_are_answered_at_once(rt: HostRuntime) -> Result<(), Fail> {
         passed: AtomicBool::new(false),
         met: AtomicBool::new(false),
     };
-    assert_read(&rt, &ROWS[..2], &gate)?;
+    assert_read(&rt, &ROWS[..2], 1, &gate)?;
     assert!(rt; gate.met.load(Ordering::SeqCst));
     Ok(())
 }
