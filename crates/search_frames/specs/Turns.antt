@@ -9,10 +9,17 @@ use Rattle.annotated_trie.specs.Searched.{SearchedLexicon}
 use Rattle.resumption.specs.declared.state.Resumption.{Resumption}
 use Rattle.search_frames.specs.declared.guiding.Turn.{Turn}
 use Rattle.search_frames.specs.declared.guiding.Turn.TheVariants as turn
+use Rattle.search_frames.specs.declared.guiding.ToTry.{ToTry}
+use Rattle.search_frames.specs.declared.guiding.ToTry.TheVariants as to_try
 use Rattle.search_frames.specs.Standings.{Standing, IsPossible, Ends, ways_in}
-use Rattle.search_frames.specs.Frames.{IsFrame, IsUntried, HasLaterToTry, here_of, place_of, key_at, still_to_try}
+use Rattle.search_frames.specs.Frames.{IsFrame, IsUntried, HasAllToTry, HasLaterToTry, here_of, place_of, key_at, still_to_try}
 use Rattle.search_frames.specs.Tests.{LeadsTo}
 use Rattle.search_frames.specs.Costs.{steps_left}
+
+-- the frame has still to try what is said: every key, or just the keys after that of its step
+abbrev pub HasToTry : SearchedLexicon → Line → Resumption → ℕ → ToTry → Type 0
+HasToTry searched line stack level to_try.All = HasAllToTry searched line stack level
+HasToTry searched line stack level to_try.Later = HasLaterToTry searched line stack level
 
 -- some path from here begins with the key
 abbrev pub BeginsPath : SearchedLexicon → Line → List Choice → Standing → Key → Type 0

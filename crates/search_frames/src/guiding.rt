@@ -4,7 +4,7 @@ ghost use Rattle.annotated_trie.specs.Searched.{IsSearchedLexicon};
 ghost use Rattle.search_frames.specs.Frames.{IsFrame, ChangesFrom, here_of};
 ghost use Rattle.search_frames.specs.Reached.{IsReached};
 ghost use Rattle.search_frames.specs.Costs.{HasAtMostChoices};
-ghost use Rattle.search_frames.specs.Turns.{IsTurn, HasFallen, HasPaid};
+ghost use Rattle.search_frames.specs.Turns.{HasToTry, IsTurn, HasFallen, HasPaid};
 
 use super::going_on::go_on;
 use super::place::Place;
@@ -25,6 +25,13 @@ pub enum Turn {
     LeadsOn(Place),
 }
 
+/// What a frame has still to try: every key that is possible at its place, or just the keys after that of its step.
+#[derive(Clone, Copy, Debug, PartialEq, Eq)]
+pub enum ToTry {
+    All,
+    Later,
+}
+
 /// A guide that brings the frames of a search from key to key, and leaves out keys that lead to no answer (own).
 pub trait SearchGuide: Guide {
     ghost use Rattle.std.specs.Prelude.{List};
@@ -35,8 +42,8 @@ pub trait SearchGuide: Guide {
     /// What is known of it, where a search goes over this lexicon, this line and these choices.
     ghost known: { Self → SearchedLexicon → Line → List Choice → Type 0 };
 
-    /// Brings the frame at the level, counted from 0, to its next key that leads on or ends the line, and tells which. It may leave out
-    /// keys with which no path to an answer begins.
+    /// Brings the frame at the level, counted from 0, which has still to try what is said, to its next key that leads on or ends the
+    /// line, and tells which. It may leave out keys with which no path to an answer begins.
     fn turn<L>(
         &self,
         lexicon: &Lexicon,
@@ -44,12 +51,14 @@ pub trait SearchGuide: Guide {
         choices: &Choices,
         stack: &mut Resumption,
         level: usize,
+        to_try: ToTry,
         steps: &mut Steps<L>,
     ) -> Turn
         requires known { known self.now lexicon.now line.now choices.now }
         requires searched { IsSearchedLexicon lexicon.now }
         requires line { IsLine line.now }
         requires frame { IsFrame lexicon.now line.now stack.old level }
+        requires to_try { HasToTry lexicon.now line.now stack.old level to_try }
         requires reached { IsReached lexicon.now line.now choices.now (here_of lexicon.now stack.old level) }
         ensures turn { IsTurn lexicon.now line.now choices.now level stack.old stack.new result }
         ensures falls { HasFallen lexicon.now level stack.old stack.new result }
@@ -67,6 +76,7 @@ impl SearchGuide for OpenGuide {
         choices: &Choices,
         stack: &mut Resumption,
         level: usize,
+        to_try: ToTry,
         steps: &mut Steps<L>,
     ) -> Turn {
         while go_on(lexicon, line, stack, level, steps) {

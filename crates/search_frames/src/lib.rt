@@ -31,7 +31,7 @@ mod ways;
 
 pub use arriving::go_to;
 pub use going_on::go_on;
-pub use guiding::{SearchGuide, Turn};
+pub use guiding::{SearchGuide, ToTry, Turn};
 pub use letter_testing::{LetterTest, test_letters};
 pub use opening::open_frame;
 pub use place::Place;
