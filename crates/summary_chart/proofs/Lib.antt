@@ -13,6 +13,7 @@ mod WayKeys
 mod ProgramPlaces
 mod ReachedPlaces
 mod LivingReached
+mod EmptySets
 mod LivingPlaces
 mod PassCosts
 mod OpenTables

@@ -1,7 +1,7 @@
 -- What a pass spends is a frame for each index; and what a chart takes is below the bound, which counts a look at each node and
 -- choice three times, and each state of the grammar.
 use Rattle.std.proofs.Common.{◌≡◌, ℕ, suc, ◌+◌, ◌-◌, ◌*◌, ◌<◌, ◌≤◌, length, ap, sym, subst, ◌∙◌, arith}
-use Rattle.std.proofs.Math.Nat.{suc-mul, mul-le-mul_left}
+use Rattle.std.proofs.Math.Nat.{suc-mul, mul-le-mul_left, mul-le-mul_right}
 use Rattle.text_definitions.specs.Lines.{Line}
 use Rattle.segmentation_definitions.specs.StepBounds.{chart_bound, configuration_count}
 use Rattle.annotated_trie.specs.Searched.{SearchedLexicon, IsSearchedLexicon}
@@ -16,6 +16,13 @@ one_frame_more before index frame now then spent more =
     let e : index + 1 ≡ suc index = omega arith in
     let each : (index + 1) * frame ≡ index * frame + frame = ap (λ (n : ℕ). n * frame) e ∙ suc-mul index frame in
     omega (arith, each, spent, more)
+
+-- and no more where indices are passed over after it
+pub frame_and_skip : (before index next frame now then : ℕ) → index + 1 ≤ next → now ≤ before + index * frame → then ≤ now + frame → then ≤ before + next * frame
+frame_and_skip before index next frame now then rises spent more =
+    let one = one_frame_more before index frame now then spent more in
+    let all : (index + 1) * frame ≤ next * frame = mul-le-mul_right frame rises in
+    omega (arith, one, all)
 
 -- one frame of those that are left
 pub one_frame_less : (most index frame now then : ℕ) → 0 < index → now + index * frame ≤ most → then ≤ now + frame → then + (index - 1) * frame ≤ most

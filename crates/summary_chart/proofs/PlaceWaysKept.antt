@@ -24,7 +24,7 @@ use Rattle.search_frames.specs.WaysFrom.{AreWaysFrom, AppendsWays}
 use Rattle.summary_chart.specs.declared.place_ways.Stop.{Stop}
 use Rattle.summary_chart.specs.declared.table.Table.{Table}
 use Rattle.summary_chart.specs.StateSets.{HasState}
-use Rattle.summary_chart.specs.Tables.{IsTable, IsIn, IsIndexed, IsEntrance, set_of}
+use Rattle.summary_chart.specs.Tables.{IsTable, IsIn, IsIndexed, IsEntrance, AreEmptyBetween}
 use Rattle.summary_chart.specs.Spreading.{leads_in}
 use Rattle.summary_chart.specs.Charts.{index_of_place}
 use Rattle.summary_chart.specs.PlaceWays.{AreStops, AreWaysAt, HasAllWays, HasStopAt, HasWaysBefore, IsStopWithin, compare_stops, ways_of}
@@ -68,20 +68,20 @@ module _ (searched : SearchedLexicon) (line : Line) (choices : List Choice) wher
     there = λ place within low inside. has.there place within low (fewer place within inside);
   }
 
-  -- no place stands at the index
-  pub no_stop : (index : ℕ) (table : Table) (stops : List Stop) (ways : List Way) → IsTable (leads_in searched) (length line.letters) table
-      → ((number : ℕ) → HasState (set_of table index) number → ⊥)
-      → HasWaysBefore searched line choices index table stops ways → HasWaysBefore searched line choices (index + 1) table stops ways
-  no_stop index table stops ways is none has = record {
+  -- no place stands from the index up to another
+  pub no_stops : (from until : ℕ) (table : Table) (stops : List Stop) (ways : List Way) → IsTable (leads_in searched) (length line.letters) table
+      → AreEmptyBetween table.sets.items from until
+      → HasWaysBefore searched line choices from table stops ways → HasWaysBefore searched line choices until table stops ways
+  no_stops from until table stops ways is empty has = record {
     are = has.are;
-    before = All-from_Contains (λ (stop : Stop). stop.index < index + 1) stops (λ stop there.
-        let low = All-contains (λ (stop : Stop). stop.index < index) stops stop has.before there in omega (arith, low));
+    before = All-from_Contains (λ (stop : Stop). stop.index < until) stops (λ stop there.
+        let low = All-contains (λ (stop : Stop). stop.index < from) stops stop has.before there in omega (arith, low, empty.rises));
     each = has.each;
-    there = λ place within low inside. elim (cases_lt (index_of_place searched place) index) [
+    there = λ place within low inside. elim (cases_lt (index_of_place searched place) from) [
       | inl earlier ↦ has.there place within earlier inside
-      | inr same ↦
-          let here = numbered_at searched line index table place is inside (omega arith) in
-          absurd (none here.number here.has)
+      | inr later ↦
+          let here = numbered_at searched line (index_of_place searched place) table place is inside refl in
+          absurd (empty.empty (index_of_place searched place) here.number later low here.has)
     ];
   }
 

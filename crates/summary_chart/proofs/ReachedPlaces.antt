@@ -1,7 +1,7 @@
 -- One turn of the pass forward: where keys lead on to from the places at an index is put into the table, stands later, and is
 -- reached; so each place before the next index is closed. A living place is in a table that is closed everywhere, by induction on
 -- the front of an answer that ends there.
-use Rattle.std.proofs.Common.{◌≡◌, ℕ, ◌+◌, ◌<◌, inl, inr, List, length, sym, subst, arith}
+use Rattle.std.proofs.Common.{◌≡◌, ℕ, ◌+◌, ◌<◌, inl, inr, List, length, refl, sym, subst, arith}
 use Rattle.std.proofs.lemmas.Bool.{cases_lt}
 use Rattle.text_definitions.specs.Lines.{Line}
 use Rattle.segmentation_definitions.specs.Items.{Choice}
@@ -16,7 +16,7 @@ use Rattle.search_frames.proofs.LeadingTo.{leads_from}
 use Rattle.search_frames.proofs.ReachedStandings.{opening_reached}
 use Rattle.summary_chart.specs.declared.table.Table.{Table}
 use Rattle.summary_chart.specs.StateSets.{HasState}
-use Rattle.summary_chart.specs.Tables.{IsTable, IsIn, IsIndexed, set_of}
+use Rattle.summary_chart.specs.Tables.{IsTable, IsIn, IsIndexed, AreEmptyBetween, set_of}
 use Rattle.summary_chart.specs.Spreading.{Spreads, EveryKey, IsLedOnTo, leads_in, place_with}
 use Rattle.summary_chart.specs.Charts.{IsReachedBefore, IsOpenTable, index_of_place}
 use Rattle.summary_chart.proofs.TableOrder.{later_place}
@@ -83,19 +83,19 @@ module _ (searched : SearchedLexicon) (line : Line) (choices : List Choice) (ind
           ];
     }
 
--- where the set at the index is empty, nothing is to be done
-pub nothing_on : (searched : SearchedLexicon) (line : Line) (choices : List Choice) (index : ℕ) (table : Table)
-    → IsReachedBefore searched line choices index table → ((number : ℕ) → HasState (set_of table index) number → ⊥)
-    → IsReachedBefore searched line choices (index + 1) table
-nothing_on searched line choices index table before none = record {
+-- where the sets up to an index are empty, nothing is to be done
+pub nothing_until : (searched : SearchedLexicon) (line : Line) (choices : List Choice) (from until : ℕ) (table : Table)
+    → IsReachedBefore searched line choices from table → AreEmptyBetween table.sets.items from until
+    → IsReachedBefore searched line choices until table
+nothing_until searched line choices from until table before empty = record {
   lawful = before.lawful;
   reached = before.reached;
   begun = before.begun;
-  closed = λ place next key within low inside leads. elim (cases_lt (index_of_place searched place) index) [
+  closed = λ place next key within low inside leads. elim (cases_lt (index_of_place searched place) from) [
     | inl earlier ↦ before.closed place next key within earlier inside leads
-    | inr same ↦
-        let here = numbered_at searched line index table place before.lawful inside (omega arith) in
-        absurd (none here.number here.has)
+    | inr later ↦
+        let here = numbered_at searched line (index_of_place searched place) table place before.lawful inside refl in
+        absurd (empty.empty (index_of_place searched place) here.number later low here.has)
   ];
 }
 

@@ -85,6 +85,12 @@ pub record IsIndexed (leads : List Lead) (letters index at : ℕ) (entrance : En
   pub over : IsEntranceOver leads entrance
   pub proper : IsEntrance entrance
 
+-- the second index does not come before the first, and the sets from the first up to before the second are empty
+pub record AreEmptyBetween (sets : List StateSet) (from until : ℕ) : Type 0 where
+  pub rises : from ≤ until
+  pub within : until ≤ length sets
+  pub empty : (index number : ℕ) → from ≤ index → index < until → HasState (slice_index_or sets index (record { bits = 0 })) number → ⊥
+
 -- only the set at the index changes
 pub record ChangesAt (index : ℕ) (old new : Table) : Type 0 where
   pub entrances : new.entrances ≡ old.entrances

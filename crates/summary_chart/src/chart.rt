@@ -73,8 +73,10 @@ impl Chart {
         let _states = lexicon.automaton().states();
         let mut walker = new_stack(alloc, lexicon, 1)?;
         let mut table = open_table(alloc, lexicon, line)?;
-        let mut stops = Vec::new(alloc);
-        let mut ways = Vec::new(alloc);
+        // Most lines have fewer of each than letters.
+        let letters = line.letters.as_slice().len();
+        let mut stops = Vec::with_capacity(alloc, letters)?;
+        let mut ways = Vec::with_capacity(alloc, letters)?;
         reach(
             lexicon,
             line,

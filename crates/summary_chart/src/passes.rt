@@ -42,11 +42,9 @@ pub(crate) fn reach<L>(
     ensures steps { (most : ℕ) → HasAtMostChoices lexicon.now.tries most → steps.new ≤ steps.old + steps_of_pass lexicon.now line.now most }
 {
     let state = lexicon.automaton().start();
-    for index in 0..table.sets.len() {
+    let mut index = table.next_filled(0);
+    while index < table.sets.len() {
         let states = table.sets[index];
-        if states.is_empty() {
-            continue;
-        }
         let (at, entrance) = table.place(index);
         let place = Place {
             at,
@@ -59,6 +57,7 @@ pub(crate) fn reach<L>(
         stops.push(Stop { index, first, end })?;
         let found = &ways.as_slice()[first..];
         spread(lexicon, line, choices, &place, states, found, table);
+        index = table.next_filled(index + 1);
     }
     Ok(())
 }

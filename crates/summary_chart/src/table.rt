@@ -1,9 +1,10 @@
 ghost use Rattle.std.specs.Prelude.{◌≡◌, ◌^◌, ◌<◌, ◌≤◌, ◌⊎◌, ◌↔◌, ℕ, List, length, IfOk, IsTrue};
+ghost use Rattle.std.specs.Bool.{OnTrue};
 ghost use Rattle.text_definitions.specs.Lines.{IsLine};
 ghost use Rattle.lexicon_definitions.specs.Leads.{Lead, leads_of};
 ghost use Rattle.lexicon_definitions.specs.declared.limits.TheConstants.{MOST_LEADS};
 ghost use Rattle.summary_chart.specs.StateSets.{HasState};
-ghost use Rattle.summary_chart.specs.Tables.{IsTable, AreEntrances, IsEntrance, HasSet, HasThisState, ChangesAt, IsIndexed, IsStateNumber, index_in, set_of, set_at};
+ghost use Rattle.summary_chart.specs.Tables.{IsTable, AreEntrances, IsEntrance, HasSet, HasThisState, ChangesAt, IsIndexed, IsStateNumber, AreEmptyBetween, index_in, set_of, set_at};
 
 use super::state_set::StateSet;
 use derivation::Entrance;
@@ -14,6 +15,9 @@ use std::alloc::Global;
 
 /// How many entrances there are besides the leads: the start, and one for each letter.
 const OTHER_ENTRANCES: usize = 51;
+
+/// How many sets are looked at together where most of them are empty.
+const SETS_AT_ONCE: usize = 16;
 
 /// For each number of letters derived and each entrance a set of states. The entrances stand in their columns: the leads by their
 /// places, the start, and the letters by their codes.
@@ -28,7 +32,7 @@ fn entrances_over(alloc: Global, leads: usize) -> Result<Vec<Entrance>, Memory>
     requires few { leads ≤ MOST_LEADS }
     ensures { IfOk result (λ entrances. AreEntrances leads entrances.items) }
 {
-    let mut entrances = Vec::new(alloc);
+    let mut entrances = Vec::with_capacity(alloc, leads + OTHER_ENTRANCES)?;
     for place in 0..leads {
         entrances.push(Entrance::Lead(place as u16))?;
     }
@@ -39,6 +43,46 @@ fn entrances_over(alloc: Global, leads: usize) -> Result<Vec<Entrance>, Memory>
         }
     }
     Ok(entrances)
+}
+
+/// Whether the sets are all empty.
+fn are_empty(sets: &[StateSet]) -> bool
+    ensures { OnTrue result (AreEmptyBetween sets.now 0 (length sets.now)) }
+{
+    let mut states = StateSet::empty();
+    for set in sets {
+        states = states.union(*set);
+    }
+    states.is_empty()
+}
+
+/// An index from this one on up to which all sets are empty, and after which too few are left to be looked at together, or one
+/// of the next is not empty.
+fn skip_many(sets: &[StateSet], from: usize) -> usize
+    requires { from ≤ length sets.now }
+    ensures { AreEmptyBetween sets.now from result }
+{
+    let mut index = from;
+    while sets.len() - index >= SETS_AT_ONCE {
+        if !are_empty(&sets[index..index + SETS_AT_ONCE]) {
+            return index;
+        }
+        index += SETS_AT_ONCE;
+    }
+    index
+}
+
+/// The first index from this one on whose set is not empty, or the number of sets.
+fn skip_empty(sets: &[StateSet], from: usize) -> usize
+    requires { from ≤ length sets.now }
+    ensures { AreEmptyBetween sets.now from result }
+{
+    for index in from..sets.len() {
+        if !sets[index].is_empty() {
+            return index;
+        }
+    }
+    sets.len()
 }
 
 impl Table {
@@ -113,6 +157,16 @@ impl Table {
         ensures set { set_of self.new index ≡ states }
     {
         self.sets[index] = states;
+    }
+
+    /// The first index from this one on whose set is not empty, or the number of sets. Most sets are empty, so many are looked at
+    /// together.
+    pub fn next_filled(&self, from: usize) -> usize
+        requires { from ≤ length self.now.sets.items }
+        ensures { AreEmptyBetween self.now.sets.items from result }
+    {
+        let sets = self.sets.as_slice();
+        skip_empty(sets, skip_many(sets, from))
     }
 
     /// After how many letters and at which entrance the set at the index stands.

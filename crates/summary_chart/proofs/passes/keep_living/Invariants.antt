@@ -1,5 +1,5 @@
 -- From the next stop on the table has only living places; the ways from its places are kept.
-use Rattle.std.proofs.Common.{◌≡◌, ◌≤◌, ℕ, length}
+use Rattle.std.proofs.Common.{◌≤◌, length}
 use Rattle.summary_chart.specs.Charts.{IsAliveFrom}
 use Rattle.summary_chart.specs.PlaceWays.{HasWaysBefore}
 use Rattle.summary_chart.proofs.StopOrder.{limit_at}

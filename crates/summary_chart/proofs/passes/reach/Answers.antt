@@ -1,5 +1,5 @@
 -- One turn by the lemmas on turns (`ReachedPlaces`, `PlaceWaysKept`); at the end the table is closed everywhere.
-use Rattle.std.proofs.Common.{◌≡◌, ◌+◌, ◌-◌, ◌*◌, ◌<◌, ◌≤◌, ◌++◌, ◌∷◌, [], ℕ, List, length, take, drop, sym, ap, subst, refl, ◌∙◌, arith}
+use Rattle.std.proofs.Common.{◌≡◌, ◌+◌, ◌-◌, ◌++◌, ◌∷◌, [], ℕ, List, length, take, drop, sym, ap, subst, refl, ◌∙◌, arith}
 use Rattle.std.proofs.lemmas.List.{get_or_read_under, length-drop}
 use Rattle.std.proofs.Math.Seq.{drop-append_seam, take-length}
 use Rattle.search_frames.specs.declared.ways.Way.{Way}
@@ -8,48 +8,34 @@ use Rattle.search_frames.specs.Frames.{standing_of}
 use Rattle.search_frames.specs.WaysFrom.{AreWaysFrom}
 use Rattle.summary_chart.specs.declared.place_ways.Stop.{Stop}
 use Rattle.summary_chart.specs.declared.state_set.StateSet.{StateSet}
-use Rattle.summary_chart.specs.StateSets.{HasState}
 use Rattle.summary_chart.specs.Tables.{set_of}
 use Rattle.summary_chart.specs.Spreading.{Spreads, EveryKey, leads_in}
 use Rattle.summary_chart.specs.Charts.{IsReachedBefore, set_count}
 use Rattle.summary_chart.specs.PlaceWays.{HasWaysBefore}
-use Rattle.summary_chart.proofs.ReachedPlaces.{spread_on, nothing_on, opened, old_before}
+use Rattle.summary_chart.proofs.ReachedPlaces.{spread_on, nothing_until, opened, old_before}
 use Rattle.summary_chart.proofs.LivingReached.{has_reached}
-use Rattle.summary_chart.proofs.PassCosts.{one_frame_more}
+use Rattle.summary_chart.proofs.PassCosts.{one_frame_more, frame_and_skip}
 use Rattle.summary_chart.proofs.SummarySteps.{frames_within}
-use Rattle.summary_chart.proofs.PlaceWaysKept.{no_ways, no_stop, one_stop_more}
+use Rattle.summary_chart.proofs.PlaceWaysKept.{no_ways, no_stops, one_stop_more}
 use Rattle.summary_chart.proofs.passes.reach.Goals as goal
 
 pub loop-index-init : goal.loop-index-init
-loop-index-init g c = record {
-  before = opened c.args.lexicon.now c.args.line.now c.args.choices.now c.args.table.now c.requires.opening;
-  ways = subst (λ (stops : List Stop). HasWaysBefore c.args.lexicon.now c.args.line.now c.args.choices.now 0 c.args.table.now stops c.args.ways.now.items) (sym c.requires.stops)
-      (subst (HasWaysBefore c.args.lexicon.now c.args.line.now c.args.choices.now 0 c.args.table.now []) (sym c.requires.ways)
-      (no_ways c.args.lexicon.now c.args.line.now c.args.choices.now c.args.table.now));
-  end = omega (arith, c.len-index-end.ensures, c.args.table.now.sets.ok);
-  walker = c.requires.walker;
-  room = c.requires.room;
-  steps = λ most few. omega arith;
-}
-
-pub loop-index-preserved-then-is_empty : goal.loop-index-preserved-then-is_empty
-loop-index-preserved-then-is_empty g c =
+loop-index-init g c =
     let searched = c.args.lexicon.now in
     let line = c.args.line.now in
     let choices = c.args.choices.now in
-    let index = c.loop-index.index in
-    let table = c.loop-index.table in
-    let inv = c.loop-index.invariant in
-    let read : c.index-states.result.now ≡ set_of table index =
-    get_or_read_under table.sets.items index c.len-index-end.result c.index-states.result.now (record { bits = 0 }) c.index-states.ensures c.loop-index-test.true inv.end in
-    let none = subst (λ (set : StateSet). (number : ℕ) → HasState set number → ⊥) read c.if-is_empty.ensures in
+    let table = c.args.table.now in
+    let empty = c.next_filled-index.ensures in
+    let first = opened searched line choices table c.requires.opening in
+    let none = subst (λ (stops : List Stop). HasWaysBefore searched line choices 0 table stops c.args.ways.now.items) (sym c.requires.stops)
+    (subst (HasWaysBefore searched line choices 0 table []) (sym c.requires.ways) (no_ways searched line choices table)) in
     record {
-      before = nothing_on searched line choices index table inv.before none;
-      ways = no_stop searched line choices index table c.loop-index.stops.items c.loop-index.ways.items inv.before.lawful none inv.ways;
-      end = inv.end;
-      walker = inv.walker;
-      room = inv.room;
-      steps = λ most few. one_frame_more c.args.steps.now index (steps_of_frame searched most) c.loop-index.steps c.loop-index.steps (inv.steps most few) (omega arith);
+      before = nothing_until searched line choices 0 c.next_filled-index.result table first empty;
+      ways = no_stops searched line choices 0 c.next_filled-index.result table c.args.stops.now.items c.args.ways.now.items first.lawful empty none;
+      within = empty.within;
+      walker = c.requires.walker;
+      room = c.requires.room;
+      steps = λ most few. omega arith;
     }
 
 pub returns-in_err-push_ways-clause-steps : goal.returns-in_err-push_ways-clause-steps
@@ -58,7 +44,7 @@ returns-in_err-push_ways-clause-steps g c most few =
     let inv = c.loop-index.invariant in
     let spent = c.push_ways.ensures.steps most few in
     frames_within searched c.args.line.now most (c.loop-index.index + 1) c.args.steps.now c.push_ways.new.steps
-    (omega (arith, c.loop-index-test.true, inv.end, inv.before.lawful.count))
+    (omega (arith, c.loop-index-test.true, c.len.ensures, c.loop-index.table.sets.ok, inv.before.lawful.count))
     (one_frame_more c.args.steps.now c.loop-index.index (steps_of_frame searched most) c.loop-index.steps c.push_ways.new.steps (inv.steps most few) (omega (arith, spent)))
 
 pub returns-in_err-push-clause-steps : goal.returns-in_err-push-clause-steps
@@ -67,7 +53,7 @@ returns-in_err-push-clause-steps g c most few =
     let inv = c.loop-index.invariant in
     let spent = c.push_ways.ensures.steps most few in
     frames_within searched c.args.line.now most (c.loop-index.index + 1) c.args.steps.now c.push_ways.new.steps
-    (omega (arith, c.loop-index-test.true, inv.end, inv.before.lawful.count))
+    (omega (arith, c.loop-index-test.true, c.len.ensures, c.loop-index.table.sets.ok, inv.before.lawful.count))
     (one_frame_more c.args.steps.now c.loop-index.index (steps_of_frame searched most) c.loop-index.steps c.push_ways.new.steps (inv.steps most few) (omega (arith, spent)))
 
 pub loop-index-preserved : goal.loop-index-preserved
@@ -79,7 +65,10 @@ loop-index-preserved g c =
     let old = c.loop-index.table in
     let inv = c.loop-index.invariant in
     let read : c.index-states.result.now ≡ set_of old index =
-    get_or_read_under old.sets.items index c.len-index-end.result c.index-states.result.now (record { bits = 0 }) c.index-states.ensures c.loop-index-test.true inv.end in
+    get_or_read_under old.sets.items index c.len.result c.index-states.result.now (record { bits = 0 }) c.index-states.ensures c.loop-index-test.true
+    (omega (arith, c.len.ensures, old.sets.ok)) in
+    let next = c.next_filled-index-in-loop-index.result in
+    let empty = c.next_filled-index-in-loop-index.ensures in
     let spread = c.spread.ensures in
     let new = c.spread.new.table in
     let appends = c.in_ok-push_ways.ensures.ok in
@@ -95,14 +84,17 @@ loop-index-preserved g c =
     pushed ∙ ap (λ (stop : Stop). c.loop-index.stops.items ++ stop ∷ []) (λ i. record { index = index; first = first_is i; end = end_is i }) in
     let one_more = one_stop_more searched line choices index c.place-at.result.0 c.place-at.result.1 indexed (record { at = c.place-at.result.0; entrance = c.place-at.result.1; state = c.start-state.result }) refl refl old new c.loop-index.stops.items ways more
     inv.ways appends.are was in
+    let before = spread_on searched line choices index c.place-at.result.0 c.place-at.result.1 old c.requires.searched inv.before indexed new spread.table spreads in
+    let has_ways = subst (λ (stops : List Stop). HasWaysBefore searched line choices (index + 1) new stops c.push_ways.new.ways.items) (sym stops_are)
+    (subst (HasWaysBefore searched line choices (index + 1) new (c.loop-index.stops.items ++ record { index = index; first = length ways; end = length (ways ++ more) } ∷ [])) (sym appends.appended) one_more) in
     record {
-      before = spread_on searched line choices index c.place-at.result.0 c.place-at.result.1 old c.requires.searched inv.before indexed new spread.table spreads;
-      ways = subst (λ (stops : List Stop). HasWaysBefore searched line choices (index + 1) new stops c.push_ways.new.ways.items) (sym stops_are)
-          (subst (HasWaysBefore searched line choices (index + 1) new (c.loop-index.stops.items ++ record { index = index; first = length ways; end = length (ways ++ more) } ∷ [])) (sym appends.appended) one_more);
-      end = inv.end ∙ inv.before.lawful.count ∙ sym spread.table.count;
+      before = nothing_until searched line choices (index + 1) next new before empty;
+      ways = no_stops searched line choices (index + 1) next new c.push.new.self.items c.push_ways.new.ways.items before.lawful empty has_ways;
+      within = empty.within;
       walker = c.in_ok-push_ways.ensures.walker;
       room = (let same = c.in_ok-push_ways.ensures.room in let some = inv.room in omega (arith, same, some));
-      steps = λ most few. one_frame_more c.args.steps.now index (steps_of_frame searched most) c.loop-index.steps c.push_ways.new.steps (inv.steps most few) (c.push_ways.ensures.steps most few);
+      steps = λ most few. frame_and_skip c.args.steps.now index next (steps_of_frame searched most) c.loop-index.steps c.push_ways.new.steps empty.rises (inv.steps most few)
+          (c.push_ways.ensures.steps most few);
     }
 
 -- the ways that were appended are those from the first on
@@ -124,6 +116,6 @@ pub returns-clause-reached : goal.returns-clause-reached
 returns-clause-reached g c =
     let inv = c.loop-index.invariant in
     let all : c.loop-index.index ≡ set_count c.args.lexicon.now c.args.line.now =
-    omega (arith, c.loop-index-test.false, c.loop-index.auto.index-end, inv.end, inv.before.lawful.count) in
+    omega (arith, c.loop-index-test.false, c.len.ensures, c.loop-index.table.sets.ok, inv.within, inv.before.lawful.count) in
     has_reached c.args.lexicon.now c.args.line.now c.args.choices.now c.loop-index.table c.requires.searched
     (subst (λ (n : ℕ). IsReachedBefore c.args.lexicon.now c.args.line.now c.args.choices.now n c.loop-index.table) all inv.before) c.requires.line

@@ -1,5 +1,5 @@
 -- At the start there is nothing, each stop adds its items, no place stands between stops, and at the end they are the answers' (`TableItems`).
-use Rattle.std.proofs.Common.{◌≡◌, ◌<◌, ◌≤◌, ◌+◌, ℕ, List, length, sym, subst, refl, ◌∙◌, arith}
+use Rattle.std.proofs.Common.{◌<◌, ◌≤◌, ◌+◌, ℕ, List, length, sym, subst, refl, arith}
 use Rattle.phase_automaton.specs.Automata.{StateMachine, IsStateIn}
 use Rattle.text_definitions.specs.Lines.{Line}
 use Rattle.segmentation_definitions.specs.Items.{Choice}
