@@ -8,7 +8,7 @@ use Rattle.segmentation_definitions.specs.Listings.{Key}
 use Rattle.annotated_trie.specs.Searched.{SearchedLexicon, IsSearchedLexicon}
 use Rattle.resumption.specs.declared.state.Resumption.{Resumption}
 use Rattle.search_frames.specs.Standings.{Standing, after}
-use Rattle.search_frames.specs.Frames.{IsFrame, here_of}
+use Rattle.search_frames.specs.Frames.{IsFrame, HasLaterToTry, here_of}
 use Rattle.search_frames.specs.Reached.{IsReached, rank}
 use Rattle.segmenter.specs.Chains.{AreFrames, LeadAlong, HasFound, HasNone, HasNoneBelow, BeginsUntried, ComesAfter, HasRoom, KeepsBefore}
 use Rattle.search_frames.proofs.StandingRanks.{rank_rises, rank_within}
@@ -34,6 +34,12 @@ module _ (searched : SearchedLexicon) (line : Line) where
       → level < stack.depth → IsFrame searched line stack level
   first_frame stack [] level here frames below = absurd (omega (arith, frames, below))
   first_frame stack (key ∷ keys) level here frames below = frames.0
+
+  -- it has just its later keys to try
+  pub first_later : (stack : Resumption) (keys : List Key) (level : ℕ) (here : Standing) → AreFrames searched line stack level here keys
+      → level < stack.depth → HasLaterToTry searched line stack level
+  first_later stack [] level here frames below = absurd (omega (arith, frames, below))
+  first_later stack (key ∷ keys) level here frames below = frames.2
 
 -- the frames after the first one
 pub record Deeper (searched : SearchedLexicon) (line : Line) (choices : List Choice) (stack : Resumption) (level : ℕ) : Type 0 where

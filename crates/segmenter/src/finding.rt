@@ -7,6 +7,7 @@ ghost use Rattle.search_frames.specs.Frames.{IsStack, IsFrame, IsPlaceIn, standi
 ghost use Rattle.search_frames.specs.Guided.{IsGuideOf, IsExactOf};
 ghost use Rattle.search_frames.specs.Costs.{HasAtMostChoices, steps_left};
 ghost use Rattle.search_frames.specs.Reached.{IsReached};
+ghost use Rattle.search_frames.specs.Turns.{HasToTry};
 ghost use Rattle.segmenter.specs.MoveCosts.{steps_of_levels, levels_from, levels_after};
 ghost use Rattle.segmenter.specs.Chains.{AreFrames, HasFound, HasNone, Every, BeginsUntried, ComesAfter, LeadAlong, HasNoneBelow, HasRoom, KeepsBefore};
 
@@ -15,7 +16,7 @@ use outside::Steps;
 use phoneme::Line;
 use reader_choices::Choices;
 use resumption::Resumption;
-use search_frames::{Place, SearchGuide, Turn, open_frame};
+use search_frames::{Place, SearchGuide, ToTry, Turn, open_frame};
 
 /// Finds the first path from the place, with the frames from the level on. False where there is none.
 #[cycle(find)]
@@ -49,11 +50,20 @@ pub(crate) fn find_first<D: SearchGuide, L>(
         return false;
     }
     open_frame(lexicon, line, stack, level, place, steps);
-    find_next(lexicon, line, choices, guide, stack, level, steps)
+    find_next(
+        lexicon,
+        line,
+        choices,
+        guide,
+        stack,
+        level,
+        ToTry::All,
+        steps,
+    )
 }
 
 /// Finds the first path from where the frame at the level stands that begins with a key that the frame has still to try. False
-/// where there is none.
+/// where there is none. The caller says which keys these are, so that the guide need not find it out.
 #[cycle(find)]
 pub(crate) fn find_next<D: SearchGuide, L>(
     lexicon: &Lexicon,
@@ -62,6 +72,7 @@ pub(crate) fn find_next<D: SearchGuide, L>(
     guide: &D,
     stack: &mut Resumption,
     level: usize,
+    to_try: ToTry,
     steps: &mut Steps<L>,
 ) -> bool
     requires searched { IsSearchedLexicon lexicon.now }
@@ -69,6 +80,7 @@ pub(crate) fn find_next<D: SearchGuide, L>(
     requires guide { IsGuideOf lexicon.now line.now choices.now (D.covers guide.now) (D.says guide.now) }
     requires known { D.known guide.now lexicon.now line.now choices.now }
     requires frame { IsFrame lexicon.now line.now stack.old level }
+    requires to_try { HasToTry lexicon.now line.now stack.old level to_try }
     requires reached { IsReached lexicon.now line.now choices.now (here_of lexicon.now stack.old level) }
     requires room { HasRoom line.now stack.old level (here_of lexicon.now stack.old level) }
     ensures found { OnTrue result (HasFound lexicon.now line.now choices.now (BeginsUntried lexicon.now stack.old level) stack.new level (here_of lexicon.now stack.old level)) }
@@ -79,8 +91,9 @@ pub(crate) fn find_next<D: SearchGuide, L>(
     ensures steps_end { IsExactOf lexicon.now line.now choices.now (D.says guide.now) → (most : ℕ) → HasAtMostChoices lexicon.now.tries most
         → OnFalse result (steps.new ≤ steps.old + steps_left lexicon.now most stack.old level) }
 {
+    let mut to_try = to_try;
     loop {
-        match guide.turn(lexicon, line, choices, stack, level, steps) {
+        match guide.turn(lexicon, line, choices, stack, level, to_try, steps) {
             Turn::Nothing => return false,
             Turn::Ends => {
                 stack.depth = level as u32 + 1;
@@ -90,6 +103,7 @@ pub(crate) fn find_next<D: SearchGuide, L>(
                 if find_first(lexicon, line, choices, guide, stack, level + 1, next, steps) {
                     return true;
                 }
+                to_try = ToTry::Later;
             }
         }
     }
@@ -131,7 +145,16 @@ pub(crate) fn find_later<D: SearchGuide, L>(
     if find_deeper(lexicon, line, choices, guide, stack, level, steps) {
         return true;
     }
-    find_next(lexicon, line, choices, guide, stack, level, steps)
+    find_next(
+        lexicon,
+        line,
+        choices,
+        guide,
+        stack,
+        level,
+        ToTry::Later,
+        steps,
+    )
 }
 
 /// The same among those that share the first key with these, where there is another frame in use after this one.

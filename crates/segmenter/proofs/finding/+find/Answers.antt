@@ -5,7 +5,7 @@ use Rattle.search_frames.specs.Reached.{rank}
 use Rattle.search_frames.specs.Costs.{steps_left, steps_of_frame}
 use Rattle.search_frames.proofs.StandingPaths.{guide_says, path_if_exact}
 use Rattle.segmenter.specs.Chains.{HasFound, HasNone, Every}
-use Rattle.segmenter.proofs.KeptFrames.{frame_kept, keeps_then, keeps_less, other_depth}
+use Rattle.segmenter.proofs.KeptFrames.{frame_kept, later_kept, keeps_then, keeps_less, other_depth}
 use Rattle.segmenter.proofs.PathsFound.{found_first, none_at_all, on_true, on_false, still_reached, led_deeper, found_end, found_deeper, under_way_deeper, none_left, keeps_mid}
 use Rattle.segmenter.proofs.LevelCosts.{left_kept, tries_kept, found_below}
 use Rattle.segmenter.proofs.finding.+find.Goals as goal
@@ -42,6 +42,9 @@ pub find_next-turn-requires-clause-reached : goal.find_next-turn-requires-clause
 find_next-turn-requires-clause-reached g t c =
     still_reached c.args.lexicon.now c.args.line.now c.args.choices.now c.args.level c.args.stack.now c.loop-stack.stack c.loop-stack.invariant.under
     c.requires.reached
+
+pub find_next-turn-requires-clause-to_try : goal.find_next-turn-requires-clause-to_try
+find_next-turn-requires-clause-to_try g t c = c.loop-stack.invariant.to_try
 
 pub find_next-returns-in-Nothing-clause-none : goal.find_next-returns-in-Nothing-clause-none
 find_next-returns-in-Nothing-clause-none g t c =
@@ -120,6 +123,7 @@ find_next-loop-stack-preserved g t c =
       under = under_way_deeper c.args.lexicon.now c.args.line.now c.args.choices.now c.args.level c.args.stack.now c.loop-stack.stack c.turn.new.stack
           c.loop-stack.invariant.under turn.0 c.turn.ensures.changes c.find_first.new.stack c.find_first.ensures.changes turn.1.leads_on
           (subst (HasNone c.args.lexicon.now c.args.line.now c.args.choices.now Every) turn.1.is c.if-find_first.ensures.none);
+      to_try = later_kept c.args.lexicon.now c.args.line.now c.args.level c.turn.new.stack c.find_first.new.stack c.find_first.ensures.changes turn.0.frame turn.0.later;
       spent = λ exact most few.
           let so_far = c.loop-stack.invariant.spent exact most few in
           let key = c.in-LeadsOn.ensures.steps most few in

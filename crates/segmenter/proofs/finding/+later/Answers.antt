@@ -1,8 +1,8 @@
 -- What comes after the keys of the frames in use shares their first key, or begins with a later one.
 use Rattle.std.proofs.Common.{◌+◌, ◌-◌, ◌≤◌, arith, subst}
 use Rattle.search_frames.specs.Frames.{here_of}
-use Rattle.segmenter.proofs.KeptFrames.{frame_kept, here_kept, is_frame_kept, keeps_less}
-use Rattle.segmenter.proofs.FramesAlong.{on_false_too, first_frame, deeper, deeper_found, deeper_none, last_none, later_found, later_none}
+use Rattle.segmenter.proofs.KeptFrames.{frame_kept, here_kept, is_frame_kept, later_kept, keeps_less}
+use Rattle.segmenter.proofs.FramesAlong.{on_false_too, first_frame, first_later, deeper, deeper_found, deeper_none, last_none, later_found, later_none}
 use Rattle.search_frames.specs.Costs.{steps_left, steps_of_frame}
 use Rattle.search_frames.proofs.FrameCosts.{left_of_frame}
 use Rattle.segmenter.specs.MoveCosts.{steps_of_levels, levels_after}
@@ -70,6 +70,17 @@ find_later-find_next-requires-clause-frame g t c =
     is_frame_kept c.args.lexicon.now c.args.line.now c.args.level c.args.stack.now c.find_deeper.new.stack c.if-find_deeper.ensures.kept
     (first_frame c.args.lexicon.now c.args.line.now c.args.stack.now c.requires.frames.0 c.args.level
     (here_of c.args.lexicon.now c.args.stack.now c.args.level) c.requires.frames.1 c.requires.below)
+
+pub find_later-find_next-requires-clause-to_try : goal.find_later-find_next-requires-clause-to_try
+find_later-find_next-requires-clause-to_try g t c =
+    let stack = c.args.stack.now in
+    let level = c.args.level in
+    let here = here_of c.args.lexicon.now stack level in
+    let keys = c.requires.frames.0 in
+    let frames = c.requires.frames.1 in
+    later_kept c.args.lexicon.now c.args.line.now level stack c.find_deeper.new.stack c.if-find_deeper.ensures.kept
+    (first_frame c.args.lexicon.now c.args.line.now stack keys level here frames c.requires.below)
+    (first_later c.args.lexicon.now c.args.line.now stack keys level here frames c.requires.below)
 
 pub find_later-returns-clause-found : goal.find_later-returns-clause-found
 find_later-returns-clause-found g t c keys frames along =
