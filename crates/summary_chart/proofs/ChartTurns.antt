@@ -1,8 +1,7 @@
 -- A chart turns a frame. Its place is reached, so where a path begins there it is living and stands in the chart, with all its ways;
--- and a key with which a path begins goes further under the chart's table. So the first way from the next key on that goes further is
--- what is asked for: no such key comes before it, and those that it leaves out begin no path.
-use Rattle.std.proofs.Common.{◌≡◌, inl, inr, ℕ, ◌+◌, ◌≤◌, eqb, not, ◌&&◌, true, false, List, [], ◌∷◌, length, get_or, refl, sym, ◌∙◌, ap, subst, arith}
-use Rattle.std.proofs.lemmas.Bool.{false≢true, not-false, and_parts, eqb-true, eq-eqb}
+-- and a key with which a path begins goes further under the chart's table. So the first way after the keys that the frame has tried
+-- that goes further is what is asked for: no such key comes before it, and those that it leaves out begin no path.
+use Rattle.std.proofs.Common.{◌≡◌, ◌↔◌, ℕ, ◌+◌, ◌≤◌, Option, Some, None, inl, inr, List, [], ◌∷◌, length, get_or, refl, sym, ◌∙◌, ap, subst, arith}
 use Rattle.std.proofs.lemmas.List.Elements.{All-contains}
 use Rattle.std.specs.declared.cmp.Ordering.TheVariants.{Less}
 use Rattle.text_definitions.specs.Lines.{Line}
@@ -16,15 +15,17 @@ use Rattle.derivation.specs.declared.step.Key.{Key as ProgramKey}
 use Rattle.derivation.specs.declared.step.Step.{Step}
 use Rattle.annotated_trie.specs.Searched.{SearchedLexicon, IsSearchedLexicon}
 use Rattle.resumption.specs.declared.state.Resumption.{Resumption}
+use Rattle.search_frames.specs.declared.guiding.ToTry.{ToTry}
+use Rattle.search_frames.specs.declared.guiding.ToTry.TheVariants.{All as AllKeys, Later as LaterKeys}
 use Rattle.search_frames.specs.declared.guiding.Turn.{Turn}
 use Rattle.search_frames.specs.declared.guiding.Turn.TheVariants.{Nothing, Ends as ToEnd, LeadsOn as ToPlace}
 use Rattle.search_frames.specs.declared.place.Place.{Place}
 use Rattle.search_frames.specs.declared.ways.Way.{Way}
 use Rattle.search_frames.specs.Standings.{Standing, IsPossible, Ends, ways_in}
 use Rattle.search_frames.specs.Tests.{LeadsTo}
-use Rattle.search_frames.specs.Frames.{IsFrame, IsPlaceIn, IsUntried, IsAtKey, WentOn, HasNothingToTry, standing_of, here_of, place_of, key_at}
+use Rattle.search_frames.specs.Frames.{IsFrame, IsPlaceIn, IsUntried, IsAtKey, standing_of, here_of, place_of}
 use Rattle.search_frames.specs.Reached.{IsReached}
-use Rattle.search_frames.specs.Turns.{BeginsPath, HasTurned, HasNoTurn, IsTurn, HasPaid}
+use Rattle.search_frames.specs.Turns.{HasToTry, BeginsPath, HasTurned, HasNoTurn, IsTurn, HasPaid}
 use Rattle.search_frames.specs.Costs.{steps_left}
 use Rattle.search_frames.specs.WaysFrom.{AreWaysFrom}
 use Rattle.search_frames.proofs.StepFrames.{step_read}
@@ -34,7 +35,7 @@ use Rattle.summary_chart.specs.Tables.{IsIn, index_in}
 use Rattle.summary_chart.specs.Spreading.{GoesFurtherBy, leads_in}
 use Rattle.summary_chart.specs.Charts.{IsAlive, CoversPlace, index_of_place}
 use Rattle.summary_chart.specs.PlaceWays.{ChartValue, IsChartOf, HasAllWays, HasStopAt, AreWaysAt}
-use Rattle.summary_chart.specs.Turning.{key_for, IsFrom, IsTestUnder, IsFirstLiving, HasNoLiving}
+use Rattle.summary_chart.specs.Turning.{key_for, last_tried, IsFrom, IsAfter, IsTestUnder, IsFirstLiving, HasNoLiving}
 use Rattle.summary_chart.proofs.TableStates.{same_place, index_within}
 use Rattle.summary_chart.proofs.TablePlaces.{has_set}
 use Rattle.summary_chart.proofs.WayTests.{number_in_set}
@@ -106,17 +107,24 @@ pub record IsAsked (searched : SearchedLexicon) (line : Line) (choices : List Ch
   pub frame : IsFrame searched line old level
   pub reached : IsReached searched line choices (here_of searched old level)
 
--- the key to which the frame went on
-pub record HasNext (searched : SearchedLexicon) (line : Line) (level : ℕ) (old new : Resumption) (from : Key) : Type 0 where
-  pub from_is : from ≡ key_at new level
-  pub went : WentOn searched line level old new
+-- the frame has still to try just the keys after the last one
+pub record HasAfterToTry (searched : SearchedLexicon) (line : Line) (level : ℕ) (stack : Resumption) (last : Option ProgramKey) : Type 0 where
+  pub exact : (key : Key) → IsPossible searched line (here_of searched stack level) key → IsUntried searched stack level key ↔ IsAfter last key
 
--- the key that is read of a frame's step
-pub key_read : (searched : SearchedLexicon) (line : Line) (level : ℕ) (stack : Resumption) (step : Step) (key : ProgramKey) → IsFrame searched line stack level
-    → step ≡ get_or stack.steps.items level step → key ≡ record { phase = step.phase; taken = step.taken; rule = step.rule }
-    → key_for key ≡ key_at stack level
-key_read searched line level stack step key frame there is =
-    ap key_for is ∙ ap key_of (step_read stack level step frame.placed.is_stack frame.placed.there there)
+pub after_to_try : (searched : SearchedLexicon) (line : Line) (level : ℕ) (stack : Resumption) (step : Step) (to_try : ToTry) → IsFrame searched line stack level
+    → step ≡ get_or stack.steps.items level step → HasToTry searched line stack level to_try
+    → HasAfterToTry searched line level stack (last_tried step to_try)
+after_to_try searched line level stack step AllKeys frame there has = record { exact = λ key possible. (λ untried. tt, λ after. has key possible) }
+after_to_try searched line level stack step LaterKeys frame there has =
+    let step_is = ap key_of (step_read stack level step frame.placed.is_stack frame.placed.there there) in
+    record {
+      exact = λ key possible. subst (λ (k : Key). IsUntried searched stack level key ↔ (compare_keys k key ≡ Less)) (sym step_is) (has key possible);
+    }
+
+-- what comes after a key that comes after the last one does so too
+after_later : (last : Option ProgramKey) (found key : Key) → IsAfter last found → compare_keys found key ≡ Less → IsAfter last key
+after_later None found key after later = tt
+after_later (Some last) found key after later = compare_keys_total.trans (key_for last) found key after later
 
 module _ (searched : SearchedLexicon) (line : Line) (choices : List Choice) (chart : ChartValue) (level : ℕ) (old : Resumption) (place : Place)
     (asked : IsAsked searched line choices chart level old place) where
@@ -134,16 +142,11 @@ module _ (searched : SearchedLexicon) (line : Line) (choices : List Choice) (cha
       }) in
       none inside (has_stop searched line choices chart asked.chart_is place place_within inside)
 
-  -- nor where nothing is left to try
-  pub nothing_left : HasNothingToTry searched line old level → HasNoTurn searched line choices level old
-  nothing_left nothing key begins untried =
-      nothing key (possible_if_begins searched line choices (here_of searched old level) key begins) untried
-
-  module _ (new : Resumption) (from : Key) (next : HasNext searched line level old new from) where
-    -- a key with which a path begins and that was untried is possible at the place, the next key or one after it, and goes further
+  module _ (last : Option ProgramKey) (to_try : HasAfterToTry searched line level old last) where
+    -- a key with which a path begins and that was untried is possible at the place, comes after the last one, and goes further
     record IsLiving (key : Key) : Type 0 where
       possible : IsPossible searched line (standing_of searched place) key
-      is_from : IsFrom from key
+      after : IsAfter last key
       further : GoesFurtherBy searched line choices chart.table (standing_of searched place) key
 
     living : (key : Key) → BeginsPath searched line choices (here_of searched old level) key → IsUntried searched old level key → IsLiving key
@@ -153,77 +156,43 @@ module _ (searched : SearchedLexicon) (line : Line) (choices : List Choice) (cha
         let further = further_if_begins searched line choices chart asked.chart_is asked.searched_is (here_of searched old level) key asked.reached begins in
         record {
           possible = subst (λ (p : Place). IsPossible searched line (standing_of searched p) key) there possible;
-          is_from = subst (λ (k : Key). IsFrom k key) (sym next.from_is) (next.went.first key possible untried);
+          after = (to_try.exact key possible).0 untried;
           further = subst (λ (p : Place). GoesFurtherBy searched line choices chart.table (standing_of searched p) key) there further;
         }
 
-    -- so where no key from there on goes further, there is none
-    pub none_living : HasNoLiving searched line choices chart.table (standing_of searched place) from → HasNoTurn searched line choices level old
+    -- so where no key after the last one goes further, there is none
+    pub none_living : HasNoLiving searched line choices chart.table (standing_of searched place) last → HasNoTurn searched line choices level old
     none_living none key begins untried =
         let is_living = living key begins untried in
-        none key is_living.possible is_living.is_from is_living.further
+        none key is_living.possible is_living.after is_living.further
 
-    module _ (found : Key) (turn : Turn) (first : IsFirstLiving searched line choices chart.table (standing_of searched place) from found turn) where
-      possible_old : IsPossible searched line (here_of searched old level) found
+    module _ (found : Key) (turn : Turn) (first : IsFirstLiving searched line choices chart.table (standing_of searched place) last found turn) where
+      pub possible_old : IsPossible searched line (here_of searched old level) found
       possible_old = subst (λ (p : Place). IsPossible searched line (standing_of searched p) found) asked.place_is first.possible
 
-      possible_new : IsPossible searched line (here_of searched new level) found
-      possible_new = subst (λ (p : Place). IsPossible searched line (standing_of searched p) found) (sym next.went.same_place) possible_old
-
-      -- what comes after the next key is still untried
-      untried_later : (key : Key) → IsPossible searched line (here_of searched old level) key → compare_keys from key ≡ Less
-          → IsUntried searched new level key
-      untried_later key possible later =
-          (next.went.later key (subst (λ (p : Place). IsPossible searched line (standing_of searched p) key) (sym next.went.same_place) possible)).1
-          (subst (λ (k : Key). compare_keys k key ≡ Less) next.from_is later)
-
-      -- so is the key that was found, unless it is the next one
-      pub untried_new : (from ≡ found → ⊥) → IsUntried searched new level found
-      untried_new other = elim first.is_from [ inl same ↦ absurd (other same) | inr later ↦ untried_later found possible_old later ]
-
-      untried_old : IsUntried searched old level found
-      untried_old = elim first.is_from [
-        | inl same ↦ subst (IsUntried searched old level) (sym next.from_is ∙ same) next.went.untried
-        | inr later ↦ next.went.left found possible_old (untried_later found possible_old later)
-      ]
-
-      after_found : (key : Key) → compare_keys found key ≡ Less → compare_keys from key ≡ Less
-      after_found key later = elim first.is_from [
-        | inl same ↦ subst (λ (k : Key). compare_keys k key ≡ Less) (sym same) later
-        | inr less ↦ compare_keys_total.trans from found key less later
-      ]
-
-      -- where it is the next one, the frame is there already
-      pub at_next : from ≡ found → IsAtKey searched line level found new new
-      at_next same = record {
-        frame = next.went.frame;
-        same_place = refl;
-        is_at = sym next.from_is ∙ same;
-        possible = possible_new;
-        later = next.went.later;
-      }
+      -- the key that was found is one that the frame has still to try
+      pub untried_old : IsUntried searched old level found
+      untried_old = (to_try.exact found possible_old).1 first.after
 
       -- the frame was brought there
-      module _ (last : Resumption) (at : IsAtKey searched line level found new last) where
-        turned : HasTurned searched line choices level old last
-        turned =
-            let place_there : place_of last level ≡ place_of old level = at.same_place ∙ next.went.same_place in
-            record {
-              frame = at.frame;
-              same_place = place_there;
-              possible = subst (IsPossible searched line (here_of searched old level)) (sym at.is_at) possible_old;
-              untried = subst (IsUntried searched old level) (sym at.is_at) untried_old;
-              first = λ key begins untried.
-                  let is_living = living key begins untried in
-                  subst (λ (k : Key). IsFrom k key) (sym at.is_at) (first.first key is_living.possible is_living.is_from is_living.further);
-              left = λ key possible untried.
-                  let there = subst (λ (p : Place). IsPossible searched line (standing_of searched p) key) (sym place_there) possible in
-                  let later = subst (λ (k : Key). compare_keys k key ≡ Less) at.is_at ((at.later key there).0 untried) in
-                  next.went.left key possible (untried_later key possible (after_found key later));
-              later = at.later;
-            }
+      module _ (new : Resumption) (at : IsAtKey searched line level found old new) where
+        turned : HasTurned searched line choices level old new
+        turned = record {
+          frame = at.frame;
+          same_place = at.same_place;
+          possible = subst (IsPossible searched line (here_of searched old level)) (sym at.is_at) possible_old;
+          untried = subst (IsUntried searched old level) (sym at.is_at) untried_old;
+          first = λ key begins untried.
+              let is_living = living key begins untried in
+              subst (λ (k : Key). IsFrom k key) (sym at.is_at) (first.first key is_living.possible is_living.after is_living.further);
+          left = λ key possible untried.
+              let there = subst (λ (p : Place). IsPossible searched line (standing_of searched p) key) (sym at.same_place) possible in
+              let later = subst (λ (k : Key). compare_keys k key ≡ Less) at.is_at ((at.later key there).0 untried) in
+              (to_try.exact key possible).1 (after_later last found key first.after later);
+          later = at.later;
+        }
 
-        by_turn : (does : Turn) → turn ≡ does → IsTurn searched line choices level old last does
+        by_turn : (does : Turn) → turn ≡ does → IsTurn searched line choices level old new does
         by_turn Nothing same = absurd (first.goes same)
         by_turn ToEnd same = (
           turned,
@@ -239,10 +208,10 @@ module _ (searched : SearchedLexicon) (line : Line) (choices : List Choice) (cha
         )
 
         -- and the turn says what the key does
-        pub is_turn : IsTurn searched line choices level old last turn
+        pub is_turn : IsTurn searched line choices level old new turn
         is_turn = by_turn turn refl
 
--- ---- what a turn costs, and whether two keys are one
+-- ---- what a turn costs
 
 -- a turn that finds a key has paid what a step to a key pays
 pub has_paid : (searched : SearchedLexicon) (most level : ℕ) (old last : Resumption) (before after : ℕ) (turn : Turn) → (turn ≡ Nothing → ⊥)
@@ -251,21 +220,3 @@ pub has_paid : (searched : SearchedLexicon) (most level : ℕ) (old last : Resum
 has_paid searched most level old last before after Nothing goes paid = absurd (goes refl)
 has_paid searched most level old last before after ToEnd goes paid = paid
 has_paid searched most level old last before after (ToPlace next) goes paid = paid
-
--- what a test of two keys tells
-pub same_if_told : (left right : Key) → not (eqb left.phase right.phase && (eqb left.taken right.taken && eqb left.rule right.rule)) ≡ false → right ≡ left
-same_if_told left right told =
-    let all = not-false (eqb left.phase right.phase && (eqb left.taken right.taken && eqb left.rule right.rule)) told in
-    let parts = and_parts (eqb left.phase right.phase) (eqb left.taken right.taken && eqb left.rule right.rule) all in
-    let others = and_parts (eqb left.taken right.taken) (eqb left.rule right.rule) parts.1 in
-    let phase = sym (eqb-true left.phase right.phase parts.0) in
-    let taken = sym (eqb-true left.taken right.taken others.0) in
-    let rule = sym (eqb-true left.rule right.rule others.1) in
-    λ i. record { phase = phase i; taken = taken i; rule = rule i }
-
-pub differ_if_told : (left right : Key) → not (eqb left.phase right.phase && (eqb left.taken right.taken && eqb left.rule right.rule)) ≡ true → right ≡ left → ⊥
-differ_if_told left right told same =
-    let phase = eq-eqb left.phase right.phase (ap (λ (k : Key). k.phase) (sym same)) in
-    let taken = eq-eqb left.taken right.taken (ap (λ (k : Key). k.taken) (sym same)) in
-    let rule = eq-eqb left.rule right.rule (ap (λ (k : Key). k.rule) (sym same)) in
-    false≢true (rw (phase, taken, rule) at told)

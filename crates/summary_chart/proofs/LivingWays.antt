@@ -1,17 +1,14 @@
--- The first of the ways that goes further: a key that goes further is possible and does something as the letters tell, so it is that
+-- The first of the ways after a key that goes further: a key that goes further is possible and does something as the letters tell, so it is that
 -- of a way; and ways rise, so each that comes before the first has been looked at.
-use Rattle.std.proofs.Common.{◌≡◌, ◌==◌, true, false, ℕ, ◌+◌, ◌<◌, ◌≤◌, inl, inr, List, length, map, get_or, refl, sym, ◌∙◌, ap, subst, arith}
-use Rattle.std.specs.Ordering.{ordering_reverse, ordering_index}
-use Rattle.std.specs.declared.cmp.Ordering.{Ordering}
-use Rattle.std.specs.declared.cmp.Ordering.TheVariants.{Less, Equal, Greater}
-use Rattle.std.proofs.lemmas.Bool.{cases_lt, false≢true}
-use Rattle.std.proofs.lemmas.Cmp.{tied_itself}
+use Rattle.std.proofs.Common.{◌≡◌, ℕ, ◌+◌, ◌<◌, ◌≤◌, inl, inr, Option, List, length, map, get_or, sym, ◌∙◌, ap, subst, arith}
+use Rattle.std.specs.declared.cmp.Ordering.TheVariants.{Less}
+use Rattle.std.proofs.lemmas.Bool.{cases_lt}
 use Rattle.std.proofs.lemmas.List.{get_or-map, length-map}
 use Rattle.std.proofs.lemmas.Map.Keys.{Less-from_sorted}
 use Rattle.text_definitions.specs.Lines.{Line}
 use Rattle.segmentation_definitions.specs.Items.{Choice}
 use Rattle.segmentation_definitions.specs.Listings.{Key, compare_keys}
-use Rattle.segmentation_definitions.proofs.KeyLists.{compare_keys_total, compare_keys_exact}
+use Rattle.derivation.specs.declared.step.Key.{Key as ProgramKey}
 use Rattle.annotated_trie.specs.Searched.{SearchedLexicon}
 use Rattle.search_frames.specs.declared.guiding.Turn.{Turn}
 use Rattle.search_frames.specs.declared.guiding.Turn.TheVariants.{Nothing}
@@ -23,61 +20,29 @@ use Rattle.search_frames.specs.WaysFrom.{AreWaysFrom, IsWayFrom, key_of_way}
 use Rattle.search_frames.proofs.StandingRanks.{may_if_leads, may_if_ends}
 use Rattle.summary_chart.specs.declared.table.Table.{Table}
 use Rattle.summary_chart.specs.Spreading.{GoesFurtherBy}
-use Rattle.summary_chart.specs.Turning.{IsFrom, IsTestUnder, IsFirstLiving, HasNoLiving}
-
--- ---- keys in order
-
-not_less_itself : (key : Key) → compare_keys key key ≡ Less → ⊥
-not_less_itself key less = let equal = tied_itself compare_keys_total key in absurd (cc (less, equal))
-
--- what a test against Less tells
-pub less_if_told : (order : Ordering) → (ordering_index order == 0) ≡ true → order ≡ Less
-less_if_told Less told = refl
-less_if_told Equal told = absurd (false≢true told)
-less_if_told Greater told = absurd (false≢true told)
-
-pub not_less_if_told : (order : Ordering) → (ordering_index order == 0) ≡ false → order ≡ Less → ⊥
-not_less_if_told Less told less = false≢true (sym told)
-not_less_if_told Equal told less = absurd (cc (less))
-not_less_if_told Greater told less = absurd (cc (less))
-
--- a key that comes before another is not from there on
-pub before_not_from : (key from : Key) → compare_keys key from ≡ Less → IsFrom from key → ⊥
-before_not_from key from less (inl same) =
-    not_less_itself key (subst (λ (k : Key). compare_keys key k ≡ Less) same less)
-before_not_from key from less (inr later) = not_less_itself from (compare_keys_total.trans from key from later less)
-
-from_by_order : (key from : Key) (order : Ordering) → compare_keys from key ≡ order → (compare_keys key from ≡ Less → ⊥) → IsFrom from key
-from_by_order key from Less is not_before = inr is
-from_by_order key from Equal is not_before = inl (compare_keys_exact from key is)
-from_by_order key from Greater is not_before =
-    absurd (not_before (compare_keys_total.antisymm key from ∙ ap ordering_reverse is))
-
--- and one that does not is
-pub from_if_not_before : (key from : Key) → (compare_keys key from ≡ Less → ⊥) → IsFrom from key
-from_if_not_before key from = from_by_order key from (compare_keys from key) refl
+use Rattle.summary_chart.specs.Turning.{IsAfter, IsTestUnder, IsFirstLiving, HasNoLiving}
 
 -- ---- one way after another
 
-module _ (searched : SearchedLexicon) (line : Line) (choices : List Choice) (table : Table) (here : Standing) (from : Key) (ways : List Way) where
-  -- none of the ways before the index is from the key on and goes further
+module _ (searched : SearchedLexicon) (line : Line) (choices : List Choice) (table : Table) (here : Standing) (last : Option ProgramKey) (ways : List Way) where
+  -- none of the ways before the index is after the last key and goes further
   pub record HasNoneBefore (index : ℕ) : Type 0 where
-    pub none : (place : ℕ) (default : Way) → place < index → IsFrom from (key_of_way (get_or ways place default))
+    pub none : (place : ℕ) (default : Way) → place < index → IsAfter last (key_of_way (get_or ways place default))
         → GoesFurtherBy searched line choices table here (key_of_way (get_or ways place default)) → ⊥
 
   pub none_at_first : HasNoneBefore 0
-  none_at_first = record { none = λ place default low is_from further. absurd (omega arith) }
+  none_at_first = record { none = λ place default low after further. absurd (omega arith) }
 
   pub none_more : (index : ℕ) (way : Way) → ((default : Way) → get_or ways index default ≡ way) → HasNoneBefore index
-      → (IsFrom from (key_of_way way) → GoesFurtherBy searched line choices table here (key_of_way way) → ⊥) → HasNoneBefore (index + 1)
+      → (IsAfter last (key_of_way way) → GoesFurtherBy searched line choices table here (key_of_way way) → ⊥) → HasNoneBefore (index + 1)
   none_more index way is before not_this = record {
-    none = λ place default low is_from further. elim (cases_lt place index) [
-      | inl earlier ↦ before.none place default earlier is_from further
+    none = λ place default low after further. elim (cases_lt place index) [
+      | inl earlier ↦ before.none place default earlier after further
       | inr high ↦
-          let last : place ≡ index = omega arith in
+          let at : place ≡ index = omega arith in
           let same : key_of_way (get_or ways place default) ≡ key_of_way way =
-          ap (λ (k : ℕ). key_of_way (get_or ways k default)) last ∙ ap key_of_way (is default) in
-          not_this (subst (IsFrom from) same is_from) (subst (GoesFurtherBy searched line choices table here) same further)
+          ap (λ (k : ℕ). key_of_way (get_or ways k default)) at ∙ ap key_of_way (is default) in
+          not_this (subst (IsAfter last) same after) (subst (GoesFurtherBy searched line choices table here) same further)
     ];
   }
 
@@ -105,36 +70,36 @@ module _ (searched : SearchedLexicon) (line : Line) (choices : List Choice) (tab
       }
 
   pub none_at_last : AreWaysFrom searched line choices here ways → (index : ℕ) → length ways ≤ index → HasNoneBefore index
-      → HasNoLiving searched line choices table here from
-  none_at_last are index all none key possible is_from further =
+      → HasNoLiving searched line choices table here last
+  none_at_last are index all none key possible after further =
       let there = stands_at are key possible further in
       let default : Way = record { phase = 0; taken = 0; rule = 0; test = Refused } in
       let same = sym (there.is default) in
-      none.none there.index default (omega (arith, there.within)) (subst (IsFrom from) same is_from)
+      none.none there.index default (omega (arith, there.within)) (subst (IsAfter last) same after)
       (subst (GoesFurtherBy searched line choices table here) same further)
 
-  -- the way at the index is from the key on and goes further
+  -- the way at the index is after the last key and goes further
   pub record IsFound (index : ℕ) (way : Way) (turn : Turn) : Type 0 where
     pub within : index < length ways
     pub is : (default : Way) → get_or ways index default ≡ way
     pub way_is : IsWayFrom searched line choices here way
-    pub is_from : IsFrom from (key_of_way way)
+    pub after : IsAfter last (key_of_way way)
     pub test : IsTestUnder searched line choices table here (key_of_way way) turn
     pub goes : turn ≡ Nothing → ⊥
 
   pub first_found : AreWaysFrom searched line choices here ways → (index : ℕ) (way : Way) (turn : Turn) → HasNoneBefore index → IsFound index way turn
-      → IsFirstLiving searched line choices table here from (key_of_way way) turn
+      → IsFirstLiving searched line choices table here last (key_of_way way) turn
   first_found are index way turn none found = record {
     possible = found.way_is.possible;
-    is_from = found.is_from;
+    after = found.after;
     test = found.test;
     goes = found.goes;
-    first = λ key possible is_from further.
+    first = λ key possible after further.
         let there = stands_at are key possible further in
         let same = sym (there.is way) in
         let here_is = ap key_of_way (found.is way) in
         elim (cases_lt there.index index) [
-          | inl earlier ↦ absurd (none.none there.index way earlier (subst (IsFrom from) same is_from)
+          | inl earlier ↦ absurd (none.none there.index way earlier (subst (IsAfter last) same after)
               (subst (GoesFurtherBy searched line choices table here) same further))
           | inr high ↦ elim (cases_lt index there.index) [
             | inl later ↦

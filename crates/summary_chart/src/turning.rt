@@ -1,22 +1,22 @@
-ghost use Rattle.std.specs.Prelude.{◌≡◌, length, MatchOption};
+ghost use Rattle.std.specs.Prelude.{◌≡◌, ◌↔◌, IsTrue, length, MatchOption};
 ghost use Rattle.segmentation_definitions.specs.Listings.{compare_keys};
 ghost use Rattle.annotated_trie.specs.Searched.{IsSearchedLexicon};
 ghost use Rattle.search_frames.specs.Frames.{IsPlaceIn, standing_of};
 ghost use Rattle.search_frames.specs.WaysFrom.{AreWaysFrom, IsWayFrom, key_of_way};
 ghost use Rattle.summary_chart.specs.Tables.{IsTable};
 ghost use Rattle.summary_chart.specs.Spreading.{leads_in};
-ghost use Rattle.summary_chart.specs.Turning.{IsTestUnder, IsFirstLiving, HasNoLiving, key_for};
+ghost use Rattle.summary_chart.specs.Turning.{IsAfter, IsTestUnder, IsFirstLiving, HasNoLiving, key_for, last_tried};
 
 use super::Chart;
 use super::table::Table;
 use annotated_trie::Lexicon;
-use derivation::{Guide, Key};
+use derivation::{Guide, Key, Step};
 use outside::Steps;
 use phase_automaton::State;
 use phoneme::Line;
 use reader_choices::Choices;
 use resumption::Resumption;
-use search_frames::{LetterTest, Place, SearchGuide, Turn, Way, go_on, go_to};
+use search_frames::{LetterTest, Place, SearchGuide, ToTry, Turn, Way, go_to};
 use std::cmp::Ordering;
 
 /// The order of keys: by phase, then the longer form first, then by rule (own).
@@ -27,6 +27,26 @@ fn compare(left: Key, right: Key) -> Ordering
         .cmp(&right.phase)
         .then(right.taken.cmp(&left.taken))
         .then(left.rule.cmp(&right.rule))
+}
+
+/// Whether the key comes after the last one, which any key does where there is none.
+fn is_after(last: Option<Key>, key: Key) -> bool
+    ensures { IsTrue result ↔ IsAfter last (key_for key) }
+{
+    match last {
+        None => true,
+        Some(last) => compare(last, key) == Ordering::Less,
+    }
+}
+
+/// The last key that a frame at the step has tried, where it has not all keys to try.
+fn last_tried(step: &Step, to_try: ToTry) -> Option<Key>
+    ensures { result ≡ last_tried step.now to_try }
+{
+    match to_try {
+        ToTry::All => None,
+        ToTry::Later => Some(step.key()),
+    }
 }
 
 /// What the way does for a search at the place: it ends the line, or leads on to a place of the table, or neither.
@@ -72,26 +92,26 @@ fn test_way(
     }
 }
 
-/// The first of the ways, which are all from the place, whose key is this one or comes after it and that goes further, with what it does.
+/// The first of the ways, which are all from the place, whose key comes after the last one and that goes further, with what it does.
 fn find_living(
     lexicon: &Lexicon,
     line: &Line,
     choices: &Choices,
     place: &Place,
     ways: &[Way],
-    from: Key,
+    last: Option<Key>,
     table: &Table,
 ) -> Option<(Key, Turn)>
     requires searched { IsSearchedLexicon lexicon.now }
     requires place { IsPlaceIn lexicon.now line.now place.now }
     requires ways { AreWaysFrom lexicon.now line.now choices.now (standing_of lexicon.now place.now) ways.now }
     requires table { IsTable (leads_in lexicon.now) (length line.now.letters) table.now }
-    ensures { MatchOption result (HasNoLiving lexicon.now line.now choices.now table.now (standing_of lexicon.now place.now) (key_for from))
-        (λ found. IsFirstLiving lexicon.now line.now choices.now table.now (standing_of lexicon.now place.now) (key_for from) (key_for found.0) found.1) }
+    ensures { MatchOption result (HasNoLiving lexicon.now line.now choices.now table.now (standing_of lexicon.now place.now) last)
+        (λ found. IsFirstLiving lexicon.now line.now choices.now table.now (standing_of lexicon.now place.now) last (key_for found.0) found.1) }
 {
     for way in ways {
         let key = way.key();
-        if compare(key, from) == Ordering::Less {
+        if !is_after(last, key) {
             continue;
         }
         let turn = test_way(lexicon, line, choices, place, way, table);
@@ -115,6 +135,7 @@ impl SearchGuide for Chart {
         choices: &Choices,
         stack: &mut Resumption,
         level: usize,
+        to_try: ToTry,
         steps: &mut Steps<L>,
     ) -> Turn {
         // Its contract says that there are not too many states.
@@ -123,17 +144,12 @@ impl SearchGuide for Chart {
         let Some(ways) = self.ways_from(&place) else {
             return Turn::Nothing;
         };
-        if !go_on(lexicon, line, stack, level, steps) {
-            return Turn::Nothing;
-        }
-        let from = stack.steps[level].key();
-        let Some((key, turn)) = find_living(lexicon, line, choices, &place, ways, from, &self.table)
+        let last = last_tried(&stack.steps[level], to_try);
+        let Some((key, turn)) = find_living(lexicon, line, choices, &place, ways, last, &self.table)
         else {
             return Turn::Nothing;
         };
-        if key != from {
-            go_to(lexicon, line, stack, level, key, steps);
-        }
+        go_to(lexicon, line, stack, level, key, steps);
         turn
     }
 }

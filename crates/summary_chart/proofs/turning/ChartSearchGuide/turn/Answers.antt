@@ -1,16 +1,16 @@
--- The frame's place is in the chart or not, the frame goes on or not, and a way goes further or not.
-use Rattle.std.proofs.Common.{sym, ◌∙◌, ap, subst, arith}
+-- The frame's place is in the chart or not, and a way after the last key goes further or not.
+use Rattle.std.proofs.Common.{sym, ap, subst}
 use Rattle.phase_automaton.specs.Automata.{IsStateMachine}
 use Rattle.search_frames.specs.Frames.{standing_of}
 use Rattle.summary_chart.specs.declared.table.Table.{Table}
 use Rattle.summary_chart.specs.PlaceWays.{ChartValue}
 use Rattle.summary_chart.specs.Turning.{key_for, IsFirstLiving, HasNoLiving}
-use Rattle.summary_chart.proofs.ChartTurns.{IsAsked, HasNext, covers_place, ways_there, place_within, key_read, no_ways, nothing_left, none_living, untried_new, at_next, is_turn, has_paid, same_if_told, differ_if_told}
+use Rattle.summary_chart.proofs.ChartTurns.{IsAsked, HasAfterToTry, after_to_try, covers_place, ways_there, place_within, no_ways, none_living, possible_old, untried_old, is_turn, has_paid}
 use Rattle.summary_chart.proofs.turning.ChartSearchGuide.turn.Given as given
 use Rattle.summary_chart.proofs.turning.ChartSearchGuide.turn.Goals as goal
-use Rattle.summary_chart.proofs.turning.ChartSearchGuide.turn.Goals.{After-of_frame-place, After-key-from, In-Some-find_living}
+use Rattle.summary_chart.proofs.turning.ChartSearchGuide.turn.Goals.{After-of_frame-place, After-last_tried-last, In-Some-find_living}
 
--- ---- what the chart is asked, the frame's next key, and the first one that goes further
+-- ---- what the chart is asked, what the frame has still to try, and the first key that goes further
 
 asked : (g : given.Over) (c : After-of_frame-place g)
     → IsAsked c.args.lexicon.now c.args.line.now c.args.choices.now c.args.self.now c.args.level c.args.stack.now c.of_frame-place.result
@@ -22,21 +22,17 @@ asked g c = record {
   reached = c.requires.reached;
 }
 
-next : (g : given.Over) (c : After-key-from g)
-    → HasNext c.args.lexicon.now c.args.line.now c.args.level c.args.stack.now c.go_on.new.stack (key_for c.key-from.result)
-next g c =
-    let went = c.if-not-go_on.ensures.went_on in
-    record {
-      from_is = key_read c.args.lexicon.now c.args.line.now c.args.level c.go_on.new.stack c.index.result.now c.key-from.result went.frame c.index.ensures c.key-from.ensures;
-      went = went;
-    }
+to_try : (g : given.Over) (c : After-last_tried-last g)
+    → HasAfterToTry c.args.lexicon.now c.args.line.now c.args.level c.args.stack.now c.last_tried-last.result
+to_try g c = subst (HasAfterToTry c.args.lexicon.now c.args.line.now c.args.level c.args.stack.now) (sym c.last_tried-last.ensures)
+    (after_to_try c.args.lexicon.now c.args.line.now c.args.level c.args.stack.now c.index.result.now c.args.to_try c.requires.frame c.index.ensures c.requires.to_try)
 
 first : (g : given.Over) (c : In-Some-find_living g)
     → IsFirstLiving c.args.lexicon.now c.args.line.now c.args.choices.now c.args.self.now.table (standing_of c.args.lexicon.now c.of_frame-place.result)
-    (key_for c.key-from.result) (key_for c.in-Some-find_living.key) c.in-Some-find_living.turn
+    c.last_tried-last.result (key_for c.in-Some-find_living.key) c.in-Some-find_living.turn
 first g c = subst
     (λ (table : Table). IsFirstLiving c.args.lexicon.now c.args.line.now c.args.choices.now table (standing_of c.args.lexicon.now c.of_frame-place.result)
-    (key_for c.key-from.result) (key_for c.in-Some-find_living.key) c.in-Some-find_living.turn)
+    c.last_tried-last.result (key_for c.in-Some-find_living.key) c.in-Some-find_living.turn)
     (ap (λ (value : ChartValue). value.table) c.self.view_is) c.in-Some-find_living.ensures
 
 -- ---- the goals
@@ -53,11 +49,6 @@ returns-in_default-clause-turn g c =
     let is_asked = asked g (goal.at.returns-in_default-clause-turn g c).After-of_frame-place in
     no_ways c.args.lexicon.now c.args.line.now c.args.choices.now c.args.self.now c.args.level c.args.stack.now c.of_frame-place.result is_asked c.in_default.ensures.found
 
-pub returns-then-not-go_on-clause-turn : goal.returns-then-not-go_on-clause-turn
-returns-then-not-go_on-clause-turn g c =
-    let is_asked = asked g (goal.at.returns-then-not-go_on-clause-turn g c).After-of_frame-place in
-    nothing_left c.args.lexicon.now c.args.line.now c.args.choices.now c.args.self.now c.args.level c.args.stack.now c.of_frame-place.result is_asked c.if-not-go_on.ensures.nothing
-
 pub find_living-requires-clause-ways : goal.find_living-requires-clause-ways
 find_living-requires-clause-ways g c =
     let is_asked = asked g (goal.at.find_living-requires-clause-ways g c).After-of_frame-place in
@@ -68,52 +59,38 @@ find_living-requires-clause-ways g c =
 pub returns-in_default-find_living-clause-turn : goal.returns-in_default-find_living-clause-turn
 returns-in_default-find_living-clause-turn g c =
     let is_asked = asked g (goal.at.returns-in_default-find_living-clause-turn g c).After-of_frame-place in
-    let has_next = next g (goal.at.returns-in_default-find_living-clause-turn g c).After-key-from in
-    let none = subst (λ (table : Table). HasNoLiving c.args.lexicon.now c.args.line.now c.args.choices.now table (standing_of c.args.lexicon.now c.of_frame-place.result) (key_for c.key-from.result))
+    let has_to_try = to_try g (goal.at.returns-in_default-find_living-clause-turn g c).After-last_tried-last in
+    let none = subst (λ (table : Table). HasNoLiving c.args.lexicon.now c.args.line.now c.args.choices.now table (standing_of c.args.lexicon.now c.of_frame-place.result) c.last_tried-last.result)
     (ap (λ (value : ChartValue). value.table) c.self.view_is) c.in_default-find_living.ensures in
     none_living c.args.lexicon.now c.args.line.now c.args.choices.now c.args.self.now c.args.level c.args.stack.now c.of_frame-place.result is_asked
-    c.go_on.new.stack (key_for c.key-from.result) has_next none
+    c.last_tried-last.result has_to_try none
+
+pub go_to-requires-clause-possible : goal.go_to-requires-clause-possible
+go_to-requires-clause-possible g c =
+    let is_asked = asked g (goal.at.go_to-requires-clause-possible g c).After-of_frame-place in
+    let has_to_try = to_try g (goal.at.go_to-requires-clause-possible g c).After-last_tried-last in
+    let is_first = first g (goal.at.go_to-requires-clause-possible g c).In-Some-find_living in
+    possible_old c.args.lexicon.now c.args.line.now c.args.choices.now c.args.self.now c.args.level c.args.stack.now c.of_frame-place.result is_asked
+    c.last_tried-last.result has_to_try (key_for c.in-Some-find_living.key) c.in-Some-find_living.turn is_first
 
 pub go_to-requires-clause-untried : goal.go_to-requires-clause-untried
 go_to-requires-clause-untried g c =
     let is_asked = asked g (goal.at.go_to-requires-clause-untried g c).After-of_frame-place in
-    let has_next = next g (goal.at.go_to-requires-clause-untried g c).After-key-from in
+    let has_to_try = to_try g (goal.at.go_to-requires-clause-untried g c).After-last_tried-last in
     let is_first = first g (goal.at.go_to-requires-clause-untried g c).In-Some-find_living in
-    untried_new c.args.lexicon.now c.args.line.now c.args.choices.now c.args.self.now c.args.level c.args.stack.now c.of_frame-place.result is_asked
-    c.go_on.new.stack (key_for c.key-from.result) has_next (key_for c.in-Some-find_living.key) c.in-Some-find_living.turn is_first
-    (differ_if_told (key_for c.in-Some-find_living.key) (key_for c.key-from.result) (sym c.ne.ensures ∙ c.if-ne.true))
+    untried_old c.args.lexicon.now c.args.line.now c.args.choices.now c.args.self.now c.args.level c.args.stack.now c.of_frame-place.result is_asked
+    c.last_tried-last.result has_to_try (key_for c.in-Some-find_living.key) c.in-Some-find_living.turn is_first
 
-pub returns-then-ne-clause-turn : goal.returns-then-ne-clause-turn
-returns-then-ne-clause-turn g c =
-    let is_asked = asked g (goal.at.returns-then-ne-clause-turn g c).After-of_frame-place in
-    let has_next = next g (goal.at.returns-then-ne-clause-turn g c).After-key-from in
-    let is_first = first g (goal.at.returns-then-ne-clause-turn g c).In-Some-find_living in
+pub returns-clause-turn : goal.returns-clause-turn
+returns-clause-turn g c =
+    let is_asked = asked g (goal.at.returns-clause-turn g c).After-of_frame-place in
+    let has_to_try = to_try g (goal.at.returns-clause-turn g c).After-last_tried-last in
+    let is_first = first g (goal.at.returns-clause-turn g c).In-Some-find_living in
     is_turn c.args.lexicon.now c.args.line.now c.args.choices.now c.args.self.now c.args.level c.args.stack.now c.of_frame-place.result is_asked
-    c.go_on.new.stack (key_for c.key-from.result) has_next (key_for c.in-Some-find_living.key) c.in-Some-find_living.turn is_first
+    c.last_tried-last.result has_to_try (key_for c.in-Some-find_living.key) c.in-Some-find_living.turn is_first
     c.go_to.new.stack c.go_to.ensures.at
 
-pub returns-else-ne-clause-turn : goal.returns-else-ne-clause-turn
-returns-else-ne-clause-turn g c =
-    let is_asked = asked g (goal.at.returns-else-ne-clause-turn g c).After-of_frame-place in
-    let has_next = next g (goal.at.returns-else-ne-clause-turn g c).After-key-from in
-    let is_first = first g (goal.at.returns-else-ne-clause-turn g c).In-Some-find_living in
-    let same = same_if_told (key_for c.in-Some-find_living.key) (key_for c.key-from.result) (sym c.ne.ensures ∙ c.if-ne.false) in
-    let at = at_next c.args.lexicon.now c.args.line.now c.args.choices.now c.args.self.now c.args.level c.args.stack.now c.of_frame-place.result is_asked
-    c.go_on.new.stack (key_for c.key-from.result) has_next (key_for c.in-Some-find_living.key) c.in-Some-find_living.turn is_first same in
-    is_turn c.args.lexicon.now c.args.line.now c.args.choices.now c.args.self.now c.args.level c.args.stack.now c.of_frame-place.result is_asked
-    c.go_on.new.stack (key_for c.key-from.result) has_next (key_for c.in-Some-find_living.key) c.in-Some-find_living.turn is_first
-    c.go_on.new.stack at
-
-pub returns-then-ne-clause-steps : goal.returns-then-ne-clause-steps
-returns-then-ne-clause-steps g c most few =
-    let on = c.if-not-go_on.ensures.steps_on most few in
-    let to = c.go_to.ensures.steps most few in
-    let goes = c.in-Some-find_living.ensures.goes in
-    has_paid c.args.lexicon.now most c.args.level c.args.stack.now c.go_to.new.stack c.args.steps.now c.go_to.new.steps c.in-Some-find_living.turn goes
-    (omega (arith, on, to))
-
-pub returns-else-ne-clause-steps : goal.returns-else-ne-clause-steps
-returns-else-ne-clause-steps g c most few =
-    let goes = c.in-Some-find_living.ensures.goes in
-    has_paid c.args.lexicon.now most c.args.level c.args.stack.now c.go_on.new.stack c.args.steps.now c.go_on.new.steps c.in-Some-find_living.turn goes
-    (c.if-not-go_on.ensures.steps_on most few)
+pub returns-clause-steps : goal.returns-clause-steps
+returns-clause-steps g c most few =
+    has_paid c.args.lexicon.now most c.args.level c.args.stack.now c.go_to.new.stack c.args.steps.now c.go_to.new.steps c.in-Some-find_living.turn
+    c.in-Some-find_living.ensures.goes (c.go_to.ensures.steps most few)
