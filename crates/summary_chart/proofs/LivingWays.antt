@@ -1,5 +1,5 @@
--- The first of the ways after a key that goes further: a key that goes further is possible and does something as the letters tell, so it is that
--- of a way; and ways rise, so each that comes before the first has been looked at.
+-- The first of the ways after a key that goes further: a key that goes further is possible and does something as the letters tell, so
+-- it is that of a way; and ways rise, so each that comes before the first has been looked at.
 use Rattle.std.proofs.Common.{◌≡◌, ℕ, ◌+◌, ◌<◌, ◌≤◌, inl, inr, Option, List, length, map, get_or, sym, ◌∙◌, ap, subst, arith}
 use Rattle.std.specs.declared.cmp.Ordering.TheVariants.{Less}
 use Rattle.std.proofs.lemmas.Bool.{cases_lt}
