@@ -11,9 +11,10 @@ use std::alloc::Global;
 use std::thread::{Threads, join};
 
 /// The most pieces that a list of lines is cut into, each of which is answered by one worker. Each cut begins and ends a thread, so
-/// there are few pieces; but there are more of them than most machines have processors, so that a worker whose lines were easy finds
-/// another piece to answer while the others are still busy.
-const MOST_PIECES: usize = 16;
+/// there are few pieces: twice as many cost more time than they even out. But there are more of them than many machines have
+/// processors, so that a worker whose lines were easy finds another piece to answer while the others are still busy; half as many
+/// even out too little.
+const MOST_PIECES: usize = 8;
 
 /// The replies to a piece of the lines, line after line. Its first line has this number.
 #[tactic(auto, using(crate::proofs::HalfReplies::replies_with_next))]
@@ -69,9 +70,33 @@ fn read_lines<R: Threads + Sync, G: Gate + Sync>(
 }
 
 /// The printed page of each line, at most `count` answers a page: reply `i` is that of line `i`. The lines are halved again and
-/// again, down to at most 16 pieces, and the halves are answered side by side by the runtime's join. Where there are no more than 16
+/// again, down to at most 8 pieces, and the halves are answered side by side by the runtime's join. Where there are no more than 8
 /// lines, each is a piece of its own. One worker answers the lines of a piece, one after another; just before it begins line `i`,
-/// counted from 0, it passes the gate with `i`. Refused only for want of memory.
+/// counted from 0, it passes the gate with `i`. The texts are those of the lexicon's rules, so that a caller with many lists of lines
+/// makes them once. Refused only for want of memory.
+pub fn read_all_with<R: Threads + Sync, G: Gate + Sync>(
+    rt: &R,
+    alloc: Global,
+    lexicon: &Lexicon,
+    texts: &RuleTexts<'_>,
+    lines: &[Line],
+    count: u32,
+    gate: &G,
+) -> Result<Vec<Vec<u8>>, Memory>
+    requires texts { texts.now ≡ lexicon.now.lexicon.rules }
+    ensures ok { IfOk result (λ replies. AreReplies lexicon.now.lexicon count lines.now (map (λ reply. reply.items) replies.items)) }
+{
+    let replier = Replier {
+        lexicon,
+        texts,
+        count,
+        gate,
+    };
+    let piece = lines.len().div_ceil(MOST_PIECES).max(1);
+    read_lines(rt, alloc, &replier, lines, 0, piece)
+}
+
+/// What `read_all_with` gives with the texts of the lexicon's rules, which are made first.
 pub fn read_all<R: Threads + Sync, G: Gate + Sync>(
     rt: &R,
     alloc: Global,
@@ -83,12 +108,5 @@ pub fn read_all<R: Threads + Sync, G: Gate + Sync>(
     ensures ok { IfOk result (λ replies. AreReplies lexicon.now.lexicon count lines.now (map (λ reply. reply.items) replies.items)) }
 {
     let texts = RuleTexts::new(alloc, lexicon.rules())?;
-    let replier = Replier {
-        lexicon,
-        texts: &texts,
-        count,
-        gate,
-    };
-    let piece = lines.len().div_ceil(MOST_PIECES).max(1);
-    read_lines(rt, alloc, &replier, lines, 0, piece)
+    read_all_with(rt, alloc, lexicon, &texts, lines, count, gate)
 }

@@ -1,8 +1,9 @@
-//! Many lines answered at once: each by its printed page. They are cut into at most 16 pieces, which are answered by as many threads
+//! Many lines answered at once: each by its printed page. They are cut into at most 8 pieces, which are answered by as many threads
 //! as the runtime's join gives.
 //!
 //! Proved: `read_all` gives a reply for each line, in the order of the lines, and each is the page that the line has when it is
-//! answered alone (`ok`), however many threads there were. It is refused only for want of memory.
+//! answered alone (`ok`), however many threads there were. So does `read_all_with`, which takes the texts of the rules from a caller
+//! that has more lists of lines. They are refused only for want of memory.
 //!
 //! That two lines are answered at once is only tested, by a gate at which the worker of the first line waits for that of the second.
 //! No clause speaks of the gate, of the pieces, of the order in which workers begin, or of time.
@@ -13,4 +14,4 @@ mod replier;
 #[cfg(test)]
 mod tests;
 
-pub use answering::read_all;
+pub use answering::{read_all, read_all_with};

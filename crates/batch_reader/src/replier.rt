@@ -11,6 +11,10 @@ use segmenter::Search;
 use std::alloc::Global;
 use summary_chart::Chart;
 
+/// The room that is reserved for a reply, in bytes. A text that grows from nothing is moved again and again while it is short; and what
+/// this wastes of a short reply is little beside the chart of its line.
+const ROOM: usize = 2_048;
+
 /// What all lines are answered by: the lexicon with the texts of its rules, which are made once, the most answers of a page, and
 /// the gate that each worker passes.
 #[derive(Drop)]
@@ -32,7 +36,7 @@ impl<'a, G: Gate> Replier<'a, G> {
         let chart = Chart::build(alloc, self.lexicon, line, &choices, &mut steps)?;
         let mut search = Search::new(alloc, self.lexicon, line, &choices, &chart)?;
         let mut printer = AnswerPrinter::new(alloc, self.texts, line)?;
-        let mut text = Vec::new(alloc);
+        let mut text = Vec::with_capacity(alloc, ROOM)?;
         push_page(
             alloc,
             &mut text,

@@ -10,7 +10,8 @@ ghost use Rattle.batch_replies.specs.Serving.{WroteReplies, WroteFirstReplies};
 use super::block::{Block, read_block};
 use super::printing::push_replies;
 use annotated_trie::Lexicon;
-use batch_reader::read_all;
+use answer_printing::RuleTexts;
+use batch_reader::read_all_with;
 use outside::{Gate, Sink, WriteError, write_all};
 use phoneme::Memory;
 use std::alloc::Global;
@@ -33,15 +34,25 @@ impl<'a, G: Gate + Sync> Batch<'a, G> {
         &self,
         rt: &R,
         alloc: Global,
+        rule_texts: &RuleTexts<'_>,
         number: u64,
         block: &Block,
     ) -> Result<Vec<u8>, Memory>
-        requires { number + length block.now.faults.items < 2 ^ 64 }
+        requires texts { rule_texts.now ≡ self.now.lexicon.now.lexicon.rules }
+        requires numbers { number + length block.now.faults.items < 2 ^ 64 }
         ensures { IfOk result (λ output. (texts : List TextLine) → AreRead (scheme_of self.now.scheme) texts block.now.faults.items block.now.lines.items
             → AreNumberedReplies self.now.lexicon.now.lexicon (scheme_of self.now.scheme) self.now.count number texts output.items) }
     {
         let lines = block.lines.as_slice();
-        let pages = read_all(rt, alloc, self.lexicon, lines, self.count, self.gate)?;
+        let pages = read_all_with(
+            rt,
+            alloc,
+            self.lexicon,
+            rule_texts,
+            lines,
+            self.count,
+            self.gate,
+        )?;
         let mut output = Vec::new(alloc);
         push_replies(
             alloc,
@@ -70,11 +81,12 @@ impl<'a, G: Gate + Sync> Batch<'a, G> {
             (O.written sink.old) (O.written sink.new)) }
         ensures fault { OnFailedWrite result (Rose (O.faults sink.old) (O.faults sink.new)) }
     {
+        let rule_texts = RuleTexts::new(alloc, self.lexicon.rules())?;
         let mut rest = text;
         let mut number = 1;
         while !rest.is_empty() {
             let (block, following) = read_block(alloc, self.scheme, rest)?;
-            let replies = self.reply_to_block(rt, alloc, number, &block)?;
+            let replies = self.reply_to_block(rt, alloc, &rule_texts, number, &block)?;
             write_all(sink, replies.as_slice())?;
             number += block.faults.len() as u64;
             rest = following;

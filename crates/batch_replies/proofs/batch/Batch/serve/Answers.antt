@@ -1,13 +1,17 @@
--- Each block is served after those before it; where it stops, the blocks before are written, and a prefix of the next.
+-- Each block is served after those before it; where it stops, the blocks before are written, and a prefix of the next. Where the
+-- texts of the rules find no memory, no block is.
 use Rattle.std.proofs.Common.{ℕ, subst, arith, ◌∙◌}
 use Rattle.text_line.specs.Values.{scheme_of}
-use Rattle.batch_replies.proofs.ServedLines.{HasServedSoFar, served_more, stopped_before, stopped_within}
+use Rattle.batch_replies.proofs.ServedLines.{HasServedSoFar, served_none, served_more, stopped_before, stopped_within}
 use Rattle.batch_replies.proofs.batch.Batch.serve.Goals as goal
 use Rattle.list_laws.proofs.Booleans.{on_err}
 
+pub returns-in_err-rule_texts-clause-prefix : goal.returns-in_err-rule_texts-clause-prefix
+returns-in_err-rule_texts-clause-prefix g c = on_err c.from_residual.result _ (stopped_before _ _ _ _ _ _ _ _ (served_none _ _ _ _ _))
+
 pub returns-in_err-block-clause-prefix : goal.returns-in_err-block-clause-prefix
 returns-in_err-block-clause-prefix g c =
-    on_err c.from_residual.result _ (stopped_before _ _ _ _ _ _ _ _ c.loop-rest.invariant.served)
+    on_err c.from_residual-in_err-block.result _ (stopped_before _ _ _ _ _ _ _ _ c.loop-rest.invariant.served)
 
 pub returns-in_err-replies-clause-prefix : goal.returns-in_err-replies-clause-prefix
 returns-in_err-replies-clause-prefix g c =
