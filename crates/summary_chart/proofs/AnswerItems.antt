@@ -1,7 +1,7 @@
 -- An item is one of a step of an answer exactly where some living place goes further by a step with this item: an answer is taken
 -- apart at the step, and its front ends at a place from which the rest is a path; and a front that ends at a living place, the
 -- key, and what completes it, are an answer.
-use Rattle.std.proofs.Common.{◌≡◌, ◌≢◌, ◌⊎◌, ◌↔◌, inl, inr, ℕ, ◌+◌, List, [], ◌∷◌, ◌++◌, length, map, take, drop, refl, sym, ap, subst, ◌∙◌, append_assoc}
+use Rattle.std.proofs.Common.{◌≡◌, ◌≢◌, ◌⊎◌, inl, inr, ℕ, List, [], ◌∷◌, ◌++◌, length, map, take, drop, refl, sym, ap, subst, ◌∙◌, append_assoc}
 use Rattle.std.specs.List.{Contains}
 use Rattle.std.proofs.lemmas.List.{map-append}
 use Rattle.std.proofs.lemmas.List.Elements.{Contains-append_right}
@@ -18,10 +18,10 @@ use Rattle.segmentation_definitions.proofs.Fronts.{lead_after, covers_split, pla
 use Rattle.segmentation_definitions.proofs.KeyLists.{key_at, same_cons}
 use Rattle.list_laws.proofs.Sorted.{Contains-first, Contains-cons_cases, not_Contains-nil}
 use Rattle.listing_laws.specs.Ways.{IsPath, HasPath}
-use Rattle.answer_paths.specs.Fronts.{supplied, ways_of}
+use Rattle.answer_paths.specs.Fronts.{supplied}
 use Rattle.answer_paths.specs.Following.{step_at, placed_at}
 use Rattle.answer_paths.proofs.FrontParts.{left_after, supplied_after}
-use Rattle.answer_paths.proofs.AnswerPaths.{keys_after, path_of_rest, answer_after}
+use Rattle.answer_paths.proofs.AnswerPaths.{path_of_rest, answer_after}
 use Rattle.answer_paths.proofs.AnswerFronts.{front_of_answer}
 use Rattle.phase_automaton.specs.Automata.{state_after}
 use Rattle.annotated_trie.specs.Searched.{SearchedLexicon, IsSearchedLexicon}
@@ -34,7 +34,7 @@ use Rattle.search_frames.proofs.ReachedStandings.{reached_after}
 use Rattle.search_frames.proofs.StandingPaths.{path_above_is_path}
 use Rattle.summary_chart.specs.Charts.{IsAlive}
 use Rattle.summary_chart.specs.Summaries.{item_with}
-use Rattle.summary_chart.proofs.ProgramPlaces.{HasPlace, place_of_reached}
+use Rattle.summary_chart.proofs.ProgramPlaces.{place_of_reached}
 
 -- ---- a list of steps taken apart at the step of an item
 

@@ -20,7 +20,7 @@ use Rattle.summary_chart.specs.StateSets.{HasState}
 use Rattle.summary_chart.specs.Tables.{IsTable, IsIn, IsIndexed, AreEntrances, ChangesAt, HasThisState, set_of, set_at}
 use Rattle.summary_chart.specs.Spreading.{AreGoingFurther, GoesFurther, EveryKey, leads_in}
 use Rattle.summary_chart.specs.Charts.{HasReached, IsAliveFrom, IsChartTable, IsAlive, index_of_place, set_count}
-use Rattle.summary_chart.proofs.TableStates.{numbered_at, stands_in, at_index, same_place, index_within}
+use Rattle.summary_chart.proofs.TableStates.{stands_in, at_index, same_place, index_within}
 use Rattle.summary_chart.proofs.ProgramPlaces.{place_of_reached}
 use Rattle.summary_chart.proofs.ReachedPlaces.{later_if_led}
 

@@ -1,7 +1,6 @@
 -- One stop more stands after those before it, and the ways of these stay where others are appended; a table that has fewer places
 -- needs no other stops.
 use Rattle.std.proofs.Common.{◌≡◌, ℕ, ◌+◌, ◌-◌, ◌<◌, ◌≤◌, inl, inr, List, [], ◌∷◌, ◌++◌, length, take, drop, Contains, refl, sym, ap, subst, ◌∙◌, arith}
-use Rattle.std.specs.List.{All}
 use Rattle.std.specs.Ordering.{nat_cmp}
 use Rattle.std.specs.Cmp.{nat_cmp_is}
 use Rattle.std.specs.List.Sorted.{IsStrictlySortedBy}
@@ -16,18 +15,17 @@ use Rattle.text_definitions.specs.Lines.{Line}
 use Rattle.segmentation_definitions.specs.Items.{Choice}
 use Rattle.derivation.specs.declared.entrance.Entrance.{Entrance}
 use Rattle.derivation.specs.Guides.{entrance_of}
-use Rattle.annotated_trie.specs.Searched.{SearchedLexicon, IsSearchedLexicon}
+use Rattle.annotated_trie.specs.Searched.{SearchedLexicon}
 use Rattle.search_frames.specs.declared.place.Place.{Place}
 use Rattle.search_frames.specs.declared.ways.Way.{Way}
 use Rattle.search_frames.specs.Frames.{IsPlaceIn, standing_of}
-use Rattle.search_frames.specs.WaysFrom.{AreWaysFrom, AppendsWays}
+use Rattle.search_frames.specs.WaysFrom.{AreWaysFrom}
 use Rattle.summary_chart.specs.declared.place_ways.Stop.{Stop}
 use Rattle.summary_chart.specs.declared.table.Table.{Table}
-use Rattle.summary_chart.specs.StateSets.{HasState}
 use Rattle.summary_chart.specs.Tables.{IsTable, IsIn, IsIndexed, IsEntrance, AreEmptyBetween}
 use Rattle.summary_chart.specs.Spreading.{leads_in}
 use Rattle.summary_chart.specs.Charts.{index_of_place}
-use Rattle.summary_chart.specs.PlaceWays.{AreStops, AreWaysAt, HasAllWays, HasStopAt, HasWaysBefore, IsStopWithin, compare_stops, ways_of}
+use Rattle.summary_chart.specs.PlaceWays.{AreWaysAt, HasAllWays, HasWaysBefore, IsStopWithin, compare_stops, ways_of}
 use Rattle.summary_chart.proofs.TableOrder.{same_index}
 use Rattle.summary_chart.proofs.TableStates.{numbered_at}
 use Rattle.summary_chart.proofs.WaysElsewhere.{ways_elsewhere}

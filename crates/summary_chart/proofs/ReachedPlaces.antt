@@ -15,7 +15,6 @@ use Rattle.search_frames.specs.Reached.{IsReached}
 use Rattle.search_frames.proofs.LeadingTo.{leads_from}
 use Rattle.search_frames.proofs.ReachedStandings.{opening_reached}
 use Rattle.summary_chart.specs.declared.table.Table.{Table}
-use Rattle.summary_chart.specs.StateSets.{HasState}
 use Rattle.summary_chart.specs.Tables.{IsTable, IsIn, IsIndexed, AreEmptyBetween, set_of}
 use Rattle.summary_chart.specs.Spreading.{Spreads, EveryKey, IsLedOnTo, leads_in, place_with}
 use Rattle.summary_chart.specs.Charts.{IsReachedBefore, IsOpenTable, index_of_place}

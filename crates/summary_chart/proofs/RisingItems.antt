@@ -1,12 +1,9 @@
 -- Items that compare as equal are the same, since each part of an item is compared; so an item that is put into a rising list
 -- is there once.
-use Rattle.std.proofs.Common.{◌≡◌, ℕ, ◌⊎◌, inl, inr, List, Contains, sym, ap, subst}
-use Rattle.std.specs.declared.cmp.Ordering.TheVariants.{Equal}
-use Rattle.std.specs.Ordering.{nat_cmp, ordering_then}
+use Rattle.std.proofs.Common.{◌≡◌, inl, inr, List, Contains, sym, subst}
 use Rattle.std.specs.List.Sorted.{IsStrictlySortedBy}
 use Rattle.std.proofs.lemmas.Map.Lookups.{CmpEqualImpliesEq, exact_unsigned, exact_bytes}
-use Rattle.text_definitions.specs.Words.{compare_words}
-use Rattle.segmentation_definitions.specs.Items.{Item, after_lead}
+use Rattle.segmentation_definitions.specs.Items.{Item}
 use Rattle.segmentation_definitions.specs.Listings.{compare_items}
 use Rattle.segmentation_definitions.proofs.ItemOrder.{compare_items_total}
 use Rattle.list_laws.specs.RisingSets.{with_element}

@@ -1,5 +1,5 @@
 -- A summary takes a frame for each set of the table at most, which is within the bound, since two such passes are.
-use Rattle.std.proofs.Common.{◌≡◌, ℕ, ◌+◌, ◌*◌, ◌≤◌, length, arith}
+use Rattle.std.proofs.Common.{ℕ, ◌+◌, ◌*◌, ◌≤◌, length, arith}
 use Rattle.std.proofs.Math.Nat.{mul-le-mul_right}
 use Rattle.text_definitions.specs.Lines.{Line}
 use Rattle.segmentation_definitions.specs.StepBounds.{chart_bound}

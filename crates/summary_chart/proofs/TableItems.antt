@@ -1,13 +1,12 @@
 -- A pass over a chart's table has after each index the items of the places before it: what stands at one index is at one number
 -- of letters and one entrance. At the end these are the items of the living places, and so of the answers.
-use Rattle.std.proofs.Common.{◌≡◌, ◌⊎◌, ◌↔◌, inl, inr, ℕ, ◌+◌, ◌*◌, ◌<◌, ◌≤◌, Option, Some, None, List, [], length, get_or, refl, sym, ap, subst, ◌∙◌, arith}
-use Rattle.std.specs.List.{Contains}
+use Rattle.std.proofs.Common.{◌≡◌, ◌⊎◌, inl, inr, ℕ, ◌+◌, ◌<◌, ◌≤◌, List, [], length, get_or, sym, ap, subst, ◌∙◌, arith}
 use Rattle.std.specs.List.Sorted.{IsStrictlySortedBy}
 use Rattle.std.proofs.lemmas.Bool.{cases_lt}
 use Rattle.std.proofs.lemmas.List.{get_or_default}
 use Rattle.text_definitions.specs.Lines.{Line, IsLine}
 use Rattle.segmentation_definitions.specs.Items.{Item, Choice}
-use Rattle.segmentation_definitions.specs.Listings.{Key, compare_items, IsItemOfAnswer, IsSummary}
+use Rattle.segmentation_definitions.specs.Listings.{Key, IsSummary}
 use Rattle.derivation.specs.declared.entrance.Entrance.{Entrance}
 use Rattle.annotated_trie.specs.Searched.{SearchedLexicon, IsSearchedLexicon}
 use Rattle.search_frames.specs.declared.place.Place.{Place}
@@ -15,14 +14,12 @@ use Rattle.search_frames.specs.Standings.{Standing}
 use Rattle.search_frames.specs.Frames.{IsPlaceIn, standing_of}
 use Rattle.summary_chart.specs.declared.state_set.StateSet.{StateSet}
 use Rattle.summary_chart.specs.declared.table.Table.{Table}
-use Rattle.summary_chart.specs.StateSets.{HasState}
 use Rattle.summary_chart.specs.Tables.{IsTable, IsIn, IsIndexed, set_of}
-use Rattle.summary_chart.specs.Spreading.{GoesFurtherBy, leads_in, place_with, standing_with}
-use Rattle.summary_chart.specs.Charts.{IsChartTable, IsAlive, index_of_place}
-use Rattle.summary_chart.specs.Summaries.{IsItemBy, IsItemFrom, AddsItems, IsItemAt, IsItemBefore, HasItemsBefore, item_with}
-use Rattle.summary_chart.proofs.TableStates.{numbered_at, at_index, stands_in, with_within, index_within}
-use Rattle.summary_chart.proofs.RisingItems.{adds_none}
-use Rattle.summary_chart.proofs.AnswerItems.{IsItemOfLiving, GoesOnAlive, item_of_living, item_of_answer}
+use Rattle.summary_chart.specs.Spreading.{GoesFurtherBy, leads_in, place_with}
+use Rattle.summary_chart.specs.Charts.{IsChartTable, index_of_place}
+use Rattle.summary_chart.specs.Summaries.{IsItemFrom, AddsItems, IsItemAt, IsItemBefore, HasItemsBefore, item_with}
+use Rattle.summary_chart.proofs.TableStates.{at_index, stands_in, with_within, index_within}
+use Rattle.summary_chart.proofs.AnswerItems.{GoesOnAlive, item_of_living, item_of_answer}
 
 -- ---- one index
 
