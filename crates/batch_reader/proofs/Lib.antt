@@ -1,2 +1,3 @@
-mod HalfReplies
+mod RepliesInOrder
 mod SharedRepliers
+mod FoundReplies

@@ -1,6 +1,8 @@
-ghost use Rattle.std.specs.Prelude.{◌≡◌, ◌+◌, ◌<◌, ◌^◌, length, map, IfOk};
+ghost use Rattle.std.specs.Prelude.{◌≡◌, ◌<◌, ◌^◌, ℕ, List, length, map, IfOk};
 ghost use denote.Param.Send.{IsSync};
-ghost use Rattle.batch_reader.specs.Replies.{AreReplies};
+ghost use Rattle.text_definitions.specs.Lines.{Line as LineValue};
+ghost use Rattle.lexicon_definitions.specs.Lexicons.{Lexicon as LexiconValue};
+ghost use Rattle.batch_reader.specs.Replies.{AreFound, AreReplies};
 
 use super::replier::Replier;
 use annotated_trie::Lexicon;
@@ -8,72 +10,128 @@ use answer_printing::RuleTexts;
 use outside::Gate;
 use phoneme::{Line, Memory};
 use std::alloc::Global;
-use std::thread::{Threads, join};
+use std::sync::atomic::{AtomicUsize, Ordering};
+use std::thread::{Threads, available_parallelism, join};
 
-/// The most pieces that a list of lines is cut into, each of which is answered by one worker. Each cut begins and ends a thread, so
-/// there are few pieces: twice as many cost more time than they even out. But there are more of them than many machines have
-/// processors, so that a worker whose lines were easy finds another piece to answer while the others are still busy; half as many
-/// even out too little.
-const MOST_PIECES: usize = 8;
+/// There are at least so many workers, so that two lines are answered at once also where there is one processor.
+const FEWEST_WORKERS: usize = 2;
 
-/// The replies to a piece of the lines, line after line. Its first line has this number.
-#[tactic(auto, using(crate::proofs::HalfReplies::replies_with_next))]
-fn read_piece<G: Gate>(
+/// There are no more workers than this, since their threads are begun one after another.
+const MOST_WORKERS: usize = 64;
+
+/// How many workers there are: one for each processor.
+fn count_of_workers(rt: &impl Threads) -> usize {
+    match available_parallelism(rt) {
+        Ok(processors) => processors.get().clamp(FEWEST_WORKERS, MOST_WORKERS),
+        Err(_unknown) => FEWEST_WORKERS,
+    }
+}
+
+/// A place for the reply to each line, where there is none yet.
+#[tactic(auto, using(crate::proofs::FoundReplies::none_more))]
+fn no_replies(alloc: Global, lines: &[Line]) -> Result<Vec<Option<Vec<u8>>>, Memory>
+    ensures { IfOk result (λ found. (lexicon : LexiconValue) (count : ℕ) → AreFound lexicon count lines.now found.items) }
+{
+    let mut found = Vec::with_capacity(alloc, lines.len())?;
+    for _line in lines {
+        found.push(None)?;
+    }
+    Ok(found)
+}
+
+/// The replies that one worker finds: to each next line that no worker has taken yet, until none is left. `next` counts the lines that
+/// were taken. Each reply stands at the place of its line, whatever `next` tells.
+#[tactic(auto, using(crate::proofs::FoundReplies::one_found, crate::proofs::FoundReplies::zip_length))]
+fn find_replies<G: Gate>(
     alloc: Global,
     replier: &Replier<'_, G>,
     lines: &[Line],
-    first: u64,
-) -> Result<Vec<Vec<u8>>, Memory>
-    requires numbers { first + length lines.now < 2 ^ 64 }
-    ensures ok { IfOk result (λ replies. AreReplies replier.now.lexicon.now.lexicon replier.now.count lines.now (map (λ reply. reply.items) replies.items)) }
+    next: &AtomicUsize,
+) -> Result<Vec<Option<Vec<u8>>>, Memory>
+    ensures ok { IfOk result (λ found. AreFound replier.now.lexicon.now.lexicon replier.now.count lines.now found.items) }
 {
-    let mut replies = Vec::with_capacity(alloc, lines.len())?;
-    for (place, line) in lines.iter().enumerate() {
-        replies.push(replier.reply(alloc, line, first + place as u64)?)?;
+    let mut found = no_replies(alloc, lines)?;
+    for _ in 0..lines.len() {
+        let place = next.fetch_add(1, Ordering::SeqCst);
+        if place >= lines.len() {
+            break;
+        }
+        found[place] = Some(replier.reply(alloc, &lines[place], place as u64)?);
     }
-    Ok(replies)
+    Ok(found)
 }
 
-/// The replies to the lines, the first of which has this number. They are halved down to pieces of at most so many lines, and the
-/// halves are answered side by side.
-#[cycle(halves)]
-fn read_lines<R: Threads + Sync, G: Gate + Sync>(
+/// Puts the other replies that were found beside these.
+#[tactic(auto, using(crate::proofs::FoundReplies::either_found, crate::proofs::FoundReplies::taken_out))]
+fn put_together(found: &mut Vec<Option<Vec<u8>>>, others: &mut Vec<Option<Vec<u8>>>)
+    requires { length others.old.items ≡ length found.old.items }
+    ensures { (lexicon : LexiconValue) (count : ℕ) (lines : List LineValue) → AreFound lexicon count lines found.old.items → AreFound lexicon count lines others.old.items → AreFound lexicon count lines found.new.items }
+{
+    for place in 0..found.len() {
+        let own = found[place].take();
+        let other = others[place].take();
+        found[place] = own.or(other);
+    }
+}
+
+/// The replies that so many workers find side by side. Each thread is begun from this one: the system often puts a thread that is begun
+/// from a new one on the same processor as that.
+#[cycle(workers)]
+fn find_by_workers<R: Threads + Sync, G: Gate + Sync>(
     rt: &R,
     alloc: Global,
     replier: &Replier<'_, G>,
     lines: &[Line],
-    first: u64,
-    piece: usize,
+    next: &AtomicUsize,
+    workers: usize,
+) -> Result<Vec<Option<Vec<u8>>>, Memory>
+    ensures ok { IfOk result (λ found. AreFound replier.now.lexicon.now.lexicon replier.now.count lines.now found.items) }
+{
+    if workers < 2 {
+        return find_replies(alloc, replier, lines, next);
+    }
+    let fewer = workers - 1;
+    let find_first = || -> Result<Vec<Option<Vec<u8>>>, Memory>
+        ensures { IfOk result (λ found. AreFound replier.entry.now.lexicon.now.lexicon replier.entry.now.count lines.entry.now found.items) }
+    { find_replies(alloc, replier, lines, next) };
+    let find_others = || -> Result<Vec<Option<Vec<u8>>>, Memory>
+        requires { IsSync R.row × IsSync G.row }
+        ensures { IfOk result (λ found. AreFound replier.entry.now.lexicon.now.lexicon replier.entry.now.count lines.entry.now found.items) }
+    { find_by_workers(rt, alloc, replier, lines, next, fewer) };
+    let (first, later) = join(rt, find_first, find_others);
+    let mut found = first?;
+    let mut others = later?;
+    put_together(&mut found, &mut others);
+    Ok(found)
+}
+
+/// The replies to all lines, of which these were found. A line that no worker has answered would be answered here: that the count of the
+/// lines that were taken leaves none out is not proved, and nothing rests on it.
+#[tactic(auto, using(crate::proofs::RepliesInOrder::replies_with_next, crate::proofs::FoundReplies::reply_found, crate::proofs::FoundReplies::taken_out, crate::proofs::FoundReplies::zip_length))]
+fn complete<G: Gate>(
+    alloc: Global,
+    replier: &Replier<'_, G>,
+    lines: &[Line],
+    found: &mut Vec<Option<Vec<u8>>>,
 ) -> Result<Vec<Vec<u8>>, Memory>
-    requires numbers { first + length lines.now < 2 ^ 64 }
-    requires positive { 0 < piece }
+    requires found { AreFound replier.now.lexicon.now.lexicon replier.now.count lines.now found.old.items }
     ensures ok { IfOk result (λ replies. AreReplies replier.now.lexicon.now.lexicon replier.now.count lines.now (map (λ reply. reply.items) replies.items)) }
 {
-    if lines.len() <= piece {
-        return read_piece(alloc, replier, lines, first);
+    let mut replies = Vec::with_capacity(alloc, lines.len())?;
+    for (place, line) in lines.iter().enumerate() {
+        let reply = match found[place].take() {
+            Some(reply) => reply,
+            None => replier.reply(alloc, line, place as u64)?,
+        };
+        replies.push(reply)?;
     }
-    let middle = lines.len() / 2;
-    let (front, back) = lines.split_at(middle);
-    let next = first + middle as u64;
-    let read_front = || -> Result<Vec<Vec<u8>>, Memory>
-        requires { IsSync R.row × IsSync G.row × (first + length front.now < 2 ^ 64) × (0 < piece) }
-        ensures { IfOk result (λ replies. AreReplies replier.entry.now.lexicon.now.lexicon replier.entry.now.count front.entry.now (map (λ reply. reply.items) replies.items)) }
-    { read_lines(rt, alloc, replier, front, first, piece) };
-    let read_back = || -> Result<Vec<Vec<u8>>, Memory>
-        requires { IsSync R.row × IsSync G.row × (next + length back.now < 2 ^ 64) × (0 < piece) }
-        ensures { IfOk result (λ replies. AreReplies replier.entry.now.lexicon.now.lexicon replier.entry.now.count back.entry.now (map (λ reply. reply.items) replies.items)) }
-    { read_lines(rt, alloc, replier, back, next, piece) };
-    let (earlier, later) = join(rt, read_front, read_back);
-    let mut replies = earlier?;
-    replies.append(&mut later?)?;
     Ok(replies)
 }
 
-/// The printed page of each line, at most `count` answers a page: reply `i` is that of line `i`. The lines are halved again and
-/// again, down to at most 8 pieces, and the halves are answered side by side by the runtime's join. Where there are no more than 8
-/// lines, each is a piece of its own. One worker answers the lines of a piece, one after another; just before it begins line `i`,
-/// counted from 0, it passes the gate with `i`. The texts are those of the lexicon's rules, so that a caller with many lists of lines
-/// makes them once. Refused only for want of memory.
+/// The printed page of each line, at most `count` answers a page: reply `i` is that of line `i`. Workers, one for each processor and at
+/// least 2, answer the lines side by side by the runtime's join; each takes the next line that none has taken, until no line is left.
+/// Just before a worker begins line `i`, counted from 0, it passes the gate with `i`. The texts are those of the lexicon's rules, so that
+/// a caller with many lists of lines makes them once. Refused only for want of memory.
 pub fn read_all_with<R: Threads + Sync, G: Gate + Sync>(
     rt: &R,
     alloc: Global,
@@ -92,8 +150,10 @@ pub fn read_all_with<R: Threads + Sync, G: Gate + Sync>(
         count,
         gate,
     };
-    let piece = lines.len().div_ceil(MOST_PIECES).max(1);
-    read_lines(rt, alloc, &replier, lines, 0, piece)
+    let next = AtomicUsize::new(0);
+    let workers = count_of_workers(rt).min(lines.len());
+    let mut found = find_by_workers(rt, alloc, &replier, lines, &next, workers)?;
+    complete(alloc, &replier, lines, &mut found)
 }
 
 /// What `read_all_with` gives with the texts of the lexicon's rules, which are made first.

@@ -168,9 +168,9 @@ fn replies_come_in_the_order_of_the_lines(rt: HostRuntime) -> Result<(), Fail> {
     Ok(())
 }
 
-// Forty lines are answered in pieces of five lines: each line has its own reply, and passes the gate by its own number.
+// Forty lines are answered by fewer workers: each line has its own reply, and passes the gate by its own number.
 #[test]
-fn lines_of_a_piece_are_answered_one_by_one(rt: HostRuntime) -> Result<(), Fail> {
+fn many_lines_are_answered_one_by_one(rt: HostRuntime) -> Result<(), Fail> {
     let gate = Counter::new();
     assert_read(&rt, &ROWS, 8, &gate)?;
     assert!(rt; gate.counts_each_once(40));

@@ -1,8 +1,7 @@
--- The replies to the first lines, and after them those to the rest, are the replies to all: by recursion on the first lines. One
--- line more is such a rest.
-use Rattle.std.proofs.Common.{◌≡◌, ℕ, ◌+◌, ◌<◌, List, Vec, Global, [], ◌∷◌, ◌++◌, length, get_or, take, drop, map, sym, ap, ◌∙◌, subst, add-one}
+-- The reply to one line more, after those to the lines before it: by recursion on these lines.
+use Rattle.std.proofs.Common.{◌≡◌, ℕ, ◌+◌, ◌<◌, List, Vec, Global, [], ◌∷◌, ◌++◌, length, get_or, take, map, sym, ap, ◌∙◌, subst, add-one}
 use Rattle.std.proofs.Math.Seq.{take-suc}
-use Rattle.std.proofs.lemmas.List.{map-append, take-append-drop}
+use Rattle.std.proofs.lemmas.List.{map-append}
 use Rattle.text_definitions.specs.Lines.{Line}
 use Rattle.lexicon_definitions.specs.Lexicons.{Lexicon}
 use Rattle.batch_reader.specs.Replies.{IsReply, AreReplies}
@@ -15,17 +14,6 @@ module _ (lexicon : Lexicon) (count : ℕ) where
   replies_together (line ∷ front) back [] later replied rest = absurd replied
   replies_together (line ∷ front) back (text ∷ earlier) later replied rest =
       (replied.0, replies_together front back earlier later replied.1 rest)
-
-  -- lines that are cut at any place have the replies to both parts
-  pub replies_of_halves : (lines : List Line) (middle : ℕ) (earlier later all : List (Vec ℕ Global))
-      → AreReplies lexicon count (take middle lines) (map (λ reply. reply.items) earlier)
-      → AreReplies lexicon count (drop middle lines) (map (λ reply. reply.items) later)
-      → all ≡ earlier ++ later → AreReplies lexicon count lines (map (λ reply. reply.items) all)
-  replies_of_halves lines middle earlier later all front back both =
-      let texts = ap (map (λ (reply : Vec ℕ Global). reply.items)) both ∙ map-append (λ (reply : Vec ℕ Global). reply.items) earlier later in
-      subst (AreReplies lexicon count lines) (sym texts)
-      (subst (λ whole. AreReplies lexicon count whole (map (λ (reply : Vec ℕ Global). reply.items) earlier ++ map (λ (reply : Vec ℕ Global). reply.items) later)) (take-append-drop middle lines)
-      (replies_together (take middle lines) (drop middle lines) _ _ front back))
 
   -- the reply to the next line comes after those to the lines before it
   pub replies_with_next : (lines : List Line) (place : ℕ) (line : Line) (before : List (Vec ℕ Global)) (reply : Vec ℕ Global)
