@@ -7,7 +7,9 @@
 
 mod answer_printer;
 mod printed_front;
+mod refusals;
 mod rule_texts;
 
 pub use answer_printer::AnswerPrinter;
+pub use refusals::{push_misspelling, push_refusal};
 pub use rule_texts::RuleTexts;
