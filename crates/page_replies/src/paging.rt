@@ -6,13 +6,11 @@ ghost use Rattle.page_replies.specs.PageEnds.{HasToldRest};
 ghost use Rattle.line_reading.specs.Readings.{IsReading, IsReadingOver, GoesOn, GoesOnWith, state_with, state_of};
 
 use annotated_trie::Lexicon;
-use answer_printing::{AnswerPrinter, RuleTexts};
+use answer_printing::{AnswerPrinter, RuleTexts, push_answers, rest_line};
 use line_reading::{Reading, refuse};
 use outside::Steps;
-use page_printing::{push_answers, rest_line};
 use phoneme::Memory;
-use resumption::Resumption;
-use search_frames::SearchGuide;
+use search_frames::{Resumption, SearchGuide};
 use segmentation_definitions::LAST_ANSWER_NUMBER;
 use segmenter::Search;
 use std::alloc::Global;
