@@ -13,8 +13,10 @@
 mod answer_printer;
 mod page_printing;
 mod printed_front;
+mod refusals;
 mod rule_texts;
 
 pub use answer_printer::AnswerPrinter;
 pub use page_printing::{push_answers, push_page, rest_line};
+pub use refusals::{push_misspelling, push_refusal};
 pub use rule_texts::RuleTexts;

@@ -5,9 +5,8 @@ ghost use Rattle.session_definitions.specs.Replies.{why_no_line};
 ghost use Rattle.batch_reader.specs.Blocks.{fault_meant, HasRepliedTo};
 
 use super::line_fault::LineFault;
-use line_reading::push_refusal;
+use answer_printing::{push_misspelling, push_refusal};
 use phoneme::Memory;
-use session_replies::push_misspelling;
 use std::alloc::Global;
 
 /// Appends `line I`.
