@@ -12,7 +12,7 @@ use Rattle.segmentation_definitions.specs.Listings.{Position, AtAnswer, PastLast
 use Rattle.answer_paths.specs.Pages.{AreFirstAnswers}
 use Rattle.answer_paths.proofs.NextPages.{page_if_full, page_if_ended}
 use Rattle.segmenter.specs.Searches.{SearchValue}
-use Rattle.page_printing.specs.Pages.{HasListed, standing_at}
+use Rattle.answer_printing.specs.Pages.{HasListed, standing_at}
 
 -- the position at the last of some answers is that of one of them
 pub last_is_among : (first : List Step) (answers : List (List Step)) (last : List Step) → position_after (AtAnswer first) answers ≡ AtAnswer last

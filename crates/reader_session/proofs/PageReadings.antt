@@ -12,12 +12,12 @@ use Rattle.segmentation_definitions.specs.Listings.{Position, position_after, Is
 use Rattle.segmentation_definitions.specs.PrintedAnswers.{printed_answers, printed_rest, printed_page, next_number}
 use Rattle.derivation.specs.Steps.{steps_of, StandIn}
 use Rattle.derivation.specs.declared.step.Step.{Step as ProgramStep}
-use Rattle.resumption.specs.declared.state.Resumption.{Resumption}
+use Rattle.search_frames.specs.declared.resumption.Resumption.{Resumption}
 use Rattle.annotated_trie.specs.Searched.{SearchedLexicon}
 use Rattle.answer_paths.specs.Pages.{AreFirstAnswers}
 use Rattle.segmenter.specs.Searches.{SearchValue, StandsWhere}
 use Rattle.segmenter.specs.Skips.{value_of}
-use Rattle.page_printing.specs.Pages.{HasPrinted, KeepsLast, standing_at}
+use Rattle.answer_printing.specs.Pages.{HasPrinted, KeepsLast, standing_at}
 use Rattle.session_definitions.specs.States.{after_answers}
 use Rattle.session_definitions.specs.Replies.{Open, IsPageReply, reply_in}
 use Rattle.reader_session.specs.declared.reading.Reading.{Reading}

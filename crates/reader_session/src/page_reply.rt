@@ -8,12 +8,10 @@ ghost use Rattle.reader_session.specs.Readings.{IsReading, IsReadingOver, GoesOn
 use super::reading::Reading;
 use super::refusing::refuse;
 use annotated_trie::Lexicon;
-use answer_printing::{AnswerPrinter, RuleTexts};
+use answer_printing::{AnswerPrinter, RuleTexts, push_answers, rest_line};
 use outside::Steps;
-use page_printing::{push_answers, rest_line};
 use phoneme::Memory;
-use resumption::Resumption;
-use search_frames::SearchGuide;
+use search_frames::{Resumption, SearchGuide};
 use segmentation_definitions::LAST_ANSWER_NUMBER;
 use segmenter::Search;
 use std::alloc::Global;

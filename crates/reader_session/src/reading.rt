@@ -8,7 +8,7 @@ use derivation::{Item, Step};
 use outside::Steps;
 use phoneme::{Line, Memory};
 use reader_choices::Choices;
-use resumption::Resumption;
+use search_frames::Resumption;
 use segmenter::Search;
 use std::alloc::Global;
 use summary_chart::Chart;

@@ -6,7 +6,7 @@ use Rattle.outside.proofs.ToldLemmas.{GrowsByPrefix-all}
 use Rattle.text_definitions.specs.Schemes.{Scheme}
 use Rattle.lexicon_definitions.specs.Lexicons.{Lexicon}
 use Rattle.lexicon_text_definitions.specs.FileLines.{lines_of_bytes}
-use Rattle.batch_replies.specs.Serving.{WroteReplies, WroteFirstReplies}
+use Rattle.batch_reader.specs.Serving.{WroteReplies, WroteFirstReplies}
 use Rattle.lexicon_text_definitions.specs.declared.limits.TheConstants.{MOST_FILE_BYTES}
 use Rattle.run_definitions.specs.Commands.{FileWord}
 use Rattle.run_definitions.specs.Ends as ends

@@ -4,7 +4,7 @@ use Rattle.outside.specs.Counts.{Rose}
 use Rattle.outside.specs.Files.{Files}
 use Rattle.text_definitions.specs.Schemes.{Scheme}
 use Rattle.lexicon_definitions.specs.Lexicons.{Lexicon}
-use Rattle.batch_replies.specs.Serving.{WroteReplies, WroteFirstReplies}
+use Rattle.batch_reader.specs.Serving.{WroteReplies, WroteFirstReplies}
 use Rattle.run_definitions.specs.Commands.{FileWord}
 use Rattle.run_definitions.specs.SegmentOutcomes.{Holds, DoesTell}
 use Rattle.run_definitions.specs.BuildOutcomes as sources

@@ -1,7 +1,7 @@
 -- What was printed from where the reading stands, and what the search told then, by the lemma of a page.
 use Rattle.std.proofs.Common.{subst, arith}
 use Rattle.segmenter.specs.Searches.{SearchValue}
-use Rattle.page_printing.specs.Pages.{HasPrinted}
+use Rattle.answer_printing.specs.Pages.{HasPrinted}
 use Rattle.reader_session.proofs.PageReadings.{replies_with_page}
 use Rattle.reader_session.proofs.page_reply.push_next_page.Goals as goal
 
