@@ -1,3 +1,5 @@
+pub mod Numbers
+pub mod LineWhys
 pub mod Requests
 pub mod SessionLines
 pub mod States
