@@ -7,3 +7,5 @@ pub mod PrintedSummaries
 pub mod Replies
 pub mod Sessions
 pub mod PageReplies
+pub mod ReachedStates
+pub mod PrintedPages
