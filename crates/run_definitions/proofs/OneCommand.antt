@@ -3,7 +3,7 @@ use Rattle.std.proofs.Common.{◌≡◌, ℕ, List, [], ◌∷◌, Option, Some,
 use Rattle.std.specs.Prelude.{◌==◌, if◌then◌else◌, codes, slice_index, option_map}
 use Rattle.std.specs.Str.{bytes_eq}
 use Rattle.text_definitions.specs.Schemes.{Scheme, Slp1, Wx, Velthuis, Devanagari, name_of_scheme}
-use Rattle.session_definitions.specs.Requests.{page_size_of}
+use Rattle.session_definitions.specs.Numbers.{page_size_of}
 use Rattle.run_definitions.specs.Arguments.{Given, given_by}
 use Rattle.run_definitions.specs.Commands.{Command, Segment, Check, Build, Read, Batch, Demo, FileWord, demo_number_of, GiveScheme, name_of_command, Takes, AreWordsOf}
 

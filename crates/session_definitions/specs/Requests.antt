@@ -1,13 +1,11 @@
 -- What a line of a session asks for: its first word, up to the first blank, and the rest after this blank (own).
-use Rattle.std.specs.Prelude.{ℕ, ◌&&◌, nat_le, Bool, true, false, if◌then◌else◌, Option, Some, None, List, [], ◌∷◌, codes}
+use Rattle.std.specs.Prelude.{ℕ, Bool, true, false, if◌then◌else◌, Option, Some, None, List, [], ◌∷◌, codes}
 use Rattle.std.specs.Str.{bytes_eq}
-use Rattle.std.specs.Str.Parse.{digits_value}
 use Rattle.text_definitions.specs.Schemes.{Scheme, scheme_named}
-use Rattle.text_definitions.specs.TypedNumbers.{are_digits_up_to}
 use Rattle.lexicon_text_definitions.specs.FileLines.{Parts, parts_of}
 use Rattle.bookmark_definitions.specs.Bookmarks.{Bookmark}
 use Rattle.bookmark_definitions.specs.BookmarkReadings.{bookmark_of_text}
-use Rattle.session_definitions.specs.declared.limits.TheConstants.{MOST_PAGE}
+pub use Rattle.session_definitions.specs.Numbers.{page_size_of, item_number_of}
 
 -- what a line asks for: a line of text to be read, a page, the summary, an item to be kept or rejected, the newest choice to
 -- be taken back, the analyses of an item, a bookmark, to go on from one, or the end; None stands for what could not be
@@ -29,16 +27,6 @@ abbrev pub after_blank : Option (List ℕ) → List ℕ
 after_blank None = []
 after_blank (Some rest) = rest
 
--- how many answers a page may have, as one to four digits write it: at least 1, and not too many
-abbrev pub page_size_of : List ℕ → Option ℕ
-page_size_of text =
-    if are_digits_up_to 4 text && nat_le 1 (digits_value 10 text) && nat_le (digits_value 10 text) MOST_PAGE
-    then Some (digits_value 10 text) else None
-
--- the number of an item, counted from 1, as one to nine digits write it
-abbrev pub item_number_of : List ℕ → Option ℕ
-item_number_of text =
-    if are_digits_up_to 9 text && nat_le 1 (digits_value 10 text) then Some (digits_value 10 text) else None
 
 -- the request, where nothing comes after its word
 abbrev pub alone : List ℕ → Request → Request
