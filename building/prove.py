@@ -66,8 +66,8 @@ class Builder:
 
     def build(self, crate, jobs, log):
         """Whether the crate is built. The program tells that it was by its answer to a word that is no command."""
-        rt, is_program = [sys.executable, str(HERE / "rt_once.py")], crate == self.program
-        words = [*rt, "run", "--jobs", str(jobs), "--", "--"] if is_program else [*rt, "lib", "--jobs", str(jobs)]
+        is_program = crate == self.program
+        words = ["rt", "run", "--jobs", str(jobs), "--", "--"] if is_program else ["rt", "lib", "--jobs", str(jobs)]
         answers = tempfile.TemporaryFile()
         how = {"stdin": subprocess.DEVNULL, "stdout": answers if is_program else log, "stderr": log}
         with subprocess.Popen(words, cwd=CRATES / crate, start_new_session=True, **how) as process:
