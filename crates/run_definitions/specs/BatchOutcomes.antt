@@ -4,7 +4,7 @@ use Rattle.std.specs.Prelude.{◌≡◌, ℕ, ◌+◌, ◌++◌, Bool, List, [],
 use Rattle.std.specs.Fmt.{decimal}
 use Rattle.outside.specs.Files.{Files}
 use Rattle.text_definitions.specs.Lines.{Line}
-use Rattle.text_definitions.specs.Schemes.{Scheme}
+use Rattle.text_definitions.specs.Schemes.{Scheme, name_of_scheme}
 use Rattle.text_definitions.specs.LineTexts.{LineFault, line_of_text}
 use Rattle.lexicon_definitions.specs.Lexicons.{Lexicon}
 use Rattle.lexicon_text_definitions.specs.FileLines as file
@@ -15,7 +15,6 @@ use Rattle.segmentation_definitions.specs.PrintedAnswers.{output_line, printed_p
 use Rattle.session_definitions.specs.LineWhys.{why_no_line}
 use Rattle.session_definitions.specs.Numbers.{page_size_of}
 use Rattle.run_definitions.specs.Arguments.{FileWord, AreNamed}
-use Rattle.text_definitions.specs.Schemes.{name_of_scheme}
 use Rattle.run_definitions.specs.Ends.{Outcome, AnyFault, Done, ReadFault, BadFile, outcome_over}
 use Rattle.run_definitions.specs.Refusals.{file_refusal, usage_outcome}
 use Rattle.run_definitions.specs.LexiconTells as lexicons

@@ -27,7 +27,6 @@ abbrev pub after_blank : Option (List ℕ) → List ℕ
 after_blank None = []
 after_blank (Some rest) = rest
 
-
 -- the request, where nothing comes after its word
 abbrev pub alone : List ℕ → Request → Request
 alone [] request = request
