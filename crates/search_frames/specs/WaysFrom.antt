@@ -4,6 +4,7 @@ use Rattle.std.specs.List.Sorted.{IsStrictlySortedBy}
 use Rattle.text_definitions.specs.Lines.{Line}
 use Rattle.segmentation_definitions.specs.Items.{Choice}
 use Rattle.segmentation_definitions.specs.Listings.{Key, compare_keys}
+use Rattle.derivation.specs.Steps.{key_meant}
 use Rattle.annotated_trie.specs.Searched.{SearchedLexicon}
 use Rattle.search_frames.specs.declared.letter_testing.LetterTest.TheVariants.{Refused}
 use Rattle.search_frames.specs.declared.ways.Way.{Way}
@@ -12,7 +13,7 @@ use Rattle.search_frames.specs.LetterTests.{MayNeither, IsLetterTestOf}
 
 -- the key of a way
 abbrev pub key_of_way : Way → Key
-key_of_way way = record { phase = way.phase; taken = way.taken; rule = way.rule }
+key_of_way way = key_meant way.key
 
 -- the way is one from here: its key is possible, and does what the way tells
 pub record IsWayFrom (searched : SearchedLexicon) (line : Line) (choices : List Choice) (here : Standing) (way : Way) : Type 0 where

@@ -12,32 +12,16 @@ use super::opening::open_frame;
 use super::place::Place;
 use super::skipping::skip_unwritten;
 use annotated_trie::Lexicon;
-use derivation::{Key, Step};
+use derivation::Key;
 use outside::Steps;
 use phoneme::{Line, Memory};
 use reader_choices::Choices;
 
-/// A key that leads on from a place or ends the line there, whatever the grammar says, and which of the two (own): its phase, counted
-/// from 0, how many letters of the line it takes, and its rule, counted from 1, 0 for no change.
+/// A key that leads on from a place or ends the line there, whatever the grammar says, and which of the two (own).
 #[derive(Clone, Copy, Debug, PartialEq, Eq)]
 pub struct Way {
-    pub phase: u32,
-    pub taken: u32,
-    pub rule: u32,
+    pub key: Key,
     pub test: LetterTest,
-}
-
-impl Way {
-    /// The key of the way.
-    pub fn key(&self) -> Key
-        ensures { result ≡ record { phase = self.now.phase; taken = self.now.taken; rule = self.now.rule } }
-    {
-        Key {
-            phase: self.phase,
-            taken: self.taken,
-            rule: self.rule,
-        }
-    }
 }
 
 /// Appends all ways from the place, in the order of their keys. The place's state is not looked at. `walker` has room for a frame.
@@ -67,9 +51,7 @@ pub fn push_ways<L>(
         match test_letters(lexicon, line, choices, &place, &step) {
             LetterTest::Refused => skip_unwritten(lexicon, line, walker, 0, steps),
             test => ways.push(Way {
-                phase: step.phase,
-                taken: step.taken,
-                rule: step.rule,
+                key: step.key(),
                 test,
             })?,
         }

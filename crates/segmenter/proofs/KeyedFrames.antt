@@ -14,7 +14,8 @@ use Rattle.search_frames.specs.Standings.{Standing, ways_in}
 use Rattle.search_frames.specs.Frames.{standing_of}
 use Rattle.search_frames.specs.Tests.{LeadsTo}
 use Rattle.segmenter.specs.Chains.{AreFrames, KeepsBefore}
-use Rattle.segmenter.specs.GivenKeys.{StandsAtKey, key_of_given, keys_of_given}
+use Rattle.segmenter.specs.GivenKeys.{StandsAtKey}
+use Rattle.derivation.specs.Steps.{key_meant, keys_meant}
 use Rattle.segmenter.proofs.KeptFrames.{frame_kept, key_kept, here_kept, is_frame_kept, later_kept}
 use Rattle.segmenter.proofs.PathsFound.{path_with}
 
@@ -25,22 +26,22 @@ StandAlong searched line choices stack level here keys =
 
 -- the keys that are given are the first of them and the rest
 given_first : (given : List ProgramKey) (some : ProgramKey) → 1 ≤ length given
-    → keys_of_given given ≡ key_of_given (get_or given 0 some) ∷ keys_of_given (take (length given - 1) (drop 1 given))
+    → keys_meant given ≡ key_meant (get_or given 0 some) ∷ keys_meant (take (length given - 1) (drop 1 given))
 given_first [] some count = absurd (omega (arith, count))
 given_first (key ∷ rest) some count =
     let shorter : length (key ∷ rest) - 1 ≡ length rest = omega arith in
-    ap (λ rest. key_of_given key ∷ keys_of_given rest) (sym (ap (λ n. take n rest) shorter ∙ take-length rest))
+    ap (λ rest. key_meant key ∷ keys_meant rest) (sym (ap (λ n. take n rest) shorter ∙ take-length rest))
 
 -- where the frame stands at the first key, and later ones along the rest, all stand along the keys
 pub stand_along : (searched : SearchedLexicon) (line : Line) (choices : List Choice) (level : ℕ) (here : Standing) (mid deep : Resumption)
     (given : List ProgramKey) (some : ProgramKey) (next : Place) → 1 ≤ length given
-    → StandsAtKey searched line mid level here (key_of_given (get_or given 0 some))
-    → LeadsTo searched line choices here (key_of_given (get_or given 0 some)) next → KeepsBefore (level + 1) mid deep
-    → StandAlong searched line choices deep (level + 1) (standing_of searched next) (keys_of_given (take (length given - 1) (drop 1 given)))
-    → StandAlong searched line choices deep level here (keys_of_given given)
+    → StandsAtKey searched line mid level here (key_meant (get_or given 0 some))
+    → LeadsTo searched line choices here (key_meant (get_or given 0 some)) next → KeepsBefore (level + 1) mid deep
+    → StandAlong searched line choices deep (level + 1) (standing_of searched next) (keys_meant (take (length given - 1) (drop 1 given)))
+    → StandAlong searched line choices deep level here (keys_meant given)
 stand_along searched line choices level here mid deep given some next count stands leads keeps later =
-    let key = key_of_given (get_or given 0 some) in
-    let keys = keys_of_given (take (length given - 1) (drop 1 given)) in
+    let key = key_meant (get_or given 0 some) in
+    let keys = keys_meant (take (length given - 1) (drop 1 given)) in
     let kept = frame_kept level mid deep keeps in
     let there = subst (λ h. StandAlong searched line choices deep (level + 1) h keys) leads.is later in
     subst (λ keys. StandAlong searched line choices deep level here keys) (sym (given_first given some count)) (

@@ -8,7 +8,8 @@ ghost use Rattle.search_frames.specs.Frames.{IsStack, IsPlaceIn, standing_of};
 ghost use Rattle.search_frames.specs.Tests.{IsTestOf};
 ghost use Rattle.search_frames.specs.Reached.{IsReached};
 ghost use Rattle.segmenter.specs.Chains.{AreFrames, HasRoom, KeepsBefore};
-ghost use Rattle.segmenter.specs.GivenKeys.{StandsUnlessRefused, key_of_given, keys_of_given};
+ghost use Rattle.derivation.specs.Steps.{key_meant, keys_meant};
+ghost use Rattle.segmenter.specs.GivenKeys.{StandsUnlessRefused};
 
 use annotated_trie::Lexicon;
 use derivation::Key;
@@ -32,8 +33,8 @@ fn stand_at_key(
     requires stack { IsStack stack.old }
     requires there { level < length stack.old.frames.items }
     requires place { IsPlaceIn lexicon.now line.now place }
-    ensures exact { IsTestOf lexicon.now line.now choices.now (standing_of lexicon.now place) (key_of_given key) result }
-    ensures stands { StandsUnlessRefused lexicon.now line.now stack.new level (standing_of lexicon.now place) (key_of_given key) result }
+    ensures exact { IsTestOf lexicon.now line.now choices.now (standing_of lexicon.now place) (key_meant key) result }
+    ensures stands { StandsUnlessRefused lexicon.now line.now stack.new level (standing_of lexicon.now place) (key_meant key) result }
     ensures changes { KeepsBefore level stack.old stack.new }
 {
     let mut steps = Steps::<()>::new();
@@ -60,9 +61,9 @@ pub(crate) fn find_keys(
     requires place { IsPlaceIn lexicon.now line.now place }
     requires reached { IsReached lexicon.now line.now choices.now (standing_of lexicon.now place) }
     requires room { HasRoom line.now stack.old level (standing_of lexicon.now place) }
-    ensures found { OnTrue result (AreFrames lexicon.now line.now stack.new level (standing_of lexicon.now place) (keys_of_given keys.now)
-        × IsPath (ways_in lexicon.now line.now choices.now) (standing_of lexicon.now place) (keys_of_given keys.now)) }
-    ensures not_there { OnFalse result (IsPath (ways_in lexicon.now line.now choices.now) (standing_of lexicon.now place) (keys_of_given keys.now) → ⊥) }
+    ensures found { OnTrue result (AreFrames lexicon.now line.now stack.new level (standing_of lexicon.now place) (keys_meant keys.now)
+        × IsPath (ways_in lexicon.now line.now choices.now) (standing_of lexicon.now place) (keys_meant keys.now)) }
+    ensures not_there { OnFalse result (IsPath (ways_in lexicon.now line.now choices.now) (standing_of lexicon.now place) (keys_meant keys.now) → ⊥) }
     ensures changes { KeepsBefore level stack.old stack.new }
 {
     let [key, rest @ ..] = keys else {

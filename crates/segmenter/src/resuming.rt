@@ -6,7 +6,7 @@ ghost use Rattle.annotated_trie.specs.Searched.{IsSearchedLexicon};
 ghost use Rattle.search_frames.specs.declared.stand.Stand.TheVariants as stand;
 ghost use Rattle.segmenter.specs.declared.resuming.ResumeError.TheVariants.{NotAnAnswer as ErrorNotAnAnswer, Memory as ErrorMemory};
 ghost use Rattle.segmenter.specs.Chains.{KeepsBefore};
-ghost use Rattle.segmenter.specs.GivenKeys.{keys_of_given};
+ghost use Rattle.derivation.specs.Steps.{keys_meant};
 ghost use Rattle.search_frames.specs.Guided.{IsGuideOf, IsExactOf};
 ghost use Rattle.search_frames.specs.Costs.{HasAtMostChoices};
 ghost use Rattle.segmentation_definitions.specs.StepBounds.{advance_bound};
@@ -57,8 +57,8 @@ impl<'a, D: SearchGuide> Search<'a, D> {
         requires guide { IsGuideOf lexicon.now line.now choices.now (D.covers guide.now) (D.says guide.now) }
         requires known { D.known guide.now lexicon.now line.now choices.now }
         ensures over { IfOk result (λ search. search ≡ record { searched = lexicon.now; line = line.now; choices = choices.now; position = search.position }) }
-        ensures at { IfOk result (λ search. StandsAtKeys search (keys_of_given keys.now)) }
-        ensures not_an_answer { IfErr result (λ error. error ≡ ErrorNotAnAnswer → (keys.now ≢ []) × AreNoKeys lexicon.now line.now choices.now (keys_of_given keys.now)) }
+        ensures at { IfOk result (λ search. StandsAtKeys search (keys_meant keys.now)) }
+        ensures not_an_answer { IfErr result (λ error. error ≡ ErrorNotAnAnswer → (keys.now ≢ []) × AreNoKeys lexicon.now line.now choices.now (keys_meant keys.now)) }
     {
         // The proof knows what a lexicon is only of one whose rules are read.
         let _rules = lexicon.rules();
@@ -104,8 +104,8 @@ fn go_to_keys(
     requires stack { IsStackOf lexicon.now line.now choices.now stack.old }
     requires before { stack.old.stand ≡ stand.Before }
     ensures stack { OnTrue result (IsStackOf lexicon.now line.now choices.now stack.new) }
-    ensures at { OnTrue result (StandsAtKeys (value_of lexicon.now line.now choices.now stack.new) (keys_of_given keys.now)) }
-    ensures none { OnFalse result ((keys.now ≢ []) × AreNoKeys lexicon.now line.now choices.now (keys_of_given keys.now)) }
+    ensures at { OnTrue result (StandsAtKeys (value_of lexicon.now line.now choices.now stack.new) (keys_meant keys.now)) }
+    ensures none { OnFalse result ((keys.now ≢ []) × AreNoKeys lexicon.now line.now choices.now (keys_meant keys.now)) }
 {
     if keys.is_empty() {
         return true;

@@ -35,7 +35,8 @@ use Rattle.summary_chart.specs.Tables.{IsIn, index_in}
 use Rattle.summary_chart.specs.Spreading.{GoesFurtherBy, leads_in}
 use Rattle.summary_chart.specs.Charts.{IsAlive, CoversPlace, index_of_place}
 use Rattle.summary_chart.specs.PlaceWays.{ChartValue, IsChartOf, HasAllWays, HasStopAt, AreWaysAt}
-use Rattle.summary_chart.specs.Turning.{key_for, last_tried, IsFrom, IsAfter, IsTestUnder, IsFirstLiving, HasNoLiving}
+use Rattle.derivation.specs.Steps.{key_meant}
+use Rattle.summary_chart.specs.Turning.{last_tried, IsFrom, IsAfter, IsTestUnder, IsFirstLiving, HasNoLiving}
 use Rattle.summary_chart.proofs.TableStates.{same_place, index_within}
 use Rattle.summary_chart.proofs.TablePlaces.{has_set}
 use Rattle.summary_chart.proofs.WayTests.{number_in_set}
@@ -124,7 +125,7 @@ after_to_try searched line level stack step LaterKeys frame there has =
 -- what comes after a key that comes after the last one does so too
 after_later : (last : Option ProgramKey) (found key : Key) → IsAfter last found → compare_keys found key ≡ Less → IsAfter last key
 after_later None found key after later = tt
-after_later (Some last) found key after later = compare_keys_total.trans (key_for last) found key after later
+after_later (Some last) found key after later = compare_keys_total.trans (key_meant last) found key after later
 
 module _ (searched : SearchedLexicon) (line : Line) (choices : List Choice) (chart : ChartValue) (level : ℕ) (old : Resumption) (place : Place)
     (asked : IsAsked searched line choices chart level old place) where

@@ -4,6 +4,7 @@ use Rattle.std.specs.declared.cmp.Ordering.TheVariants.{Less}
 use Rattle.text_definitions.specs.Lines.{Line}
 use Rattle.segmentation_definitions.specs.Items.{Choice}
 use Rattle.segmentation_definitions.specs.Listings.{Key, compare_keys}
+use Rattle.derivation.specs.Steps.{key_meant}
 use Rattle.derivation.specs.declared.step.Key.{Key as ProgramKey}
 use Rattle.derivation.specs.declared.step.Step.{Step}
 use Rattle.annotated_trie.specs.Searched.{SearchedLexicon}
@@ -16,10 +17,6 @@ use Rattle.search_frames.specs.Tests.{LeadsTo}
 use Rattle.summary_chart.specs.declared.table.Table.{Table}
 use Rattle.summary_chart.specs.Spreading.{GoesFurtherBy}
 
--- the key of the definitions for which the program's one stands
-abbrev pub key_for : ProgramKey → Key
-key_for key = record { phase = key.phase; taken = key.taken; rule = key.rule }
-
 -- the key is this one or comes after it
 abbrev pub IsFrom : Key → Key → Type 0
 IsFrom key other = (key ≡ other) ⊎ (compare_keys key other ≡ Less)
@@ -27,7 +24,7 @@ IsFrom key other = (key ≡ other) ⊎ (compare_keys key other ≡ Less)
 -- the key comes after the last one; where there is none, any key does
 abbrev pub IsAfter : Option ProgramKey → Key → Type 0
 IsAfter None key = Unit {0}
-IsAfter (Some last) key = compare_keys (key_for last) key ≡ Less
+IsAfter (Some last) key = compare_keys (key_meant last) key ≡ Less
 
 -- the last key that a frame at the step has tried, where it has not all keys to try
 abbrev pub last_tried : Step → ToTry → Option ProgramKey

@@ -45,11 +45,11 @@ fn collect_way(
     }
     let rules = lexicon.rules();
     let step = Step {
-        phase: way.phase,
-        rule: way.rule,
+        phase: way.key.phase,
+        rule: way.key.rule,
         at: place.at,
         lead: supplied_letters(rules, place.entrance).len() as u32,
-        taken: way.taken,
+        taken: way.key.taken,
     };
     let item = item_of_step(alloc, rules, line, place.entrance, &step)?;
     put_item(items, item)

@@ -33,9 +33,9 @@ pub(crate) fn states_going_further(
     let automaton = lexicon.automaton();
     match way.test {
         LetterTest::Refused => StateSet::empty(),
-        LetterTest::Ends => accepted_states(automaton, states, way.phase),
+        LetterTest::Ends => accepted_states(automaton, states, way.key.phase),
         LetterTest::LeadsOn { at, entrance } => {
-            states_into(automaton, states, way.phase, table.get(at, entrance))
+            states_into(automaton, states, way.key.phase, table.get(at, entrance))
         }
     }
 }

@@ -35,7 +35,7 @@ fn spread_way(
         table.add(
             at,
             entrance,
-            states_after(lexicon.automaton(), states, way.phase),
+            states_after(lexicon.automaton(), states, way.key.phase),
         );
     }
 }

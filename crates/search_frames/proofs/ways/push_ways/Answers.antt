@@ -1,11 +1,11 @@
 -- The way of each key that the frame goes on to is appended, unless it is refused, and then it is tried; at the end all possible keys are.
 use Rattle.std.proofs.Common.{◌∙◌, arith, ap, sym, subst}
-use Rattle.derivation.specs.Steps.{key_of}
+use Rattle.derivation.specs.Steps.{key_of, key_meant}
 use Rattle.derivation.specs.declared.step.Step.{Step}
 use Rattle.search_frames.specs.declared.ways.Way.{Way}
 use Rattle.search_frames.specs.Standings.{IsPossible}
 use Rattle.search_frames.specs.Frames.{standing_of}
-use Rattle.search_frames.specs.LetterTests.{MayNeither}
+use Rattle.search_frames.specs.LetterTests.{MayNeither, IsLetterTestOf}
 use Rattle.search_frames.specs.WaysFrom.{IsWayFrom}
 use Rattle.search_frames.proofs.StepFrames.{step_read}
 use Rattle.search_frames.proofs.TriedKeys.{possible_at}
@@ -58,11 +58,12 @@ loop-place-preserved g c =
     let mid = c.go_on.new.stack in
     let step_is = step_read mid 0 c.index.result.now went.frame.placed.is_stack went.frame.placed.there c.index.ensures in
     let step : Step = c.index.result.now in
-    let way : Way = record { phase = step.phase; taken = step.taken; rule = step.rule; test = c.test_letters.result } in
-    let key_is = ap key_of step_is in
+    let way : Way = record { key = c.key.result; test = c.test_letters.result } in
+    let key_now = ap key_meant c.key.ensures in
+    let key_is = key_now ∙ ap key_of step_is in
     let is : IsWayFrom searched line choices (standing_of searched place) way = record {
-      possible = subst (λ (s : Step). IsPossible searched line (standing_of searched place) (key_of s)) (sym step_is) (possible_at searched line place c.loop-place.walker mid before.here went);
-      test = c.test_letters.ensures.exact;
+      possible = subst (IsPossible searched line (standing_of searched place)) (sym key_is) (possible_at searched line place c.loop-place.walker mid before.here went);
+      test = subst (λ key. IsLetterTestOf searched line choices (standing_of searched place) key c.test_letters.result) (sym key_now) c.test_letters.ensures.exact;
       goes = c.in_default.not-Refused;
     } in
     record {

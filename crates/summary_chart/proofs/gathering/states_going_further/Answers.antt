@@ -15,7 +15,7 @@ returns-in-LeadsOn c =
     let choices = c.args.choices.now in
     let place = c.args.place.now in
     let may = way_may_lead searched line choices (standing_of searched place) c.args.way.now c.in-LeadsOn.at c.in-LeadsOn.entrance c.requires.way c.in-LeadsOn.is in
-    let into = subst (λ (machine : StateMachine). (number : ℕ) → HasState c.states_into.result number ↔ LeadsInto machine c.args.states c.args.way.now.phase c.get.result number)
+    let into = subst (λ (machine : StateMachine). (number : ℕ) → HasState c.states_into.result number ↔ LeadsInto machine c.args.states c.args.way.now.key.phase c.get.result number)
     c.automaton-automaton.ensures.value c.states_into.ensures in
     further_on searched line choices c.args.table.now place c.args.states (key_of_way c.args.way.now) c.in-LeadsOn.at c.in-LeadsOn.entrance
     c.get.result c.states_into.result may c.get.ensures.entrance c.get.ensures.set into

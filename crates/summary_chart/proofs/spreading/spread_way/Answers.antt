@@ -26,7 +26,7 @@ returns-in-LeadsOn-clause-spreads c =
     let place = c.args.place.now in
     let set = c.args.states in
     let may = way_may_lead searched line choices (standing_of searched place) c.args.way.now c.in-LeadsOn.at c.in-LeadsOn.entrance c.requires.way c.in-LeadsOn.is in
-    let led = subst (λ (machine : StateMachine). (number : ℕ) → HasState c.states_after.result number ↔ IsLedTo machine set c.args.way.now.phase number)
+    let led = subst (λ (machine : StateMachine). (number : ℕ) → HasState c.states_after.result number ↔ IsLedTo machine set c.args.way.now.key.phase number)
     c.automaton.ensures.value c.states_after.ensures in
     spreads_one searched line choices place set (key_of_way c.args.way.now) c.in-LeadsOn.at c.in-LeadsOn.entrance
     may c.states_after.result c.args.table.now c.add.new.self c.add.ensures.entrance c.requires.table led

@@ -4,7 +4,8 @@ use Rattle.phase_automaton.specs.Automata.{IsStateMachine}
 use Rattle.search_frames.specs.Frames.{standing_of}
 use Rattle.summary_chart.specs.declared.table.Table.{Table}
 use Rattle.summary_chart.specs.PlaceWays.{ChartValue}
-use Rattle.summary_chart.specs.Turning.{key_for, IsFirstLiving, HasNoLiving}
+use Rattle.derivation.specs.Steps.{key_meant}
+use Rattle.summary_chart.specs.Turning.{IsFirstLiving, HasNoLiving}
 use Rattle.summary_chart.proofs.ChartTurns.{IsAsked, HasAfterToTry, after_to_try, covers_place, ways_there, place_within, no_ways, none_living, possible_old, untried_old, is_turn, has_paid}
 use Rattle.summary_chart.proofs.turning.ChartSearchGuide.turn.Given as given
 use Rattle.summary_chart.proofs.turning.ChartSearchGuide.turn.Goals as goal
@@ -29,10 +30,10 @@ to_try g c = subst (HasAfterToTry c.args.lexicon.now c.args.line.now c.args.leve
 
 first : (g : given.Over) (c : In-Some-find_living g)
     → IsFirstLiving c.args.lexicon.now c.args.line.now c.args.choices.now c.args.self.now.table (standing_of c.args.lexicon.now c.of_frame-place.result)
-    c.last_tried-last.result (key_for c.in-Some-find_living.key) c.in-Some-find_living.turn
+    c.last_tried-last.result (key_meant c.in-Some-find_living.key) c.in-Some-find_living.turn
 first g c = subst
     (λ (table : Table). IsFirstLiving c.args.lexicon.now c.args.line.now c.args.choices.now table (standing_of c.args.lexicon.now c.of_frame-place.result)
-    c.last_tried-last.result (key_for c.in-Some-find_living.key) c.in-Some-find_living.turn)
+    c.last_tried-last.result (key_meant c.in-Some-find_living.key) c.in-Some-find_living.turn)
     (ap (λ (value : ChartValue). value.table) c.self.view_is) c.in-Some-find_living.ensures
 
 -- ---- the goals
@@ -71,7 +72,7 @@ go_to-requires-clause-possible g c =
     let has_to_try = to_try g (goal.at.go_to-requires-clause-possible g c).After-last_tried-last in
     let is_first = first g (goal.at.go_to-requires-clause-possible g c).In-Some-find_living in
     possible_old c.args.lexicon.now c.args.line.now c.args.choices.now c.args.self.now c.args.level c.args.stack.now c.of_frame-place.result is_asked
-    c.last_tried-last.result has_to_try (key_for c.in-Some-find_living.key) c.in-Some-find_living.turn is_first
+    c.last_tried-last.result has_to_try (key_meant c.in-Some-find_living.key) c.in-Some-find_living.turn is_first
 
 pub go_to-requires-clause-untried : goal.go_to-requires-clause-untried
 go_to-requires-clause-untried g c =
@@ -79,7 +80,7 @@ go_to-requires-clause-untried g c =
     let has_to_try = to_try g (goal.at.go_to-requires-clause-untried g c).After-last_tried-last in
     let is_first = first g (goal.at.go_to-requires-clause-untried g c).In-Some-find_living in
     untried_old c.args.lexicon.now c.args.line.now c.args.choices.now c.args.self.now c.args.level c.args.stack.now c.of_frame-place.result is_asked
-    c.last_tried-last.result has_to_try (key_for c.in-Some-find_living.key) c.in-Some-find_living.turn is_first
+    c.last_tried-last.result has_to_try (key_meant c.in-Some-find_living.key) c.in-Some-find_living.turn is_first
 
 pub returns-clause-turn : goal.returns-clause-turn
 returns-clause-turn g c =
@@ -87,7 +88,7 @@ returns-clause-turn g c =
     let has_to_try = to_try g (goal.at.returns-clause-turn g c).After-last_tried-last in
     let is_first = first g (goal.at.returns-clause-turn g c).In-Some-find_living in
     is_turn c.args.lexicon.now c.args.line.now c.args.choices.now c.args.self.now c.args.level c.args.stack.now c.of_frame-place.result is_asked
-    c.last_tried-last.result has_to_try (key_for c.in-Some-find_living.key) c.in-Some-find_living.turn is_first
+    c.last_tried-last.result has_to_try (key_meant c.in-Some-find_living.key) c.in-Some-find_living.turn is_first
     c.go_to.new.stack c.go_to.ensures.at
 
 pub returns-clause-steps : goal.returns-clause-steps
