@@ -1,5 +1,5 @@
 pub mod Copies
-pub mod Standings
+pub mod Configurations
 pub mod Frames
 pub mod Tests
 pub mod Changes

@@ -1,6 +1,6 @@
 ghost use Rattle.std.specs.Prelude.{IfOk};
 
-use super::{Frame, Stand};
+use super::{Frame, Position};
 use derivation::Step;
 use phoneme::Memory;
 use shared_trie::Node;
@@ -11,7 +11,7 @@ use std::alloc::Global;
 /// `walked` are the nodes that it has walked in its present phase.
 #[derive(Debug, Drop)]
 pub struct Resumption {
-    pub stand: Stand,
+    pub position: Position,
     pub depth: u32,
     pub steps: Vec<Step>,
     pub frames: Vec<Frame>,
@@ -26,7 +26,7 @@ impl Resumption {
         ensures ok { IfOk result (λ copy. IsCopyOf self.now copy) }
     {
         Ok(Resumption {
-            stand: self.stand,
+            position: self.position,
             depth: self.depth,
             steps: Vec::from_slice(alloc, self.steps.as_slice())?,
             frames: Vec::from_slice(alloc, self.frames.as_slice())?,

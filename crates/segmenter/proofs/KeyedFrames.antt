@@ -9,9 +9,9 @@ use Rattle.listing_laws.specs.Ways.{IsPath}
 use Rattle.derivation.specs.declared.step.Key.{Key as ProgramKey}
 use Rattle.annotated_trie.specs.Searched.{SearchedLexicon}
 use Rattle.search_frames.specs.declared.resumption.Resumption.{Resumption}
-use Rattle.search_frames.specs.declared.place.Place.{Place}
-use Rattle.search_frames.specs.Standings.{Standing, ways_in}
-use Rattle.search_frames.specs.Frames.{standing_of}
+use Rattle.search_frames.specs.declared.configuration.Configuration.{Configuration}
+use Rattle.search_frames.specs.Configurations.{NumberedConfiguration, ways_in}
+use Rattle.search_frames.specs.Frames.{numbered_of}
 use Rattle.search_frames.specs.Tests.{LeadsTo}
 use Rattle.segmenter.specs.Chains.{AreFrames, KeepsBefore}
 use Rattle.segmenter.specs.GivenKeys.{StandsAtKey}
@@ -20,7 +20,7 @@ use Rattle.segmenter.proofs.KeptFrames.{frame_kept, key_kept, here_kept, is_fram
 use Rattle.segmenter.proofs.PathsFound.{path_with}
 
 -- the frames from the level on stand along the keys, which are a path
-abbrev pub StandAlong : SearchedLexicon → Line → List Choice → Resumption → ℕ → Standing → List Key → Type 0
+abbrev pub StandAlong : SearchedLexicon → Line → List Choice → Resumption → ℕ → NumberedConfiguration → List Key → Type 0
 StandAlong searched line choices stack level here keys =
     AreFrames searched line stack level here keys × IsPath (ways_in searched line choices) here keys
 
@@ -33,11 +33,11 @@ given_first (key ∷ rest) some count =
     ap (λ rest. key_meant key ∷ keys_meant rest) (sym (ap (λ n. take n rest) shorter ∙ take-length rest))
 
 -- where the frame stands at the first key, and later ones along the rest, all stand along the keys
-pub stand_along : (searched : SearchedLexicon) (line : Line) (choices : List Choice) (level : ℕ) (here : Standing) (mid deep : Resumption)
-    (given : List ProgramKey) (some : ProgramKey) (next : Place) → 1 ≤ length given
+pub stand_along : (searched : SearchedLexicon) (line : Line) (choices : List Choice) (level : ℕ) (here : NumberedConfiguration) (mid deep : Resumption)
+    (given : List ProgramKey) (some : ProgramKey) (next : Configuration) → 1 ≤ length given
     → StandsAtKey searched line mid level here (key_meant (get_or given 0 some))
     → LeadsTo searched line choices here (key_meant (get_or given 0 some)) next → KeepsBefore (level + 1) mid deep
-    → StandAlong searched line choices deep (level + 1) (standing_of searched next) (keys_meant (take (length given - 1) (drop 1 given)))
+    → StandAlong searched line choices deep (level + 1) (numbered_of searched next) (keys_meant (take (length given - 1) (drop 1 given)))
     → StandAlong searched line choices deep level here (keys_meant given)
 stand_along searched line choices level here mid deep given some next count stands leads keeps later =
     let key = key_meant (get_or given 0 some) in

@@ -3,7 +3,7 @@ ghost use Rattle.std.specs.Bool.{OnTrue, OnFalse};
 ghost use Rattle.text_definitions.specs.Lines.{IsLine};
 ghost use Rattle.segmentation_definitions.specs.Listings.{Key};
 ghost use Rattle.annotated_trie.specs.Searched.{IsSearchedLexicon};
-ghost use Rattle.search_frames.specs.Frames.{IsStack, IsFrame, IsPlaceIn, standing_of, here_of};
+ghost use Rattle.search_frames.specs.Frames.{IsStack, IsFrame, IsConfigurationIn, numbered_of, here_of};
 ghost use Rattle.search_frames.specs.Guided.{IsGuideOf, IsExactOf};
 ghost use Rattle.search_frames.specs.Costs.{HasAtMostChoices, steps_left};
 ghost use Rattle.search_frames.specs.Reached.{IsReached};
@@ -15,7 +15,7 @@ use annotated_trie::Lexicon;
 use outside::Steps;
 use phoneme::Line;
 use reader_choices::Choices;
-use search_frames::{Place, Resumption, SearchGuide, ToTry, Turn, open_frame};
+use search_frames::{Configuration, Resumption, SearchGuide, ToTry, Turn, open_frame};
 
 /// Finds the first path from the place, with the frames from the level on. False where there is none.
 #[cycle(find)]
@@ -26,7 +26,7 @@ pub(crate) fn find_first<D: SearchGuide, L>(
     guide: &D,
     stack: &mut Resumption,
     level: usize,
-    place: Place,
+    place: Configuration,
     steps: &mut Steps<L>,
 ) -> bool
     requires searched { IsSearchedLexicon lexicon.now }
@@ -34,14 +34,14 @@ pub(crate) fn find_first<D: SearchGuide, L>(
     requires guide { IsGuideOf lexicon.now line.now choices.now (D.covers guide.now) (D.says guide.now) }
     requires known { D.known guide.now lexicon.now line.now choices.now }
     requires stack { IsStack stack.old }
-    requires place { IsPlaceIn lexicon.now line.now place }
-    requires reached { IsReached lexicon.now line.now choices.now (standing_of lexicon.now place) }
-    requires room { HasRoom line.now stack.old level (standing_of lexicon.now place) }
-    ensures found { OnTrue result (HasFound lexicon.now line.now choices.now Every stack.new level (standing_of lexicon.now place)) }
-    ensures none { OnFalse result (HasNone lexicon.now line.now choices.now Every (standing_of lexicon.now place)) }
+    requires place { IsConfigurationIn lexicon.now line.now place }
+    requires reached { IsReached lexicon.now line.now choices.now (numbered_of lexicon.now place) }
+    requires room { HasRoom line.now stack.old level (numbered_of lexicon.now place) }
+    ensures found { OnTrue result (HasFound lexicon.now line.now choices.now Every stack.new level (numbered_of lexicon.now place)) }
+    ensures none { OnFalse result (HasNone lexicon.now line.now choices.now Every (numbered_of lexicon.now place)) }
     ensures changes { KeepsBefore level stack.old stack.new }
     ensures steps_on { IsExactOf lexicon.now line.now choices.now (D.says guide.now) → (most : ℕ) → HasAtMostChoices lexicon.now.tries most
-        → OnTrue result (steps.new ≤ steps.old + 1 + steps_of_levels lexicon.now most (levels_from line.now (standing_of lexicon.now place))) }
+        → OnTrue result (steps.new ≤ steps.old + 1 + steps_of_levels lexicon.now most (levels_from line.now (numbered_of lexicon.now place))) }
     ensures steps_end { IsExactOf lexicon.now line.now choices.now (D.says guide.now) → (most : ℕ) → HasAtMostChoices lexicon.now.tries most
         → OnFalse result (steps.new ≤ steps.old + 1) }
 {

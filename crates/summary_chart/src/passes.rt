@@ -14,7 +14,7 @@ use annotated_trie::Lexicon;
 use outside::Steps;
 use phoneme::{Line, Memory};
 use reader_choices::Choices;
-use search_frames::{Place, Resumption, Way, push_ways};
+use search_frames::{Configuration, Resumption, Way, push_ways};
 
 /// Puts into the table, which has the opening alone, every place that a search comes to: from each place in the order of the table,
 /// wherever a way leads on to. A way leads only to places that stand later in the table. The ways are kept. Refused only for want of
@@ -45,7 +45,7 @@ pub(crate) fn reach<L>(
     while index < table.sets.len() {
         let states = table.sets[index];
         let (at, entrance) = table.place(index);
-        let place = Place {
+        let place = Configuration {
             at,
             entrance,
             state,
@@ -81,7 +81,7 @@ pub(crate) fn keep_living(
     for number in (0..ways.stops.len()).rev() {
         let stop = ways.stops[number];
         let (at, entrance) = table.place(stop.index);
-        let place = Place {
+        let place = Configuration {
             at,
             entrance,
             state,

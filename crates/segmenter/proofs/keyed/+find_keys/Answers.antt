@@ -5,7 +5,7 @@ use Rattle.segmenter.proofs.KeptFrames.{keeps_then, keeps_less}
 use Rattle.search_frames.proofs.LeadingTo.{leads_from}
 use Rattle.segmenter.proofs.PathsFound.{on_true}
 use Rattle.segmenter.proofs.KeyedFrames.{stand_along}
-use Rattle.search_frames.specs.Frames.{standing_of}
+use Rattle.search_frames.specs.Frames.{numbered_of}
 use Rattle.segmenter.proofs.keyed.+find_keys.Goals as goal
 
 -- the rest is shorter
@@ -14,7 +14,7 @@ shorter keys n some is = omega (arith, is, some, length-take (length keys - 1) (
 
 pub find_keys-requires : goal.find_keys-requires
 find_keys-requires t c =
-    let leads = leads_from c.args.lexicon.now c.args.line.now c.args.choices.now (standing_of c.args.lexicon.now c.args.place) _ c.in-LeadsOn.next
+    let leads = leads_from c.args.lexicon.now c.args.line.now c.args.choices.now (numbered_of c.args.lexicon.now c.args.place) _ c.in-LeadsOn.next
     c.in-LeadsOn.ensures.exact c.requires.searched c.requires.reached in
     let rises = leads.rises in
     let within = leads.within in
@@ -43,7 +43,7 @@ find_keys-requires t c =
 pub returns-in-LeadsOn-clause-found : goal.returns-in-LeadsOn-clause-found
 returns-in-LeadsOn-clause-found t c =
     on_true c.find_keys.result
-    (stand_along c.args.lexicon.now c.args.line.now c.args.choices.now c.args.level (standing_of c.args.lexicon.now c.args.place)
+    (stand_along c.args.lexicon.now c.args.line.now c.args.choices.now c.args.level (numbered_of c.args.lexicon.now c.args.place)
     c.stand_at_key.new.stack c.find_keys.new.stack c.args.keys.now _ c.in-LeadsOn.next c.in-len1-up.len_at_least c.in-LeadsOn.ensures.stands
     c.in-LeadsOn.ensures.exact c.find_keys.ensures.changes)
     c.find_keys.ensures.found

@@ -2,7 +2,7 @@
 use Rattle.std.proofs.Common.{◌≡◌, ◌≢◌, ◌==◌, false, List, [], ◌∷◌, length, sym, subst}
 use Rattle.derivation.specs.declared.step.Key.{Key}
 use Rattle.listing_laws.specs.Ways.{IsPath}
-use Rattle.search_frames.specs.Standings.{ways_in}
+use Rattle.search_frames.specs.Configurations.{ways_in}
 use Rattle.derivation.specs.Steps.{keys_meant}
 use Rattle.segmenter.proofs.KeyedFrames.{StandAlong}
 use Rattle.segmenter.proofs.ResumedAnswers.{stack_at_keys, stands_at_keys, no_keys}

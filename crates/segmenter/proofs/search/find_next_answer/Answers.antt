@@ -4,7 +4,7 @@ use Rattle.segmenter.specs.Chains.{HasFound, HasNone, Every, ComesAfter}
 use Rattle.segmenter.proofs.PathsFound.{on_true, on_false}
 use Rattle.segmenter.proofs.SearchMoves.{next_before, none_before, next_at, none_at}
 use Rattle.segmenter.proofs.SearchStacks.{some_depth, first_reached, first_room, frames_from_first, keys_lead_along, at_opening}
-use Rattle.search_frames.specs.Frames.{standing_of, here_of}
+use Rattle.search_frames.specs.Frames.{numbered_of, here_of}
 use Rattle.segmenter.proofs.LevelCosts.{either_way, few_frames, first_move, no_first_move, later_move, no_later_move}
 use Rattle.segmenter.proofs.search.find_next_answer.Goals as goal
 
@@ -71,7 +71,7 @@ returns-in-Before-clause-steps g c exact most few =
     let searched = c.args.lexicon.now in
     let line = c.args.line.now in
     let first = first_move searched line c.args.choices.now c.requires.searched most c.args.steps.now c.find_first.new.steps c.requires.stack.is_line
-    (standing_of searched c.opening.result) c.opening.ensures.standing in
+    (numbered_of searched c.opening.result) c.opening.ensures.standing in
     let none = no_first_move searched line c.args.choices.now c.requires.searched most c.args.steps.now c.find_first.new.steps c.requires.stack.is_line in
     either_way c.find_first.result first none (c.find_first.ensures.steps_on exact most few) (c.find_first.ensures.steps_end exact most few)
 
