@@ -20,7 +20,8 @@ use Rattle.search_frames.specs.declared.frame.Frame.{Frame}
 use Rattle.search_frames.specs.declared.resumption.Resumption.{Resumption}
 use Rattle.search_frames.specs.declared.configuration.Configuration.{Configuration}
 use Rattle.search_frames.specs.Configurations.{IsPossible, rules_in}
-use Rattle.search_frames.specs.Frames.{step_of, frame_of, configuration_at, here_of, numbered_of, node_of, IsStack, IsConfigurationIn, IsFrame, ChangesFrom}
+use Rattle.search_frames.specs.Stacks.{IsStack}
+use Rattle.search_frames.specs.Frames.{step_of, frame_of, configuration_at, here_of, numbered_of, node_of, IsConfigurationIn, IsFrame, ChangesFrom}
 use Rattle.search_frames.specs.Changes.{MayBeMade}
 use Rattle.search_frames.proofs.PossibleKeys.{reached_there, possible_ends, change_possible}
 

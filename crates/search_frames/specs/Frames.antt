@@ -17,6 +17,7 @@ use Rattle.search_frames.specs.declared.frame.Frame.{Frame}
 use Rattle.search_frames.specs.declared.resumption.Resumption.{Resumption}
 use Rattle.search_frames.specs.declared.configuration.Configuration.{Configuration}
 use Rattle.annotated_trie.specs.Searched.{SearchedLexicon}
+use Rattle.search_frames.specs.Stacks.{IsStack}
 use Rattle.search_frames.specs.Configurations.{NumberedConfiguration, IsPossible, rules_in}
 
 -- where a search stands that is at the program's place
@@ -53,11 +54,6 @@ key_at stack level = key_of (step_of stack level)
 -- the node that the frame at a level has walked to by so many letters of the line
 abbrev pub node_of : Resumption → ℕ → ℕ → ℕ
 node_of stack level taken = slice_index_or stack.nodes.items (level * NODES_OF_FRAME + taken) 0
-
--- there is a step for each frame, and a frame's places for nodes
-pub record IsStack (stack : Resumption) : Type 0 where
-  pub steps : length stack.steps.items ≡ length stack.frames.items
-  pub nodes : length stack.nodes.items ≡ length stack.frames.items * NODES_OF_FRAME
 
 -- the changes that are tried at a node: none, then each rule that is a choice there
 abbrev pub changes_at : AnnotatedTrie → ℕ → List ℕ

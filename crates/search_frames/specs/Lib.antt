@@ -1,3 +1,4 @@
+pub mod Stacks
 pub mod Copies
 pub mod Configurations
 pub mod Frames

@@ -1,5 +1,6 @@
 ghost use Rattle.std.specs.Prelude.{◌≡◌, ◌<◌, length};
-ghost use Rattle.search_frames.specs.Frames.{IsStack, configuration_at};
+ghost use Rattle.search_frames.specs.Stacks.{IsStack};
+ghost use Rattle.search_frames.specs.Frames.{configuration_at};
 
 use super::Resumption;
 use derivation::Entrance;

@@ -1,5 +1,6 @@
 ghost use Rattle.std.specs.Prelude.{◌≡◌, ◌+◌, ◌<◌, ◌≤◌, ℕ, length};
-ghost use Rattle.search_frames.specs.Frames.{IsStack, IsFrame, IsConfigurationIn, HasAllToTry, ChangesFrom, configuration_at};
+ghost use Rattle.search_frames.specs.Stacks.{IsStack};
+ghost use Rattle.search_frames.specs.Frames.{IsFrame, IsConfigurationIn, HasAllToTry, ChangesFrom, configuration_at};
 ghost use Rattle.search_frames.specs.Costs.{HasAtMostChoices, steps_left, steps_of_frame};
 
 use super::{Frame, Resumption};

@@ -1,7 +1,8 @@
 ghost use Rattle.std.specs.Prelude.{◌≡◌, ◌+◌, ◌<◌, ◌≤◌, ℕ, length, OnOk};
 ghost use Rattle.text_definitions.specs.Lines.{IsLine};
 ghost use Rattle.annotated_trie.specs.Searched.{IsSearchedLexicon};
-ghost use Rattle.search_frames.specs.Frames.{IsStack, IsConfigurationIn, numbered_of};
+ghost use Rattle.search_frames.specs.Stacks.{IsStack};
+ghost use Rattle.search_frames.specs.Frames.{IsConfigurationIn, numbered_of};
 ghost use Rattle.search_frames.specs.Costs.{HasAtMostChoices, steps_of_frame};
 ghost use Rattle.search_frames.specs.WaysFrom.{AppendsWays};
 
@@ -39,10 +40,10 @@ pub fn push_ways<L>(
     requires line { IsLine line.now }
     requires place { IsConfigurationIn lexicon.now line.now place }
     requires walker { IsStack walker.old }
-    requires room { 0 < length walker.old.frames.items }
+    requires room { 0 < room_of walker.old }
     ensures ok { OnOk result (AppendsWays lexicon.now line.now choices.now (numbered_of lexicon.now place) ways.old.items ways.new.items) }
     ensures walker { OnOk result (IsStack walker.new) }
-    ensures room { OnOk result (length walker.new.frames.items ≡ length walker.old.frames.items) }
+    ensures room { OnOk result (room_of walker.new ≡ room_of walker.old) }
     ensures steps { (most : ℕ) → HasAtMostChoices lexicon.now.tries most → steps.new ≤ steps.old + steps_of_frame lexicon.now most }
 {
     open_frame(lexicon, line, walker, 0, place, steps);

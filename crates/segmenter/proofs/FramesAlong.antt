@@ -10,7 +10,8 @@ use Rattle.search_frames.specs.declared.resumption.Resumption.{Resumption}
 use Rattle.search_frames.specs.Configurations.{NumberedConfiguration, after}
 use Rattle.search_frames.specs.Frames.{IsFrame, HasLaterToTry, here_of}
 use Rattle.search_frames.specs.Reached.{IsReached, rank}
-use Rattle.segmenter.specs.Chains.{AreFrames, LeadAlong, HasFound, HasNone, HasNoneBelow, BeginsUntried, ComesAfter, HasRoom, KeepsBefore}
+use Rattle.search_frames.specs.Stacks.{KeepsBefore}
+use Rattle.segmenter.specs.Chains.{AreFrames, LeadAlong, HasFound, HasNone, HasNoneBelow, BeginsUntried, ComesAfter, HasRoom}
 use Rattle.search_frames.proofs.ConfigurationRanks.{rank_rises, rank_within}
 use Rattle.search_frames.proofs.ReachedConfigurations.{reached_after}
 use Rattle.segmenter.proofs.PathsFound.{on_true, on_false, none_below_last, none_below_deeper, found_after_deeper, found_after_here, none_after_here}

@@ -17,8 +17,8 @@ use Rattle.search_frames.specs.declared.frame.Frame.{Frame}
 use Rattle.search_frames.specs.declared.frame.TheConstants.{NODES_OF_FRAME}
 use Rattle.search_frames.specs.declared.resumption.Resumption.{Resumption}
 use Rattle.search_frames.specs.Configurations.{IsPossible, rules_in}
-use Rattle.search_frames.specs.Frames.{IsStack, IsConfigurationIn, IsFrame, IsUntried, HasLaterToTry, ChangesFrom, changes_at, step_of, frame_of, node_of, configuration_at, here_of, key_at, numbered_of}
-use Rattle.segmenter.specs.Chains.{KeepsBefore}
+use Rattle.search_frames.specs.Stacks.{IsStack, KeepsBefore, with_depth}
+use Rattle.search_frames.specs.Frames.{IsConfigurationIn, IsFrame, IsUntried, HasLaterToTry, ChangesFrom, changes_at, step_of, frame_of, node_of, configuration_at, here_of, key_at, numbered_of}
 
 -- ---- what stays
 
@@ -148,7 +148,7 @@ module _ (searched : SearchedLexicon) (line : Line) where
 
   -- how many frames are in use is nothing to a frame
   pub other_depth : (stack : Resumption) (level depth : ℕ) → IsFrame searched line stack level
-      → IsFrame searched line (record { position = stack.position; depth = depth; steps = stack.steps; frames = stack.frames; nodes = stack.nodes }) level
+      → IsFrame searched line (with_depth stack depth) level
   other_depth stack level depth is = record {
     placed = record {
       is_stack = record { steps = is.placed.is_stack.steps; nodes = is.placed.is_stack.nodes };
@@ -161,3 +161,24 @@ module _ (searched : SearchedLexicon) (line : Line) where
     letters = is.letters;
     walked = is.walked;
   }
+
+-- nor to those before it
+pub other_depth_keeps : (level : ℕ) (old stack : Resumption) (depth : ℕ) → KeepsBefore level old stack → KeepsBefore level old (with_depth stack depth)
+other_depth_keeps level old stack depth keeps = record {
+  position = keeps.position;
+  room = keeps.room;
+  is_stack = record { steps = keeps.is_stack.steps; nodes = keeps.is_stack.nodes };
+  steps = keeps.steps;
+  frames = keeps.frames;
+  nodes = keeps.nodes;
+}
+
+pub keeps_other_depth : (level : ℕ) (old stack : Resumption) (depth : ℕ) → KeepsBefore level (with_depth old depth) stack → KeepsBefore level old stack
+keeps_other_depth level old stack depth keeps = record {
+  position = keeps.position;
+  room = keeps.room;
+  is_stack = keeps.is_stack;
+  steps = keeps.steps;
+  frames = keeps.frames;
+  nodes = keeps.nodes;
+}

@@ -13,7 +13,8 @@ use Rattle.search_frames.specs.declared.configuration.Configuration.{Configurati
 use Rattle.search_frames.specs.Configurations.{NumberedConfiguration, ways_in}
 use Rattle.search_frames.specs.Frames.{numbered_of}
 use Rattle.search_frames.specs.Tests.{LeadsTo}
-use Rattle.segmenter.specs.Chains.{AreFrames, KeepsBefore}
+use Rattle.search_frames.specs.Stacks.{KeepsBefore}
+use Rattle.segmenter.specs.Chains.{AreFrames}
 use Rattle.segmenter.specs.GivenKeys.{StandsAtKey}
 use Rattle.derivation.specs.Steps.{key_meant, keys_meant}
 use Rattle.segmenter.proofs.KeptFrames.{frame_kept, key_kept, here_kept, is_frame_kept, later_kept}

@@ -20,7 +20,8 @@ use Rattle.search_frames.specs.Frames.{IsFrame, IsUntried, HasAllToTry, HasLater
 use Rattle.search_frames.specs.Reached.{IsReached}
 use Rattle.search_frames.specs.Tests.{LeadsTo}
 use Rattle.search_frames.specs.Turns.{BeginsPath, HasTurned, HasNoTurn}
-use Rattle.segmenter.specs.Chains.{AreFrames, HasFound, HasNone, Every, BeginsUntried, ComesAfter, HasNoneBelow, KeepsBefore}
+use Rattle.search_frames.specs.Stacks.{KeepsBefore}
+use Rattle.segmenter.specs.Chains.{AreFrames, HasFound, HasNone, Every, BeginsUntried, ComesAfter, HasNoneBelow}
 use Rattle.segmenter.proofs.KeptFrames.{keeps_itself, keeps_if_changes, keeps_then, keeps_less, frame_kept, place_kept, key_kept, here_kept, FrameKept, is_frame_kept, later_kept, untried_kept, kept_back}
 use Rattle.search_frames.proofs.LeadingTo.{LedTo, leads_from}
 use Rattle.search_frames.proofs.ConfigurationRanks.{not_both, possible_if_leads, possible_if_ends}

@@ -12,7 +12,8 @@ use Rattle.search_frames.specs.declared.resumption.Resumption.{Resumption}
 use Rattle.search_frames.specs.Configurations.{opening, rules_in}
 use Rattle.segmenter.specs.Chains.{HasFound, HasNone, Every, ComesAfter}
 use Rattle.segmenter.specs.Moves.{StandsAtNext, HasNoNext, HasMoved}
-use Rattle.segmenter.specs.Searches.{IsStackOf, MovedOn, IsCurrent, position_of, position_at, steps_in}
+use Rattle.search_frames.specs.Stacks.{steps_in}
+use Rattle.segmenter.specs.Searches.{IsStackOf, MovedOn, IsCurrent, position_of, position_at}
 use Rattle.segmenter.proofs.StandingAnswers.{frames_stand, next_from_first, none_from_first, next_from_later, none_from_later}
 
 module _ (searched : SearchedLexicon) (line : Line) (choices : List Choice) (old : Resumption) (is : IsSearchedLexicon searched)

@@ -13,21 +13,19 @@ use Rattle.search_frames.specs.declared.position.Position.{Position as StackPosi
 use Rattle.search_frames.specs.declared.position.Position.TheVariants as position
 use Rattle.search_frames.specs.declared.resumption.Resumption.{Resumption}
 use Rattle.search_frames.specs.Configurations.{NumberedConfiguration, after, opening, rules_in, ways_in}
-use Rattle.search_frames.specs.Frames.{IsStack, IsFrame, here_of}
+use Rattle.search_frames.specs.Stacks.{IsStack, KeepsBefore, steps_in, with_position}
+use Rattle.search_frames.specs.Frames.{IsFrame, here_of}
 use Rattle.search_frames.specs.Reached.{IsReached}
-use Rattle.segmenter.specs.Chains.{AreFrames, LeadAlong, HasRoom, KeepsBefore}
-use Rattle.segmenter.specs.Searches.{IsStackOf, StandsAtAnswer, StandsWhere, position_of, position_at, steps_in}
+use Rattle.segmenter.specs.Chains.{AreFrames, LeadAlong, HasRoom}
+use Rattle.segmenter.specs.Searches.{IsStackOf, StandsAtAnswer, StandsWhere, position_of, position_at}
 use Rattle.segmenter.proofs.KeptFrames.{frame_kept, is_frame_kept, later_kept, here_kept, key_kept}
 use Rattle.search_frames.proofs.ReachedConfigurations.{opening_reached}
 use Rattle.segmenter.proofs.StandingAnswers.{frames_count}
 
 -- ---- a stack that stands otherwise
 
-abbrev pub restood : Resumption → StackPosition → Resumption
-restood stack to = record { position = to; depth = stack.depth; steps = stack.steps; frames = stack.frames; nodes = stack.nodes }
-
 module _ (searched : SearchedLexicon) (line : Line) (stack : Resumption) (to : StackPosition) where
-  frame_restood : (level : ℕ) → IsFrame searched line stack level → IsFrame searched line (restood stack to) level
+  frame_restood : (level : ℕ) → IsFrame searched line stack level → IsFrame searched line (with_position stack to) level
   frame_restood level is = record {
     placed = record {
       is_stack = record { steps = is.placed.is_stack.steps; nodes = is.placed.is_stack.nodes };
@@ -42,7 +40,7 @@ module _ (searched : SearchedLexicon) (line : Line) (stack : Resumption) (to : S
   }
 
   pub frames_restood : (keys : List Key) (level : ℕ) (here : NumberedConfiguration) → AreFrames searched line stack level here keys
-      → AreFrames searched line (restood stack to) level here keys
+      → AreFrames searched line (with_position stack to) level here keys
   frames_restood [] level here frames = frames
   frames_restood (key ∷ keys) level here (frame, here_is, later, key_is, frames) =
       (frame_restood level frame, here_is, later, key_is, frames_restood keys (level + 1) (after searched line here key) frames)
@@ -50,7 +48,7 @@ module _ (searched : SearchedLexicon) (line : Line) (stack : Resumption) (to : S
 module _ (searched : SearchedLexicon) (line : Line) (choices : List Choice) where
   -- the stack of a search after its frames changed and its stand was set
   pub stack_restood : (old new : Resumption) (to : StackPosition) → IsStackOf searched line choices old → KeepsBefore 0 old new
-      → (to ≡ position.At → StandsAtAnswer searched line choices new) → IsStackOf searched line choices (restood new to)
+      → (to ≡ position.At → StandsAtAnswer searched line choices new) → IsStackOf searched line choices (with_position new to)
   stack_restood old new to is keeps answer = record {
     is_line = is.is_line;
     is_stack = record { steps = keeps.is_stack.steps; nodes = keeps.is_stack.nodes };

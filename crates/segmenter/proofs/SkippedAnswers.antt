@@ -15,7 +15,8 @@ use Rattle.search_frames.specs.declared.resumption.Resumption.{Resumption}
 use Rattle.search_frames.specs.Configurations.{opening, rules_in, ways_in}
 use Rattle.search_frames.specs.Frames.{here_of}
 use Rattle.segmenter.specs.Chains.{AreFrames, HasFound, HasNone, HasRoom, ComesAfter, LeadAlong}
-use Rattle.segmenter.specs.Searches.{SearchValue, IsStackOf, StandsAtAnswer, IsPastKeys, Skipped, HasSkippedAll, position_at, position_of, steps_in}
+use Rattle.search_frames.specs.Stacks.{steps_in}
+use Rattle.segmenter.specs.Searches.{SearchValue, IsStackOf, StandsAtAnswer, IsPastKeys, Skipped, HasSkippedAll, position_at, position_of}
 use Rattle.segmenter.specs.Skips.{IsLeastPast, HasNonePast, StandsPast, HasSkipped, HasSkippedOut, value_of}
 use Rattle.segmenter.proofs.StandingAnswers.{StandAsAnswer, frames_stand, frames_count, frames_front, along_path, along_front, path_of, with_depth}
 use Rattle.segmenter.proofs.SearchStacks.{at_opening, first_room, some_depth}

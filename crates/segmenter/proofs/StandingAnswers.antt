@@ -29,7 +29,7 @@ use Rattle.search_frames.specs.declared.resumption.Resumption.{Resumption}
 use Rattle.search_frames.specs.Configurations.{NumberedConfiguration, rules_in, Ends, after, opening, ways_in}
 use Rattle.search_frames.specs.Frames.{IsFrame, here_of, key_at, step_of}
 use Rattle.segmenter.specs.Chains.{AreFrames, HasNone, Every, ComesAfter, LeadAlong}
-use Rattle.segmenter.specs.Searches.{steps_in}
+use Rattle.search_frames.specs.Stacks.{steps_in}
 use Rattle.search_frames.proofs.ConfigurationPaths.{path_from_opening}
 use Rattle.search_frames.proofs.ConfigurationRanks.{not_both}
 use Rattle.segmenter.proofs.PathsFound.{GoesOn, first_of_path}

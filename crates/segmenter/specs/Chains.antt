@@ -1,5 +1,5 @@
 -- Frames of a search one after another, and what a search finds with them (own; after Huet 2005).
-use Rattle.std.specs.Prelude.{◌≡◌, ℕ, ◌+◌, ◌*◌, ◌<◌, ◌≤◌, ◌⊎◌, List, [], ◌∷◌, length, take}
+use Rattle.std.specs.Prelude.{◌≡◌, ℕ, ◌+◌, ◌*◌, ◌<◌, ◌≤◌, ◌⊎◌, List, [], ◌∷◌, length}
 use Rattle.std.specs.declared.cmp.Ordering.TheVariants.{Less}
 use Rattle.text_definitions.specs.Lines.{Line}
 use Rattle.segmentation_definitions.specs.Items.{Choice}
@@ -7,16 +7,16 @@ use Rattle.segmentation_definitions.specs.Listings.{Key, compare_keys}
 use Rattle.listing_laws.specs.Ways.{IsPath}
 use Rattle.listing_laws.specs.Positions.{IsFirst}
 use Rattle.annotated_trie.specs.Searched.{SearchedLexicon}
-use Rattle.search_frames.specs.declared.frame.TheConstants.{NODES_OF_FRAME}
 use Rattle.search_frames.specs.declared.resumption.Resumption.{Resumption}
 use Rattle.search_frames.specs.Configurations.{NumberedConfiguration, LeadsOn, after, ways_in}
-use Rattle.search_frames.specs.Frames.{IsStack, IsFrame, IsUntried, HasLaterToTry, here_of, key_at}
+use Rattle.search_frames.specs.Stacks.{depth_of, room_of}
+use Rattle.search_frames.specs.Frames.{IsFrame, IsUntried, HasLaterToTry, here_of, key_at}
 use Rattle.search_frames.specs.Reached.{rank}
 
 -- the frames from the level on up to the last in use stand one after another along the keys, each at its key, and have just
 -- the later keys still to try
 abbrev pub AreFrames : SearchedLexicon → Line → Resumption → ℕ → NumberedConfiguration → List Key → Type 0
-AreFrames searched line stack level here [] = level ≡ stack.depth
+AreFrames searched line stack level here [] = level ≡ depth_of stack
 AreFrames searched line stack level here (key ∷ keys) =
     IsFrame searched line stack level × (here_of searched stack level ≡ here) × HasLaterToTry searched line stack level
     × (key_at stack level ≡ key) × AreFrames searched line stack (level + 1) (after searched line here key) keys
@@ -60,17 +60,8 @@ abbrev pub HasNoneBelow : SearchedLexicon → Line → List Choice → NumberedC
 HasNoneBelow searched line choices here key rest =
     (keys : List Key) → IsPath (ways_in searched line choices) here (key ∷ keys) → ComesAfter rest keys → ⊥
 
--- nothing changes before the level but how many frames are in use, and the room stays
-pub record KeepsBefore (level : ℕ) (old new : Resumption) : Type 0 where
-  pub position : new.position ≡ old.position
-  pub room : length new.frames.items ≡ length old.frames.items
-  pub is_stack : IsStack new
-  pub steps : take level new.steps.items ≡ take level old.steps.items
-  pub frames : take level new.frames.items ≡ take level old.frames.items
-  pub nodes : take (level * NODES_OF_FRAME) new.nodes.items ≡ take (level * NODES_OF_FRAME) old.nodes.items
-
 -- there is room for each frame that may stand from the level on: each rises in rank, up to twice the number of letters
 pub record HasRoom (line : Line) (stack : Resumption) (level : ℕ) (here : NumberedConfiguration) : Type 0 where
   pub below : level < rank here
   pub within : rank here ≤ 2 * length line.letters
-  pub room : 2 * length line.letters ≤ length stack.frames.items
+  pub room : 2 * length line.letters ≤ room_of stack

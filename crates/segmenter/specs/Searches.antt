@@ -13,7 +13,7 @@ use Rattle.annotated_trie.specs.Searched.{SearchedLexicon}
 use Rattle.search_frames.specs.declared.position.Position.{Position as StackPosition}
 use Rattle.search_frames.specs.declared.position.Position.TheVariants as position
 use Rattle.search_frames.specs.declared.resumption.Resumption.{Resumption}
-use Rattle.search_frames.specs.Frames.{IsStack}
+use Rattle.search_frames.specs.Stacks.{IsStack, position_in, room_of, steps_in}
 use Rattle.search_frames.specs.Configurations.{rules_in, opening, ways_in}
 use Rattle.segmenter.specs.Chains.{AreFrames}
 
@@ -24,10 +24,6 @@ pub record SearchValue : Type 0 where
   pub choices : List Choice
   pub position : Position
 
--- the steps in use
-abbrev pub steps_in : Resumption → List ProgramStep
-steps_in stack = take stack.depth stack.steps.items
-
 -- where the stack stands in the listing
 abbrev pub position_at : SearchedLexicon → Line → Resumption → StackPosition → Position
 position_at searched line stack position.Before = BeforeFirst
@@ -35,7 +31,7 @@ position_at searched line stack position.At = AtAnswer (steps_of (rules_in searc
 position_at searched line stack position.Past = PastLast
 
 abbrev pub position_of : SearchedLexicon → Line → Resumption → Position
-position_of searched line stack = position_at searched line stack stack.position
+position_of searched line stack = position_at searched line stack (position_in stack)
 
 -- the stack stands at an answer: its frames stand along the keys of a path
 pub record StandsAtAnswer (searched : SearchedLexicon) (line : Line) (choices : List Choice) (stack : Resumption) : Type 0 where
@@ -47,8 +43,8 @@ pub record StandsAtAnswer (searched : SearchedLexicon) (line : Line) (choices : 
 pub record IsStackOf (searched : SearchedLexicon) (line : Line) (choices : List Choice) (stack : Resumption) : Type 0 where
   pub is_line : IsLine line
   pub is_stack : IsStack stack
-  pub room : 2 * length line.letters ≤ length stack.frames.items
-  pub answer : stack.position ≡ position.At → StandsAtAnswer searched line choices stack
+  pub room : 2 * length line.letters ≤ room_of stack
+  pub answer : position_in stack ≡ position.At → StandsAtAnswer searched line choices stack
 
 -- the search has moved to the next answer after where it stood
 pub record MovedOn (old new : SearchValue) : Type 0 where

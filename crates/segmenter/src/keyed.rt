@@ -4,10 +4,11 @@ ghost use Rattle.text_definitions.specs.Lines.{IsLine};
 ghost use Rattle.listing_laws.specs.Ways.{IsPath};
 ghost use Rattle.annotated_trie.specs.Searched.{IsSearchedLexicon};
 ghost use Rattle.search_frames.specs.Configurations.{ways_in};
-ghost use Rattle.search_frames.specs.Frames.{IsStack, IsConfigurationIn, numbered_of};
+ghost use Rattle.search_frames.specs.Stacks.{IsStack, KeepsBefore, room_of};
+ghost use Rattle.search_frames.specs.Frames.{IsConfigurationIn, numbered_of};
 ghost use Rattle.search_frames.specs.Tests.{IsTestOf};
 ghost use Rattle.search_frames.specs.Reached.{IsReached};
-ghost use Rattle.segmenter.specs.Chains.{AreFrames, HasRoom, KeepsBefore};
+ghost use Rattle.segmenter.specs.Chains.{AreFrames, HasRoom};
 ghost use Rattle.derivation.specs.Steps.{key_meant, keys_meant};
 ghost use Rattle.segmenter.specs.GivenKeys.{StandsUnlessRefused};
 
@@ -31,7 +32,7 @@ fn stand_at_key(
     requires searched { IsSearchedLexicon lexicon.now }
     requires line { IsLine line.now }
     requires stack { IsStack stack.old }
-    requires there { level < length stack.old.frames.items }
+    requires there { level < room_of stack.old }
     requires place { IsConfigurationIn lexicon.now line.now place }
     ensures exact { IsTestOf lexicon.now line.now choices.now (numbered_of lexicon.now place) (key_meant key) result }
     ensures stands { StandsUnlessRefused lexicon.now line.now stack.new level (numbered_of lexicon.now place) (key_meant key) result }
@@ -42,7 +43,7 @@ fn stand_at_key(
     if !seek(lexicon, line, stack, level, key) {
         return Test::Refused;
     }
-    test_key(lexicon, line, choices, &place, &stack.steps[level])
+    test_key(lexicon, line, choices, &place, &stack.step(level))
 }
 
 /// Goes from the place along the keys, with the frames from the level on. False where they are no path from there.
@@ -72,7 +73,7 @@ pub(crate) fn find_keys(
     match stand_at_key(lexicon, line, choices, stack, level, place, *key) {
         Test::Refused => false,
         Test::Ends => {
-            stack.depth = level as u32 + 1;
+            stack.use_frames(level as u32 + 1);
             rest.is_empty()
         }
         Test::LeadsOn(next) => find_keys(lexicon, line, choices, stack, level + 1, next, rest),

@@ -7,7 +7,7 @@ ghost use Rattle.annotated_trie.specs.Searched.{IsSearchedLexicon};
 ghost use Rattle.search_frames.specs.declared.position.Position.TheVariants as position;
 ghost use Rattle.search_frames.specs.Frames.{IsConfigurationIn, numbered_of};
 ghost use Rattle.search_frames.specs.Configurations.{opening};
-ghost use Rattle.segmenter.specs.Chains.{KeepsBefore};
+ghost use Rattle.search_frames.specs.Stacks.{KeepsBefore, position_in};
 ghost use Rattle.search_frames.specs.Guided.{IsGuideOf, IsExactOf};
 ghost use Rattle.search_frames.specs.Costs.{HasAtMostChoices};
 ghost use Rattle.segmentation_definitions.specs.StepBounds.{advance_bound};
@@ -114,8 +114,8 @@ impl<'a, D: SearchGuide> Search<'a, D> {
     pub fn current(&self) -> Option<&[Step]>
         ensures answer { MatchOption result (IsCurrent self.now None) (λ steps. IsCurrent self.now (Some steps.now)) }
     {
-        match self.stack.position {
-            Position::At => Some(&self.stack.steps[..self.stack.depth as usize]),
+        match self.stack.position() {
+            Position::At => Some(self.stack.steps()),
             Position::Before | Position::Past => None,
         }
     }
@@ -153,7 +153,7 @@ fn find_next_answer<D: SearchGuide, L>(
     ensures changes { KeepsBefore 0 stack.old stack.new }
     ensures steps { IsExactOf lexicon.now line.now choices.now (D.says guide.now) → (most : ℕ) → HasAtMostChoices lexicon.now.tries most → steps.new ≤ steps.old + steps_of_levels lexicon.now most (4 * length line.now.letters) }
 {
-    match stack.position {
+    match stack.position() {
         Position::Before => find_first(
             lexicon,
             line,
@@ -188,7 +188,8 @@ fn move_on<D: SearchGuide, L>(
     ensures steps { IsExactOf lexicon.now line.now choices.now (D.says guide.now) → (most : ℕ) → HasAtMostChoices lexicon.now.tries most → steps.new ≤ steps.old + steps_of_levels lexicon.now most (4 * length line.now.letters) }
 {
     let found = find_next_answer(lexicon, line, choices, guide, stack, steps);
-    stack.position = if found { Position::At } else { Position::Past };
+    let position = if found { Position::At } else { Position::Past };
+    stack.stand_at(position);
     found
 }
 
@@ -210,7 +211,7 @@ pub(crate) fn empty_stack(
     lexicon: &Lexicon,
     line: &Line,
 ) -> Result<Resumption, Memory>
-    ensures position { IfOk result (λ stack. stack.position ≡ position.Before) }
+    ensures position { IfOk result (λ stack. position_in stack ≡ position.Before) }
     ensures ok { IfOk result (λ stack. (choices : List Choice) → IsStackOf lexicon.now line.now choices stack) }
 {
     new_stack(alloc, lexicon, 2 * line.letters.as_slice().len())

@@ -1,7 +1,7 @@
 -- A chart turns a frame. Its place is reached, so where a path begins there it is living and stands in the chart, with all its ways;
 -- and a key with which a path begins goes further under the chart's table. So the first way after the keys that the frame has tried
 -- that goes further is what is asked for: no such key comes before it, and those that it leaves out begin no path.
-use Rattle.std.proofs.Common.{◌≡◌, ◌↔◌, ℕ, ◌+◌, ◌≤◌, Option, Some, None, inl, inr, List, [], ◌∷◌, length, get_or, refl, sym, ◌∙◌, ap, subst, arith}
+use Rattle.std.proofs.Common.{◌≡◌, ◌↔◌, ℕ, ◌+◌, ◌≤◌, Option, Some, None, inl, inr, List, [], ◌∷◌, length, refl, sym, ◌∙◌, ap, subst, arith}
 use Rattle.std.proofs.lemmas.List.Elements.{All-contains}
 use Rattle.std.specs.declared.cmp.Ordering.TheVariants.{Less}
 use Rattle.text_definitions.specs.Lines.{Line}
@@ -23,12 +23,11 @@ use Rattle.search_frames.specs.declared.configuration.Configuration.{Configurati
 use Rattle.search_frames.specs.declared.ways.Way.{Way}
 use Rattle.search_frames.specs.Configurations.{NumberedConfiguration, IsPossible, Ends, ways_in}
 use Rattle.search_frames.specs.Tests.{LeadsTo}
-use Rattle.search_frames.specs.Frames.{IsFrame, IsConfigurationIn, IsUntried, IsAtKey, numbered_of, here_of, configuration_at}
+use Rattle.search_frames.specs.Frames.{IsFrame, IsConfigurationIn, IsUntried, IsAtKey, numbered_of, here_of, configuration_at, step_of}
 use Rattle.search_frames.specs.Reached.{IsReached}
 use Rattle.search_frames.specs.Turns.{HasToTry, BeginsPath, HasTurned, HasNoTurn, IsTurn, HasPaid}
 use Rattle.search_frames.specs.Costs.{steps_left}
 use Rattle.search_frames.specs.WaysFrom.{AreWaysFrom}
-use Rattle.search_frames.proofs.StepFrames.{step_read}
 use Rattle.search_frames.proofs.ConfigurationRanks.{possible_if_leads, possible_if_ends}
 use Rattle.search_frames.proofs.ReachedConfigurations.{reached_after}
 use Rattle.summary_chart.specs.Tables.{IsIn, index_in}
@@ -113,11 +112,11 @@ pub record HasAfterToTry (searched : SearchedLexicon) (line : Line) (level : ℕ
   pub exact : (key : Key) → IsPossible searched line (here_of searched stack level) key → IsUntried searched stack level key ↔ IsAfter last key
 
 pub after_to_try : (searched : SearchedLexicon) (line : Line) (level : ℕ) (stack : Resumption) (step : Step) (to_try : ToTry) → IsFrame searched line stack level
-    → step ≡ get_or stack.steps.items level step → HasToTry searched line stack level to_try
+    → step ≡ step_of stack level → HasToTry searched line stack level to_try
     → HasAfterToTry searched line level stack (last_tried step to_try)
 after_to_try searched line level stack step AllKeys frame there has = record { exact = λ key possible. (λ untried. tt, λ after. has key possible) }
 after_to_try searched line level stack step LaterKeys frame there has =
-    let step_is = ap key_of (step_read stack level step frame.placed.is_stack frame.placed.there there) in
+    let step_is = ap key_of there in
     record {
       exact = λ key possible. subst (λ (k : Key). IsUntried searched stack level key ↔ (compare_keys k key ≡ Less)) (sym step_is) (has key possible);
     }

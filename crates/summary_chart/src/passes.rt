@@ -1,7 +1,7 @@
 ghost use Rattle.std.specs.Prelude.{◌≡◌, ◌<◌, ◌+◌, ◌≤◌, ℕ, [], length, OnOk};
 ghost use Rattle.text_definitions.specs.Lines.{IsLine};
 ghost use Rattle.annotated_trie.specs.Searched.{IsSearchedLexicon};
-ghost use Rattle.search_frames.specs.Frames.{IsStack};
+ghost use Rattle.search_frames.specs.Stacks.{IsStack, room_of};
 ghost use Rattle.search_frames.specs.Costs.{HasAtMostChoices};
 ghost use Rattle.summary_chart.specs.Charts.{HasReached, IsChartTable, IsOpenTable, steps_of_pass};
 ghost use Rattle.summary_chart.specs.PlaceWays.{HasWaysBefore};
@@ -32,7 +32,7 @@ pub(crate) fn reach<L>(
     requires searched { IsSearchedLexicon lexicon.now }
     requires line { IsLine line.now }
     requires walker { IsStack walker.old }
-    requires room { 0 < length walker.old.frames.items }
+    requires room { 0 < room_of walker.old }
     requires opening { IsOpenTable lexicon.now line.now table.old }
     requires stops { stops.old.items ≡ [] }
     requires ways { ways.old.items ≡ [] }

@@ -133,7 +133,7 @@ impl SearchGuide for Chart {
         let Some(ways) = self.ways_from(&place) else {
             return Turn::Nothing;
         };
-        let last = last_tried(&stack.steps[level], to_try);
+        let last = last_tried(&stack.step(level), to_try);
         let Some((key, turn)) = find_living(lexicon, line, choices, &place, ways, last, &self.table)
         else {
             return Turn::Nothing;

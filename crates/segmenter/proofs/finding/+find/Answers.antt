@@ -4,8 +4,9 @@ use Rattle.search_frames.specs.Frames.{numbered_of, here_of, still_to_try}
 use Rattle.search_frames.specs.Reached.{rank}
 use Rattle.search_frames.specs.Costs.{steps_left, steps_of_frame}
 use Rattle.search_frames.proofs.ConfigurationPaths.{guide_says, path_if_exact}
-use Rattle.segmenter.specs.Chains.{HasFound, HasNone, Every}
-use Rattle.segmenter.proofs.KeptFrames.{frame_kept, later_kept, keeps_then, keeps_less, other_depth}
+use Rattle.search_frames.specs.Stacks.{KeepsBefore, with_depth}
+use Rattle.segmenter.specs.Chains.{HasFound, HasNone, Every, BeginsUntried}
+use Rattle.segmenter.proofs.KeptFrames.{frame_kept, later_kept, keeps_then, keeps_less, other_depth, other_depth_keeps}
 use Rattle.segmenter.proofs.PathsFound.{found_first, none_at_all, on_true, on_false, still_reached, led_deeper, found_end, found_deeper, under_way_deeper, none_left, keeps_mid}
 use Rattle.segmenter.proofs.LevelCosts.{left_kept, tries_kept, found_below}
 use Rattle.segmenter.proofs.finding.+find.Goals as goal
@@ -54,11 +55,21 @@ find_next-returns-in-Nothing-clause-none g t c =
 pub find_next-returns-in-Ends-clause-found : goal.find_next-returns-in-Ends-clause-found
 find_next-returns-in-Ends-clause-found g t c =
     let went = c.in-Ends.ensures.turn.0 in
-    found_end c.args.lexicon.now c.args.line.now c.args.choices.now c.args.level c.args.stack.now c.loop-stack.stack c.turn.new.stack
-    c.loop-stack.invariant.under went c.turn.ensures.changes
-    (record { position = c.turn.new.stack.position; depth = c.args.level + 1; steps = c.turn.new.stack.steps; frames = c.turn.new.stack.frames; nodes = c.turn.new.stack.nodes })
-    (other_depth c.args.lexicon.now c.args.line.now c.turn.new.stack c.args.level (c.args.level + 1) went.frame)
-    went.later refl refl refl c.in-Ends.ensures.turn.1
+    let searched = c.args.lexicon.now in
+    let level = c.args.level in
+    subst (λ stack. HasFound searched c.args.line.now c.args.choices.now (BeginsUntried searched c.args.stack.now level) stack level (here_of searched c.args.stack.now level))
+    (sym c.use_frames.ensures)
+    (found_end searched c.args.line.now c.args.choices.now level c.args.stack.now c.loop-stack.stack c.turn.new.stack
+    c.loop-stack.invariant.under went c.turn.ensures.changes (with_depth c.turn.new.stack (level + 1))
+    (other_depth searched c.args.line.now c.turn.new.stack level (level + 1) went.frame)
+    went.later refl refl refl c.in-Ends.ensures.turn.1)
+
+pub find_next-returns-in-Ends-clause-changes : goal.find_next-returns-in-Ends-clause-changes
+find_next-returns-in-Ends-clause-changes g t c =
+    subst (KeepsBefore c.args.level c.args.stack.now) (sym c.use_frames.ensures)
+    (other_depth_keeps c.args.level c.args.stack.now c.turn.new.stack (c.args.level + 1)
+    (keeps_mid c.args.lexicon.now c.args.line.now c.args.choices.now c.args.level c.args.stack.now c.loop-stack.stack c.turn.new.stack
+    c.loop-stack.invariant.under c.in-Ends.ensures.turn.0 c.turn.ensures.changes))
 
 pub find_next-find_first-requires : goal.find_next-find_first-requires
 find_next-find_first-requires g t c κs bounds =

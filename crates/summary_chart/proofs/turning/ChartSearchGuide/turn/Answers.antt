@@ -26,7 +26,7 @@ asked g c = record {
 to_try : (g : given.Over) (c : After-last_tried-last g)
     → HasAfterToTry c.args.lexicon.now c.args.line.now c.args.level c.args.stack.now c.last_tried-last.result
 to_try g c = subst (HasAfterToTry c.args.lexicon.now c.args.line.now c.args.level c.args.stack.now) (sym c.last_tried-last.ensures)
-    (after_to_try c.args.lexicon.now c.args.line.now c.args.level c.args.stack.now c.index.result.now c.args.to_try c.requires.frame c.index.ensures c.requires.to_try)
+    (after_to_try c.args.lexicon.now c.args.line.now c.args.level c.args.stack.now c.step.result c.args.to_try c.requires.frame c.step.ensures c.requires.to_try)
 
 first : (g : given.Over) (c : In-Some-find_living g)
     → IsFirstLiving c.args.lexicon.now c.args.line.now c.args.choices.now c.args.self.now.table (numbered_of c.args.lexicon.now c.of_frame-place.result)
