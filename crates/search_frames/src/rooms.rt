@@ -1,7 +1,7 @@
 ghost use Rattle.std.specs.Prelude.{◌≡◌, ◌*◌, ◌^◌, ◌<◌, length, IfOk};
 ghost use Rattle.search_frames.specs.declared.frame.TheConstants.{NODES_OF_FRAME};
 ghost use Rattle.search_frames.specs.declared.position.Position.TheVariants as position;
-ghost use Rattle.search_frames.specs.Stacks.{IsStack};
+ghost use Rattle.search_frames.specs.Stacks.{IsStack, depth_of, position_in, room_of};
 
 use super::{Frame, NODES_OF_FRAME, Resumption, Position};
 use annotated_trie::Lexicon;

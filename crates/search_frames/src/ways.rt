@@ -1,7 +1,7 @@
 ghost use Rattle.std.specs.Prelude.{◌≡◌, ◌+◌, ◌<◌, ◌≤◌, ℕ, length, OnOk};
 ghost use Rattle.text_definitions.specs.Lines.{IsLine};
 ghost use Rattle.annotated_trie.specs.Searched.{IsSearchedLexicon};
-ghost use Rattle.search_frames.specs.Stacks.{IsStack};
+ghost use Rattle.search_frames.specs.Stacks.{IsStack, room_of};
 ghost use Rattle.search_frames.specs.Frames.{IsConfigurationIn, numbered_of};
 ghost use Rattle.search_frames.specs.Costs.{HasAtMostChoices, steps_of_frame};
 ghost use Rattle.search_frames.specs.WaysFrom.{AppendsWays};
