@@ -1,6 +1,6 @@
 -- The frames of an answer are within the room, and their steps are those of the answer.
 use Rattle.std.proofs.Common.{◌≤◌, ◌∙◌, Some, refl, sym, subst}
-use Rattle.search_frames.specs.Stacks.{depth_of}
+use Rattle.search_frames.specs.Stacks.{depth_of, steps_in}
 use Rattle.segmenter.specs.Searches.{IsCurrent}
 use Rattle.segmenter.proofs.SearchMoves.{current_at}
 use Rattle.segmenter.proofs.SearchStacks.{depth_within}
@@ -20,6 +20,6 @@ returns-in-At g c =
     let s = c.self.inside in
     record {
       answer = subst (λ steps. IsCurrent c.args.self.now (Some steps)) (sym c.steps.ensures)
-          (subst (λ search. IsCurrent search (Some _)) c.self.view_is
+          (subst (λ search. IsCurrent search (Some (steps_in s.stack))) c.self.view_is
           (current_at s.lexicon.now s.line.now s.choices.now s.stack c.self.invariant.0 c.self.invariant.2 (sym c.position.ensures ∙ c.in-At.is) s.stack.steps.items refl));
     }
