@@ -73,7 +73,7 @@ module _ (searched : SearchedLexicon) (line : Line) (choices : List Choice) (tab
       → HasNoLiving searched line choices table here last
   none_at_last are index all none key possible after further =
       let there = stands_at are key possible further in
-      let default : Way = record { phase = 0; taken = 0; rule = 0; test = Refused } in
+      let default : Way = record { key = record { phase = 0; taken = 0; rule = 0 }; test = Refused } in
       let same = sym (there.is default) in
       none.none there.index default (omega (arith, there.within)) (subst (IsAfter last) same after)
       (subst (GoesFurtherBy searched line choices table here) same further)
