@@ -17,7 +17,7 @@ use Rattle.bookmark_definitions.specs.Bookmarks.{Bookmark, IsBookmark}
 use Rattle.bookmarks.specs.Values.{keys_of}
 use Rattle.session_definitions.specs.Replies.{IsPositionOfKeys}
 use Rattle.search_frames.specs.Guided.{IsGuideOf, IsExactOf}
-use Rattle.segmenter.specs.GivenKeys.{keys_of_given}
+use Rattle.derivation.specs.Steps.{keys_meant}
 use Rattle.segmenter.specs.Searches.{SearchValue, AreNoKeys, StandsAtKeys, StandsWhere, position_of}
 use Rattle.summary_chart.specs.Charts.{CoversPlace, says_of}
 use Rattle.summary_chart.specs.PlaceWays.{IsChartOf}
@@ -74,14 +74,14 @@ position_of_keys search (key ∷ keys) at = (at.0, at.2, at.3, at.1)
 
 -- keys of no answer have no position
 no_position : (searched : SearchedLexicon) (line : Line) (choices : List Choice) (keys : List ProgramKey) (position : Position)
-    → keys ≢ [] → AreNoKeys searched line choices (keys_of_given keys)
+    → keys ≢ [] → AreNoKeys searched line choices (keys_meant keys)
     → IsPositionOfKeys searched.lexicon line choices (keys_of keys) position → ⊥
 no_position searched line choices [] position some none is = absurd (some refl)
 no_position searched line choices (key ∷ keys) position some none is = none is.0 is.1 is.2
 
 -- a bookmark with keys of no answer is none over the lexicon
 pub none_resumed : (searched : SearchedLexicon) (line : Line) (choices : List Choice) (printed : ℕ) (keys : List ProgramKey)
-    → keys ≢ [] → AreNoKeys searched line choices (keys_of_given keys)
+    → keys ≢ [] → AreNoKeys searched line choices (keys_meant keys)
     → IsResumed searched (record { line = line; choices = choices; printed = printed; keys = keys_of keys }) None
 none_resumed searched line choices printed keys some none =
     λ position is. no_position searched line choices keys position some none is.keys
