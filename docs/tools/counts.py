@@ -1,0 +1,104 @@
+"""Counts and lists: what the documents count is as many in the tree, and a table that lists what the code has lists all of it."""
+
+import csv
+import re
+
+NUMBER = r"(\d[\d,]*)"
+LIST = re.compile(r"<!-- lists: (.+?) -->$")
+
+# Documents in which a number of four digits or more is a limit, the first number past one, or a count of the tree.
+EXACT = {"README.md", "docs/FORMATS.md", "docs/GUIDE.md"}
+
+
+def facts(tree):
+    """Sentences with a count: the document, the sentence with its numbers left open, and the numbers."""
+    starter = "lexicons/starter/"
+    tables, stems = records(tree, starter + "tables.csv"), records(tree, starter + "stems.csv")
+    readings = sum(1 for line in tree.text(starter + "readings/readings.tsv").splitlines() if line and not line.startswith("#"))
+    forms = int(re.search(r"\$ \./sandhi build lexicons/starter/.*\nforms (\d+)", tree.text("docs/GUIDE.md"))[1])
+    return [
+        ("README.md", f"{NUMBER} stem\\s+records", [len(stems)]),
+        ("README.md", f"{NUMBER} lines of old texts", [readings]),
+        ("README.md", f"{NUMBER} form\\s+lines", [forms]),
+        (starter + "README.md", f"table records \\| {NUMBER}", [len(tables)]),
+        (starter + "README.md", f"stem records, different stems \\| {NUMBER}, {NUMBER}", [len(stems), len({stem[0] for stem in stems})]),
+        (starter + "README.md", f"form lines of the lexicon \\| {NUMBER}", [forms]),
+        (starter + "README.md", f"readings \\| {NUMBER}", [readings]),
+    ]
+
+
+def records(tree, path):
+    with open(tree.root / path, encoding="utf-8", newline="") as file:
+        return [record for record in csv.reader(file) if record]
+
+
+def check_facts(tree, documents):
+    by_name = {document.name: document for document in documents}
+    for name, pattern, values in facts(tree):
+        text = "\n".join(by_name[name].lines)
+        found = re.search(pattern, text)
+        wanted = [f"{value:,}" for value in values]
+        if not found:
+            yield name, 1, f"no sentence says how many: {pattern}"
+        elif list(found.groups()) != wanted:
+            yield name, text.count("\n", 0, found.start()) + 1, f"`{found[0]}`, but there are {', '.join(wanted)}"
+
+
+def check_numbers(tree, documents):
+    """Numbers of four digits or more, written with commas, are limits or counts that are known."""
+    values = {value for _, _, value in tree.limits()}
+    known = values | {value + 1 for value in values} | {value for _, _, values in facts(tree) for value in values}
+    for document in documents:
+        if document.name in EXACT:
+            for line, text in enumerate(document.lines, 1):
+                for number in re.findall(r"\d{1,3}(?:,\d{3})+", text):
+                    if int(number.replace(",", "")) not in known:
+                        yield document.name, line, f"{number} is no limit and no count of the tree"
+
+
+def check_lists(tree, documents):
+    """The table after a mark `<!-- lists: WHAT -->` has in its first column what the mark says, in order and nothing else."""
+    for document in documents:
+        for number, line in enumerate(document.lines, 1):
+            mark = LIST.match(line)
+            if mark:
+                told = first_words(document, number)
+                wanted = list_of(tree, mark[1])
+                if told != wanted:
+                    missing = [word for word in wanted if word not in told] or [word for word in told if word not in wanted]
+                    yield document.name, number, f"the table does not list {mark[1]}: see {', '.join(missing) or 'the order'}"
+
+
+def first_words(document, number):
+    """The first word in backticks of each row of the table that follows a line."""
+    rows = []
+    for block in document.blocks:
+        if block.line > number and block.is_row() and (not rows or block.line == rows[-1].line + 1):
+            rows.append(block)
+    found = [re.match(r"`([^` ]+)", row.cells()[0]) for row in rows]
+    return [word[1] for word in found if word]
+
+
+def list_of(tree, what):
+    """What a mark names: commands, session words, limits, or the variants of an enum."""
+    if what == "limits":
+        return [constant for constant, _, _ in tree.limits()]
+    lists = {"commands": tree.commands, "session words": tree.session_words}
+    return lists[what]() if what in lists else tree.variants(what)
+
+
+def check_limits(tree, documents):
+    """A row that names a limit has its crate and its value; and the page of formats names all limits."""
+    limits = {constant: (crate, value) for constant, crate, value in tree.limits()}
+    told = set()
+    for document in documents:
+        for block in document.blocks:
+            for constant in re.findall(r"`([A-Z]+(?:_[A-Z]+)+)`", block.text) if block.is_row() else []:
+                if constant in limits and document.name == "docs/FORMATS.md":
+                    told.add(constant)
+                    crate, value = limits[constant]
+                    if f"`{crate}`" not in block.text or f"{value:,}" not in block.text:
+                        yield document.name, block.line, f"`{constant}` is {value:,}, in `{crate}`"
+    for constant in limits:
+        if constant not in told:
+            yield "docs/FORMATS.md", 1, f"no row has the limit `{constant}`"

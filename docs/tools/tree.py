@@ -1,0 +1,114 @@
+"""What is in the repository: its crates, what each declares, and what it may use."""
+
+import re
+from pathlib import Path
+
+WORD = re.compile(r"[^\W\d][\w'-]*")
+
+# What begins a declaration in code, and in specs and proofs. A line of a record, of an enum or of a list of constructors begins
+# with the name that it declares.
+CODE = re.compile(
+    r"^\s*(?:pub(?:\([a-z]+\))? )?(?:unsafe )?(?:fn|struct|enum|union|trait|type|const|static|mod) (\w+)"
+    r"|^\s*(?:ensures|requires) (\w+) \{"
+    r"|^\s*(?:pub(?:\([a-z]+\))? )?(?:ghost )?(?:fn )?(\w+)(?=[:,({]| =)"
+    r"|^pub use .*?(\w+);$"
+    r"|^\s*#\[cycle\((\w+)\)\]",
+    re.MULTILINE,
+)
+LOGIC = re.compile(r"^\s*(?:(?:pub|abbrev|unfoldable|opaque|record|data|module) )*([^\W\d][\w'-]*)(?= ?[:({]| where)", re.MULTILINE)
+CONSTANT = re.compile(r"^pub const (\w+): \w+ = ([\d_]+);", re.MULTILINE)
+VARIANTS = r"^pub enum %s\b[^{]*\{\n(.*?)^\}"
+
+
+class Crate:
+    """One crate: its folder, the crates that it may use, and its words by file."""
+
+    def __init__(self, folder, uses):
+        self.name = folder.name
+        self.folder = folder
+        self.uses = uses
+        self.declared = {}
+        self.mentioned = set()
+        for path in sorted(folder.rglob("*")):
+            if path.suffix in (".rt", ".antt") and "out" not in path.relative_to(folder).parts:
+                self._read(path)
+        self.names = set().union(*self.declared.values(), *(self._path_names(path) for path in self.declared))
+
+    def _read(self, path):
+        text = path.read_text(encoding="utf-8")
+        pattern = CODE if path.suffix == ".rt" else LOGIC
+        self.declared[path] = {name for found in pattern.finditer(text) for name in found.groups() if name}
+        self.mentioned.update(WORD.findall(text))
+
+    def _path_names(self, path):
+        parts = path.relative_to(self.folder).parts
+        return {part.removeprefix("+").partition(".")[0] for part in parts}
+
+    def files(self, name):
+        """The files of the crate with this file name or stem."""
+        return [path for path in self.declared if name in (path.name, path.stem)]
+
+
+class Tree:
+    """The whole repository."""
+
+    def __init__(self, root):
+        self.root = root
+        self.listed = self._read_list()
+        self.crates = {
+            folder.name: Crate(folder, self.listed.get(folder.name, []))
+            for folder in sorted((root / "crates").iterdir())
+            if (folder / "src").is_dir()
+        }
+        self.libraries = {used for uses in self.listed.values() for used in uses} - set(self.listed)
+        self.names = set().union(*(crate.names for crate in self.crates.values()))
+        self.mentioned = set().union(*(crate.mentioned for crate in self.crates.values()))
+
+    def _read_list(self):
+        """The crates of crates.txt, each with those that it may use, in the order of the file."""
+        listed = {}
+        for line in (self.root / "crates.txt").read_text().splitlines():
+            name, _, uses = line.partition("#")[0].partition(":")
+            if name.strip():
+                listed[name.strip()] = uses.split()
+        return listed
+
+    def text(self, path):
+        return (self.root / path).read_text(encoding="utf-8")
+
+    def above(self, name):
+        """The crates that stand on the crate, directly or not, in the order of crates.txt."""
+        found = {name}
+        for other, uses in self.listed.items():
+            if found.intersection(uses):
+                found.add(other)
+        return [other for other in self.listed if other in found and other != name]
+
+    def limits(self):
+        """The named limits: constant, crate and value."""
+        return [
+            (found[1], crate.name, int(found[2].replace("_", "")))
+            for crate in self.crates.values()
+            if (crate.folder / "src/limits.rt").exists()
+            for found in CONSTANT.finditer((crate.folder / "src/limits.rt").read_text())
+        ]
+
+    def code(self):
+        """The text of each source file of the program."""
+        for crate in self.crates.values():
+            for path in crate.declared:
+                if path.suffix == ".rt":
+                    yield path.read_text(encoding="utf-8")
+
+    def variants(self, enum):
+        """The variants of the public enum with this name, in their order."""
+        body = next((found[1] for text in self.code() if (found := re.search(VARIANTS % re.escape(enum), text, re.MULTILINE | re.DOTALL))), "")
+        return re.findall(r"^    (\w+)", body, re.MULTILINE)
+
+    def commands(self):
+        """The commands of the program, as they are written."""
+        return [name.lower() for name in self.variants("Command")]
+
+    def session_words(self):
+        """The words of a session, in the order in which they are tried."""
+        return [word for text in self.code() for word in re.findall(r'is_word\(word, b"([a-z]+)"\)', text)]
