@@ -5,13 +5,14 @@ from pathlib import Path
 
 WORD = re.compile(r"[^\W\d][\w'-]*")
 
-# What begins a declaration in code, and in specs and proofs. A line of a record, of an enum or of a list of constructors begins
-# with the name that it declares.
+# What begins a declaration in code: an item, a clause of a contract, a variant or a field; and in specs and proofs: a definition, a
+# lemma, a constructor or a field.
 CODE = re.compile(
     r"^\s*(?:pub(?:\([a-z]+\))? )?(?:unsafe )?(?:fn|struct|enum|union|trait|type|const|static|mod) (\w+)"
     r"|^\s*(?:ensures|requires) (\w+) \{"
-    r"|^\s*(?:pub(?:\([a-z]+\))? )?(?:ghost )?(?:fn )?(\w+)(?=[:,({]| =)"
-    r"|^pub use .*?(\w+);$"
+    r"|^    ([A-Z]\w*)(?=[,(]| [{=])"
+    r"|^\s+(?:pub(?:\([a-z]+\))? )?(?:ghost )?([a-z]\w*)(?=: )"
+    r"|^\s*ghost fn (\w+)"
     r"|^\s*#\[cycle\((\w+)\)\]",
     re.MULTILINE,
 )
