@@ -79,10 +79,10 @@ class Tree:
 
     def above(self, name):
         """The crates that stand on the crate, directly or not, in the order of crates.txt."""
-        found = {name}
-        for other, uses in self.listed.items():
-            if found.intersection(uses):
-                found.add(other)
+        found, more = set(), {name}
+        while more:
+            found |= more
+            more = {other for other, uses in self.listed.items() if found.intersection(uses)} - found
         return [other for other in self.listed if other in found and other != name]
 
     def limits(self):
