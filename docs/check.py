@@ -55,7 +55,7 @@ def main(words):
         found += check_examples(tree, shown, str(Path(words[0]).resolve()))
     else:
         print("the examples were not run: no program was given")
-    for name, line, wrong in found:
+    for name, line, wrong in sorted(found):
         print(f"{name}:{line}: {wrong}")
     return 1 if found else 0
 
