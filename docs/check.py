@@ -13,7 +13,7 @@ from pathlib import Path
 from tools.counts import check_facts, check_limits, check_lists, check_numbers
 from tools.documents import Document
 from tools.examples import check_examples
-from tools.links import check_links
+from tools.links import check_links, check_listed
 from tools.made import check_made, check_sections, write_made
 from tools.names import check_definitions, check_names
 from tools.tree import Tree
@@ -32,6 +32,7 @@ def complaints(tree, documents):
     yield from check_names(tree, documents)
     yield from check_definitions(tree, by_name["docs/DEFINITIONS.md"])
     yield from check_links(documents)
+    yield from check_listed(by_name["README.md"], documents)
     yield from check_made(tree, documents)
     yield from check_sections(tree, by_name["docs/ARCHITECTURE.md"])
     yield from check_facts(tree, documents)

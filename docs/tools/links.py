@@ -1,4 +1,4 @@
-"""Links lead somewhere: to a file or folder of the repository, and to a heading of it."""
+"""Links lead somewhere: to a file or folder of the repository, and to a heading of it. All pages are listed in the first one."""
 
 import re
 
@@ -24,3 +24,11 @@ def fault_of_link(by_path, document, target):
     if anchor and file in by_path and anchor not in by_path[file].anchors:
         return f"the link {target} leads to no heading"
     return None
+
+
+def check_listed(first, documents):
+    """The first page has a row for each page of its folder `docs`."""
+    rows = [block.text for block in first.blocks if block.is_row()]
+    for document in documents:
+        if document.name.startswith("docs/") and not any(row.startswith(f"| `{document.name}`") for row in rows):
+            yield first.name, 1, f"no row lists {document.name}"
