@@ -11,11 +11,12 @@ import sys
 from pathlib import Path
 
 from tools.counts import check_facts, check_limits, check_lists, check_numbers
+from tools.definitions import check_definitions
 from tools.documents import Document
 from tools.examples import check_examples
 from tools.links import check_links, check_listed
 from tools.made import check_made, check_sections, write_made
-from tools.names import check_definitions, check_names
+from tools.names import check_names
 from tools.tree import Tree
 
 ROOT = Path(__file__).resolve().parent.parent
@@ -24,10 +25,12 @@ WITH_EXAMPLES = ("README.md", "docs/GUIDE.md")
 
 
 def read_documents():
+    """The documents of the repository, the first page first."""
     return [Document(ROOT, path) for folder in FOLDERS for path in sorted((ROOT / folder).glob("*.md"))]
 
 
 def complaints(tree, documents):
+    """All that is wrong without a program: the document, the line and what it is."""
     by_name = {document.name: document for document in documents}
     yield from check_names(tree, documents)
     yield from check_definitions(tree, by_name["docs/DEFINITIONS.md"])
@@ -38,11 +41,12 @@ def complaints(tree, documents):
     yield from check_facts(tree, documents)
     yield from check_numbers(tree, documents)
     yield from check_lists(tree, documents)
-    yield from check_limits(tree, documents)
+    yield from check_limits(tree, by_name["docs/FORMATS.md"])
 
 
 def main(words):
-    if len(words) > 1 or words[:1] == ["--help"]:
+    program = Path(words[0]).resolve() if words and not words[0].startswith("-") else None
+    if len(words) > 1 or words and not program and words != ["--write"] or program and not program.is_file():
         print(__doc__)
         return 2
     tree = Tree(ROOT)
@@ -51,9 +55,8 @@ def main(words):
             print(f"{name} is written anew")
     documents = read_documents()
     found = list(complaints(tree, documents))
-    if words and words != ["--write"]:
-        shown = [document for document in documents if document.name in WITH_EXAMPLES]
-        found += check_examples(tree, shown, str(Path(words[0]).resolve()))
+    if program:
+        found += check_examples(tree, [document for document in documents if document.name in WITH_EXAMPLES], str(program))
     else:
         print("the examples were not run: no program was given")
     for name, line, wrong in sorted(found):

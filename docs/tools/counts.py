@@ -16,10 +16,12 @@ def facts(tree):
     tables, stems = records(tree, starter + "tables.csv"), records(tree, starter + "stems.csv")
     readings = sum(1 for line in tree.text(starter + "readings/readings.tsv").splitlines() if line and not line.startswith("#"))
     forms = int(re.search(r"\$ \./sandhi build lexicons/starter/.*\nforms (\d+)", tree.text("docs/GUIDE.md"))[1])
+    groups = [part for part in tree.text("docs/ARCHITECTURE.md").split("\n## ") if "\n### `" in part]
     return [
-        ("README.md", f"{NUMBER} stem\\s+records", [len(stems)]),
+        ("docs/ARCHITECTURE.md", f"The {NUMBER} crates fall into {NUMBER} groups", [len(tree.listed), len(groups)]),
+        ("README.md", f"{NUMBER} stem records", [len(stems)]),
         ("README.md", f"{NUMBER} lines of old texts", [readings]),
-        ("README.md", f"{NUMBER} form\\s+lines", [forms]),
+        ("README.md", f"{NUMBER} form lines", [forms]),
         (starter + "README.md", f"table records \\| {NUMBER}", [len(tables)]),
         (starter + "README.md", f"stem records, different stems \\| {NUMBER}, {NUMBER}", [len(stems), len({stem[0] for stem in stems})]),
         (starter + "README.md", f"form lines of the lexicon \\| {NUMBER}", [forms]),
@@ -36,12 +38,12 @@ def check_facts(tree, documents):
     by_name = {document.name: document for document in documents}
     for name, pattern, values in facts(tree):
         text = "\n".join(by_name[name].lines)
-        found = re.search(pattern, text)
+        found = re.search(pattern.replace(" ", r"\s+"), text)
         wanted = [f"{value:,}" for value in values]
         if not found:
             yield name, 1, f"no sentence says how many: {pattern}"
         elif list(found.groups()) != wanted:
-            yield name, text.count("\n", 0, found.start()) + 1, f"`{found[0]}`, but there are {', '.join(wanted)}"
+            yield name, text.count("\n", 0, found.start()) + 1, f"`{' '.join(found[0].split())}`, but there are {', '.join(wanted)}"
 
 
 def check_numbers(tree, documents):
@@ -80,25 +82,22 @@ def first_words(document, number):
 
 
 def list_of(tree, what):
-    """What a mark names: commands, session words, limits, or the variants of an enum."""
-    if what == "limits":
-        return [constant for constant, _, _ in tree.limits()]
-    lists = {"commands": tree.commands, "session words": tree.session_words}
-    return lists[what]() if what in lists else tree.variants(what)
+    """What a mark names: the commands, the words of a session, the files of worked rows, or the variants of an enum."""
+    if what == "commands":
+        return tree.commands()
+    if what == "session words":
+        return tree.session_words()
+    if what == "worked rows":
+        return sorted(str(path.relative_to(tree.root)) for path in tree.root.glob("worked/rows/*"))
+    return tree.variants(what)
 
 
-def check_limits(tree, documents):
-    """A row that names a limit has its crate and its value; and the page of formats names all limits."""
-    limits = {constant: (crate, value) for constant, crate, value in tree.limits()}
-    told = set()
-    for document in documents:
-        for block in document.blocks:
-            for constant in re.findall(r"`([A-Z]+(?:_[A-Z]+)+)`", block.text) if block.is_row() else []:
-                if constant in limits and document.name == "docs/FORMATS.md":
-                    told.add(constant)
-                    crate, value = limits[constant]
-                    if f"`{crate}`" not in block.text or f"{value:,}" not in block.text:
-                        yield document.name, block.line, f"`{constant}` is {value:,}, in `{crate}`"
-    for constant in limits:
-        if constant not in told:
-            yield "docs/FORMATS.md", 1, f"no row has the limit `{constant}`"
+def check_limits(tree, document):
+    """The page of formats has a row for each limit, with its value and its crate."""
+    rows = [block.text for block in document.blocks if block.is_row()]
+    for constant, crate, value in tree.limits():
+        row = next((row for row in rows if f"| `{constant}` |" in row), None)
+        if row is None:
+            yield document.name, 1, f"no row has the limit `{constant}`"
+        elif f"| {value:,} " not in row or f"| `{crate}` |" not in row:
+            yield document.name, document.lines.index(row) + 1, f"`{constant}` is {value:,}, in `{crate}`"

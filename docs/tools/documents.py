@@ -2,7 +2,7 @@
 
 import re
 
-FENCE = re.compile(r"^(```+|~~~+)\s*(\w*)\s*$")
+FENCE = re.compile(r"^(```+|~~~+)\s*\w*\s*$")
 HEADING = re.compile(r"^(#{1,6}) (.*?)\s*$")
 CODE = re.compile(r"(?<!`)(`+)(?!`)(.+?)(?<!`)\1(?!`)", re.DOTALL)
 LINK = re.compile(r"\[[^\]]*\]\(([^)\s]+)\)")
@@ -34,15 +34,17 @@ class Block:
 
 
 class CodeBlock:
-    """A block of code between fences, with its language. `line` is that of its first line."""
+    """A block of code between two fences. `line` is that of its first line."""
 
-    def __init__(self, line, language, lines):
+    def __init__(self, line, fence):
         self.line = line
-        self.language = language
-        self.lines = lines
+        self.fence = fence
+        self.lines = []
 
 
 class Document:
+    """One file of Markdown: its lines, its blocks of text and of code, and the anchors of its headings."""
+
     def __init__(self, root, path):
         self.path = path
         self.name = str(path.relative_to(root))
@@ -53,35 +55,34 @@ class Document:
         self._read()
 
     def _read(self):
-        headings, begun, fence = [], None, None
+        headings, text, code = [], None, None
         for number, line in enumerate(self.lines, 1):
-            mark = FENCE.match(line)
-            if fence:
-                if mark and mark[1] == fence.mark:
-                    fence = None
-                else:
-                    fence.lines.append(line)
-                continue
+            fence = FENCE.match(line)
             heading = HEADING.match(line)
-            if mark or heading or not line.strip() or line.startswith("|") or ITEM.match(line):
-                begun = None
-            if mark:
-                fence = CodeBlock(number + 1, mark[2], [])
-                fence.mark = mark[1]
-                self.code.append(fence)
+            if code:
+                if fence and fence[1] == code.fence:
+                    code = None
+                else:
+                    code.lines.append(line)
+            elif fence:
+                text, code = None, CodeBlock(number + 1, fence[1])
+                self.code.append(code)
             elif heading:
+                text = None
                 headings = headings[: len(heading[1]) - 1] + [heading[2]]
                 self.anchors.add(self._anchor(heading[2]))
                 self.blocks.append(Block(number, heading[2], headings))
-            elif line.strip() and begun:
-                begun.text += "\n" + line
-            elif line.strip():
-                begun = Block(number, line, headings)
-                self.blocks.append(begun)
+            elif not line.strip():
+                text = None
+            elif text and not line.startswith("|") and not ITEM.match(line):
+                text.text += "\n" + line
+            else:
+                text = Block(number, line, headings)
+                self.blocks.append(text)
 
     def _anchor(self, heading):
         """The anchor of a heading, as the usual readers of Markdown make it."""
-        anchor = "".join(c for c in plain(heading).lower() if c.isalnum() or c in " _-" ).replace(" ", "-")
+        anchor = "".join(c for c in plain(heading).lower() if c.isalnum() or c in " _-").replace(" ", "-")
         same = sum(1 for other in self.anchors if re.fullmatch(re.escape(anchor) + r"(-\d+)?", other))
         return f"{anchor}-{same}" if same else anchor
 

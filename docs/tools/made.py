@@ -2,14 +2,13 @@
 
 import re
 
-MADE = re.compile(r"(<!-- made: ([a-z ]+) -->\n).*?(<!-- end -->)", re.DOTALL)
+TABLE = re.compile(r"(<!-- made: what proves again -->\n).*?(<!-- end -->)", re.DOTALL)
 SECTION = re.compile(r"(^### `(\w+)`\n(?:(?!#).*\n)*?)\*May use:\* .*\n", re.MULTILINE)
 
 
 def remake(tree, text):
-    """The text with its made parts as they are to be: tables between marks, and what the crate of each section may use."""
-    tables = {"what proves again": lambda: proved_again(tree)}
-    text = MADE.sub(lambda found: found[1] + (tables[found[2]]() if found[2] in tables else "") + found[3], text)
+    """The text with its made parts as they are to be: the table between its marks, and what the crate of each section may use."""
+    text = TABLE.sub(lambda found: found[1] + proved_again(tree) + found[2], text)
     return SECTION.sub(lambda found: f"{found[1]}*May use:* {may_use(tree, found[2])}\n", text)
 
 
@@ -42,17 +41,13 @@ def code(names):
 
 
 def check_made(tree, documents):
-    """Made parts are what they are made of, and each crate has one section of the page that has the sections."""
+    """Made parts are as they would be made now."""
     for document in documents:
-        text = "\n".join(document.lines) + "\n"
-        made = remake(tree, text)
-        for line, (old, new) in enumerate(zip(text.splitlines(), made.splitlines()), 1):
-            if old != new:
-                yield document.name, line, "this made line is another now: run docs/check.py --write"
-                break
-        else:
-            if text != made:
-                yield document.name, 1, "a made table has other rows now: run docs/check.py --write"
+        old = "\n".join(document.lines) + "\n"
+        new = remake(tree, old)
+        if new != old:
+            same = [before == after for before, after in zip(old.splitlines(), new.splitlines())] + [False]
+            yield document.name, same.index(False) + 1, "this part is made, and is another now: run docs/check.py --write"
 
 
 def check_sections(tree, document):

@@ -1,7 +1,6 @@
 """What is in the repository: its crates, what each declares, and what it may use."""
 
 import re
-from pathlib import Path
 
 WORD = re.compile(r"[^\W\d][\w'-]*")
 
@@ -18,16 +17,15 @@ CODE = re.compile(
 )
 LOGIC = re.compile(r"^\s*(?:(?:pub|abbrev|unfoldable|opaque|record|data|module) )*([^\W\d][\w'-]*)(?= ?[:({]| where)", re.MULTILINE)
 CONSTANT = re.compile(r"^pub const (\w+): \w+ = ([\d_]+);", re.MULTILINE)
-VARIANTS = r"^pub enum %s\b[^{]*\{\n(.*?)^\}"
+VARIANTS = r"^pub enum {}\b[^{{]*\{{\n(.*?)^\}}"
 
 
 class Crate:
-    """One crate: its folder, the crates that it may use, and its words by file."""
+    """One crate: its folder, what each of its files declares, and all words in them."""
 
-    def __init__(self, folder, uses):
+    def __init__(self, folder):
         self.name = folder.name
         self.folder = folder
-        self.uses = uses
         self.declared = {}
         self.mentioned = set()
         for path in sorted(folder.rglob("*")):
@@ -56,11 +54,8 @@ class Tree:
     def __init__(self, root):
         self.root = root
         self.listed = self._read_list()
-        self.crates = {
-            folder.name: Crate(folder, self.listed.get(folder.name, []))
-            for folder in sorted((root / "crates").iterdir())
-            if (folder / "src").is_dir()
-        }
+        folders = sorted(folder.parent for folder in (root / "crates").glob("*/src"))
+        self.crates = {folder.name: Crate(folder) for folder in folders}
         self.libraries = {used for uses in self.listed.values() for used in uses} - set(self.listed)
         self.names = set().union(*(crate.names for crate in self.crates.values()))
         self.mentioned = set().union(*(crate.mentioned for crate in self.crates.values()))
@@ -102,9 +97,10 @@ class Tree:
                     yield path.read_text(encoding="utf-8")
 
     def variants(self, enum):
-        """The variants of the public enum with this name, in their order."""
-        body = next((found[1] for text in self.code() if (found := re.search(VARIANTS % re.escape(enum), text, re.MULTILINE | re.DOTALL))), "")
-        return re.findall(r"^    (\w+)", body, re.MULTILINE)
+        """The variants of the public enum with this name, in their order; none where there is no such enum."""
+        pattern = re.compile(VARIANTS.format(enum), re.MULTILINE | re.DOTALL)
+        bodies = [found[1] for text in self.code() if (found := pattern.search(text))]
+        return re.findall(r"^    (\w+)", bodies[0], re.MULTILINE) if bodies else []
 
     def commands(self):
         """The commands of the program, as they are written."""
