@@ -1,9 +1,11 @@
 #!/usr/bin/env bash
-# Tries the sample files with the built program: builds their lexicon into a temporary folder, checks it, cuts a line with it,
-# reads this line in a session in which a segment is kept, and answers it in a batch. Says what differs, and ends with 1, where
-# something is not as it should be.
+# Tries the sample files with a program: `try_samples.sh [PROGRAM]`, where PROGRAM is its path; without it `./sandhi` is taken.
+# Builds their lexicon into a temporary folder, checks it, cuts a line with it, reads this line in a session in which a segment
+# is kept, and answers it in a batch. Says what differs, and ends with 1, where something is not as it should be.
 set -u
-cd "$(dirname "$0")/.." || exit 1
+top="$(dirname "$(dirname "$(readlink -f "$0")")")"
+program="$(readlink -f "${1:-$top/sandhi}")"
+cd "$top" || exit 1
 work="$(mktemp -d)" || exit 1
 trap 'rm -rf "$work"' EXIT
 lexicon="$work/sample.lex"
@@ -18,7 +20,7 @@ fail() {
 expect() {
     local status="$1" lines="$2" found
     shift 2
-    ./sandhi "$@" >"$work/output" 2>"$work/errors"
+    "$program" "$@" >"$work/output" 2>"$work/errors"
     found=$?
     [ "$found" = "$status" ] || fail "$1 ended with $found, and not with $status: $(cat "$work/errors")"
     diff <(cat) <(head -n "$lines" "$work/output") >&2 || fail "$1 printed other lines than these"
@@ -53,7 +55,7 @@ END
 
 # Reads the lines in a session, and leaves the replies in the file `output`.
 session() {
-    printf '%s\n' "$@" | ./sandhi read "$lexicon" >"$work/output" 2>"$work/errors" ||
+    printf '%s\n' "$@" | "$program" read "$lexicon" >"$work/output" 2>"$work/errors" ||
         fail "read ended with $?: $(cat "$work/errors")"
 }
 

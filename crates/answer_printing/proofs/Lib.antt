@@ -1,2 +1,4 @@
 pub mod TextLemmas
 pub mod PrintedFronts
+pub mod PrintedPages
+pub mod ListedAnswers

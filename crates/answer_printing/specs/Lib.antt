@@ -1,2 +1,4 @@
 pub mod Texts
 pub mod Fronts
+pub mod Pages
+pub mod Turns

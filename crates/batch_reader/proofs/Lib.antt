@@ -1,3 +1,6 @@
 mod RepliesInOrder
 mod SharedRepliers
 mod FoundReplies
+pub mod ReadLines
+pub mod RepliedLines
+pub mod ServedLines

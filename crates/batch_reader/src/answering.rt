@@ -132,7 +132,7 @@ fn complete<G: Gate>(
 /// least 2, answer the lines side by side by the runtime's join; each takes the next line that none has taken, until no line is left.
 /// Just before a worker begins line `i`, counted from 0, it passes the gate with `i`. The texts are those of the lexicon's rules, so that
 /// a caller with many lists of lines makes them once. Refused only for want of memory.
-pub fn read_all_with<R: Threads + Sync, G: Gate + Sync>(
+pub(crate) fn read_all_with<R: Threads + Sync, G: Gate + Sync>(
     rt: &R,
     alloc: Global,
     lexicon: &Lexicon,

@@ -1,17 +1,24 @@
-//! Many lines answered at once: each by its printed page. A worker for each processor, begun by the runtime's join, takes the next line
-//! that none has taken.
+//! The lines of a text answered, each by its printed page: a block of lines at a time is answered at once, and its replies are written
+//! before the next block is begun. A worker for each processor, begun by the runtime's join, takes the next line that none has taken.
 //!
-//! Proved: `read_all` gives a reply for each line, in the order of the lines, and each is the page that the line has when it is
-//! answered alone (`ok`), however many threads there were. So does `read_all_with`, which takes the texts of the rules from a caller
-//! that has more lists of lines. They are refused only for want of memory.
+//! Proved of `Batch::serve`, over any sink: where it succeeds, the replies to all lines of the text were written, each after its
+//! number, in the order of the lines (`ok`), however many threads there were; wherever it stops, a prefix of the replies to some first
+//! lines, which begin them (`prefix`); it fails only where the sink counted a fault (`fault`). `read_all` gives a reply for each of
+//! some lines, in their order, and each is the page that the line has when it is answered alone (`ok`); it is refused only for want
+//! of memory.
 //!
 //! That two lines are answered at once is only tested, by a gate at which the worker of the first line waits for that of the second.
 //! No clause speaks of the gate, of the workers, of the order in which they take lines, or of time.
 #![tactic(auto)]
 
 mod answering;
+mod batch;
+mod block;
+mod line_fault;
+mod printing;
 mod replier;
 #[cfg(test)]
 mod tests;
 
-pub use answering::{read_all, read_all_with};
+pub use answering::read_all;
+pub use batch::Batch;

@@ -2,9 +2,8 @@ ghost use Rattle.std.specs.Prelude.{◌≡◌, IfOk};
 ghost use Rattle.batch_reader.specs.Replies.{IsReply};
 
 use annotated_trie::Lexicon;
-use answer_printing::{AnswerPrinter, RuleTexts};
+use answer_printing::{AnswerPrinter, RuleTexts, push_page};
 use outside::{Gate, Steps};
-use page_printing::push_page;
 use phoneme::{Line, Memory};
 use reader_choices::Choices;
 use segmenter::Search;

@@ -3,3 +3,4 @@ pub mod NumbersAndWords
 pub mod WrittenLines
 pub mod WrittenParts
 pub mod WrittenBookmarks
+pub mod BookmarkLengths

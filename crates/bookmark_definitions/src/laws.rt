@@ -1,4 +1,4 @@
-ghost use Rattle.std.specs.Prelude.{◌≡◌, ℕ, List, Some};
+ghost use Rattle.std.specs.Prelude.{◌≡◌, ◌<◌, ℕ, List, length, Some};
 ghost use Rattle.bookmark_definitions.specs.Bookmarks.{Bookmark, IsBookmark};
 ghost use Rattle.bookmark_definitions.specs.BookmarkTexts.{text_of_bookmark};
 ghost use Rattle.bookmark_definitions.specs.BookmarkReadings.{bookmark_of_text};
@@ -12,4 +12,9 @@ pub fn what_is_read_is_a_bookmark()
 /// The text of a bookmark within the bounds is read as this bookmark.
 pub fn a_bookmark_is_read_back()
     ensures { (mark : Bookmark) → IsBookmark mark → bookmark_of_text (text_of_bookmark mark) ≡ Some mark }
+{}
+
+/// The text of a bookmark within the bounds has fewer than 65,000 bytes, so that a line of a session which resumes it is not too long.
+pub fn a_bookmark_is_short()
+    ensures { (mark : Bookmark) → IsBookmark mark → length (text_of_bookmark mark) < 65000 }
 {}

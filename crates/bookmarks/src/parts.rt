@@ -1,23 +1,14 @@
-ghost use Rattle.std.specs.Prelude.{◌≡◌, ◌≢◌, ◌∷◌, ◌++◌, [], length, All, MatchOption, OnOk, string_bytes};
+ghost use Rattle.std.specs.Prelude.{◌≡◌, ◌≢◌, ◌∷◌, [], length, MatchOption, OnOk, string_bytes};
 ghost use Rattle.bookmarks.specs.Parts.{parts_at, with_part};
 
-use phoneme::Memory;
-
-/// The first of these bytes: what comes before it and after it.
-fn at_mark(text: &[u8], mark: u8) -> Option<(&[u8], &[u8])>
-    ensures { MatchOption result (All (λ byte. byte ≢ mark) text.now)
-        (λ parts. (text.now ≡ parts.0.now ++ mark ∷ parts.1.now) × All (λ byte. byte ≢ mark) parts.0.now) }
-{
-    let at = text.iter().position(|byte| *byte == mark)?;
-    Some((&text[..at], &text[at + 1..]))
-}
+use phoneme::{Memory, cut_at};
 
 /// The first part and what comes after its mark, where there is more than one part.
 fn cut(text: &[u8], mark: u8) -> Option<(&[u8], &[u8])>
     ensures { MatchOption result (parts_at mark text.now ≡ text.now ∷ [])
         (λ parts. parts_at mark text.now ≡ parts.0.now ∷ parts_at mark parts.1.now) }
 {
-    let Some((first, rest)) = at_mark(text, mark) else {
+    let Some((first, rest)) = cut_at(text, mark) else {
         return None;
     };
     Some((first, rest))

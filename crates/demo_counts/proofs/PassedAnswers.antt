@@ -7,8 +7,8 @@ use Rattle.segmentation_definitions.specs.Listings.{Position, AtAnswer, PastLast
 use Rattle.answer_paths.specs.Pages.{AreFirstAnswers}
 use Rattle.answer_paths.proofs.NextPages.{first_of_none, first_with_next, position_after_last}
 use Rattle.segmenter.specs.Searches.{SearchValue, MovedOn, HasEnded}
-use Rattle.page_printing.specs.Pages.{standing_at}
-use Rattle.page_printing.proofs.PrintedPages.{page_ended, page_full}
+use Rattle.answer_printing.specs.Pages.{standing_at}
+use Rattle.answer_printing.proofs.PrintedPages.{page_ended, page_full}
 use Rattle.demo_counts.specs.Pages.{HasPassed, IsCounted}
 
 -- so many answers were passed, and the search stands at the last of them

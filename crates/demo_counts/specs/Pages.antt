@@ -6,7 +6,7 @@ use Rattle.segmentation_definitions.specs.Derivations.{Step}
 use Rattle.segmentation_definitions.specs.Listings.{BeforeFirst, IsPage}
 use Rattle.demo_definitions.specs.declared.limits.TheConstants.{DEMO_PAGE}
 use Rattle.segmenter.specs.Searches.{SearchValue}
-use Rattle.page_printing.specs.Pages.{HasListed}
+use Rattle.answer_printing.specs.Pages.{HasListed}
 use Rattle.demo_counts.specs.declared.counting.PageCount.{PageCount}
 
 -- the search has moved past so many answers, at most count

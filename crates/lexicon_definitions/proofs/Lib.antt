@@ -18,3 +18,5 @@ pub mod TrieWalks
 pub mod PlainPairs
 pub mod FirstPlaces
 pub mod WrittenRules
+pub mod UnlimitedRules
+pub mod NameTests

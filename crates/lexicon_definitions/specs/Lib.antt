@@ -4,6 +4,7 @@ pub mod Deltas
 pub mod Rules
 pub mod Grammars
 pub mod GrammarTexts
+pub mod PhaseNames
 pub mod Lexicons
 pub mod GrammarFaults
 pub mod GrammarMarks

@@ -1,6 +1,7 @@
 -- Rules of external sandhi (Huet 2005), each with sets of phases before and after it (own).
-use Rattle.std.specs.Prelude.{◌≡◌, ◌≢◌, ℕ, zero, suc, ◌<◌, ◌^◌, ◌-◌, ◌↔◌, List, [], ◌++◌, codes, slice_index_or}
+use Rattle.std.specs.Prelude.{◌≡◌, ◌≢◌, ℕ, zero, suc, ◌<◌, ◌^◌, ◌-◌, ◌↔◌, ◌&&◌, Bool, List, [], ◌∷◌, ◌++◌, codes, slice_index_or}
 use Rattle.std.specs.Int.{IsBitSet}
+use Rattle.std.specs.Str.{bytes_eq}
 use Rattle.text_definitions.specs.Words.{IsWord}
 use Rattle.text_definitions.specs.Slp1.{slp1_of_word}
 
@@ -37,6 +38,16 @@ IsFinal rule = rule.v ≡ []
 abbrev pub IsUnlimited : ℕ → Rule → Type 0
 IsUnlimited count rule = (rule.before ≡ all_phases count) × (IsInner rule → rule.after ≡ all_phases count)
 
+-- the set of the phases after an unlimited rule with this v: all of them, or none where the rule is final
+abbrev pub phases_after : ℕ → List ℕ → ℕ
+phases_after count [] = 0
+phases_after count (letter ∷ v) = all_phases count
+
+-- the rule with this triple that is unlimited over so many phases
+abbrev pub unlimited_rule : ℕ → List ℕ → List ℕ → List ℕ → Rule
+unlimited_rule count u v w =
+    record { u = u; v = v; w = w; before = all_phases count; after = phases_after count v }
+
 -- a rule over count phases is a strict triple of words with two sets of these phases; before is not empty, and after is
 -- empty exactly where the rule is final
 pub record IsRule (count : ℕ) (rule : Rule) : Type 0 where
@@ -52,6 +63,10 @@ pub record IsRule (count : ℕ) (rule : Rule) : Type 0 where
 -- the two rules have the same triple
 abbrev pub IsSameTriple : Rule → Rule → Type 0
 IsSameTriple left right = (left.u ≡ right.u) × (left.v ≡ right.v) × (left.w ≡ right.w)
+
+-- the test whether they have
+abbrev pub is_twin : Rule → Rule → Bool
+is_twin left right = bytes_eq left.u right.u && bytes_eq left.v right.v && bytes_eq left.w right.w
 
 -- the number 0 stands for no change: u, v and w are empty
 abbrev pub no_change : Rule

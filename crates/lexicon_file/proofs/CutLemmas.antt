@@ -2,17 +2,12 @@
 use Rattle.std.proofs.Common.{◌≡◌, ◌≢◌, ℕ, ◌<◌, Bool, true, false, cond, Some, None, List, [], ◌∷◌, ◌++◌, length, eqb, refl, ◌∙◌, ap, arith, All}
 use Rattle.std.specs.List.{slice_split, onto_first}
 use Rattle.std.proofs.lemmas.List.{length-append}
-use Rattle.lexicon_text_definitions.specs.FileLines.{cut, lines_of_bytes, with_byte, fields_of, shape_of, shape_after, shape_with}
-use Rattle.lexicon_text_definitions.proofs.LineCuts.{cut_free, cut_at, cut_as, line_at, split_at, split_none, ended_line}
-use Rattle.list_laws.proofs.Marks.{is_free, free_parts, free_from_All}
+use Rattle.lexicon_text_definitions.specs.FileLines.{lines_of_bytes, with_byte, fields_of, shape_of, shape_after, shape_with}
+use Rattle.lexicon_text_definitions.proofs.LineCuts.{line_at, split_at, split_none, ended_line}
+use Rattle.list_laws.specs.Cuts.{cut}
+use Rattle.list_laws.proofs.CutLaws.{cut_as}
+use Rattle.list_laws.proofs.Marks.{is_free, free_parts}
 use Rattle.lexicon_file.specs.Fields.{one_of, two_of, four_of}
-
--- what a cut says, as the definition has it
-pub missed : (mark : ℕ) (text : List ℕ) → All (λ byte. byte ≢ mark) text → cut mark text ≡ None
-missed mark text h = cut_free mark text (free_from_All mark text h)
-
-pub found : (mark : ℕ) (text front rest : List ℕ) → (text ≡ front ++ mark ∷ rest) × All (λ byte. byte ≢ mark) front → cut mark text ≡ Some (front, rest)
-found mark text front rest h = ap (cut mark) h.0 ∙ cut_at mark front rest (free_from_All mark front h.1)
 
 -- a line without a line end is the last
 pub last_line : (byte : ℕ) (bytes : List ℕ) → is_free 10 (byte ∷ bytes) ≡ true

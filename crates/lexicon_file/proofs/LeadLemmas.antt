@@ -2,11 +2,11 @@
 -- in with each rule.
 use Rattle.std.proofs.Common.{◌≡◌, ℕ, List, [], ◌∷◌, ◌++◌, sym, ◌∙◌, ap}
 use Rattle.lexicon_definitions.specs.Rules.{Rule}
-use Rattle.lexicon_text_definitions.specs.FileContents.{with_lead, leads_of}
+use Rattle.lexicon_text_definitions.specs.FileContents.{with_v, different_v}
 use Rattle.lexicon_text_definitions.proofs.FileLeads.{leads_with}
 
 -- the rule's v is put among the leads, and the rule goes last
-pub leads_put : (before rules : List Rule) (rule : Rule) (leads roomy after : List (List ℕ)) (v : List ℕ) → leads ≡ leads_of before → roomy ≡ leads → v ≡ rule.v
-    → after ≡ with_lead roomy v → rules ≡ before ++ rule ∷ [] → after ≡ leads_of rules
+pub leads_put : (before rules : List Rule) (rule : Rule) (leads roomy after : List (List ℕ)) (v : List ℕ) → leads ≡ different_v before → roomy ≡ leads → v ≡ rule.v
+    → after ≡ with_v roomy v → rules ≡ before ++ rule ∷ [] → after ≡ different_v rules
 leads_put before rules rule leads roomy after v led same lead put pushed =
-    put ∙ (λ i. with_lead ((same ∙ led) i) (lead i)) ∙ sym (ap leads_of pushed ∙ leads_with before rule)
+    put ∙ (λ i. with_v ((same ∙ led) i) (lead i)) ∙ sym (ap different_v pushed ∙ leads_with before rule)

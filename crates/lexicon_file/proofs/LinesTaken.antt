@@ -5,8 +5,9 @@ use Rattle.std.specs.Str.{is_utf8, IsUtf8}
 use Rattle.std.proofs.lemmas.Bool.{false_from_ne_true}
 use Rattle.std.proofs.lemmas.Str.{IsUtf8-from_is_utf8, is_utf8-from_IsUtf8}
 use Rattle.lexicon_text_definitions.specs.FileFaults as faults
+use Rattle.list_laws.specs.Cuts.{cut}
 use Rattle.lexicon_text_definitions.specs.FileLines as lines
-use Rattle.lexicon_text_definitions.specs.FileLines.{Line, cut, Parts, parts_of, parts_or_all, fields_of, kind_named, may_follow}
+use Rattle.lexicon_text_definitions.specs.FileLines.{Line, Parts, parts_of, parts_or_all, fields_of, kind_named, may_follow}
 use Rattle.lexicon_text_definitions.specs.FileContents.{Told}
 use Rattle.lexicon_text_definitions.specs.FileSteps.{Taken, take_phase, take_grammar, take_plain, take_rule, take_form, take_end, take_kind, take_named, take_parts, take_head, take_bytes, is_last, take_line}
 use Rattle.lexicon_text_definitions.proofs.LineSteps.{took_phase, took_plain, took_rule, took_form, took_end}

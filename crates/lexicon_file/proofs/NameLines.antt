@@ -9,9 +9,10 @@ use Rattle.lexicon_definitions.specs.declared.limits.TheConstants.{MOST_PHASES}
 use Rattle.phase_automaton.proofs.PhaseNumbers.{any_from_position, none_from_position}
 use Rattle.lexicon_text_definitions.specs.FileFaults as faults
 use Rattle.lexicon_text_definitions.specs.FileLines.{Phase}
-use Rattle.lexicon_text_definitions.specs.FileContents.{Told, is_phase_name}
+use Rattle.lexicon_definitions.specs.PhaseNames.{is_phase_name}
+use Rattle.lexicon_text_definitions.specs.FileContents.{Told}
 use Rattle.lexicon_text_definitions.specs.FileSteps.{take_phase, take_name}
-use Rattle.lexicon_text_definitions.proofs.LineTests.{name_from_test}
+use Rattle.lexicon_definitions.proofs.NameTests.{name_from_test}
 use Rattle.lexicon_text_definitions.proofs.CleanBytes.{clean_name, clean_utf8}
 use Rattle.lexicon_file.specs.Fields.{one_of}
 use Rattle.list_laws.proofs.Booleans.{when_true, when_false}

@@ -2,17 +2,17 @@
 use Rattle.std.specs.Prelude.{◌≡◌, ℕ, ◌++◌, Bool, true, false, Result, Ok, Err, List, [], ◌∷◌, map}
 use Rattle.std.specs.List.{list_any}
 use Rattle.lexicon_definitions.specs.Rules.{Rule}
-use Rattle.lexicon_text_definitions.specs.FileContents.{has_triple, leads_of}
+use Rattle.lexicon_text_definitions.specs.FileContents.{has_triple, different_v}
 use Rattle.lexicon_file.specs.declared.error.FileWhy.TheVariants.{Twice}
 use Rattle.lexicon_file.specs.declared.line_error.LineError.{LineError}
 use Rattle.lexicon_file.specs.declared.line_error.LineError.TheVariants.{Why, Memory}
-use Rattle.lexicon_file.specs.declared.triple.Triple.{Triple}
-use Rattle.lexicon_file.specs.Triples.{triple_of}
+use Rattle.sandhi_rules.specs.declared.triple.Triple.{Triple}
+use Rattle.sandhi_rules.specs.Triples.{triple_of}
 
 -- these are the triples of the rules, in their order, and these are their leads
 pub record AreKept (rules : List Rule) (triples : List Triple) (leads : List (List ℕ)) : Type 0 where
   pub alike : triples ≡ map triple_of rules
-  pub leading : leads ≡ leads_of rules
+  pub leading : leads ≡ different_v rules
 
 -- one of the rules has the triple of this one
 abbrev pub has_twin : List Rule → Rule → Bool

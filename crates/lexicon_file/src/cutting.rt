@@ -1,15 +1,8 @@
-ghost use Rattle.std.specs.Prelude.{◌≡◌, ◌≢◌, ◌<◌, ◌≤◌, ◌||◌, ◌∷◌, ◌++◌, [], length, All, MatchOption, IfSome, None, Some};
+ghost use Rattle.std.specs.Prelude.{◌≡◌, ◌<◌, ◌≤◌, ◌||◌, ◌∷◌, [], length, MatchOption, IfSome, None, Some};
 ghost use Rattle.lexicon_text_definitions.specs.FileLines.{parts_of, fields_of, lines_of_bytes, has_mark as has_mark_of, shape_of};
 ghost use Rattle.lexicon_file.specs.Fields.{one_of, two_of, four_of, text_of_rest};
 
-/// The parts before and after the first of these bytes.
-pub(crate) fn cut(text: &[u8], mark: u8) -> Option<(&[u8], &[u8])>
-    ensures { MatchOption result (All (λ byte. byte ≢ mark) text.now)
-        (λ parts. (text.now ≡ parts.0.now ++ mark ∷ parts.1.now) × All (λ byte. byte ≢ mark) parts.0.now) }
-{
-    let at = text.iter().position(|byte| *byte == mark)?;
-    Some((&text[..at], &text[at + 1..]))
-}
+use phoneme::cut_at;
 
 /// The first line of the bytes, whether a line end comes after it, and what follows. `None` where there are no bytes.
 pub fn first_line(bytes: &[u8]) -> Option<(&[u8], bool, &[u8])>
@@ -18,7 +11,7 @@ pub fn first_line(bytes: &[u8]) -> Option<(&[u8], bool, &[u8])>
     ensures within { IfSome result (λ line. length line.0.now ≤ length bytes.now) }
     ensures shorter { IfSome result (λ line. length line.2.now < length bytes.now) }
 {
-    if let Some((line, rest)) = cut(bytes, b'\n') {
+    if let Some((line, rest)) = cut_at(bytes, b'\n') {
         Some((line, true, rest))
     } else if bytes.is_empty() {
         None
@@ -31,7 +24,7 @@ pub fn first_line(bytes: &[u8]) -> Option<(&[u8], bool, &[u8])>
 pub(crate) fn kind_and_rest(line: &[u8]) -> (&[u8], Option<&[u8]>)
     ensures { parts_of line.now ≡ record { kind = result.0.now; rest = text_of_rest result.1 } }
 {
-    match cut(line, b' ') {
+    match cut_at(line, b' ') {
         Some((kind, rest)) => (kind, Some(rest)),
         None => (line, None),
     }
@@ -41,7 +34,7 @@ pub(crate) fn kind_and_rest(line: &[u8]) -> (&[u8], Option<&[u8]>)
 pub(crate) fn one_field(text: &[u8]) -> Option<&[u8]>
     ensures { MatchOption result (one_of (fields_of (Some text.now)) ≡ None) (λ field. fields_of (Some text.now) ≡ field.now ∷ []) }
 {
-    match cut(text, b' ') {
+    match cut_at(text, b' ') {
         Some(_) => None,
         None => Some(text),
     }
@@ -52,7 +45,7 @@ pub(crate) fn two_fields(text: &[u8]) -> Option<(&[u8], &[u8])>
     ensures { MatchOption result (two_of (fields_of (Some text.now)) ≡ None)
         (λ fields. fields_of (Some text.now) ≡ fields.0.now ∷ fields.1.now ∷ []) }
 {
-    let Some((first, rest)) = cut(text, b' ') else {
+    let Some((first, rest)) = cut_at(text, b' ') else {
         return None;
     };
     match one_field(rest) {
@@ -66,10 +59,10 @@ pub(crate) fn four_fields(text: &[u8]) -> Option<(&[u8], &[u8], &[u8], &[u8])>
     ensures { MatchOption result (four_of (fields_of (Some text.now)) ≡ None)
         (λ fields. fields_of (Some text.now) ≡ fields.0.now ∷ fields.1.now ∷ fields.2.now ∷ fields.3.now ∷ []) }
 {
-    let Some((first, rest)) = cut(text, b' ') else {
+    let Some((first, rest)) = cut_at(text, b' ') else {
         return None;
     };
-    let Some((second, rest)) = cut(rest, b' ') else {
+    let Some((second, rest)) = cut_at(rest, b' ') else {
         return None;
     };
     match two_fields(rest) {
@@ -97,10 +90,10 @@ pub(crate) fn rule_parts(field: &[u8]) -> Option<(&[u8], &[u8], &[u8])>
     ensures { MatchOption result (shape_of field.now ≡ None)
         (λ parts. shape_of field.now ≡ Some (record { u = parts.0.now; v = parts.1.now; w = parts.2.now })) }
 {
-    let Some((u, rest)) = cut(field, b'|') else {
+    let Some((u, rest)) = cut_at(field, b'|') else {
         return None;
     };
-    let Some((v, w)) = cut(rest, b'>') else {
+    let Some((v, w)) = cut_at(rest, b'>') else {
         return None;
     };
     if has_marks(u, v, w) {

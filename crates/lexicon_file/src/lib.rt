@@ -16,7 +16,6 @@ mod rules_so_far;
 #[cfg(test)]
 mod tests;
 mod told;
-mod triple;
 mod words;
 mod writing;
 

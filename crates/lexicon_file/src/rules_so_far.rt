@@ -1,15 +1,14 @@
 ghost use Rattle.std.specs.Prelude.{◌≡◌, ◌<◌, ◌||◌, nat_le, nat_lt, [], length, IsOk, OnOk};
-ghost use Rattle.lexicon_text_definitions.specs.FileContents.{with_lead, leads_of};
+ghost use Rattle.lexicon_text_definitions.specs.FileContents.{with_v, different_v};
 ghost use Rattle.lexicon_file.specs.Added.{IsAdded};
 ghost use Rattle.indexmap.specs.IndexSet.{spare};
 
 use crate::FileWhy;
 use crate::line_error::LineError;
-use crate::triple::Triple;
 use indexmap::IndexSet;
 use lexicon_definitions::{MOST_LEADS, MOST_RULES};
 use phoneme::{Memory, Word};
-use sandhi_rules::Rule;
+use sandhi_rules::{Rule, Triple};
 use std::alloc::Global;
 use std::marker::Model;
 
@@ -35,7 +34,7 @@ impl Model for RulesSoFar {
 
 /// Puts a rule's `v` among the leads, unless it is empty or there. Wants no memory where there is room for one more.
 fn add_lead(leads: &mut IndexSet<Word>, v: Word) -> Result<(), Memory>
-    ensures ok { OnOk result (leads.new.keys ≡ with_lead leads.old.keys v) }
+    ensures ok { OnOk result (leads.new.keys ≡ with_v leads.old.keys v) }
     ensures room { 0 < spare leads.old → IsOk result }
 {
     if !v.is_empty() {
@@ -69,7 +68,7 @@ impl RulesSoFar {
 
     /// How many different `v` that are not empty the rules have with one of this `v`.
     fn leads_with(&self, v: &Word) -> usize
-        ensures { result ≡ length (with_lead (leads_of self.now) v.now) }
+        ensures { result ≡ length (with_v (different_v self.now) v.now) }
     {
         if v.is_empty() || self.leads.contains(v) {
             self.leads.len()
@@ -80,7 +79,7 @@ impl RulesSoFar {
 
     /// Whether with a rule that has this `v` there are too many rules or leads.
     pub(crate) fn is_full(&self, v: &Word) -> bool
-        ensures { result ≡ (nat_le MOST_RULES (length self.now) || nat_lt MOST_LEADS (length (with_lead (leads_of self.now) v.now))) }
+        ensures { result ≡ (nat_le MOST_RULES (length self.now) || nat_lt MOST_LEADS (length (with_v (different_v self.now) v.now))) }
     {
         self.rules.len() >= MOST_RULES || self.leads_with(v) > MOST_LEADS
     }

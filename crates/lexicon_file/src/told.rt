@@ -2,14 +2,11 @@ ghost use Rattle.std.specs.Prelude.{◌≡◌, ◌<◌, ◌||◌, nat_le, nat_lt
 ghost use Rattle.std.specs.List.{list_all, position};
 ghost use Rattle.std.specs.Str.{bytes_eq};
 ghost use Rattle.std.specs.String.{string_bytes};
-ghost use Rattle.lexicon_definitions.specs.Rules.{all_phases as all_phases_of};
-ghost use Rattle.lexicon_definitions.specs.GrammarTexts.{is_name_byte as is_name_byte_of};
-ghost use Rattle.lexicon_definitions.specs.GrammarFaults.{is_small_letter as is_small_letter_of};
 ghost use Rattle.lexicon_definitions.specs.Lexicons.{IsRuleSet, tree_of, compare_pairs};
 ghost use Rattle.lexicon_definitions.specs.Limits.{IsRuleSetWithinLimits};
 ghost use Rattle.phase_automaton.specs.Automata.{Recognizes};
 ghost use Rattle.lexicon_text_definitions.specs.FileLines.{Opening, End, may_follow, Phase, Grammar, Plain, Rule as RuleLine, Form, fields_of, parts_of};
-ghost use Rattle.lexicon_text_definitions.specs.FileContents.{Told as ToldValue, is_phase_name as is_phase_name_of, rule_between as rule_between_of, nothing_told, rules_told, lexicon_told, compare_entries, compare_last as compare_last_of};
+ghost use Rattle.lexicon_text_definitions.specs.FileContents.{Told as ToldValue, nothing_told, rules_told, lexicon_told, compare_entries, compare_last as compare_last_of};
 ghost use Rattle.lexicon_text_definitions.specs.FileSteps.{if_rising, passes_rule_limits as passes_rule_limits_of, take_triple as take_triple_of, take_line as take_line_of, take_head as take_head_of, take_end as take_end_of, take_phase as take_phase_of, take_grammar as take_grammar_of, take_plain as take_plain_of, take_rule as take_rule_of, take_form as take_form_of, take_kind as take_kind_of, take_parts as take_parts_of, take_form_line};
 ghost use Rattle.form_lists.specs.Lists.{text_entry};
 ghost use Rattle.lexicon_file.specs.Told.{IsAnswer, IsLineAnswer, IsNoEnd};
@@ -25,12 +22,10 @@ use crate::words::{read_letter, read_some_word, read_word};
 use crate::{Contents, FileWhy};
 use form_lists::FormLists;
 use form_tags::{Analysis, Entry, read_tag};
-use lexicon_definitions::{
-    MOST_FORM_LETTERS, MOST_FORM_LINES, MOST_NAME_BYTES, MOST_PHASES, MOST_RULE_LETTERS,
-};
+use lexicon_definitions::{MOST_FORM_LETTERS, MOST_FORM_LINES, MOST_PHASES, MOST_RULE_LETTERS};
 use phase_automaton::{Automaton, GrammarError, read_grammar};
 use phoneme::{Letter, Memory, Word};
-use sandhi_rules::{Rule, RuleSet};
+use sandhi_rules::{Rule, RuleSet, is_phase_name, phase_named};
 use std::alloc::Global;
 use std::cmp::Ordering;
 use std::marker::Model;
@@ -62,56 +57,6 @@ impl Model for Told {
     ghost invariant = { λ t. IsKept (record { last = kind_of t.last; names = map string_bytes t.names.items; grammar = t.grammar.items; plain = t.plain.items; rules = t.rules; forms = entries_from 0 t.lists }) t.automaton t.lists t.last_phase };
 }
 
-/// Whether the byte is a small letter, a digit or `_`.
-fn is_name_byte(byte: u8) -> bool
-    ensures { result ≡ is_name_byte_of byte }
-{
-    matches!(byte, b'a'..=b'z' | b'0'..=b'9' | b'_')
-}
-
-/// Whether each of the bytes may stand in a phase's name.
-fn are_name_bytes(bytes: &[u8]) -> bool
-    ensures { result ≡ list_all is_name_byte_of bytes.now }
-{
-    bytes.iter().all(|byte| is_name_byte(*byte))
-}
-
-/// Whether the byte may begin a phase's name.
-fn is_small_letter(byte: u8) -> bool
-    ensures { result ≡ is_small_letter_of byte }
-{
-    matches!(byte, b'a'..=b'z')
-}
-
-/// Whether a phase's name has 1 to 16 bytes, the first a small letter, the others small letters, digits or `_`.
-fn is_phase_name(name: &[u8]) -> bool
-    ensures { result ≡ is_phase_name_of name.now }
-{
-    let [first, others @ ..] = name else {
-        return false;
-    };
-    if !is_small_letter(*first) {
-        return false;
-    }
-    if name.len() > MOST_NAME_BYTES {
-        return false;
-    }
-    are_name_bytes(others)
-}
-
-/// The place of the first of the names that has these bytes, counted from 0.
-fn place_of(names: &[String], name: &[u8]) -> Option<usize>
-    ensures named { result ≡ position (bytes_eq name.now) (map string_bytes names.now) }
-    ensures within { IfSome result (λ place. place < length names.now) }
-{
-    for (place, known) in names.iter().enumerate() {
-        if name == known.as_bytes() {
-            return Some(place);
-        }
-    }
-    None
-}
-
 /// The reason that comes from how a new one compares with the last before it.
 fn rising(order: Ordering) -> Result<(), LineError>
     ensures { (told : ToldValue) → IsAnswer (if_rising order told) result told }
@@ -131,30 +76,6 @@ fn compare_last_pair(pairs: &[(Letter, Letter)], pair: &(Letter, Letter)) -> Ord
         [] => Ordering::Less,
         [.., last] => last.cmp(pair),
     }
-}
-
-/// The rule with this triple, over this many phases: all phases before it, and all after it unless it is final.
-fn rule_between(count: usize, u: Word, v: Word, w: Word) -> Rule
-    requires { count ≤ MOST_PHASES }
-    ensures { result ≡ rule_between_of count u v w }
-{
-    let before = all_phases(count);
-    let after = if v.is_empty() { 0 } else { before };
-    Rule {
-        u,
-        v,
-        w,
-        before,
-        after,
-    }
-}
-
-/// The set of the first count phases.
-fn all_phases(count: usize) -> u16
-    requires { count ≤ MOST_PHASES }
-    ensures { result ≡ all_phases_of count }
-{
-    ((1u32 << count) - 1) as u16
 }
 
 /// Whether after so many entries there is none more, or the entry's form or its stem is too long.
@@ -198,7 +119,7 @@ impl Told {
         ensures within { IfSome result (λ phase. phase < length self.now.names) }
         ensures few { length self.now.names ≤ MOST_PHASES }
     {
-        place_of(self.names.as_slice(), name)
+        phase_named(self.names.as_slice(), name)
     }
 
     fn take_phase(&mut self, alloc: Global, text: &[u8]) -> Result<(), LineError>
@@ -281,7 +202,7 @@ impl Told {
         if self.passes_rule_limits(&u, &v, &w) {
             return Err(FileWhy::Limit.into());
         }
-        let rule = rule_between(self.names.len(), u, v, w);
+        let rule = Rule::unlimited(self.names.len(), u, v, w);
         self.rules.add(rule)?;
         self.last = Kind::Rule;
         Ok(())

@@ -16,7 +16,8 @@ use Rattle.lexicon_definitions.proofs.LeadLaws.{compare_leads_total, compare_lea
 use Rattle.list_laws.specs.RisingSets.{put, with_element}
 use Rattle.list_laws.proofs.RisingSetLaws.{Contains-with_element, with_element_there}
 use Rattle.list_laws.proofs.Sorted.{Contains-first, Contains-later, Contains-cons_cases, not_Contains-nil, sorted_nil}
-use Rattle.lexicon_text_definitions.specs.FileContents.{is_empty, with_lead, leads_from, leads_of}
+use Rattle.list_laws.specs.EmptyLists.{is_empty}
+use Rattle.lexicon_text_definitions.specs.FileContents.{with_v, different_v_from, different_v}
 use Rattle.list_laws.proofs.Texts.{bytes_same, bytes_itself}
 
 -- ---- membership by a test
@@ -83,43 +84,43 @@ module _ (count : ℕ) where
       }
 
   same_with : (v : List ℕ) (after : ℕ) (rising : List Lead) (words : List (List ℕ)) → (v ≢ [] → after ≡ all_phases count) → SameLeads rising words
-      → SameLeads (with_lead_placed rising v after) (with_lead words v)
+      → SameLeads (with_lead_placed rising v after) (with_v words v)
   same_with [] after rising words u h = h
   same_with (letter ∷ v) after rising words u h =
       let all = u (λ e. cc) in
-      subst (λ phases. SameLeads (with_element compare_leads rising (record { v = letter ∷ v; after = phases })) (with_lead words (letter ∷ v))) (sym all)
+      subst (λ phases. SameLeads (with_element compare_leads rising (record { v = letter ∷ v; after = phases })) (with_v words (letter ∷ v))) (sym all)
       (same_by (letter ∷ v) rising words (list_any (bytes_eq (letter ∷ v)) words) refl h (sorted-with_lead rising (letter ∷ v) (all_phases count) h.rises))
 
   same_from : (rules : List Rule) (rising : List Lead) (words : List (List ℕ)) → AllByRecursion (IsUnlimited count) rules → SameLeads rising words
-      → SameLeads (with_leads rising rules) (leads_from words rules)
+      → SameLeads (with_leads rising rules) (different_v_from words rules)
   same_from [] rising words u h = h
   same_from (rule ∷ rules) rising words u h =
-      same_from rules (with_lead_placed rising rule.v rule.after) (with_lead words rule.v) u.1 (same_with rule.v rule.after rising words u.0.1 h)
+      same_from rules (with_lead_placed rising rule.v rule.after) (with_v words rule.v) u.1 (same_with rule.v rule.after rising words u.0.1 h)
 
   -- unlimited rules have as many leads as different v that are not empty
-  pub leads_counted : (rules : List Rule) → All (IsUnlimited count) rules → length (leads_placed rules) ≡ length (leads_of rules)
+  pub leads_counted : (rules : List Rule) → All (IsUnlimited count) rules → length (leads_placed rules) ≡ length (different_v rules)
   leads_counted rules u =
       (same_from rules [] [] (recursion_from_All (IsUnlimited count) rules u)
       (record { rises = sorted_nil compare_leads; there = λ lead inside. absurd (not_Contains-nil lead inside); back = λ v inside. absurd (not_Contains-nil v inside); as_many = refl })).as_many
 
 -- ---- one rule more
 
-leads_append : (leads : List (List ℕ)) (rules more : List Rule) → leads_from leads (rules ++ more) ≡ leads_from (leads_from leads rules) more
+leads_append : (leads : List (List ℕ)) (rules more : List Rule) → different_v_from leads (rules ++ more) ≡ different_v_from (different_v_from leads rules) more
 leads_append leads [] more = refl
-leads_append leads (rule ∷ rules) more = leads_append (with_lead leads rule.v) rules more
+leads_append leads (rule ∷ rules) more = leads_append (with_v leads rule.v) rules more
 
-pub leads_with : (rules : List Rule) (rule : Rule) → leads_of (rules ++ rule ∷ []) ≡ with_lead (leads_of rules) rule.v
+pub leads_with : (rules : List Rule) (rule : Rule) → different_v (rules ++ rule ∷ []) ≡ with_v (different_v rules) rule.v
 leads_with rules rule = leads_append [] rules (rule ∷ [])
 
 longer_by : (test : Bool) (leads : List (List ℕ)) (v : List ℕ) → length leads ≤ length (cond test leads (leads ++ v ∷ []))
 longer_by true leads v = omega arith
 longer_by false leads v = omega (arith, length_push leads v)
 
-longer_from : (leads : List (List ℕ)) (rules : List Rule) → length leads ≤ length (leads_from leads rules)
+longer_from : (leads : List (List ℕ)) (rules : List Rule) → length leads ≤ length (different_v_from leads rules)
 longer_from leads [] = omega arith
 longer_from leads (rule ∷ rules) =
-    omega (arith, longer_by (is_empty rule.v || list_any (bytes_eq rule.v) leads) leads rule.v, longer_from (with_lead leads rule.v) rules)
+    omega (arith, longer_by (is_empty rule.v || list_any (bytes_eq rule.v) leads) leads rule.v, longer_from (with_v leads rule.v) rules)
 
 -- the rules at the front have no more leads than all
-pub leads_front : (rules more : List Rule) → length (leads_of rules) ≤ length (leads_of (rules ++ more))
-leads_front rules more = let whole = ap length (leads_append [] rules more) in omega (arith, whole, longer_from (leads_of rules) more)
+pub leads_front : (rules more : List Rule) → length (different_v rules) ≤ length (different_v (rules ++ more))
+leads_front rules more = let whole = ap length (leads_append [] rules more) in omega (arith, whole, longer_from (different_v rules) more)

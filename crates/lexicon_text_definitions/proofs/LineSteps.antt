@@ -15,14 +15,17 @@ use Rattle.text_definitions.specs.Spellings.{Reading}
 use Rattle.text_definitions.specs.Slp1.{word_of_slp1, slp1_of_word}
 use Rattle.text_definitions.proofs.SpelledWords.{spelled_from_read, word_from_read, read_from_spelled, free_of_bar, free_of_sign}
 use Rattle.lexicon_definitions.specs.declared.limits.TheConstants.{MOST_PHASES, MOST_RULES, MOST_RULE_LETTERS, MOST_LEADS, MOST_FORM_LETTERS, MOST_FORM_LINES}
-use Rattle.lexicon_definitions.specs.Rules.{Rule as RuleValue}
+use Rattle.lexicon_definitions.specs.Rules.{Rule as RuleValue, unlimited_rule}
 use Rattle.lexicon_definitions.specs.Lexicons.{IsPhaseName, compare_pairs}
 use Rattle.lexicon_text_definitions.specs.FileFaults.{Field, Strict, Limit, Twice}
 use Rattle.lexicon_text_definitions.specs.FileLines.{Phase, Grammar, Plain, Rule, Form, End, has_mark, Shape, shape_of}
-use Rattle.lexicon_text_definitions.specs.FileContents.{compare_entries, Told, is_empty, is_phase_name, is_tag_text, compare_last, rule_between, has_triple, with_lead, leads_of}
+use Rattle.lexicon_definitions.specs.PhaseNames.{is_phase_name}
+use Rattle.list_laws.specs.EmptyLists.{is_empty}
+use Rattle.lexicon_text_definitions.specs.FileContents.{compare_entries, Told, is_tag_text, compare_last, has_triple, with_v, different_v}
 use Rattle.lexicon_definitions.specs.FormEntries.{Entry}
 use Rattle.lexicon_text_definitions.specs.FileSteps.{if_rising, take_name, take_phase, take_grammar, one_letter, take_letters, take_plain, passes_rule_limits, take_triple, take_words, take_shape, take_rule, some_word, passes_form_limits, take_form_line, take_analysis, take_entry, take_form, take_end}
-use Rattle.lexicon_text_definitions.proofs.LineTests.{name_from_test, test_from_name, IsOther, others_from_test, test_from_others}
+use Rattle.lexicon_definitions.proofs.NameTests.{name_from_test, test_from_name}
+use Rattle.lexicon_text_definitions.proofs.LineTests.{IsOther, others_from_test, test_from_others}
 use Rattle.lexicon_text_definitions.proofs.LineCuts.{field_with, field_from_shape, shape_of_field, unmarked}
 use Rattle.lexicon_text_definitions.proofs.TagTests.{tag_from_test, test_from_tag}
 use Rattle.lexicon_text_definitions.proofs.FormPhases.{IsFormLine}
@@ -145,11 +148,11 @@ pub record MayRule (told : Told) (u v w : List ℕ) : Type 0 where
   pub u_some : u ≢ []
   pub w_some : w ≢ []
   pub few : length told.rules < MOST_RULES
-  pub leads : length (with_lead (leads_of told.rules) v) ≤ MOST_LEADS
+  pub leads : length (with_v (different_v told.rules) v) ≤ MOST_LEADS
   pub u_short : length u ≤ MOST_RULE_LETTERS
   pub v_short : length v ≤ MOST_RULE_LETTERS
   pub w_short : length w ≤ MOST_RULE_LETTERS
-  pub other : All (λ rule. IsOther rule (rule_between (length told.names) u v w)) told.rules
+  pub other : All (λ rule. IsOther rule (unlimited_rule (length told.names) u v w)) told.rules
 
 some_by : (word : List ℕ) → is_empty word ≡ false → word ≢ []
 some_by [] h e = cc
@@ -160,7 +163,7 @@ by_some [] n = absurd (n refl)
 by_some (letter ∷ word) n = refl
 
 triple_taken : (told after : Told) (u v w : List ℕ) → IsWord u → IsWord v → IsWord w → take_triple told u v w ≡ Ok after
-    → MayRule told u v w × (with_rule told (rule_between (length told.names) u v w) ≡ after)
+    → MayRule told u v w × (with_rule told (unlimited_rule (length told.names) u v w) ≡ after)
 triple_taken told after u v w a b c h =
     let strict = if_refused (is_empty u || is_empty w) _ Strict after h in
     let some = or_parts (is_empty u) (is_empty w) strict.0 in
@@ -177,11 +180,11 @@ triple_taken told after u v w a b c h =
         u_some = some_by u some.0;
         w_some = some_by w some.1;
         few = leb-false MOST_RULES (length told.rules) counts.0;
-        leads = ltb-false MOST_LEADS (length (with_lead (leads_of told.rules) v)) counts.1;
+        leads = ltb-false MOST_LEADS (length (with_v (different_v told.rules) v)) counts.1;
         u_short = ltb-false MOST_RULE_LETTERS (length u) u_part.1;
         v_short = ltb-false MOST_RULE_LETTERS (length v) v_part.1;
         w_short = ltb-false MOST_RULE_LETTERS (length w) w_part.1;
-        other = others_from_test (rule_between (length told.names) u v w) told.rules other.0;
+        other = others_from_test (unlimited_rule (length told.names) u v w) told.rules other.0;
       },
       cc (other.1),
     )
@@ -198,7 +201,7 @@ abbrev pub rule_field : List ℕ → List ℕ → List ℕ → List ℕ
 rule_field u v w = field_with (record { u = slp1_of_word u; v = slp1_of_word v; w = slp1_of_word w })
 
 shape_taken : (told after : Told) (field : List ℕ) (shape : Option Shape) → shape_of field ≡ shape → take_shape told shape ≡ Ok after
-    → (u : List ℕ) × (v : List ℕ) × (w : List ℕ) × (field ≡ rule_field u v w) × MayRule told u v w × (with_rule told (rule_between (length told.names) u v w) ≡ after)
+    → (u : List ℕ) × (v : List ℕ) × (w : List ℕ) × (field ≡ rule_field u v w) × MayRule told u v w × (with_rule told (unlimited_rule (length told.names) u v w) ≡ after)
 shape_taken told after field None e h = absurd (cc)
 shape_taken told after field (Some shape) e h =
     let (u, v, w, a, b, c, t) = words_taken told after (word_of_slp1 shape.u) (word_of_slp1 shape.v) (word_of_slp1 shape.w) h in
@@ -215,7 +218,7 @@ shape_taken told after field (Some shape) e h =
     )
 
 pub took_rule : (told after : Told) (fields : List (List ℕ)) → take_rule told fields ≡ Ok after
-    → (u : List ℕ) × (v : List ℕ) × (w : List ℕ) × (fields ≡ rule_field u v w ∷ []) × MayRule told u v w × (with_rule told (rule_between (length told.names) u v w) ≡ after)
+    → (u : List ℕ) × (v : List ℕ) × (w : List ℕ) × (fields ≡ rule_field u v w ∷ []) × MayRule told u v w × (with_rule told (unlimited_rule (length told.names) u v w) ≡ after)
 unfolding take_rule
 took_rule told after [] h = absurd (cc)
 took_rule told after (field ∷ []) h =
@@ -231,10 +234,10 @@ unmarked_word word w = unmarked (slp1_of_word word) (free_of_bar word w) (free_o
 
 no_limit : (told : Told) (u v w : List ℕ) → MayRule told u v w → passes_rule_limits told u v w ≡ false
 no_limit told u v w m =
-    or_from _ _ (or_from _ _ (or_from _ _ (or_from _ _ (lt-leb MOST_RULES (length told.rules) m.few) (le-ltb MOST_LEADS (length (with_lead (leads_of told.rules) v)) m.leads))
+    or_from _ _ (or_from _ _ (or_from _ _ (or_from _ _ (lt-leb MOST_RULES (length told.rules) m.few) (le-ltb MOST_LEADS (length (with_v (different_v told.rules) v)) m.leads))
     (le-ltb MOST_RULE_LETTERS (length u) m.u_short)) (le-ltb MOST_RULE_LETTERS (length v) m.v_short)) (le-ltb MOST_RULE_LETTERS (length w) m.w_short)
 
-pub takes_rule : (told : Told) (u v w : List ℕ) → MayRule told u v w → take_rule told (rule_field u v w ∷ []) ≡ Ok (with_rule told (rule_between (length told.names) u v w))
+pub takes_rule : (told : Told) (u v w : List ℕ) → MayRule told u v w → take_rule told (rule_field u v w ∷ []) ≡ Ok (with_rule told (unlimited_rule (length told.names) u v w))
 unfolding take_rule
 takes_rule told u v w m =
     ap (take_shape told) (shape_of_field (record { u = slp1_of_word u; v = slp1_of_word v; w = slp1_of_word w })
@@ -242,7 +245,7 @@ takes_rule told u v w m =
     ∙ (λ i. take_words told (spelled u m.u_word i) (spelled v m.v_word i) (spelled w m.w_word i))
     ∙ when_false (is_empty u || is_empty w) _ _ _ (or_from _ _ (by_some u m.u_some) (by_some w m.w_some))
     (when_false (passes_rule_limits told u v w) _ _ _ (no_limit told u v w m)
-    (when_false (list_any (has_triple u v w) told.rules) _ _ _ (test_from_others (rule_between (length told.names) u v w) told.rules m.other) refl))
+    (when_false (list_any (has_triple u v w) told.rules) _ _ _ (test_from_others (unlimited_rule (length told.names) u v w) told.rules m.other) refl))
 
 -- ---- a form
 

@@ -2,17 +2,15 @@
 use Rattle.std.proofs.Common.{◌≡◌, ℕ, ◌<◌, true, false, cond, ◌&&◌, ◌||◌, List, [], ◌∷◌, ◌++◌, length, get_or, All, AllPairs, refl, ◌∙◌, ap, subst, arith, eqb}
 use Rattle.std.specs.List.{AllByRecursion, list_any, list_all}
 use Rattle.std.specs.Str.{bytes_eq}
-use Rattle.std.proofs.lemmas.Bool.{and_parts, or_parts, and_from, false_from_ne_true, leb-true, le-leb, eqb-true, or_left}
+use Rattle.std.proofs.lemmas.Bool.{and_parts, or_parts, and_from, false_from_ne_true, eqb-true, or_left}
 use Rattle.std.proofs.lemmas.List.{get_or_append_left, get_or_at, length-append}
 use Rattle.std.proofs.lemmas.List.Elements.{All-from_recursion, recursion_from_All}
 use Rattle.std.proofs.lemmas.List.Quantifiers.{all_pairs_push}
 use Rattle.std.proofs.lemmas.Slice.Eq.{bytes_eq-Decides}
-use Rattle.lexicon_definitions.specs.declared.limits.TheConstants.{MOST_NAME_BYTES}
 use Rattle.lexicon_definitions.specs.GrammarTexts.{is_name_byte}
-use Rattle.lexicon_definitions.specs.GrammarFaults.{is_small_letter}
 use Rattle.lexicon_definitions.specs.Lexicons.{IsPhaseName}
 use Rattle.lexicon_definitions.specs.Rules.{Rule, IsSameTriple}
-use Rattle.lexicon_text_definitions.specs.FileContents.{is_phase_name, has_triple}
+use Rattle.lexicon_text_definitions.specs.FileContents.{has_triple}
 use Rattle.list_laws.proofs.Marks.{is_free}
 use Rattle.list_laws.proofs.Texts.{bytes_same}
 
@@ -31,18 +29,6 @@ module _ {X : Type 0} (R : X → X → Type 0) where
       subst (λ z. R z y) first (subst (λ z. R (get_or (xs ++ y ∷ ys) k d) z) second both)
 
 -- ---- a phase's name
-
-pub name_from_test : (name : List ℕ) → is_phase_name name ≡ true → IsPhaseName name
-name_from_test [] h = absurd (cc)
-name_from_test (byte ∷ bytes) h =
-    let parts = and_parts (is_small_letter byte && _) (list_all is_name_byte bytes) h in
-    let first = and_parts (is_small_letter byte) _ parts.0 in
-    (first.0, leb-true (length (byte ∷ bytes)) MOST_NAME_BYTES first.1, parts.1)
-
-pub test_from_name : (name : List ℕ) → IsPhaseName name → is_phase_name name ≡ true
-test_from_name [] h = absurd h
-test_from_name (byte ∷ bytes) h =
-    and_from _ _ (and_from _ _ h.0 (le-leb (length (byte ∷ bytes)) MOST_NAME_BYTES h.1)) h.2
 
 -- a name has no blank and no line end
 name_byte_free : (mark byte : ℕ) → is_name_byte mark ≡ false → is_name_byte byte ≡ true → eqb byte mark ≡ false

@@ -12,7 +12,8 @@ use Rattle.lexicon_text_definitions.specs.LexiconTexts.{head_line, phase_line, g
 use Rattle.lexicon_text_definitions.specs.FileFaults as faults
 use Rattle.lexicon_text_definitions.specs.FileFaults.{Trailing, NoEnd, NotUtf8, Order}
 use Rattle.lexicon_text_definitions.specs.FileLines.{Line, parts_of, fields_of, Kind, Opening, Head, Phase, Grammar, Plain, Rule, Form, End, kind_named, may_follow}
-use Rattle.lexicon_text_definitions.specs.FileContents.{Told, rule_between}
+use Rattle.lexicon_definitions.specs.Rules.{unlimited_rule}
+use Rattle.lexicon_text_definitions.specs.FileContents.{Told}
 use Rattle.lexicon_definitions.specs.FormEntries.{Entry}
 use Rattle.lexicon_text_definitions.specs.FileSteps.{take_phase, take_plain, take_rule, take_form, take_kind, take_named, take_parts, take_head, take_bytes, is_last, take_line}
 use Rattle.list_laws.proofs.Marks.{is_free, free_append}
@@ -31,8 +32,8 @@ pub data Took (told after : Told) (bytes : List ℕ) : Type 0 where
   a_name : (name : List ℕ) → may_follow told.last Phase ≡ true → bytes ≡ phase_line name → MayName told name → with_name told name ≡ after → Took told after bytes
   a_grammar : (text : List ℕ) → may_follow told.last Grammar ≡ true → bytes ≡ grammar_line text → with_grammar told text ≡ after → Took told after bytes
   a_pair : (pair : ℕ × ℕ) → may_follow told.last Plain ≡ true → bytes ≡ plain_line pair → MayPair told pair → with_pair told pair ≡ after → Took told after bytes
-  a_rule : (u v w : List ℕ) → may_follow told.last Rule ≡ true → bytes ≡ rule_line (rule_between 0 u v w) → MayRule told u v w
-      → with_rule told (rule_between (length told.names) u v w) ≡ after → Took told after bytes
+  a_rule : (u v w : List ℕ) → may_follow told.last Rule ≡ true → bytes ≡ rule_line (unlimited_rule 0 u v w) → MayRule told u v w
+      → with_rule told (unlimited_rule (length told.names) u v w) ≡ after → Took told after bytes
   a_form : (name : List ℕ) → (line : Entry) → may_follow told.last Form ≡ true → bytes ≡ form_line name line.letters line.analysis → MayLine told name line
       → with_line told line ≡ after → Took told after bytes
   the_end : may_follow told.last End ≡ true → bytes ≡ end_line → with_end told ≡ after → Took told after bytes
@@ -51,7 +52,7 @@ pair_fields pair = slp1_of_word (pair.0 ∷ []) ++ 32 ∷ slp1_of_word (pair.1 �
 plain_is : (pair : ℕ × ℕ) → plain_line pair ≡ line_with (codes "plain") (Some (pair_fields pair))
 plain_is pair = ap (λ fields. codes "plain " ++ fields) (append_assoc (slp1_of_word (pair.0 ∷ [])) (32 ∷ []) (slp1_of_word (pair.1 ∷ [])))
 
-rule_is : (u v w : List ℕ) → rule_line (rule_between 0 u v w) ≡ line_with (codes "rule") (Some (rule_field u v w))
+rule_is : (u v w : List ℕ) → rule_line (unlimited_rule 0 u v w) ≡ line_with (codes "rule") (Some (rule_field u v w))
 rule_is u v w = ap (λ field. codes "rule " ++ field) (regroup_three (slp1_of_word u) (slp1_of_word v) (slp1_of_word w) 124 62)
 
 abbrev line_fields : List ℕ → Entry → List ℕ
@@ -189,12 +190,12 @@ blank_free_field u v w a b c =
     (free_append 32 (124 ∷ []) (slp1_of_word v ++ 62 ∷ slp1_of_word w) refl
     (free_append 32 (slp1_of_word v) (62 ∷ slp1_of_word w) (free_of_blank v b) (free_append 32 (62 ∷ []) (slp1_of_word w) refl (free_of_blank w c))))
 
-pub takes_rule_line : (told : Told) (u v w : List ℕ) → may_follow told.last Rule ≡ true → is_utf8 (rule_line (rule_between 0 u v w)) ≡ true → MayRule told u v w
-    → take_line told (record { bytes = rule_line (rule_between 0 u v w); ended = true }) ≡ Ok (with_rule told (rule_between (length told.names) u v w))
+pub takes_rule_line : (told : Told) (u v w : List ℕ) → may_follow told.last Rule ≡ true → is_utf8 (rule_line (unlimited_rule 0 u v w)) ≡ true → MayRule told u v w
+    → take_line told (record { bytes = rule_line (unlimited_rule 0 u v w); ended = true }) ≡ Ok (with_rule told (unlimited_rule (length told.names) u v w))
 takes_rule_line told u v w f e m =
     let is = rule_is u v w in
     ap (λ bytes. take_line told (record { bytes = bytes; ended = true })) is
-    ∙ taken_by told (with_rule told (rule_between (length told.names) u v w)) (line_with (codes "rule") (Some (rule_field u v w))) Rule (Some (rule_field u v w)) f (sym (ap is_utf8 is) ∙ e) refl refl
+    ∙ taken_by told (with_rule told (unlimited_rule (length told.names) u v w)) (line_with (codes "rule") (Some (rule_field u v w))) Rule (Some (rule_field u v w)) f (sym (ap is_utf8 is) ∙ e) refl refl
     (ap (take_rule told) (split_none 32 (rule_field u v w) (blank_free_field u v w m.u_word m.v_word m.w_word)) ∙ takes_rule told u v w m)
 
 pub takes_form_line : (told : Told) (name : List ℕ) (line : Entry) → may_follow told.last Form ≡ true → is_utf8 (form_line name line.letters line.analysis) ≡ true

@@ -1,20 +1,19 @@
 -- What was told so far is lawful and spells the lines so far; so it is after each line that is taken, by the kind of the line.
-use Rattle.std.proofs.Common.{◌≡◌, ◌≢◌, ℕ, ◌^◌, ◌<◌, ◌≤◌, ◌↔◌, true, List, [], ◌∷◌, ◌++◌, length, map, All, AllPairs, slice_index_or, refl, sym, ◌∙◌, ap, subst, arith}
+use Rattle.std.proofs.Common.{◌≡◌, ◌≢◌, ℕ, ◌<◌, ◌≤◌, true, List, [], ◌∷◌, ◌++◌, length, map, All, AllPairs, slice_index_or, refl, sym, ◌∙◌, ap, subst, arith}
 use Rattle.std.specs.List.{AllByRecursion}
 use Rattle.std.specs.List.Sorted.{IsStrictlySortedBy}
 use Rattle.std.proofs.lemmas.List.{append_assoc, append-nil, map-append, length_push}
 use Rattle.std.proofs.lemmas.List.Elements.{All-push, All-nil}
 use Rattle.std.proofs.Math.Pow.{ones_lt}
-use Rattle.std.proofs.lemmas.Nat.{pow_pos}
 use Rattle.text_definitions.specs.Letters.{IsLetter}
 use Rattle.lexicon_definitions.specs.declared.limits.TheConstants.{MOST_PHASES, MOST_RULES, MOST_LEADS, MOST_FORM_LINES}
-use Rattle.lexicon_definitions.specs.Rules.{Rule as RuleValue, IsRule, IsUnlimited, all_phases}
+use Rattle.lexicon_definitions.specs.Rules.{Rule as RuleValue, IsRule, IsUnlimited, unlimited_rule}
 use Rattle.lexicon_definitions.specs.Lexicons.{IsPhaseName, compare_pairs}
 use Rattle.lexicon_definitions.specs.GrammarFaults.{IsGrammarTextWithinLimits}
 use Rattle.lexicon_definitions.specs.Limits.{IsShortRule}
 use Rattle.lexicon_text_definitions.specs.LexiconTexts.{head_line, phase_line, grammar_line, plain_line, rule_line, form_line, end_line}
 use Rattle.lexicon_text_definitions.specs.FileLines.{Kind, Opening, Head, Phase, Grammar, Plain, Rule, Form, End, may_follow}
-use Rattle.lexicon_text_definitions.specs.FileContents.{compare_entries, Told, phases_after, rule_between, leads_of}
+use Rattle.lexicon_text_definitions.specs.FileContents.{compare_entries, Told, different_v}
 use Rattle.lexicon_definitions.specs.FormEntries.{Entry}
 use Rattle.lexicon_text_definitions.proofs.LineTests.{IsOther, pairs_push}
 use Rattle.lexicon_text_definitions.proofs.RisingLines.{lines_total, sorted_with_last}
@@ -24,6 +23,7 @@ use Rattle.lexicon_text_definitions.proofs.LineSteps.{with_name, with_grammar, w
 use Rattle.lexicon_text_definitions.proofs.TakenLines.{Took, a_head, a_name, a_grammar, a_pair, a_rule, a_form, the_end}
 use Rattle.lexicon_definitions.proofs.PlainPairs.{pairs_total}
 use Rattle.lexicon_definitions.proofs.WrittenRules.{some_phases}
+use Rattle.lexicon_definitions.proofs.UnlimitedRules.{after_within_by, after_none_by, unlimited_by}
 
 -- ---- what is lawful
 
@@ -42,7 +42,7 @@ pub record IsLawful (told : Told) : Type 0 where
   pub rules : All (IsTextRule (length told.names)) told.rules
   pub others : AllPairs IsOther told.rules
   pub few_rules : length told.rules ≤ MOST_RULES
-  pub leads : length (leads_of told.rules) ≤ MOST_LEADS
+  pub leads : length (different_v told.rules) ≤ MOST_LEADS
   pub lines : AllByRecursion (IsFormLine (length told.names)) told.forms
   pub rising_lines : IsStrictlySortedBy compare_entries told.forms
   pub few_lines : length told.forms ≤ MOST_FORM_LINES
@@ -279,19 +279,7 @@ module _ (told : Told) (h : IsLawful told) (n : NothingLater told.last told) whe
 
 -- ---- a rule that a line tells
 
-after_within_by : (count : ℕ) (v : List ℕ) → phases_after count v < 2 ^ count
-after_within_by count [] = pow_pos count
-after_within_by count (letter ∷ v) = ones_lt count
-
-after_none_by : (count : ℕ) (v : List ℕ) → 0 < count → (phases_after count v ≡ 0) ↔ (v ≡ [])
-after_none_by count [] n = (λ e. refl, λ e. refl)
-after_none_by count (letter ∷ v) n = (λ e. let some = some_phases count n in absurd (omega arith), λ e. absurd (cc))
-
-unlimited_by : (count : ℕ) (v : List ℕ) → v ≢ [] → phases_after count v ≡ all_phases count
-unlimited_by count [] n = absurd (n refl)
-unlimited_by count (letter ∷ v) n = refl
-
-rule_told : (told : Told) (u v w : List ℕ) → 0 < length told.names → MayRule told u v w → IsTextRule (length told.names) (rule_between (length told.names) u v w)
+rule_told : (told : Told) (u v w : List ℕ) → 0 < length told.names → MayRule told u v w → IsTextRule (length told.names) (unlimited_rule (length told.names) u v w)
 rule_told told u v w n m = record {
   rule_itself = record {
     u_is_word = m.u_word;
@@ -309,10 +297,10 @@ rule_told told u v w n m = record {
 
 module _ (told : Told) (h : IsLawful told) (n : NothingLater told.last told) where
   rule_goes_on : (u v w : List ℕ) → may_follow told.last Rule ≡ true → MayRule told u v w
-      → GoesOn told (with_rule told (rule_between (length told.names) u v w)) (rule_line (rule_between 0 u v w))
+      → GoesOn told (with_rule told (unlimited_rule (length told.names) u v w)) (rule_line (unlimited_rule 0 u v w))
   rule_goes_on u v w f m =
       let (b, l) = before_rule told.last told f n in
-      let rule = rule_between (length told.names) u v w in
+      let rule = unlimited_rule (length told.names) u v w in
       let long = length_push told.rules rule in
       record {
         lawful = record {
@@ -383,7 +371,7 @@ goes_on told after bytes h n (a_grammar text f b is) =
 goes_on told after bytes h n (a_pair pair f b m is) =
     subst (λ to. GoesOn told to bytes) is (subst (GoesOn told (with_pair told pair)) (sym b) (pair_goes_on told h n pair f m))
 goes_on told after bytes h n (a_rule u v w f b m is) =
-    subst (λ to. GoesOn told to bytes) is (subst (GoesOn told (with_rule told (rule_between (length told.names) u v w))) (sym b) (rule_goes_on told h n u v w f m))
+    subst (λ to. GoesOn told to bytes) is (subst (GoesOn told (with_rule told (unlimited_rule (length told.names) u v w))) (sym b) (rule_goes_on told h n u v w f m))
 goes_on told after bytes h n (a_form name line f b m is) =
     subst (λ to. GoesOn told to bytes) is (subst (GoesOn told (with_line told line)) (sym b) (line_goes_on told h n name line f m))
 goes_on told after bytes h n (the_end f b is) =

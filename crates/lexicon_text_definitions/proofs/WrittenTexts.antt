@@ -9,13 +9,13 @@ use Rattle.text_definitions.specs.Letters.{IsLetter}
 use Rattle.text_definitions.specs.Words.{IsWord}
 use Rattle.text_definitions.specs.Slp1.{slp1_of_word}
 use Rattle.lexicon_definitions.specs.declared.limits.TheConstants.{MOST_PHASES, MOST_RULES, MOST_LEADS, MOST_FORM_LINES}
-use Rattle.lexicon_definitions.specs.Rules.{Rule as RuleValue}
+use Rattle.lexicon_definitions.specs.Rules.{Rule as RuleValue, phases_after, unlimited_rule}
 use Rattle.lexicon_definitions.specs.GrammarFaults.{IsGrammarTextWithinLimits}
 use Rattle.lexicon_definitions.specs.Lexicons.{Lexicon, Form as FormValue, IsPhaseName, IsPhase, IsFormEntry, compare_pairs}
 use Rattle.lexicon_definitions.specs.Limits.{IsShortForm}
 use Rattle.lexicon_text_definitions.specs.LexiconTexts.{head_line, phase_line, grammar_line, plain_line, rule_line, form_line, end_line, lines_of, text_of, text_of_lines}
 use Rattle.lexicon_text_definitions.specs.FileLines.{Line, lines_of_bytes, Kind, Head, Phase, Grammar, Plain, Rule, Form, End, may_follow}
-use Rattle.lexicon_text_definitions.specs.FileContents.{compare_entries, Told, nothing_told, phases_after, rule_between, leads_of, entries_from, lexicon_told}
+use Rattle.lexicon_text_definitions.specs.FileContents.{compare_entries, Told, nothing_told, different_v, entries_from, lexicon_told}
 use Rattle.lexicon_definitions.specs.FormEntries.{Entry}
 use Rattle.lexicon_text_definitions.proofs.FormLines.{with_lines}
 use Rattle.lexicon_text_definitions.specs.FileSteps.{take_line}
@@ -52,7 +52,7 @@ record AreRules (count : ℕ) (rules : List RuleValue) : Type 0 where
   each : AllByRecursion (IsTextRule count) rules
   others : AllPairs IsOther rules
   few : length rules ≤ MOST_RULES
-  leads : length (leads_of rules) ≤ MOST_LEADS
+  leads : length (different_v rules) ≤ MOST_LEADS
 
 record AreLines (count : ℕ) (lines : List Entry) : Type 0 where
   each : AllByRecursion (IsFormLine count) lines
@@ -111,7 +111,7 @@ after_by : (count : ℕ) (rule : RuleValue) (v : List ℕ) → rule.v ≡ v → 
 after_by count rule [] e r = r.rule_itself.after_none.1 e
 after_by count rule (letter ∷ v) e r = r.unlimited.1 (λ none. let both = sym e ∙ none in cc)
 
-between : (count : ℕ) (rule : RuleValue) → IsTextRule count rule → rule ≡ rule_between count rule.u rule.v rule.w
+between : (count : ℕ) (rule : RuleValue) → IsTextRule count rule → rule ≡ unlimited_rule count rule.u rule.v rule.w
 between count rule r =
     let before = r.unlimited.0 in
     let after = after_by count rule rule.v refl r in
@@ -185,7 +185,7 @@ module _ (result : FileResult) where
           let i = r.rule_itself in
           let long = length-append before (rule ∷ more) in
           let front = leads_front (before ++ rule ∷ []) more in
-          let whole = ap (λ rules. length (leads_of rules)) all in
+          let whole = ap (λ rules. length (different_v rules)) all in
           let last_one = ap length (leads_with before rule) in
           let may : MayRule told rule.u rule.v rule.w = record {
             u_word = i.u_is_word;

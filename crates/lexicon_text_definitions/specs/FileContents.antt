@@ -1,17 +1,15 @@
 -- What the lines of a lexicon file tell (own).
-use Rattle.std.specs.Prelude.{ℕ, ◌+◌, ◌==◌, ◌++◌, ◌&&◌, ◌||◌, nat_le, Bool, true, false, if◌then◌else◌, List, [], ◌∷◌, length, replicate, map}
-use Rattle.std.specs.List.{list_any, list_all, slice_split}
+use Rattle.std.specs.Prelude.{ℕ, ◌+◌, ◌==◌, ◌++◌, ◌&&◌, ◌||◌, Bool, false, if◌then◌else◌, List, [], ◌∷◌, length, replicate, map}
+use Rattle.std.specs.List.{list_any, slice_split}
 use Rattle.std.specs.Str.{bytes_eq}
 use Rattle.std.specs.declared.cmp.Ordering.{Ordering}
 use Rattle.std.specs.declared.cmp.Ordering.TheVariants.{Less}
 use Rattle.std.specs.Ordering.{nat_cmp, ordering_then}
+use Rattle.list_laws.specs.EmptyLists.{is_empty}
 use Rattle.text_definitions.specs.Words.{compare_words}
-use Rattle.lexicon_definitions.specs.declared.limits.TheConstants.{MOST_NAME_BYTES}
 use Rattle.lexicon_definitions.specs.Analyses.{Analysis, compare_analyses}
 use Rattle.lexicon_definitions.specs.Tags.{genders, numbers, cases, tenses, voices, persons, lone_words}
-use Rattle.lexicon_definitions.specs.GrammarTexts.{is_name_byte}
-use Rattle.lexicon_definitions.specs.GrammarFaults.{is_small_letter}
-use Rattle.lexicon_definitions.specs.Rules.{Rule, all_phases}
+use Rattle.lexicon_definitions.specs.Rules.{Rule}
 use Rattle.lexicon_definitions.specs.Lexicons.{RuleSet, Lexicon, Form}
 use Rattle.lexicon_definitions.specs.FormEntries.{Entry, with_entry}
 use Rattle.lexicon_text_definitions.specs.FileLines.{Kind, Opening}
@@ -38,16 +36,6 @@ nothing_told = record { last = Opening; names = []; grammar = []; plain = []; ru
 
 -- ---- tests
 
-abbrev pub is_empty : {A : Type 0} → List A → Bool
-is_empty [] = true
-is_empty (x ∷ xs) = false
-
--- a phase's name has 1 to 16 bytes, the first a small letter, the others small letters, digits or `_`
-abbrev pub is_phase_name : List ℕ → Bool
-is_phase_name [] = false
-is_phase_name (byte ∷ bytes) =
-    is_small_letter byte && nat_le (length (byte ∷ bytes)) MOST_NAME_BYTES && list_all is_name_byte bytes
-
 -- the text is one of the words
 abbrev pub is_one_of : List (List ℕ) → List ℕ → Bool
 is_one_of words text = list_any (bytes_eq text) words
@@ -73,30 +61,21 @@ compare_last compare (first ∷ second ∷ rest) new = compare_last compare (sec
 
 -- ---- rules
 
--- the rule with this triple, over this many phases: all phases before it, and all after it unless it is final
-abbrev pub phases_after : ℕ → List ℕ → ℕ
-phases_after count [] = 0
-phases_after count (letter ∷ v) = all_phases count
-
-abbrev pub rule_between : ℕ → List ℕ → List ℕ → List ℕ → Rule
-rule_between count u v w =
-    record { u = u; v = v; w = w; before = all_phases count; after = phases_after count v }
-
 -- the rule has this triple
 abbrev pub has_triple : List ℕ → List ℕ → List ℕ → Rule → Bool
 has_triple u v w rule = bytes_eq rule.u u && bytes_eq rule.v v && bytes_eq rule.w w
 
--- these leads, with a rule's v where it is not empty and none of them
-abbrev pub with_lead : List (List ℕ) → List ℕ → List (List ℕ)
-with_lead leads v = if is_empty v || list_any (bytes_eq v) leads then leads else leads ++ v ∷ []
+-- these words, with a rule's v where it is not empty and none of them
+abbrev pub with_v : List (List ℕ) → List ℕ → List (List ℕ)
+with_v words v = if is_empty v || list_any (bytes_eq v) words then words else words ++ v ∷ []
 
-abbrev pub leads_from : List (List ℕ) → List Rule → List (List ℕ)
-leads_from leads [] = leads
-leads_from leads (rule ∷ rules) = leads_from (with_lead leads rule.v) rules
+abbrev pub different_v_from : List (List ℕ) → List Rule → List (List ℕ)
+different_v_from words [] = words
+different_v_from words (rule ∷ rules) = different_v_from (with_v words rule.v) rules
 
 -- the different v of the rules that are not empty, in the order in which the rules bring them
-abbrev pub leads_of : List Rule → List (List ℕ)
-leads_of rules = leads_from [] rules
+abbrev pub different_v : List Rule → List (List ℕ)
+different_v rules = different_v_from [] rules
 
 -- ---- forms
 

@@ -2,6 +2,7 @@
 use Rattle.std.specs.Prelude.{ℕ, ◌==◌, ◌||◌, Bool, true, false, if◌then◌else◌, Option, Some, None, List, [], ◌∷◌, codes}
 use Rattle.std.specs.List.{list_any, slice_split}
 use Rattle.std.specs.Str.{bytes_eq}
+use Rattle.list_laws.specs.Cuts.{cut}
 
 -- the bytes of a line, and whether a line end, the byte 10, comes after them
 pub record Line : Type 0 where
@@ -18,16 +19,6 @@ abbrev pub lines_of_bytes : List ℕ → List Line
 lines_of_bytes [] = []
 lines_of_bytes (byte ∷ bytes) =
     if byte == 10 then record { bytes = []; ended = true } ∷ lines_of_bytes bytes else with_byte byte (lines_of_bytes bytes)
-
--- a byte before two parts belongs to the first
-abbrev pub before_parts : ℕ → Option (List ℕ × List ℕ) → Option (List ℕ × List ℕ)
-before_parts byte None = None
-before_parts byte (Some parts) = Some (byte ∷ parts.0, parts.1)
-
--- what comes before and after the first of these bytes in a text
-abbrev pub cut : ℕ → List ℕ → Option (List ℕ × List ℕ)
-cut mark [] = None
-cut mark (byte ∷ text) = if byte == mark then Some ([], text) else before_parts byte (cut mark text)
 
 -- the bytes before the first blank of a line, or all its bytes; and what comes after this blank
 pub record Parts : Type 0 where

@@ -13,7 +13,10 @@ use Rattle.lexicon_text_definitions.specs.LexiconTexts.{head_line}
 use Rattle.lexicon_text_definitions.specs.FileFaults as faults
 use Rattle.lexicon_text_definitions.specs.FileFaults.{Why, Trailing, NoEnd, NotUtf8, Order, Field, Spelling, Strict, Limit, Twice, Falling}
 use Rattle.lexicon_text_definitions.specs.FileLines.{Line, Parts, parts_of, fields_of, Kind, Opening, Head, Phase, Grammar, Plain, Rule, Form, End, kind_named, may_follow, Shape, shape_of}
-use Rattle.lexicon_text_definitions.specs.FileContents.{compare_entries, Told, is_empty, is_phase_name, is_tag_text, compare_last, rule_between, has_triple, with_lead, leads_of}
+use Rattle.lexicon_definitions.specs.PhaseNames.{is_phase_name}
+use Rattle.lexicon_definitions.specs.Rules.{unlimited_rule}
+use Rattle.list_laws.specs.EmptyLists.{is_empty}
+use Rattle.lexicon_text_definitions.specs.FileContents.{compare_entries, Told, is_tag_text, compare_last, has_triple, with_v, different_v}
 
 -- what is told after a line, or why the line is refused
 abbrev pub Taken : Type 0
@@ -66,7 +69,7 @@ take_plain told fields = Err Field
 abbrev pub passes_rule_limits : Told → List ℕ → List ℕ → List ℕ → Bool
 passes_rule_limits told u v w =
     nat_le MOST_RULES (length told.rules)
-    || nat_lt MOST_LEADS (length (with_lead (leads_of told.rules) v))
+    || nat_lt MOST_LEADS (length (with_v (different_v told.rules) v))
     || nat_lt MOST_RULE_LETTERS (length u) || nat_lt MOST_RULE_LETTERS (length v) || nat_lt MOST_RULE_LETTERS (length w)
 
 abbrev pub take_triple : Told → List ℕ → List ℕ → List ℕ → Taken
@@ -74,7 +77,7 @@ take_triple told u v w =
     if is_empty u || is_empty w then Err Strict
     else if passes_rule_limits told u v w then Err Limit
     else if list_any (has_triple u v w) told.rules then Err Twice
-    else Ok (record told { last = Rule; rules = told.rules ++ rule_between (length told.names) u v w ∷ [] })
+    else Ok (record told { last = Rule; rules = told.rules ++ unlimited_rule (length told.names) u v w ∷ [] })
 
 abbrev pub take_words : Told → Reading → Reading → Reading → Taken
 take_words told (Ok u) (Ok v) (Ok w) = take_triple told u v w

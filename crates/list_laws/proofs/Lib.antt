@@ -1,5 +1,6 @@
 pub mod FirstOnes
 pub mod Marks
+pub mod CutLaws
 pub mod Searches
 pub mod Sorted
 pub mod RisingSetLaws

@@ -1,2 +1,4 @@
+pub mod Cuts
+pub mod EmptyLists
 pub mod Firsts
 pub mod RisingSets

@@ -1,6 +1,4 @@
-ghost use Rattle.std.specs.Prelude.{◌≡◌, ◌<◌, ◌≤◌, ◌^◌, ℕ, List, length, map, IfSome};
-ghost use Rattle.std.specs.List.{position};
-ghost use Rattle.std.specs.Str.{bytes_eq};
+ghost use Rattle.std.specs.Prelude.{◌≡◌, ◌<◌, ◌≤◌, ◌^◌, ℕ, List, length, map};
 ghost use Rattle.std.specs.String.{string_bytes};
 ghost use Rattle.lexicon_definitions.specs.declared.limits.TheConstants.{MOST_PHASES};
 ghost use Rattle.morphology_definitions.specs.Inflection.{Class};
@@ -13,20 +11,8 @@ use crate::record_error::RecordError;
 use crate::words::read_word;
 use crate::{Row, TableWhy};
 use form_tags::read_tag;
+use sandhi_rules::phase_named;
 use std::alloc::Global;
-
-/// The place of the first of the names that has these bytes, counted from 0.
-fn place_of(names: &[String], name: &[u8]) -> Option<usize>
-    ensures named { result ≡ position (bytes_eq name.now) (map string_bytes names.now) }
-    ensures within { IfSome result (λ place. place < length names.now) }
-{
-    for (place, known) in names.iter().enumerate() {
-        if name == known.as_bytes() {
-            return Some(place);
-        }
-    }
-    None
-}
 
 /// The row that these fields of a record tell, over these names of phases.
 pub(crate) fn read_row(
@@ -51,7 +37,7 @@ pub(crate) fn read_row(
     let Some(tag) = read_tag(tag) else {
         return Err(RecordError::Why(TableWhy::Tag));
     };
-    let Some(phase) = place_of(phases, phase) else {
+    let Some(phase) = phase_named(phases, phase) else {
         return Err(RecordError::Why(TableWhy::Phase));
     };
     let prefix = read_word(alloc, prefix, TableWhy::Spelling)?;

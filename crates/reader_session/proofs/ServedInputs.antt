@@ -13,9 +13,9 @@ use Rattle.session_definitions.specs.Replies as replies
 use Rattle.session_definitions.specs.Sessions as sessions
 use Rattle.session_definitions.specs.Sessions.{End, AreReplies, IsSession, end_of}
 use Rattle.session_definitions.proofs.FrontReplies.{joined}
-use Rattle.session_replies.specs.SessionValues.{SessionValue, stands_after}
-use Rattle.session_replies.specs.declared.after.After.{After}
-use Rattle.session_replies.specs.declared.after.After.TheVariants.{Open, Over}
+use Rattle.reader_session.specs.SessionValues.{SessionValue, stands_after}
+use Rattle.reader_session.specs.declared.after.After.{After}
+use Rattle.reader_session.specs.declared.after.After.TheVariants.{Open, Over}
 use Rattle.reader_session.specs.declared.serve_end.ServeEnd.TheVariants.{Done, TooMuch}
 use Rattle.reader_session.specs.Served.{WroteSession, WroteFront, RepliedToTaken}
 use Rattle.reader_session.specs.Serving.{HasNoEnd, AreCutOff, HasServed, HasStopped, HasServedWithin, HasStoppedWithin}

@@ -10,9 +10,9 @@ use Rattle.session_definitions.specs.Replies as replies
 use Rattle.session_definitions.specs.Replies.{IsReply}
 use Rattle.session_definitions.specs.Sessions.{IsWrittenAfter, AreReplies}
 use Rattle.session_definitions.proofs.FrontReplies.{joined}
-use Rattle.session_replies.specs.SessionValues.{SessionValue, stands_after, HasReplied}
-use Rattle.session_replies.specs.declared.after.After.{After}
-use Rattle.session_replies.specs.declared.after.After.TheVariants.{Open}
+use Rattle.reader_session.specs.SessionValues.{SessionValue, stands_after, HasReplied}
+use Rattle.reader_session.specs.declared.after.After.{After}
+use Rattle.reader_session.specs.declared.after.After.TheVariants.{Open}
 use Rattle.reader_session.specs.Serving.{HasServed, HasStopped}
 
 pub bytes_after-none : (told : Option (List ℕ)) → bytes_after told [] ≡ told

@@ -3,8 +3,8 @@ use Rattle.std.proofs.Common.{◌≡◌, ℕ, List, [], ◌∷◌, ◌++◌, sym
 use Rattle.std.specs.Prelude.{Option}
 use Rattle.lexicon_text_definitions.specs.FileLines.{Line}
 use Rattle.lexicon_text_definitions.proofs.LineCuts.{ended_line}
-use Rattle.session_replies.specs.SessionValues.{SessionValue}
-use Rattle.session_replies.specs.declared.after.After.TheVariants.{Open, Over}
+use Rattle.reader_session.specs.SessionValues.{SessionValue}
+use Rattle.reader_session.specs.declared.after.After.TheVariants.{Open, Over}
 use Rattle.reader_session.specs.Serving.{HasNoEnd, AreCutOff, HasServed, HasStopped, HasServedWithin, HasStoppedWithin}
 use Rattle.reader_session.proofs.CutLines.{none_cut, line_cut, cut_on, no_end_in_both}
 use Rattle.reader_session.proofs.ServedLines.{none_served, served_on, stopped_on, all_stopped}

@@ -7,9 +7,9 @@ use Rattle.outside.specs.Told.{bytes_before, IsAtEnd}
 use Rattle.annotated_trie.specs.Searched.{SearchedLexicon}
 use Rattle.lexicon_text_definitions.specs.FileLines.{lines_of_bytes}
 use Rattle.session_definitions.specs.declared.limits.TheConstants.{MOST_INPUT_BYTES}
-use Rattle.session_replies.specs.SessionValues.{SessionValue}
-use Rattle.session_replies.specs.declared.after.After.{After}
-use Rattle.session_replies.specs.declared.after.After.TheVariants.{Open, Over}
+use Rattle.reader_session.specs.SessionValues.{SessionValue}
+use Rattle.reader_session.specs.declared.after.After.{After}
+use Rattle.reader_session.specs.declared.after.After.TheVariants.{Open, Over}
 use Rattle.reader_session.specs.declared.serve_end.ServeEnd.TheVariants.{Done, TooMuch}
 use Rattle.reader_session.specs.Served.{WroteSession, WroteFront, RepliedToTaken}
 use Rattle.reader_session.specs.Serving.{HasNoEnd, HasServed, HasStopped, HasServedWithin, HasStoppedWithin}

@@ -1,2 +1,9 @@
+pub mod Answered
+pub mod Marked
+pub mod NumberedItems
+pub mod PageEnds
+pub mod Readings
+pub mod Resumed
 pub mod Served
 pub mod Serving
+pub mod SessionValues

@@ -7,9 +7,9 @@ use Rattle.lexicon_text_definitions.specs.FileLines.{Line, lines_of_bytes}
 use Rattle.session_definitions.specs.SessionLines.{ended_lines}
 use Rattle.session_definitions.specs.Replies as replies
 use Rattle.session_definitions.specs.Sessions.{AreReplies}
-use Rattle.session_replies.specs.SessionValues.{SessionValue, stands_after}
-use Rattle.session_replies.specs.declared.after.After.{After}
-use Rattle.session_replies.specs.declared.after.After.TheVariants.{Open}
+use Rattle.reader_session.specs.SessionValues.{SessionValue, stands_after}
+use Rattle.reader_session.specs.declared.after.After.{After}
+use Rattle.reader_session.specs.declared.after.After.TheVariants.{Open}
 use Rattle.reader_session.specs.declared.serve_end.ServeEnd.{ServeEnd}
 use Rattle.reader_session.specs.declared.serve_end.ServeEnd.TheVariants as end
 

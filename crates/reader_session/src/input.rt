@@ -5,11 +5,12 @@ ghost use Rattle.reader_session.specs.Served.{IsEnd, WroteSession, WroteFront, R
 ghost use Rattle.reader_session.specs.Serving.{end_at};
 
 use super::ServeEnd;
+use super::after::After;
 use super::lines::{serve_piece, serve_rest};
+use super::session::Session;
 use annotated_trie::Lexicon;
 use outside::{Sink, Source, WriteError};
 use session_definitions::MOST_INPUT_BYTES;
-use session_replies::{After, Session};
 use std::alloc::Global;
 
 /// The greatest number of bytes that one read of the source asks for.

@@ -1,5 +1,8 @@
 //! A reading session served over a source and a sink (after the lean reader of Goyal and Huet 2016): the lines of the input are
-//! read piece by piece, each is answered by `session_replies`, and its reply is written before the next line is looked at.
+//! read piece by piece, each is answered, and its reply is written before the next line is looked at.
+//!
+//! `input` and `lines` cut the input into lines. A `Session` is what stands between two lines; `answering` leads each request to the
+//! module that replies to it, which is named after its word. What is read, with the choices of the reader, is a `Reading`.
 //!
 //! Proved of `serve`, over every source and every sink, by the names of its contract:
 //!
@@ -13,10 +16,28 @@
 //! Not said: that a device which fails is answered with its own fault, and not with want of memory.
 #![tactic(auto)]
 
+mod adding;
+mod after;
+mod answering;
+mod choice_reply;
+mod copying;
+mod form_analyses;
 mod input;
 mod laws;
 mod lines;
+mod mark_reply;
+mod numbered_item;
+mod page_reply;
+mod reading;
+mod refusing;
+mod resume_reply;
 mod serve_end;
+mod session;
+mod summary_printing;
+mod summary_reply;
+mod tags_printing;
+mod tags_reply;
+mod text_reply;
 
 pub use input::serve;
 pub use laws::what_was_written_begins_the_session;

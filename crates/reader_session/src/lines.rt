@@ -4,8 +4,9 @@ ghost use Rattle.outside.specs.Counts.{Rose};
 ghost use Rattle.lexicon_text_definitions.specs.FileLines.{lines_of_bytes};
 ghost use Rattle.reader_session.specs.Serving.{HasNoEnd, HasServed, HasStopped, HasServedWithin, HasStoppedWithin};
 
+use super::after::After;
+use super::session::Session;
 use outside::{Sink, WriteError, write_all};
-use session_replies::{After, Session};
 use std::alloc::Global;
 
 /// The bytes before and after the first line end, where there is one.

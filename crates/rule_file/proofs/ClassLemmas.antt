@@ -9,7 +9,7 @@ use Rattle.text_definitions.specs.Spellings.{Reading}
 use Rattle.text_definitions.specs.Slp1.{word_of_slp1}
 use Rattle.lexicon_definitions.specs.GrammarFaults.{is_small_letter}
 use Rattle.lexicon_text_definitions.proofs.CleanBytes.{is_clean, clean_utf8}
-use Rattle.rule_file_definitions.specs.SoundClasses.{is_class_name, are_new, different_letters, class_letters, letters_in, letters_named}
+use Rattle.rule_file_definitions.specs.SoundClasses.{is_sound_class_name, are_new, different_letters, class_letters, letters_in, letters_named}
 use Rattle.rule_file.specs.Held.{word_of}
 
 -- ---- the letters of a text
@@ -46,7 +46,7 @@ tested_letters text word test e n t = tested_by (word_of_slp1 text) word test e 
 
 -- ---- the class of a name
 
-pub not_named : (classes : Members) (name : List ℕ) → is_class_name name ≡ false → None ≡ letters_named classes name
+pub not_named : (classes : Members) (name : List ℕ) → is_sound_class_name name ≡ false → None ≡ letters_named classes name
 unfolding letters_named
 not_named classes name e = sym (ap (λ b. cond b (letters_in (get_member name classes)) None) e)
 
@@ -65,13 +65,13 @@ not_held (Some (string found)) e = absurd (cc)
 not_held None e = refl
 not_held (Some other) e = refl
 
-pub named_text : (classes : Members) (name text : List ℕ) → is_class_name name ≡ true → Some text ≡ option_and_then as_str (get_member name classes)
+pub named_text : (classes : Members) (name text : List ℕ) → is_sound_class_name name ≡ true → Some text ≡ option_and_then as_str (get_member name classes)
     → class_letters text ≡ letters_named classes name
 unfolding letters_named
 named_text classes name text t e =
     held_by (get_member name classes) text e ∙ sym (ap (λ b. cond b (letters_in (get_member name classes)) None) t)
 
-pub no_text : (classes : Members) (name : List ℕ) → is_class_name name ≡ true → None ≡ option_and_then as_str (get_member name classes)
+pub no_text : (classes : Members) (name : List ℕ) → is_sound_class_name name ≡ true → None ≡ option_and_then as_str (get_member name classes)
     → None ≡ letters_named classes name
 unfolding letters_named
 no_text classes name t e =
@@ -88,7 +88,7 @@ clean_letters (byte ∷ bytes) h =
     let parts = and_parts (is_small_letter byte) (list_all is_small_letter bytes) h in
     and_from (is_clean byte) (list_all is_clean bytes) (clean_letter byte parts.0) (clean_letters bytes parts.1)
 
-pub name_utf8 : (name : List ℕ) → is_class_name name ≡ true → IsUtf8 name
+pub name_utf8 : (name : List ℕ) → is_sound_class_name name ≡ true → IsUtf8 name
 name_utf8 [] h = absurd (cc)
 name_utf8 (byte ∷ bytes) h =
     let parts = and_parts _ (list_all is_small_letter (byte ∷ bytes)) h in

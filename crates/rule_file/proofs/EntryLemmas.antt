@@ -6,7 +6,8 @@ use Rattle.toml.specs.Data.{Members}
 use Rattle.lexicon_definitions.specs.Rules.{Rule}
 use Rattle.rule_file_definitions.specs.EntryWhys.{Why, Shape, Spelling, Strict, Long}
 use Rattle.rule_file_definitions.specs.RuleNotations.{Notation, Pattern, notation_of, pattern_of}
-use Rattle.rule_file_definitions.specs.RuleEntries.{put_in, rule_with, fillings_of, is_empty, is_not_strict, is_long, strict_and_short, rules_filled, rules_of_pattern, rules_of_notation, rules_of_entry, add_rules, add_read, add_entry}
+use Rattle.list_laws.specs.EmptyLists.{is_empty}
+use Rattle.rule_file_definitions.specs.RuleEntries.{put_in, rule_with, fillings_of, is_not_strict, is_long, strict_and_short, rules_filled, rules_of_pattern, rules_of_notation, rules_of_entry, add_rules, add_read, add_entry}
 use Rattle.std.proofs.lemmas.Bool.{or_left, or_right}
 
 -- ---- the rules of a pattern are alike

@@ -1,4 +1,3 @@
-pub mod CutLemmas
 pub mod Turns
 pub mod FaultLemmas
 pub mod DocumentLemmas

@@ -2,7 +2,7 @@
 use Rattle.std.proofs.Common.{◌≡◌, ℕ, Bool, cond, Option, Some, None, Ok, Err, List, refl, ◌∙◌, ap}
 use Rattle.text_definitions.specs.Spellings.{Reading}
 use Rattle.text_definitions.specs.Slp1.{word_of_slp1}
-use Rattle.rule_file_definitions.specs.PlainEntries.{cut}
+use Rattle.list_laws.specs.Cuts.{cut}
 use Rattle.rule_file_definitions.specs.RuleNotations.{Part, Notation, cut_x, cut_v, w_of, is_well_formed, notation_with_w, notation_with_v, notation_with_u, notation_with_x, notation_of, Gap, gap_of, pattern_with, pattern_of}
 use Rattle.rule_file.specs.Held.{word_of}
 

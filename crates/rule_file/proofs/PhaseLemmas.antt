@@ -5,7 +5,8 @@ use Rattle.std.specs.Str.{bytes_eq}
 use Rattle.std.proofs.lemmas.Bool.Decides.{nat_tests}
 use Rattle.lexicon_definitions.specs.declared.limits.TheConstants.{MOST_PHASES}
 use Rattle.rule_file_definitions.specs.RuleFileFaults.{Phase}
-use Rattle.rule_file_definitions.specs.SoundClasses.{is_phase_name, may_come_next, name_phases, read_phases}
+use Rattle.lexicon_definitions.specs.PhaseNames.{is_phase_name}
+use Rattle.rule_file_definitions.specs.SoundClasses.{may_come_next, name_phases, read_phases}
 
 first_false : (a b c : Bool) → a ≡ false → false ≡ (a && b && c)
 first_false true b c e = absurd (cc)

@@ -10,7 +10,8 @@ use Rattle.list_laws.specs.RisingSets.{with_element, with_elements}
 use Rattle.list_laws.proofs.RisingSetLaws.{sorted-with_element, sorted-with_elements, with_elements-append}
 use Rattle.rule_file_definitions.specs.RuleFileFaults.{Fault}
 use Rattle.rule_file_definitions.specs.SoundClasses.{letters_named}
-use Rattle.rule_file_definitions.specs.PlainEntries.{cut, name_between, side_as, side_letters, pairs_between, pairs_with, pairs_of_sides, pairs_of, with_pairs, add_plain}
+use Rattle.list_laws.specs.Cuts.{cut}
+use Rattle.rule_file_definitions.specs.PlainEntries.{name_between, side_as, side_letters, pairs_between, pairs_with, pairs_of_sides, pairs_of, with_pairs, add_plain}
 use Rattle.rule_file.specs.Held.{word_of, AreAdded}
 use Rattle.rule_file.proofs.Turns.{left_first}
 use Rattle.lexicon_definitions.proofs.PlainPairs.{pairs_total, pairs_exact}

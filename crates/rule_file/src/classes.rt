@@ -3,18 +3,18 @@ ghost use Rattle.std.specs.List.{list_any, list_all};
 ghost use Rattle.toml.specs.View.{view, table_view};
 ghost use Rattle.text_definitions.specs.Slp1.{word_of_slp1};
 ghost use Rattle.lexicon_definitions.specs.GrammarFaults.{is_small_letter as is_small_letter_of};
-ghost use Rattle.rule_file_definitions.specs.SoundClasses.{is_class_name as is_class_name_of, are_new, class_letters as class_letters_of, is_class as is_class_of, read_classes, letters_named as letters_named_of};
+ghost use Rattle.rule_file_definitions.specs.SoundClasses.{is_sound_class_name as is_class_name_of, are_new, class_letters as class_letters_of, is_class as is_class_of, read_classes, letters_named as letters_named_of};
 ghost use Rattle.rule_file.specs.Faults.{IfFault};
 ghost use Rattle.rule_file.specs.Held.{word_of};
 
 use crate::document::string_at;
 use crate::error::number_of;
-use crate::phases::is_small_letter;
 use crate::{RuleError, RuleFault};
 use latin_schemes::{SpellError, read_slp1};
 use lexicon_text_definitions::MOST_FILE_BYTES;
 use phoneme::{Letter, Memory, Word};
 use rule_file_definitions::MOST_CLASS_NAME_LETTERS;
+use sandhi_rules::is_small_letter;
 use std::alloc::Global;
 use toml::{Table, Value};
 
@@ -41,7 +41,7 @@ fn are_small_letters(bytes: &[u8]) -> bool
 }
 
 /// Whether a class may have this name.
-fn is_class_name(name: &[u8]) -> bool
+fn is_sound_class_name(name: &[u8]) -> bool
     ensures { result ≡ is_class_name_of name.now }
 {
     let [_, ..] = name else {
@@ -95,7 +95,7 @@ fn is_class(alloc: Global, name: &[u8], member: &Value) -> Result<bool, Memory>
     let Value::String(text) = member else {
         return Ok(false);
     };
-    Ok(is_class_name(name) && class_letters(alloc, text.as_bytes())?.is_some())
+    Ok(is_sound_class_name(name) && class_letters(alloc, text.as_bytes())?.is_some())
 }
 
 /// Tests the classes, by rising name.
@@ -122,7 +122,7 @@ pub(crate) fn letters_named(
 ) -> Result<Option<Word>, Memory>
     ensures { IfOk result (λ word. word ≡ letters_named_of (table_view classes.now) name.now) }
 {
-    if !is_class_name(name) {
+    if !is_sound_class_name(name) {
         return Ok(None);
     }
     let Ok(name) = std::str::from_utf8(name) else {

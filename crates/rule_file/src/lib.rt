@@ -21,7 +21,6 @@ mod reading;
 mod rules_so_far;
 #[cfg(test)]
 mod tests;
-mod triple;
 
 pub use contents::RuleFile;
 pub use error::{RuleError, RuleFault, RuleWhy};

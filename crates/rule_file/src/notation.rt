@@ -1,5 +1,5 @@
 ghost use Rattle.std.specs.Prelude.{◌≡◌, MatchOption, None, Some};
-ghost use Rattle.rule_file_definitions.specs.RuleNotations.{bare as bare_of, cut_x as cut_x_of, cut_v as cut_v_of, w_of as w_of_text, is_mark as is_mark_of, has_mark as has_mark_of, is_class_placed as is_class_placed_of, is_well_formed as is_well_formed_of, notation_of as notation_of_entry};
+ghost use Rattle.rule_file_definitions.specs.RuleNotations.{bare as bare_of, cut_x as cut_x_of, cut_v as cut_v_of, w_of as w_of_text, is_mark as is_mark_of, has_entry_mark as has_mark_of, is_class_placed as is_class_placed_of, is_well_formed as is_well_formed_of, notation_of as notation_of_entry};
 ghost use Rattle.rule_file.specs.Written.{name_of, part_of, written};
 
 use crate::cutting::cut;
@@ -89,7 +89,7 @@ fn is_mark(byte: u8) -> bool
 }
 
 /// Whether a mark stands in the text.
-fn has_mark(text: &[u8]) -> bool
+fn has_entry_mark(text: &[u8]) -> bool
     ensures { result ≡ has_mark_of text.now }
 {
     text.iter().any(|byte| is_mark(*byte))
@@ -110,12 +110,12 @@ fn is_class_placed(v: Option<&[u8]>, w: Option<&[u8]>) -> bool
 fn is_well_formed(notation: &Notation<'_>) -> bool
     ensures { result ≡ is_well_formed_of (written notation.now) }
 {
-    let has_marks = has_mark(notation.x)
-        || has_mark(notation.u)
-        || has_mark(notation.v.before)
-        || has_mark(notation.v.after)
-        || has_mark(notation.w.before)
-        || has_mark(notation.w.after);
+    let has_marks = has_entry_mark(notation.x)
+        || has_entry_mark(notation.u)
+        || has_entry_mark(notation.v.before)
+        || has_entry_mark(notation.v.after)
+        || has_entry_mark(notation.w.before)
+        || has_entry_mark(notation.w.after);
     !has_marks && is_class_placed(notation.v.class, notation.w.class)
 }
 

@@ -1,7 +1,6 @@
 ghost use Rattle.std.specs.Prelude.{◌≡◌, ◌≤◌, ◌++◌, IfOk, OnOk};
-ghost use Rattle.lexicon_definitions.specs.Rules.{all_phases as all_phases_of};
 ghost use Rattle.rule_file_definitions.specs.RuleNotations.{gap_of as gap_of_part, pattern_of as pattern_of_notation};
-ghost use Rattle.rule_file_definitions.specs.RuleEntries.{put_in, filled, unlimited_rule as unlimited_rule_of, rule_with as rule_with_of};
+ghost use Rattle.rule_file_definitions.specs.RuleEntries.{put_in, filled, rule_with as rule_with_of};
 ghost use Rattle.rule_file.specs.Written.{part_of, written};
 
 use crate::classes::spelled;
@@ -81,30 +80,6 @@ pub(crate) fn pattern_of(alloc: Global, notation: &Notation<'_>) -> Result<Optio
     Ok(Some(Pattern { x, u, v, w }))
 }
 
-/// The set of the first count phases.
-fn all_phases(count: usize) -> u16
-    requires { count ≤ MOST_PHASES }
-    ensures { result ≡ all_phases_of count }
-{
-    ((1u32 << count) - 1) as u16
-}
-
-/// The rule with this triple that is unlimited over so many phases.
-fn unlimited_rule(count: usize, u: Word, v: Word, w: Word) -> Rule
-    requires { count ≤ MOST_PHASES }
-    ensures { result ≡ unlimited_rule_of count u v w }
-{
-    let before = all_phases(count);
-    let after = if v.is_empty() { 0 } else { before };
-    Rule {
-        u,
-        v,
-        w,
-        before,
-        after,
-    }
-}
-
 /// What is put in place of the class.
 fn push_letter(word: &mut Word, has_class: bool, filling: &Option<Letter>) -> Result<(), Memory>
     ensures { OnOk result (word.new ≡ word.old ++ put_in has_class filling.now) }
@@ -147,6 +122,6 @@ impl Pattern {
         self.v.push_filled(&mut v, filling)?;
         let mut w = self.x.copy(alloc)?;
         self.w.push_filled(&mut w, filling)?;
-        Ok(unlimited_rule(count, u, v, w))
+        Ok(Rule::unlimited(count, u, v, w))
     }
 }

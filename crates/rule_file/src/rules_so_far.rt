@@ -1,20 +1,16 @@
-ghost use Rattle.std.specs.Prelude.{◌≡◌, ◌++◌, ◌∷◌, [], true, false, Ok, Err, IfOk, OnOk, IfErr};
+ghost use Rattle.std.specs.Prelude.{◌≡◌, ◌++◌, ◌∷◌, [], true, false, Ok, Err, IfOk, IfErr};
 ghost use Rattle.std.specs.List.{list_any};
-ghost use Rattle.std.specs.List.Sorted.{IsStrictlySortedBy};
-ghost use Rattle.lexicon_definitions.specs.Leads.{compare_leads, lead_of, with_lead};
+ghost use Rattle.lexicon_definitions.specs.Rules.{is_twin};
 ghost use Rattle.rule_file_definitions.specs.EntryWhys.{Twice as TwiceWhy};
-ghost use Rattle.rule_file_definitions.specs.RuleEntries.{is_twin, pass_limits as pass_limits_of, add_rules};
+ghost use Rattle.rule_file_definitions.specs.RuleEntries.{pass_limits as pass_limits_of, add_rules};
 ghost use Rattle.rule_file.specs.Faults.{IfWhy};
 
 use crate::RuleWhy;
 use crate::entry_error::EntryError;
-use crate::triple::Triple;
 use indexmap::IndexSet;
 use lexicon_definitions::{MOST_LEADS, MOST_RULES};
-use phoneme::Memory;
-use sandhi_rules::{Lead, Rule};
+use sandhi_rules::{Lead, Rule, Triple, add_lead};
 use std::alloc::Global;
-use std::cmp::Ordering;
 use std::marker::Model;
 
 /// The rules that were read, in their order, their triples, and their leads, rising.
@@ -35,32 +31,6 @@ impl Model for RulesSoFar {
     ghost view = { λ r. r.rules.items };
 
     ghost invariant = { λ r. AreKept r.rules.items r.triples.keys r.leads.items };
-}
-
-/// How the lead compares with that of an inner rule.
-fn compare_with(lead: &Lead, rule: &Rule) -> Ordering
-    ensures { result ≡ compare_leads lead.now (lead_of rule.now) }
-{
-    lead.v.compare(&rule.v).then(lead.after.cmp(&rule.after))
-}
-
-/// Puts the lead of the rule among the leads, in its place, where it is none of them. A final rule has none.
-fn add_lead(alloc: Global, leads: &mut Vec<Lead>, rule: &Rule) -> Result<(), Memory>
-    requires { IsStrictlySortedBy compare_leads leads.old.items }
-    ensures ok { OnOk result (leads.new.items ≡ with_lead leads.old.items rule.now.v rule.now.after) }
-{
-    if rule.is_final() {
-        return Ok(());
-    }
-    let found = leads.binary_search_by(|lead| compare_with(lead, rule));
-    if let Err(at) = found {
-        let lead = Lead {
-            v: rule.v.copy(alloc)?,
-            after: rule.after,
-        };
-        leads.insert(at, lead)?;
-    }
-    Ok(())
 }
 
 impl RulesSoFar {

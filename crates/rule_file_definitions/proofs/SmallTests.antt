@@ -1,25 +1,10 @@
 -- Tests as facts, each by cases of the test or by induction on a list.
-use Rattle.std.proofs.Common.{◌≡◌, ℕ, true, false, ◌&&◌, List, [], ◌∷◌, length, All, sym}
-use Rattle.std.specs.List.{AllByRecursion, list_any, list_all}
-use Rattle.std.proofs.lemmas.Bool.{and_parts, or_parts, and_from, leb-true}
+use Rattle.std.proofs.Common.{◌≡◌, true, false, List, [], ◌∷◌, All, sym}
+use Rattle.std.specs.List.{AllByRecursion, list_any}
+use Rattle.std.proofs.lemmas.Bool.{or_parts, and_from}
 use Rattle.std.proofs.lemmas.List.Elements.{All-from_recursion}
 use Rattle.std.proofs.lemmas.Slice.Eq.{bytes_eq-Decides}
-use Rattle.lexicon_definitions.specs.declared.limits.TheConstants.{MOST_NAME_BYTES}
-use Rattle.lexicon_definitions.specs.GrammarTexts.{is_name_byte}
-use Rattle.lexicon_definitions.specs.GrammarFaults.{is_small_letter}
-use Rattle.lexicon_definitions.specs.Lexicons.{IsPhaseName}
-use Rattle.lexicon_definitions.specs.Rules.{Rule, IsSameTriple}
-use Rattle.rule_file_definitions.specs.SoundClasses.{is_phase_name}
-use Rattle.rule_file_definitions.specs.RuleEntries.{is_twin}
-
--- the test of a phase's name
-pub name_from_test : (name : List ℕ) → is_phase_name name ≡ true → IsPhaseName name
-name_from_test [] h = absurd (cc)
-name_from_test (byte ∷ bytes) h =
-    let parts = and_parts (is_small_letter byte && _) (list_all is_name_byte bytes) h in
-    let first = and_parts (is_small_letter byte) _ parts.0 in
-    (first.0, leb-true (length (byte ∷ bytes)) MOST_NAME_BYTES first.1, parts.1)
-
+use Rattle.lexicon_definitions.specs.Rules.{Rule, IsSameTriple, is_twin}
 -- ---- triples
 
 pub test_from_triple : (left right : Rule) → IsSameTriple left right → is_twin right left ≡ true

@@ -20,9 +20,11 @@ use Rattle.text_definitions.proofs.SpelledWords.{word_from_read}
 use Rattle.lexicon_definitions.specs.declared.limits.TheConstants.{MOST_PHASES}
 use Rattle.lexicon_definitions.specs.Lexicons.{IsPhaseName, compare_pairs}
 use Rattle.rule_file_definitions.specs.RuleFileFaults.{Phase}
-use Rattle.rule_file_definitions.specs.SoundClasses.{is_phase_name, may_come_next, name_phases, read_phases, are_new, different_letters, class_letters, is_class_name, letters_in, letters_named}
-use Rattle.rule_file_definitions.specs.PlainEntries.{cut, name_between, side_as, side_letters, pairs_between, pairs_with, pairs_of_sides, pairs_of, with_pairs, add_plain, read_plain}
-use Rattle.rule_file_definitions.proofs.SmallTests.{name_from_test}
+use Rattle.lexicon_definitions.specs.PhaseNames.{is_phase_name}
+use Rattle.rule_file_definitions.specs.SoundClasses.{may_come_next, name_phases, read_phases, are_new, different_letters, class_letters, is_sound_class_name, letters_in, letters_named}
+use Rattle.list_laws.specs.Cuts.{cut}
+use Rattle.rule_file_definitions.specs.PlainEntries.{name_between, side_as, side_letters, pairs_between, pairs_with, pairs_of_sides, pairs_of, with_pairs, add_plain, read_plain}
+use Rattle.lexicon_definitions.proofs.NameTests.{name_from_test}
 use Rattle.list_laws.proofs.Booleans.{if_passed}
 use Rattle.list_laws.proofs.Texts.{none_same}
 use Rattle.lexicon_definitions.proofs.PlainPairs.{pairs_total, pairs_exact}
@@ -96,7 +98,7 @@ by_name false letters h = tt
 -- the letters of a class are letters, and there is one
 pub named_sound : (classes : Members) (name : List ℕ) → AreLetters (letters_named classes name)
 unfolding letters_named
-named_sound classes name = by_name (is_class_name name) (letters_in (get_member name classes)) (in_sound (get_member name classes))
+named_sound classes name = by_name (is_sound_class_name name) (letters_in (get_member name classes)) (in_sound (get_member name classes))
 
 -- ---- plain pairs
 

@@ -1,12 +1,11 @@
 -- The rules that are read are sound: each is made of words that were read, passed the tests, and has a triple of its own; by
 -- induction on the entries, and on the rules of an entry.
-use Rattle.std.proofs.Common.{◌≡◌, ◌≢◌, ℕ, ◌+◌, ◌^◌, ◌<◌, ◌≤◌, ◌↔◌, Bool, true, false, cond, ◌||◌, nat_lt, Option, Some, None, Result, Ok, Err, List, [], ◌∷◌, ◌++◌, length, map, All, AllPairs, refl, sym, subst, arith}
+use Rattle.std.proofs.Common.{◌≡◌, ◌≢◌, ℕ, ◌+◌, ◌<◌, ◌≤◌, Bool, true, false, cond, ◌||◌, nat_lt, Option, Some, None, Result, Ok, Err, List, [], ◌∷◌, ◌++◌, length, map, All, AllPairs, refl, sym, subst, arith}
 use Rattle.std.specs.List.{AllByRecursion, list_any}
 use Rattle.std.proofs.lemmas.Bool.{or_parts, ltb-false}
 use Rattle.std.proofs.lemmas.List.{append-nil, append_assoc}
 use Rattle.std.proofs.lemmas.List.Elements.{All-append, All-nil, All-cons, All-from_recursion, recursion_from_All}
 use Rattle.std.proofs.lemmas.List.Quantifiers.{all_pairs_push}
-use Rattle.std.proofs.lemmas.Nat.{pow_pos}
 use Rattle.std.proofs.Math.Pow.{ones_lt}
 use Rattle.toml.specs.Data.{Members}
 use Rattle.text_definitions.specs.Letters.{IsLetter}
@@ -15,17 +14,19 @@ use Rattle.text_definitions.specs.Spellings.{Reading}
 use Rattle.text_definitions.specs.Slp1.{word_of_slp1}
 use Rattle.text_definitions.proofs.SpelledWords.{word_from_read}
 use Rattle.lexicon_definitions.specs.declared.limits.TheConstants.{MOST_RULES, MOST_RULE_LETTERS, MOST_LEADS}
-use Rattle.lexicon_definitions.specs.Rules.{Rule, IsRule, IsUnlimited, all_phases}
+use Rattle.lexicon_definitions.specs.Rules.{Rule, IsRule, IsUnlimited, unlimited_rule, is_twin}
 use Rattle.lexicon_definitions.specs.Leads.{leads_of}
 use Rattle.lexicon_definitions.specs.Limits.{IsShortRule}
 use Rattle.rule_file_definitions.specs.EntryWhys.{Why, Strict, Long, Twice, Limit}
 use Rattle.rule_file_definitions.specs.SoundClasses.{letters_named}
 use Rattle.rule_file_definitions.specs.RuleNotations.{Part, Notation, Gap, Pattern, notation_of, is_some_class, gap_with, gap_of, pattern_with, pattern_of}
-use Rattle.rule_file_definitions.specs.RuleEntries.{put_in, filled, phases_after, unlimited_rule, rule_with, some_fillings, fillings_of, is_empty, is_not_strict, is_long, rules_filled, rules_of_pattern, rules_of_notation, rules_of_entry, is_twin, have_twins, pass_limits, add_rules, add_read, add_entry, with_entry, add_entries, read_entries}
+use Rattle.list_laws.specs.EmptyLists.{is_empty}
+use Rattle.rule_file_definitions.specs.RuleEntries.{put_in, filled, rule_with, some_fillings, fillings_of, is_not_strict, is_long, rules_filled, rules_of_pattern, rules_of_notation, rules_of_entry, have_twins, pass_limits, add_rules, add_read, add_entry, add_entries, read_entries, then_entries}
 use Rattle.rule_file_definitions.proofs.SmallTests.{IsOther, others_from_test}
 use Rattle.rule_file_definitions.proofs.SoundEntries.{AreLetters, named_sound}
 use Rattle.list_laws.proofs.Booleans.{if_refused}
 use Rattle.lexicon_definitions.proofs.WrittenRules.{some_phases}
+use Rattle.lexicon_definitions.proofs.UnlimitedRules.{after_within_by, after_none_by, unlimited_by}
 
 -- ---- the words of a pattern
 
@@ -90,18 +91,6 @@ pub record IsFileRule (count : ℕ) (rule : Rule) : Type 0 where
   pub rule_itself : IsRule count rule
   pub unlimited : IsUnlimited count rule
   pub short : IsShortRule rule
-
-after_within_by : (count : ℕ) (v : List ℕ) → phases_after count v < 2 ^ count
-after_within_by count [] = pow_pos count
-after_within_by count (letter ∷ v) = ones_lt count
-
-after_none_by : (count : ℕ) (v : List ℕ) → 0 < count → (phases_after count v ≡ 0) ↔ (v ≡ [])
-after_none_by count [] n = (λ e. refl, λ e. refl)
-after_none_by count (letter ∷ v) n = (λ e. let some = some_phases count n in absurd (omega arith), λ e. absurd (cc))
-
-unlimited_by : (count : ℕ) (v : List ℕ) → v ≢ [] → phases_after count v ≡ all_phases count
-unlimited_by count [] n = absurd (n refl)
-unlimited_by count (letter ∷ v) n = refl
 
 not_empty : (word : List ℕ) → is_empty word ≡ false → word ≢ []
 not_empty [] h e = cc
@@ -236,7 +225,7 @@ module _ (count : ℕ) (n : 0 < count) where
   entries_by : (classes : Members) (number : ℕ) (entries : List (List ℕ)) (out : List Rule) (added : Result (List Rule) Why)
       → ((next : List Rule) → add_entries count classes next (number + 1) entries ≡ Ok out → AreFileRules next → AreFileRules out)
       → ((next : List Rule) → added ≡ Ok next → AreFileRules next)
-      → with_entry number added (λ next. add_entries count classes next (number + 1) entries) ≡ Ok out → AreFileRules out
+      → then_entries number added (λ next. add_entries count classes next (number + 1) entries) ≡ Ok out → AreFileRules out
   entries_by classes number entries out (Ok next) later h e = later next e (h next refl)
   entries_by classes number entries out (Err why) later h e = absurd (cc)
 

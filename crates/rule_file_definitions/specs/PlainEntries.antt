@@ -1,18 +1,15 @@
 -- The plain pairs of a rule file (own): an entry `X Y`, where X and Y are each a letter, or `<name>` of a class and then
 -- stand for each of its letters.
-use Rattle.std.specs.Prelude.{ℕ, ◌+◌, ◌==◌, if◌then◌else◌, Option, Some, None, Result, Ok, Err, List, [], ◌∷◌, map, take, drop, position, option_map, option_and_then}
+use Rattle.std.specs.Prelude.{ℕ, ◌+◌, ◌==◌, if◌then◌else◌, Option, Some, None, Result, Ok, Err, List, [], ◌∷◌, map, option_and_then}
 use Rattle.std.specs.List.{flat_map}
 use Rattle.text_definitions.specs.Spellings.{Reading}
 use Rattle.text_definitions.specs.Slp1.{word_of_slp1}
 use Rattle.toml.specs.Data.{Members}
 use Rattle.lexicon_definitions.specs.Lexicons.{compare_pairs}
+use Rattle.list_laws.specs.Cuts.{cut}
 use Rattle.list_laws.specs.RisingSets.{with_elements}
 use Rattle.rule_file_definitions.specs.RuleFileFaults.{Fault, Plain}
 use Rattle.rule_file_definitions.specs.SoundClasses.{letters_named}
-
--- what comes before and after the first of these bytes in a text
-abbrev pub cut : ℕ → List ℕ → Option (List ℕ × List ℕ)
-cut mark text = option_map (λ at. (take at text, drop (at + 1) text)) (position (λ byte. byte == mark) text)
 
 -- the front, where nothing comes after it
 abbrev pub front_alone : Option (List ℕ × List ℕ) → Option (List ℕ)

@@ -4,8 +4,9 @@ use Rattle.std.specs.Prelude.{ℕ, ◌+◌, ◌++◌, ◌&&◌, ◌||◌, nat_lt
 use Rattle.std.specs.List.{list_any}
 use Rattle.std.specs.Str.{bytes_eq}
 use Rattle.toml.specs.Data.{Members}
+use Rattle.list_laws.specs.EmptyLists.{is_empty}
 use Rattle.lexicon_definitions.specs.declared.limits.TheConstants.{MOST_RULES, MOST_RULE_LETTERS, MOST_LEADS}
-use Rattle.lexicon_definitions.specs.Rules.{Rule, all_phases}
+use Rattle.lexicon_definitions.specs.Rules.{Rule, unlimited_rule, is_twin}
 use Rattle.lexicon_definitions.specs.Leads.{leads_of}
 use Rattle.rule_file_definitions.specs.EntryWhys.{Why, Shape, Spelling, Class as UnknownClass, Strict, Long, Twice, Limit}
 use Rattle.rule_file_definitions.specs.RuleFileFaults as faults
@@ -28,16 +29,6 @@ put_in false filling = []
 abbrev pub filled : Gap → Option ℕ → List ℕ
 filled gap filling = gap.before ++ put_in gap.has_class filling ++ gap.after
 
--- the set of the phases after a rule with this v: all of them, or none where the rule is final
-abbrev pub phases_after : ℕ → List ℕ → ℕ
-phases_after count [] = 0
-phases_after count (letter ∷ v) = all_phases count
-
--- the rule with this triple that is unlimited over so many phases
-abbrev pub unlimited_rule : ℕ → List ℕ → List ℕ → List ℕ → Rule
-unlimited_rule count u v w =
-    record { u = u; v = v; w = w; before = all_phases count; after = phases_after count v }
-
 -- the rule of the pattern with the class filled so: x is written before u and before w
 abbrev pub rule_with : ℕ → Pattern → Option ℕ → Rule
 rule_with count pattern filling =
@@ -53,10 +44,6 @@ fillings_of classes None = Some (None ∷ [])
 fillings_of classes (Some name) = some_fillings (letters_named classes name)
 
 -- u or w is empty
-abbrev pub is_empty : List ℕ → Bool
-is_empty [] = true
-is_empty (letter ∷ word) = false
-
 abbrev pub is_not_strict : Rule → Bool
 is_not_strict rule = is_empty rule.u || is_empty rule.w
 
@@ -88,10 +75,6 @@ rules_of_entry count classes entry = rules_of_notation count classes (notation_o
 
 -- ---- the rules of a file
 
--- both rules have the same triple
-abbrev pub is_twin : Rule → Rule → Bool
-is_twin left right = bytes_eq left.u right.u && bytes_eq left.v right.v && bytes_eq left.w right.w
-
 -- one of these has the triple of one before it, or of one of the earlier rules
 abbrev pub have_twins : List Rule → List Rule → Bool
 have_twins earlier [] = false
@@ -115,15 +98,15 @@ unfoldable pub add_entry : ℕ → Members → List Rule → List ℕ → Result
 add_entry count classes earlier entry = add_read earlier (rules_of_entry count classes entry)
 
 -- the rules of one entry more, and then what follows; or the number and the reason of an entry that is refused
-abbrev pub with_entry : ℕ → Result (List Rule) Why → (List Rule → Result (List Rule) Fault) → Result (List Rule) Fault
-with_entry number (Ok rules) following = following rules
-with_entry number (Err why) following = Err (faults.Rule number why)
+abbrev pub then_entries : ℕ → Result (List Rule) Why → (List Rule → Result (List Rule) Fault) → Result (List Rule) Fault
+then_entries number (Ok rules) following = following rules
+then_entries number (Err why) following = Err (faults.Rule number why)
 
 -- the rules with those of these entries, the first of which has this number
 abbrev pub add_entries : ℕ → Members → List Rule → ℕ → List (List ℕ) → Result (List Rule) Fault
 add_entries count classes rules number [] = Ok rules
 add_entries count classes rules number (entry ∷ entries) =
-    with_entry number (add_entry count classes rules entry) (λ more. add_entries count classes more (number + 1) entries)
+    then_entries number (add_entry count classes rules entry) (λ more. add_entries count classes more (number + 1) entries)
 
 -- the rules of all entries, over so many phases
 unfoldable pub read_entries : ℕ → Members → List (List ℕ) → Result (List Rule) Fault

@@ -5,7 +5,7 @@ use Rattle.std.specs.List.{list_any}
 use Rattle.std.specs.Str.{bytes_eq}
 use Rattle.text_definitions.specs.Spellings.{Reading}
 use Rattle.text_definitions.specs.Slp1.{word_of_slp1}
-use Rattle.rule_file_definitions.specs.PlainEntries.{cut}
+use Rattle.list_laws.specs.Cuts.{cut}
 
 -- a part as it is written: what comes before the class and after it, and the class's name; without a class it is all before
 pub record Part : Type 0 where
@@ -64,8 +64,8 @@ w_of text = w_from text (cut 60 text)
 abbrev pub is_mark : ℕ → Bool
 is_mark byte = byte == 91 || byte == 93 || byte == 60 || byte == 62 || byte == 124
 
-abbrev pub has_mark : List ℕ → Bool
-has_mark text = list_any is_mark text
+abbrev pub has_entry_mark : List ℕ → Bool
+has_entry_mark text = list_any is_mark text
 
 -- where w has a class, v has the same
 abbrev pub is_class_placed : Option (List ℕ) → Option (List ℕ) → Bool
@@ -76,7 +76,7 @@ is_class_placed (Some name) (Some other) = bytes_eq name other
 -- no mark stands where a letter should, and the class is placed as it may be
 abbrev pub is_well_formed : Notation → Bool
 is_well_formed notation =
-    not (has_mark notation.x || has_mark notation.u || has_mark notation.v.before || has_mark notation.v.after || has_mark notation.w.before || has_mark notation.w.after)
+    not (has_entry_mark notation.x || has_entry_mark notation.u || has_entry_mark notation.v.before || has_entry_mark notation.v.after || has_entry_mark notation.w.before || has_entry_mark notation.w.after)
     && is_class_placed notation.v.class notation.w.class
 
 abbrev pub if_well_formed : Notation → Option Notation

@@ -5,19 +5,13 @@ use Rattle.std.specs.Str.{bytes_eq}
 use Rattle.toml.specs.Data.{Data, string, Members, no_members, member, get_member}
 use Rattle.text_definitions.specs.Spellings.{Reading}
 use Rattle.text_definitions.specs.Slp1.{word_of_slp1}
-use Rattle.lexicon_definitions.specs.declared.limits.TheConstants.{MOST_NAME_BYTES, MOST_PHASES}
-use Rattle.lexicon_definitions.specs.GrammarTexts.{is_name_byte}
+use Rattle.lexicon_definitions.specs.declared.limits.TheConstants.{MOST_PHASES}
+use Rattle.lexicon_definitions.specs.PhaseNames.{is_phase_name}
 use Rattle.lexicon_definitions.specs.GrammarFaults.{is_small_letter}
 use Rattle.rule_file_definitions.specs.declared.limits.TheConstants.{MOST_CLASS_NAME_LETTERS}
 use Rattle.rule_file_definitions.specs.RuleFileFaults.{Fault, Phase, Class}
 
 -- ---- phases
-
--- the test of a phase's name: 1 to 16 bytes, the first a small letter, the others small letters, digits or `_`
-abbrev pub is_phase_name : List ℕ → Bool
-is_phase_name [] = false
-is_phase_name (byte ∷ bytes) =
-    is_small_letter byte && nat_le (length (byte ∷ bytes)) MOST_NAME_BYTES && list_all is_name_byte bytes
 
 -- the name may come next after these: it is one, there is room for it, and it is none of them
 unfoldable pub may_come_next : List (List ℕ) → List ℕ → Bool
@@ -38,9 +32,9 @@ read_phases (name ∷ entries) = name_phases [] 1 (name ∷ entries)
 -- ---- classes
 
 -- a class has a name of 1 to 16 small letters
-abbrev pub is_class_name : List ℕ → Bool
-is_class_name [] = false
-is_class_name (byte ∷ bytes) = nat_le (length (byte ∷ bytes)) MOST_CLASS_NAME_LETTERS && list_all is_small_letter (byte ∷ bytes)
+abbrev pub is_sound_class_name : List ℕ → Bool
+is_sound_class_name [] = false
+is_sound_class_name (byte ∷ bytes) = nat_le (length (byte ∷ bytes)) MOST_CLASS_NAME_LETTERS && list_all is_small_letter (byte ∷ bytes)
 
 -- none of these letters is one of the earlier ones, and none comes again
 abbrev pub are_new : List ℕ → List ℕ → Bool
@@ -58,7 +52,7 @@ class_letters text = different_letters (word_of_slp1 text)
 
 -- the member is a class
 abbrev pub is_class : List ℕ → Data → Bool
-is_class name (string text) = is_class_name name && is_some (class_letters text)
+is_class name (string text) = is_sound_class_name name && is_some (class_letters text)
 is_class name held = false
 
 -- the classes, the first of which has this number and which stand by rising name, or the number of the first that is none
@@ -78,4 +72,4 @@ letters_in held = None
 
 -- the letters of the class with this name
 unfoldable pub letters_named : Members → List ℕ → Option (List ℕ)
-letters_named classes name = if is_class_name name then letters_in (get_member name classes) else None
+letters_named classes name = if is_sound_class_name name then letters_in (get_member name classes) else None

@@ -1,5 +1,5 @@
 -- The replies to the first lines of a text begin the replies to all of its lines, by induction on the first lines.
-use Rattle.std.proofs.Common.{◌≡◌, ℕ, ◌+◌, List, [], ◌∷◌, ◌++◌, refl, sym, ◌∙◌, ap, subst, append_assoc, append-nil}
+use Rattle.std.proofs.Common.{◌≡◌, ℕ, ◌+◌, List, [], ◌∷◌, ◌++◌, sym, ◌∙◌, ap, subst, append_assoc, append-nil}
 use Rattle.outside.specs.Files.{Files}
 use Rattle.text_definitions.specs.Schemes.{Scheme}
 use Rattle.lexicon_definitions.specs.Lexicons.{Lexicon}
@@ -7,7 +7,7 @@ use Rattle.lexicon_text_definitions.specs.FileLines as file
 use Rattle.lexicon_text_definitions.specs.FileLines.{lines_of_bytes}
 use Rattle.run_definitions.specs.Commands.{FileWord}
 use Rattle.run_definitions.specs.Ends.{Outcome}
-use Rattle.run_definitions.specs.BuildOutcomes.{SourceTells, Missing, Refused, Holds, IsOutcomeAfter}
+use Rattle.run_definitions.specs.SourceTells.{SourceTells, Missing, Refused, Holds, IsOutcomeAfter}
 use Rattle.run_definitions.specs.BatchOutcomes.{numbered_reply, AreNumberedReplies, IsAnyText, no_text_fault, IsRepliesOutcome, IsTextOutcome, AreFirstReplies, IsTextSoFarWith, IsTextSoFar}
 use Rattle.run_definitions.proofs.OneBuildOutcome.{one_telling}
 use Rattle.run_definitions.proofs.OneBatchOutcome.{one_line_reply}

@@ -8,3 +8,4 @@ pub mod OneDemoOutcome
 pub mod OneOutcome
 pub mod BatchSoFar
 pub mod SoFar
+pub mod OneCommandAlone

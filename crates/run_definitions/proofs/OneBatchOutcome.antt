@@ -8,14 +8,13 @@ use Rattle.text_definitions.specs.LineTexts.{LineFault}
 use Rattle.lexicon_definitions.specs.Lexicons.{Lexicon}
 use Rattle.lexicon_text_definitions.specs.FileLines as file
 use Rattle.lexicon_text_definitions.specs.FileLines.{lines_of_bytes}
-use Rattle.segmentation_definitions.specs.Derivations.{Step}
 use Rattle.segmentation_definitions.specs.Listings.{BeforeFirst, IsPage}
 use Rattle.segmentation_definitions.specs.PrintedAnswers.{output_line, printed_page}
 use Rattle.segmentation_definitions.proofs.Listings.{same_page}
-use Rattle.session_definitions.specs.Replies.{why_no_line}
+use Rattle.session_definitions.specs.LineWhys.{why_no_line}
 use Rattle.run_definitions.specs.Commands.{FileWord}
 use Rattle.run_definitions.specs.Ends.{Outcome, Done, outcome_over}
-use Rattle.run_definitions.specs.BuildOutcomes.{SourceTells, IsOutcomeAfter}
+use Rattle.run_definitions.specs.SourceTells.{SourceTells, IsOutcomeAfter}
 use Rattle.run_definitions.specs.BatchOutcomes.{IsLineReply, OfFault, OfPage, numbered_reply, AreNumberedReplies, IsAnyText, no_text_fault, IsRepliesOutcome, IsTextOutcome}
 use Rattle.run_definitions.proofs.OneBuildOutcome.{one_telling, one_after}
 

@@ -10,7 +10,8 @@ use Rattle.rule_file_definitions.specs.RuleFileReadings.{FileResult, IsReadAs, I
 use Rattle.run_definitions.specs.Commands.{FileWord}
 use Rattle.run_definitions.specs.Ends.{Outcome, AnyFault, Rules, Tables, Stems}
 use Rattle.run_definitions.specs.SourceLexicons.{IsOversized, FitsFile}
-use Rattle.run_definitions.specs.BuildOutcomes.{SourceTells, Missing, Refused, Holds, DoesTellSource, IsMissing, IsLarge, IsFaulty, IsSound, AreTables, AreStems, IsOutcomeAfter, IsWrittenOutcome, OfLimit, OfText, IsLexiconOutcome, IsStemsOutcome, IsTablesOutcome, IsBuildOutcome}
+use Rattle.run_definitions.specs.SourceTells.{SourceTells, Missing, Refused, Holds, DoesTellSource, IsMissing, IsLarge, IsFaulty, IsSound, IsOutcomeAfter}
+use Rattle.run_definitions.specs.BuildOutcomes.{AreTables, AreStems, IsWrittenOutcome, OfLimit, OfText, IsLexiconOutcome, IsStemsOutcome, IsTablesOutcome, IsBuildOutcome}
 use Rattle.run_definitions.proofs.OneContent.{same_bytes, not_missing}
 use Rattle.run_definitions.proofs.OneSourceLexicon.{one_lexicon}
 

@@ -16,7 +16,8 @@ use Rattle.run_definitions.specs.Commands.{Command, Segment, Check, Build, Read,
 use Rattle.run_definitions.specs.Ends as ends
 use Rattle.run_definitions.specs.Ends.{Outcome, Done, Large, outcome_over}
 use Rattle.run_definitions.specs.Refusals.{text_refusal}
-use Rattle.run_definitions.specs.SegmentOutcomes.{FileTells, NotThere, Refused, Holds, DoesTell, IsMissing, IsLarge, IsFaulty, IsLexicon, IsPageOutcome, IsListedOutcome, OfText, OfPage, IsOutcomeWith, IsSegmentOutcome}
+use Rattle.run_definitions.specs.LexiconTells.{FileTells, NotThere, Refused, Holds, DoesTell, IsMissing, IsLarge, IsFaulty, IsLexicon}
+use Rattle.run_definitions.specs.SegmentOutcomes.{IsPageOutcome, IsListedOutcome, OfText, OfPage, IsOutcomeWith, IsSegmentOutcome}
 use Rattle.run_definitions.specs.Overlaps.{printed_check}
 use Rattle.run_definitions.specs.CheckOutcomes.{IsCheckOutcomeWith, IsCheckOutcome}
 use Rattle.run_definitions.specs.ReadOutcomes.{end_with, IsSessionOutcome, IsReadOutcomeWith, IsReadOutcome}

@@ -12,7 +12,7 @@ use Rattle.session_definitions.specs.Sessions.{AreReplies}
 use Rattle.session_definitions.proofs.FrontReplies.{begun}
 use Rattle.run_definitions.specs.Commands.{Command, Segment, Check, Build, Read, Batch, Demo, FileWord}
 use Rattle.run_definitions.specs.Ends.{Outcome}
-use Rattle.run_definitions.specs.SegmentOutcomes.{FileTells, NotThere, Refused, Holds}
+use Rattle.run_definitions.specs.LexiconTells.{FileTells, NotThere, Refused, Holds}
 use Rattle.run_definitions.specs.ReadOutcomes.{IsSessionOutcome, IsReadOutcomeWith, IsReadOutcome, AreFirstReplies, IsReadSoFarWith, IsReadSoFar}
 use Rattle.run_definitions.specs.Outcomes.{IsOutcome, IsOutcomeOf, OfNoCommand, OfCommand, IsOutputOf, IsSoFarOf, IsSoFar, OfNone, OfOne}
 use Rattle.run_definitions.proofs.OneCommand.{one_command}

@@ -1,7 +1,8 @@
 -- The words after the name of a command: the arguments and the options among them (own).
-use Rattle.std.specs.Prelude.{◌≡◌, ℕ, ◌+◌, Bool, false, ◌==◌, if◌then◌else◌, List, [], ◌∷◌, ◌++◌, take, drop, codes, Option, Some, None}
-use Rattle.std.specs.Prelude.{option_and_then}
+use Rattle.std.specs.Prelude.{◌≡◌, ℕ, ◌+◌, ◌≤◌, Bool, false, ◌==◌, if◌then◌else◌, List, [], ◌∷◌, ◌++◌, length, take, drop, codes, All}
+use Rattle.std.specs.Prelude.{Option, Some, None, option_and_then}
 use Rattle.std.specs.Str.{bytes_eq}
+use Rattle.run_definitions.specs.declared.limits.TheConstants.{MOST_WORD_BYTES}
 
 -- a word that may name a file, and which of the words it is, counted from 0
 pub record FileWord : Type 0 where
@@ -72,3 +73,14 @@ given_by words = given_with words Any nothing_given 1
 -- the words after a command's name give these values of `--in` and these arguments
 abbrev pub HaveArguments : List (List ℕ) → List (List ℕ) → List FileWord → Type 0
 HaveArguments words values arguments = given_by words ≡ Some (record { values = values; arguments = arguments })
+
+-- the words are those of the command of this name that takes such values of `--in` and such arguments: its name, and words that
+-- give them, of which none is too long
+pub record AreNamed (name : List ℕ) (Takes : List (List ℕ) → List FileWord → Type 0) (words : List (List ℕ)) : Type 0 where
+  pub following : List (List ℕ)
+  pub are : words ≡ name ∷ following
+  pub within_limit : All (λ word. length word ≤ MOST_WORD_BYTES) following
+  pub values : List (List ℕ)
+  pub given : List FileWord
+  pub have : HaveArguments following values given
+  pub takes : Takes values given

@@ -1,10 +1,10 @@
--- What `batch` does with the names of a lexicon file and a text file, the scheme of the text, and the most answers of a page
+-- The words of `batch`, and what it does with the names of a lexicon file and a text file, the scheme of the text, and the most answers of a page
 -- (own).
-use Rattle.std.specs.Prelude.{◌≡◌, ℕ, ◌+◌, ◌++◌, Bool, List, [], ◌∷◌, Result, Ok, Err, codes}
+use Rattle.std.specs.Prelude.{◌≡◌, ℕ, ◌+◌, ◌++◌, Bool, List, [], ◌∷◌, Some, Result, Ok, Err, codes}
 use Rattle.std.specs.Fmt.{decimal}
 use Rattle.outside.specs.Files.{Files}
 use Rattle.text_definitions.specs.Lines.{Line}
-use Rattle.text_definitions.specs.Schemes.{Scheme}
+use Rattle.text_definitions.specs.Schemes.{Scheme, name_of_scheme}
 use Rattle.text_definitions.specs.LineTexts.{LineFault, line_of_text}
 use Rattle.lexicon_definitions.specs.Lexicons.{Lexicon}
 use Rattle.lexicon_text_definitions.specs.FileLines as file
@@ -12,13 +12,32 @@ use Rattle.lexicon_text_definitions.specs.FileLines.{lines_of_bytes}
 use Rattle.segmentation_definitions.specs.Derivations.{Step}
 use Rattle.segmentation_definitions.specs.Listings.{BeforeFirst, IsPage}
 use Rattle.segmentation_definitions.specs.PrintedAnswers.{output_line, printed_page}
-use Rattle.session_definitions.specs.Replies.{why_no_line}
-use Rattle.run_definitions.specs.Commands.{FileWord}
+use Rattle.session_definitions.specs.LineWhys.{why_no_line}
+use Rattle.session_definitions.specs.Numbers.{page_size_of}
+use Rattle.run_definitions.specs.Arguments.{FileWord, AreNamed}
 use Rattle.run_definitions.specs.Ends.{Outcome, AnyFault, Done, ReadFault, BadFile, outcome_over}
-use Rattle.run_definitions.specs.Refusals.{file_refusal}
-use Rattle.run_definitions.specs.SegmentOutcomes as lexicons
-use Rattle.run_definitions.specs.SegmentOutcomes.{FileTells, NotThere, DoesTell}
-use Rattle.run_definitions.specs.BuildOutcomes.{SourceTells, Missing, Refused, Holds, DoesTellSource, IsOutcomeAfter}
+use Rattle.run_definitions.specs.Refusals.{file_refusal, usage_outcome}
+use Rattle.run_definitions.specs.LexiconTells as lexicons
+use Rattle.run_definitions.specs.LexiconTells.{FileTells, NotThere, DoesTell}
+use Rattle.run_definitions.specs.SourceTells.{SourceTells, Missing, Refused, Holds, DoesTellSource, IsOutcomeAfter}
+
+-- ---- the words
+
+-- the arguments of `batch`: a lexicon file, the name of a scheme, a text file, and how many answers a page may have
+pub record AreBatchArguments (lex : FileWord) (scheme : Scheme) (file : FileWord) (count : ℕ) (arguments : List FileWord) : Type 0 where
+  pub named : FileWord
+  pub counted : FileWord
+  pub are : arguments ≡ lex ∷ named ∷ file ∷ counted ∷ []
+  pub names : named.name ≡ name_of_scheme scheme
+  pub counts : page_size_of counted.name ≡ Some count
+
+-- it takes these arguments and no option
+abbrev pub TakesBatch : FileWord → Scheme → FileWord → ℕ → List (List ℕ) → List FileWord → Type 0
+TakesBatch lex scheme file count values arguments = (values ≡ []) × AreBatchArguments lex scheme file count arguments
+
+-- the words are those of `batch` with these
+abbrev pub AreBatchWords : FileWord → Scheme → FileWord → ℕ → List (List ℕ) → Type 0
+AreBatchWords lex scheme file count words = AreNamed (codes "batch") (TakesBatch lex scheme file count) words
 
 -- ---- the replies
 
@@ -84,6 +103,15 @@ pub record IsBatchOutcome (lex : FileWord) (scheme : Scheme) (file : FileWord) (
   pub tells : FileTells
   pub does_tell : DoesTell files lex.name tells
   pub is_outcome : IsBatchOutcomeWith tells lex scheme file count files outcome
+
+-- ---- the run
+
+-- the outcome of a run whose first word is `batch`: that of the command, or where the words are not its words `usage`
+pub data IsBatchRun (words : List (List ℕ)) (files : Files) (outcome : Outcome) : Type 0 where
+  OfWords : (lex : FileWord) (scheme : Scheme) (file : FileWord) (count : ℕ) → AreBatchWords lex scheme file count words
+      → IsBatchOutcome lex scheme file count files outcome → IsBatchRun words files outcome
+  OfOthers : ((lex : FileWord) (scheme : Scheme) (file : FileWord) (count : ℕ) → AreBatchWords lex scheme file count words → ⊥)
+      → outcome ≡ usage_outcome files → IsBatchRun words files outcome
 
 -- ---- what is written where a run stops
 

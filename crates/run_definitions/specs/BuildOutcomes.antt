@@ -1,10 +1,9 @@
--- What `build` does with the names of a rule file, a table file, a stem file and a file to write (own).
-use Rattle.std.specs.Prelude.{◌≡◌, ℕ, ◌<◌, ◌≤◌, ◌++◌, List, [], length, Some, None, Result, Ok, Err, codes}
+-- The words of `build`, and what it does with the names of a rule file, a table file, a stem file and a file to write (own).
+use Rattle.std.specs.Prelude.{◌≡◌, ℕ, ◌++◌, List, [], ◌∷◌, codes}
 use Rattle.std.specs.Fmt.{decimal}
-use Rattle.outside.specs.Files.{Files, contents_of, with_file}
+use Rattle.outside.specs.Files.{Files, with_file}
 use Rattle.lexicon_definitions.specs.Lexicons.{RuleSet, Lexicon}
 use Rattle.lexicon_definitions.specs.Limits.{count_lines}
-use Rattle.lexicon_text_definitions.specs.declared.limits.TheConstants.{MOST_FILE_BYTES}
 use Rattle.lexicon_text_definitions.specs.LexiconTexts.{text_of}
 use Rattle.segmentation_definitions.specs.PrintedAnswers.{output_line}
 use Rattle.morphology_definitions.specs.Inflection.{Class, Stem}
@@ -14,27 +13,23 @@ use Rattle.paradigm_file_definitions.specs.TableFiles.{tables_of}
 use Rattle.paradigm_file_definitions.specs.StemFaults.{StemWhy, Limit}
 use Rattle.paradigm_file_definitions.specs.StemFiles.{stems_of}
 use Rattle.paradigm_file_definitions.specs.Records.{FileResult}
-use Rattle.run_definitions.specs.Commands.{FileWord}
-use Rattle.run_definitions.specs.Ends.{Outcome, AnyFault, Large, Rules, Tables, Stems, Done, ReadFault, BadFile, outcome_over}
-use Rattle.run_definitions.specs.Refusals.{file_refusal}
+use Rattle.run_definitions.specs.Arguments.{FileWord, AreNamed}
+use Rattle.run_definitions.specs.Ends.{Outcome, AnyFault, Rules, Tables, Stems, Done, BadFile, outcome_over}
+use Rattle.run_definitions.specs.Refusals.{file_refusal, usage_outcome}
+use Rattle.run_definitions.specs.SourceTells.{SourceTells, DoesTellSource, IsOutcomeAfter}
 use Rattle.run_definitions.specs.SourceLexicons.{IsLexiconOf, IsOversized, FitsFile}
 
--- what a source file tells: that it is not there, why it is refused, or what it holds
-pub data SourceTells (A : Type 0) : Type 0 where
-  Missing : SourceTells A
-  Refused : (fault : AnyFault) → SourceTells A
-  Holds : (held : A) → SourceTells A
+-- ---- the words
 
--- the file under the name tells this, where its bytes are read in this way and its faults have this name
-pub data DoesTellSource {A Fault : Type 0} (is_read : List ℕ → Result A Fault → Type 0) (named : Fault → AnyFault) (files : Files)
-    (name : List ℕ) (tells : SourceTells A) : Type 0 where
-  IsMissing : contents_of files name ≡ None → tells ≡ Missing → DoesTellSource is_read named files name tells
-  IsLarge : (bytes : List ℕ) → contents_of files name ≡ Some bytes → MOST_FILE_BYTES < length bytes → tells ≡ Refused Large
-      → DoesTellSource is_read named files name tells
-  IsFaulty : (bytes : List ℕ) → contents_of files name ≡ Some bytes → length bytes ≤ MOST_FILE_BYTES → (fault : Fault)
-      → is_read bytes (Err fault) → tells ≡ Refused (named fault) → DoesTellSource is_read named files name tells
-  IsSound : (bytes : List ℕ) → contents_of files name ≡ Some bytes → length bytes ≤ MOST_FILE_BYTES → (held : A)
-      → is_read bytes (Ok held) → tells ≡ Holds held → DoesTellSource is_read named files name tells
+-- it takes the names of a rule file, a table file, a stem file and a file to write
+abbrev pub TakesBuild : FileWord → FileWord → FileWord → FileWord → List (List ℕ) → List FileWord → Type 0
+TakesBuild rules tables stems out values arguments = (values ≡ []) × (arguments ≡ rules ∷ tables ∷ stems ∷ out ∷ [])
+
+-- the words are those of `build` with these names
+abbrev pub AreBuildWords : FileWord → FileWord → FileWord → FileWord → List (List ℕ) → Type 0
+AreBuildWords rules tables stems out words = AreNamed (codes "build") (TakesBuild rules tables stems out) words
+
+-- ---- the outcome
 
 -- the bytes of a table file over these names of phases are read as these classes, or have this first fault
 abbrev pub AreTables : List (List ℕ) → List ℕ → FileResult (List Class) TableWhy → Type 0
@@ -55,13 +50,6 @@ TablesTell rules files name tells = DoesTellSource (AreTables rules.names) Table
 -- what the stem file tells, over the classes of the table file
 abbrev pub StemsTell : List Class → Files → List ℕ → SourceTells (List Stem) → Type 0
 StemsTell classes files name tells = DoesTellSource (AreStems classes) Stems files name tells
-
--- by what a source file tells: nothing is written, its refusal is, or it goes on with what the file holds
-abbrev pub IsOutcomeAfter : {A : Type 0} → SourceTells A → FileWord → Files → Outcome → (A → Type 0) → Type 0
-IsOutcomeAfter Missing word files outcome following = outcome ≡ outcome_over files [] ReadFault
-IsOutcomeAfter (Refused fault) word files outcome following =
-    outcome ≡ outcome_over files (file_refusal word.name fault) (BadFile word.place fault)
-IsOutcomeAfter (Holds held) word files outcome following = following held
 
 -- the fault of a stem file of which no record is at fault, but whose lexicon is too large
 abbrev pub lexicon_fault : AnyFault
@@ -107,3 +95,12 @@ pub record IsBuildOutcome (rules tables stems out : FileWord) (files : Files) (o
   pub tells : SourceTells RuleSet
   pub do_tell : RulesTell files rules.name tells
   pub is_outcome : IsOutcomeAfter tells rules files outcome (λ set. IsTablesOutcome set tables stems out files outcome)
+
+-- ---- the run
+
+-- the outcome of a run whose first word is `build`: that of the command, or where the words are not its words `usage`
+pub data IsBuildRun (words : List (List ℕ)) (files : Files) (outcome : Outcome) : Type 0 where
+  OfWords : (rules tables stems out : FileWord) → AreBuildWords rules tables stems out words
+      → IsBuildOutcome rules tables stems out files outcome → IsBuildRun words files outcome
+  OfOthers : ((rules tables stems out : FileWord) → AreBuildWords rules tables stems out words → ⊥)
+      → outcome ≡ usage_outcome files → IsBuildRun words files outcome

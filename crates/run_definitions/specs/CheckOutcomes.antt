@@ -1,13 +1,25 @@
--- What `check` does with the name of a lexicon file (own).
-use Rattle.std.specs.Prelude.{◌≡◌, Bool, List, []}
+-- The words of `check`, and what it does with the name of a lexicon file (own).
+use Rattle.std.specs.Prelude.{◌≡◌, ℕ, Bool, List, [], ◌∷◌, codes}
 use Rattle.outside.specs.Files.{Files}
 use Rattle.lexicon_definitions.specs.Lexicons.{Lexicon}
 use Rattle.run_definitions.specs.declared.limits.TheConstants.{CHECK_OVERLAPS}
-use Rattle.run_definitions.specs.Commands.{FileWord}
+use Rattle.run_definitions.specs.Arguments.{FileWord, AreNamed}
 use Rattle.run_definitions.specs.Ends.{Outcome, Done, ReadFault, BadFile, outcome_over}
-use Rattle.run_definitions.specs.Refusals.{file_refusal}
-use Rattle.run_definitions.specs.SegmentOutcomes.{FileTells, NotThere, Refused, Holds, DoesTell}
+use Rattle.run_definitions.specs.Refusals.{file_refusal, usage_outcome}
+use Rattle.run_definitions.specs.LexiconTells.{FileTells, NotThere, Refused, Holds, DoesTell}
 use Rattle.run_definitions.specs.Overlaps.{Overlap, AreFirstOverlaps, printed_check}
+
+-- ---- the words
+
+-- it takes the name of a lexicon file
+abbrev pub TakesCheck : FileWord → List (List ℕ) → List FileWord → Type 0
+TakesCheck lex values arguments = (values ≡ []) × (arguments ≡ lex ∷ [])
+
+-- the words are those of `check` with this name
+abbrev pub AreCheckWords : FileWord → List (List ℕ) → Type 0
+AreCheckWords lex words = AreNamed (codes "check") (TakesCheck lex) words
+
+-- ---- the outcome
 
 -- the counts of the lexicon and its first overlaps are written
 pub record IsOverlapsOutcome (lexicon : Lexicon) (files : Files) (outcome : Outcome) : Type 0 where
@@ -28,3 +40,10 @@ pub record IsCheckOutcome (lex : FileWord) (files : Files) (outcome : Outcome) :
   pub tells : FileTells
   pub does_tell : DoesTell files lex.name tells
   pub is_outcome : IsCheckOutcomeWith tells lex files outcome
+
+-- ---- the run
+
+-- the outcome of a run whose first word is `check`: that of the command, or where the words are not its words `usage`
+pub data IsCheckRun (words : List (List ℕ)) (files : Files) (outcome : Outcome) : Type 0 where
+  OfWords : (lex : FileWord) → AreCheckWords lex words → IsCheckOutcome lex files outcome → IsCheckRun words files outcome
+  OfOthers : ((lex : FileWord) → AreCheckWords lex words → ⊥) → outcome ≡ usage_outcome files → IsCheckRun words files outcome

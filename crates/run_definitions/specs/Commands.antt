@@ -1,15 +1,16 @@
 -- The words of a run, and the commands that they are (own).
-use Rattle.std.specs.Prelude.{◌≡◌, ℕ, ◌≤◌, if◌then◌else◌, List, [], ◌∷◌, length, codes, All, Option, None, Some}
-use Rattle.std.specs.Str.Parse.{digits_value}
-use Rattle.text_definitions.specs.Schemes.{Scheme, Slp1, Wx, Velthuis, Devanagari}
-use Rattle.session_definitions.specs.Requests.{are_digits_up_to, page_size_of}
-use Rattle.run_definitions.specs.declared.limits.TheConstants.{MOST_WORD_BYTES}
-use Rattle.run_definitions.specs.Arguments as arguments
-use Rattle.run_definitions.specs.Arguments.{HaveArguments}
-
--- a word that may name a file, with its place
-abbrev pub FileWord : Type 0
-FileWord = arguments.FileWord
+use Rattle.std.specs.Prelude.{◌≡◌, ℕ, List, [], ◌∷◌, codes, Option, None, Some}
+use Rattle.text_definitions.specs.Schemes.{Scheme}
+use Rattle.run_definitions.specs.Arguments.{AreNamed}
+pub use Rattle.run_definitions.specs.Arguments.{FileWord}
+pub use Rattle.run_definitions.specs.SchemeNames.{GiveScheme}
+use Rattle.run_definitions.specs.SegmentOutcomes.{TakesSegment}
+use Rattle.run_definitions.specs.CheckOutcomes.{TakesCheck}
+use Rattle.run_definitions.specs.BuildOutcomes.{TakesBuild}
+use Rattle.run_definitions.specs.ReadOutcomes.{TakesRead}
+use Rattle.run_definitions.specs.BatchOutcomes.{TakesBatch}
+use Rattle.run_definitions.specs.DemoOutcomes.{TakesDemo}
+pub use Rattle.run_definitions.specs.DemoOutcomes.{demo_number_of}
 
 -- a command with its arguments
 pub data Command : Type 0 where
@@ -47,19 +48,6 @@ ReadsInput (Read lex) = Unit {0}
 ReadsInput (Batch lex scheme file count) = ⊥
 ReadsInput (Demo number) = ⊥
 
--- the word that names the scheme
-abbrev pub name_of_scheme : Scheme → List ℕ
-name_of_scheme Slp1 = codes "slp1"
-name_of_scheme Wx = codes "wx"
-name_of_scheme Velthuis = codes "velthuis"
-name_of_scheme Devanagari = codes "devanagari"
-
--- the values of `--in` give the scheme: at most one of them, which is its name, and none gives SLP1
-abbrev pub GiveScheme : List (List ℕ) → Scheme → Type 0
-GiveScheme [] scheme = scheme ≡ Slp1
-GiveScheme (value ∷ []) scheme = value ≡ name_of_scheme scheme
-GiveScheme (value ∷ other ∷ values) scheme = ⊥
-
 -- the first word of a command
 abbrev pub name_of_command : Command → List ℕ
 name_of_command (Segment lex scheme text) = codes "segment"
@@ -69,43 +57,18 @@ name_of_command (Read lex) = codes "read"
 name_of_command (Batch lex scheme file count) = codes "batch"
 name_of_command (Demo number) = codes "demo"
 
--- the arguments of `batch`: a lexicon file, the name of a scheme, a text file, and how many answers a page may have
-pub record AreBatchArguments (lex : FileWord) (scheme : Scheme) (file : FileWord) (count : ℕ) (arguments : List FileWord) : Type 0 where
-  pub named : FileWord
-  pub counted : FileWord
-  pub are : arguments ≡ lex ∷ named ∷ file ∷ counted ∷ []
-  pub names : named.name ≡ name_of_scheme scheme
-  pub counts : page_size_of counted.name ≡ Some count
-
--- the number that one to eighteen digits write
-abbrev pub demo_number_of : List ℕ → Option ℕ
-demo_number_of text = if are_digits_up_to 18 text then Some (digits_value 10 text) else None
-
--- the argument of `demo`: a number
-pub record AreDemoArguments (number : ℕ) (arguments : List FileWord) : Type 0 where
-  pub word : FileWord
-  pub are : arguments ≡ word ∷ []
-  pub is : demo_number_of word.name ≡ Some number
-
 -- these values of `--in` and these arguments are the command's
 abbrev pub Takes : Command → List (List ℕ) → List FileWord → Type 0
-Takes (Segment lex scheme text) values arguments =
-    GiveScheme values scheme × ((place : ℕ) × (arguments ≡ lex ∷ record { place = place; name = text } ∷ []))
-Takes (Check lex) values arguments = (values ≡ []) × (arguments ≡ lex ∷ [])
-Takes (Build rules tables stems out) values arguments = (values ≡ []) × (arguments ≡ rules ∷ tables ∷ stems ∷ out ∷ [])
-Takes (Read lex) values arguments = (values ≡ []) × (arguments ≡ lex ∷ [])
-Takes (Batch lex scheme file count) values arguments = (values ≡ []) × AreBatchArguments lex scheme file count arguments
-Takes (Demo number) values arguments = (values ≡ []) × AreDemoArguments number arguments
+Takes (Segment lex scheme text) values arguments = TakesSegment lex scheme text values arguments
+Takes (Check lex) values arguments = TakesCheck lex values arguments
+Takes (Build rules tables stems out) values arguments = TakesBuild rules tables stems out values arguments
+Takes (Read lex) values arguments = TakesRead lex values arguments
+Takes (Batch lex scheme file count) values arguments = TakesBatch lex scheme file count values arguments
+Takes (Demo number) values arguments = TakesDemo number values arguments
 
--- the words are those of the command: its name, and words that give what it takes, of which none is too long
-pub record AreWordsOf (command : Command) (words : List (List ℕ)) : Type 0 where
-  pub following : List (List ℕ)
-  pub are : words ≡ name_of_command command ∷ following
-  pub within_limit : All (λ word. length word ≤ MOST_WORD_BYTES) following
-  pub values : List (List ℕ)
-  pub given : List FileWord
-  pub have : HaveArguments following values given
-  pub takes : Takes command values given
+-- the words are those of the command
+abbrev pub AreWordsOf : Command → List (List ℕ) → Type 0
+AreWordsOf command words = AreNamed (name_of_command command) (Takes command) words
 
 -- the words are those of no command
 abbrev pub AreOfNoCommand : List (List ℕ) → Type 0
@@ -123,6 +86,6 @@ WriteNoFile words = (out : FileWord) → DoWrite words out → ⊥
 abbrev pub DoReadInput : List (List ℕ) → Type 0
 DoReadInput words = (command : Command) × AreWordsOf command words × ReadsInput command
 
--- where the words are of a command that reads the input, this is told
-abbrev pub IsToldWhereRead : List (List ℕ) → Option (List ℕ) → Type 0
-IsToldWhereRead words input = DoReadInput words → (bytes : List ℕ) × (input ≡ Some bytes)
+-- the words are of no command that reads a file
+abbrev pub ReadNoFile : List (List ℕ) → Type 0
+ReadNoFile words = (command : Command) → AreWordsOf command words → files_of command ≡ []

@@ -1,7 +1,8 @@
--- What `demo` does with a number: it makes source files and a text of the number, and tells how large their lexicon is and how many
+-- The words of `demo`, and what it does with a number: it makes source files and a text of the number, and tells how large their lexicon is and how many
 -- answers the text has (own).
-use Rattle.std.specs.Prelude.{◌≡◌, ℕ, ◌++◌, Bool, List, [], length, Ok, codes}
+use Rattle.std.specs.Prelude.{◌≡◌, ℕ, ◌++◌, Bool, if◌then◌else◌, List, [], ◌∷◌, length, Option, Some, None, Ok, codes}
 use Rattle.std.specs.Fmt.{decimal}
+use Rattle.std.specs.Str.Parse.{digits_value}
 use Rattle.outside.specs.Files.{Files}
 use Rattle.text_definitions.specs.Lines.{Line}
 use Rattle.text_definitions.specs.Schemes.{Slp1}
@@ -18,8 +19,33 @@ use Rattle.paradigm_file_definitions.specs.StemFiles.{stems_of}
 use Rattle.demo_definitions.specs.declared.limits.TheConstants.{DEMO_PAGE}
 use Rattle.demo_definitions.specs.DrawnTexts.{text_of_number}
 use Rattle.demo_definitions.specs.SourceTexts.{demo_rules, demo_tables, demo_stems}
+use Rattle.text_definitions.specs.TypedNumbers.{are_digits_up_to}
+use Rattle.run_definitions.specs.Arguments.{FileWord, AreNamed}
 use Rattle.run_definitions.specs.Ends.{Outcome, Done, outcome_over}
+use Rattle.run_definitions.specs.Refusals.{usage_outcome}
 use Rattle.run_definitions.specs.SourceLexicons.{IsLexiconOf}
+
+-- ---- the words
+
+-- the number that one to eighteen digits write
+abbrev pub demo_number_of : List ℕ → Option ℕ
+demo_number_of text = if are_digits_up_to 18 text then Some (digits_value 10 text) else None
+
+-- the argument of `demo`: a number
+pub record AreDemoArguments (number : ℕ) (arguments : List FileWord) : Type 0 where
+  pub word : FileWord
+  pub are : arguments ≡ word ∷ []
+  pub is : demo_number_of word.name ≡ Some number
+
+-- it takes this argument and no option
+abbrev pub TakesDemo : ℕ → List (List ℕ) → List FileWord → Type 0
+TakesDemo number values arguments = (values ≡ []) × AreDemoArguments number arguments
+
+-- the words are those of `demo` with this number
+abbrev pub AreDemoWords : ℕ → List (List ℕ) → Type 0
+AreDemoWords number words = AreNamed (codes "demo") (TakesDemo number) words
+
+-- ---- the outcome
 
 -- what is told of the input of a number: its stems, the lines of forms of its lexicon, the letters of its text, the answers on the
 -- page of the text, and whether one is left after them
@@ -66,3 +92,10 @@ pub record IsDemoOutcome (number : ℕ) (files : Files) (outcome : Outcome) : Ty
   pub counts : DemoCounts
   pub are_counts : AreDemoCounts number counts
   pub is : outcome ≡ outcome_over files (printed_demo counts) Done
+
+-- ---- the run
+
+-- the outcome of a run whose first word is `demo`: that of the command, or where the words are not its words `usage`
+pub data IsDemoRun (words : List (List ℕ)) (files : Files) (outcome : Outcome) : Type 0 where
+  OfWords : (number : ℕ) → AreDemoWords number words → IsDemoOutcome number files outcome → IsDemoRun words files outcome
+  OfOthers : ((number : ℕ) → AreDemoWords number words → ⊥) → outcome ≡ usage_outcome files → IsDemoRun words files outcome

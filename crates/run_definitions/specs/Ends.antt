@@ -35,3 +35,12 @@ pub record Outcome : Type 0 where
 -- what a run writes that leaves the files as they were
 abbrev pub outcome_over : Files → List ℕ → End → Outcome
 outcome_over files output end = record { output = output; files = files; end = end }
+
+-- the exit status of a run that ends so
+abbrev pub status_of_end : End → ℕ
+status_of_end Done = 0
+status_of_end Usage = 2
+status_of_end ReadFault = 3
+status_of_end (BadFile word fault) = 5
+status_of_end (BadText fault) = 6
+status_of_end TooMuch = 7

@@ -1,7 +1,9 @@
 pub mod Arguments
-pub mod Commands
+pub mod SchemeNames
 pub mod Ends
 pub mod Refusals
+pub mod LexiconTells
+pub mod SourceTells
 pub mod SegmentOutcomes
 pub mod Overlaps
 pub mod CheckOutcomes
@@ -10,4 +12,5 @@ pub mod BuildOutcomes
 pub mod DemoOutcomes
 pub mod ReadOutcomes
 pub mod BatchOutcomes
+pub mod Commands
 pub mod Outcomes

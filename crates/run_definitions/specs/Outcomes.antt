@@ -1,11 +1,10 @@
 -- The outcome of a run of the program: what it writes, the files afterwards, and how it ends (own). Words of no command
 -- come first; then each command has its case.
-use Rattle.std.specs.Prelude.{◌≡◌, ℕ, List, Option, codes}
+use Rattle.std.specs.Prelude.{◌≡◌, ℕ, List, Option}
 use Rattle.outside.specs.Files.{Files}
-use Rattle.segmentation_definitions.specs.PrintedAnswers.{output_line}
 use Rattle.run_definitions.specs.Commands.{Command, Segment, Check, Build, Read, Batch, Demo, AreWordsOf, AreOfNoCommand}
 use Rattle.run_definitions.specs.Ends as ends
-use Rattle.run_definitions.specs.Ends.{outcome_over}
+use Rattle.run_definitions.specs.Refusals.{usage_outcome}
 use Rattle.run_definitions.specs.SegmentOutcomes.{IsSegmentOutcome}
 use Rattle.run_definitions.specs.CheckOutcomes.{IsCheckOutcome}
 use Rattle.run_definitions.specs.BuildOutcomes.{IsBuildOutcome}
@@ -15,10 +14,6 @@ use Rattle.run_definitions.specs.DemoOutcomes.{IsDemoOutcome}
 
 abbrev pub Outcome : Type 0
 Outcome = ends.Outcome
-
--- what words of no command do: `usage` is written
-abbrev pub usage_outcome : Files → Outcome
-usage_outcome files = outcome_over files (output_line (codes "usage")) ends.Usage
 
 -- the outcome of the command over these files and this input, which is None where the source does not tell it
 abbrev pub IsOutcomeOf : Command → Files → Option (List ℕ) → Outcome → Type 0

@@ -1,5 +1,5 @@
--- What `read` does with the name of a lexicon file and the input (own).
-use Rattle.std.specs.Prelude.{◌≡◌, ℕ, ◌++◌, List, [], Option, Some}
+-- The words of `read`, and what it does with the name of a lexicon file and the input (own).
+use Rattle.std.specs.Prelude.{◌≡◌, ℕ, ◌++◌, List, [], ◌∷◌, Option, Some, codes}
 use Rattle.outside.specs.Files.{Files}
 use Rattle.lexicon_definitions.specs.Lexicons.{Lexicon}
 use Rattle.lexicon_text_definitions.specs.FileLines.{Line}
@@ -8,10 +8,28 @@ use Rattle.session_definitions.specs.States.{opening}
 use Rattle.session_definitions.specs.Replies.{After}
 use Rattle.session_definitions.specs.Sessions as sessions
 use Rattle.session_definitions.specs.Sessions.{AreReplies, IsSession}
-use Rattle.run_definitions.specs.Commands.{FileWord}
+use Rattle.run_definitions.specs.Arguments.{FileWord, AreNamed}
 use Rattle.run_definitions.specs.Ends.{Outcome, End, Done, TooMuch, ReadFault, BadFile, outcome_over}
-use Rattle.run_definitions.specs.Refusals.{file_refusal}
-use Rattle.run_definitions.specs.SegmentOutcomes.{FileTells, NotThere, Refused, Holds, DoesTell}
+use Rattle.run_definitions.specs.Refusals.{file_refusal, usage_outcome}
+use Rattle.run_definitions.specs.LexiconTells.{FileTells, NotThere, Refused, Holds, DoesTell}
+
+-- ---- the words
+
+-- it takes the name of a lexicon file
+abbrev pub TakesRead : FileWord → List (List ℕ) → List FileWord → Type 0
+TakesRead lex values arguments = (values ≡ []) × (arguments ≡ lex ∷ [])
+
+-- the words are those of `read` with this name
+abbrev pub AreReadWords : FileWord → List (List ℕ) → Type 0
+AreReadWords lex words = AreNamed (codes "read") (TakesRead lex) words
+
+-- where the words are those of `read` and its file has a lexicon, the input is told
+abbrev pub IsToldWhereServed : List (List ℕ) → Files → Option (List ℕ) → Type 0
+IsToldWhereServed words files input =
+    (lex : FileWord) (lexicon : Lexicon) → AreReadWords lex words → DoesTell files lex.name (Holds lexicon)
+    → (bytes : List ℕ) × (input ≡ Some bytes)
+
+-- ---- the outcome
 
 -- how a run ends with the session that it served
 abbrev pub end_with : sessions.End → End
@@ -39,6 +57,15 @@ pub record IsReadOutcome (lex : FileWord) (files : Files) (input : Option (List 
   pub tells : FileTells
   pub does_tell : DoesTell files lex.name tells
   pub is_outcome : IsReadOutcomeWith tells lex files input outcome
+
+-- ---- the run
+
+-- the outcome of a run whose first word is `read`: that of the command, or where the words are not its words `usage`
+pub data IsReadRun (words : List (List ℕ)) (files : Files) (input : Option (List ℕ)) (outcome : Outcome) : Type 0 where
+  OfWords : (lex : FileWord) → AreReadWords lex words → IsReadOutcome lex files input outcome → IsReadRun words files input outcome
+  OfOthers : ((lex : FileWord) → AreReadWords lex words → ⊥) → outcome ≡ usage_outcome files → IsReadRun words files input outcome
+
+-- ---- what is written where a run stops
 
 -- these are the replies to some of the first lines of the told input
 pub record AreFirstReplies (lexicon : Lexicon) (input : Option (List ℕ)) (output : List ℕ) : Type 0 where

@@ -1,8 +1,8 @@
--- The lines in which files and texts are refused (own).
+-- The lines in which words, files and texts are refused (own).
 use Rattle.std.specs.Prelude.{ℕ, List, ◌++◌, codes}
 use Rattle.std.specs.Fmt.{decimal}
-use Rattle.text_definitions.specs.Spellings.{SpellingFault, NotLetter, LoneSign, NotUtf8}
-use Rattle.text_definitions.specs.LineTexts.{LineFault, Misspelled, NoLetters, TooLong}
+use Rattle.outside.specs.Files.{Files}
+use Rattle.text_definitions.specs.LineTexts.{LineFault, Misspelled, NoLetters, TooLong, place_of}
 use Rattle.lexicon_text_definitions.specs.FileFaults as file
 use Rattle.lexicon_text_definitions.specs.FileFaults.{Why}
 use Rattle.segmentation_definitions.specs.PrintedAnswers.{output_line}
@@ -10,7 +10,12 @@ use Rattle.rule_file_definitions.specs.EntryWhys as entry
 use Rattle.rule_file_definitions.specs.RuleFileFaults as rule_file
 use Rattle.paradigm_file_definitions.specs.TableFaults as table
 use Rattle.paradigm_file_definitions.specs.StemFaults as stem
-use Rattle.run_definitions.specs.Ends.{AnyFault, Large, Lexicon, Rules, Tables, Stems}
+use Rattle.run_definitions.specs.Ends as ends
+use Rattle.run_definitions.specs.Ends.{AnyFault, Large, Lexicon, Rules, Tables, Stems, Outcome, outcome_over}
+
+-- what words of no command do: `usage` is written
+abbrev pub usage_outcome : Files → Outcome
+usage_outcome files = outcome_over files (output_line (codes "usage")) ends.Usage
 
 -- the name of a reason, without what it carries
 abbrev pub name_of_why : Why → List ℕ
@@ -81,14 +86,8 @@ file_refusal name (Tables fault) =
 file_refusal name (Stems fault) =
     output_line (codes "bad file " ++ name ++ record_refusal fault.number (name_of_stem_why fault.why))
 
--- the place of a fault of spelling
-abbrev pub place_of_fault : SpellingFault → ℕ
-place_of_fault (NotLetter at) = at
-place_of_fault (LoneSign at) = at
-place_of_fault (NotUtf8 at) = at
-
 -- `bad text spelling AT`, `bad text no letters` or `bad text too long`
 abbrev pub text_refusal : LineFault → List ℕ
-text_refusal (Misspelled fault) = output_line (codes "bad text spelling " ++ decimal (place_of_fault fault))
+text_refusal (Misspelled fault) = output_line (codes "bad text spelling " ++ decimal (place_of fault))
 text_refusal NoLetters = output_line (codes "bad text no letters")
 text_refusal TooLong = output_line (codes "bad text too long")

@@ -1,37 +1,32 @@
--- What `segment` does with the name of a lexicon file and a text in a scheme (own).
-use Rattle.std.specs.Prelude.{◌≡◌, ℕ, ◌<◌, ◌≤◌, Bool, List, [], length, Some, None, Ok, Err}
-use Rattle.outside.specs.Files.{Files, contents_of}
+-- The words of `segment`, and what it does with the name of a lexicon file and a text in a scheme (own).
+use Rattle.std.specs.Prelude.{◌≡◌, ℕ, Bool, List, [], ◌∷◌, Ok, Err, codes}
+use Rattle.outside.specs.Files.{Files}
 use Rattle.text_definitions.specs.Lines.{Line}
 use Rattle.text_definitions.specs.Schemes.{Scheme}
 use Rattle.text_definitions.specs.LineTexts.{LineFault, line_of_text}
 use Rattle.lexicon_definitions.specs.Lexicons.{Lexicon}
-use Rattle.lexicon_text_definitions.specs.declared.limits.TheConstants.{MOST_FILE_BYTES}
-use Rattle.lexicon_text_definitions.specs.FileFaults.{FileFault}
-use Rattle.lexicon_text_definitions.specs.FileReadings.{IsReadAs}
 use Rattle.segmentation_definitions.specs.Derivations.{Step}
 use Rattle.segmentation_definitions.specs.Listings.{BeforeFirst, IsPage}
 use Rattle.segmentation_definitions.specs.PrintedAnswers.{printed_page}
 use Rattle.run_definitions.specs.declared.limits.TheConstants.{SEGMENT_PAGE}
-use Rattle.run_definitions.specs.Commands.{FileWord}
-use Rattle.run_definitions.specs.Ends as ends
-use Rattle.run_definitions.specs.Ends.{Outcome, AnyFault, Large, Done, ReadFault, BadFile, BadText, outcome_over}
-use Rattle.run_definitions.specs.Refusals.{file_refusal, text_refusal}
+use Rattle.run_definitions.specs.Arguments.{FileWord, AreNamed}
+use Rattle.run_definitions.specs.SchemeNames.{GiveScheme}
+use Rattle.run_definitions.specs.Ends.{Outcome, Done, ReadFault, BadFile, BadText, outcome_over}
+use Rattle.run_definitions.specs.Refusals.{file_refusal, text_refusal, usage_outcome}
+use Rattle.run_definitions.specs.LexiconTells.{FileTells, NotThere, Refused, Holds, DoesTell}
 
--- what a file of this name tells: that it is not there, that it is too large, its first fault, or its lexicon
-pub data FileTells : Type 0 where
-  NotThere : FileTells
-  Refused : (fault : AnyFault) → FileTells
-  Holds : (lexicon : Lexicon) → FileTells
+-- ---- the words
 
--- the file under the name tells this
-pub data DoesTell (files : Files) (name : List ℕ) (tells : FileTells) : Type 0 where
-  IsMissing : contents_of files name ≡ None → tells ≡ NotThere → DoesTell files name tells
-  IsLarge : (bytes : List ℕ) → contents_of files name ≡ Some bytes → MOST_FILE_BYTES < length bytes → tells ≡ Refused Large
-      → DoesTell files name tells
-  IsFaulty : (bytes : List ℕ) → contents_of files name ≡ Some bytes → length bytes ≤ MOST_FILE_BYTES → (fault : FileFault)
-      → IsReadAs bytes (Err fault) → tells ≡ Refused (ends.Lexicon fault) → DoesTell files name tells
-  IsLexicon : (bytes : List ℕ) → contents_of files name ≡ Some bytes → length bytes ≤ MOST_FILE_BYTES → (lexicon : Lexicon)
-      → IsReadAs bytes (Ok lexicon) → tells ≡ Holds lexicon → DoesTell files name tells
+-- it takes a scheme, the name of a lexicon file and a text
+abbrev pub TakesSegment : FileWord → Scheme → List ℕ → List (List ℕ) → List FileWord → Type 0
+TakesSegment lex scheme text values arguments =
+    GiveScheme values scheme × ((place : ℕ) × (arguments ≡ lex ∷ record { place = place; name = text } ∷ []))
+
+-- the words are those of `segment` with these
+abbrev pub AreSegmentWords : FileWord → Scheme → List ℕ → List (List ℕ) → Type 0
+AreSegmentWords lex scheme text words = AreNamed (codes "segment") (TakesSegment lex scheme text) words
+
+-- ---- the outcome
 
 -- the page of a lexicon and a line before the first answer is written
 pub record IsPageOutcome (lexicon : Lexicon) (line : Line) (files : Files) (outcome : Outcome) : Type 0 where
@@ -59,3 +54,12 @@ pub record IsSegmentOutcome (lex : FileWord) (scheme : Scheme) (text : List ℕ)
   pub tells : FileTells
   pub does_tell : DoesTell files lex.name tells
   pub is_outcome : IsOutcomeWith tells lex scheme text files outcome
+
+-- ---- the run
+
+-- the outcome of a run whose first word is `segment`: that of the command, or where the words are not its words `usage`
+pub data IsSegmentRun (words : List (List ℕ)) (files : Files) (outcome : Outcome) : Type 0 where
+  OfWords : (lex : FileWord) (scheme : Scheme) (text : List ℕ) → AreSegmentWords lex scheme text words
+      → IsSegmentOutcome lex scheme text files outcome → IsSegmentRun words files outcome
+  OfOthers : ((lex : FileWord) (scheme : Scheme) (text : List ℕ) → AreSegmentWords lex scheme text words → ⊥)
+      → outcome ≡ usage_outcome files → IsSegmentRun words files outcome

@@ -6,15 +6,15 @@ use Rattle.outside.proofs.ToldLemmas.{GrowsByPrefix-all}
 use Rattle.text_definitions.specs.Schemes.{Scheme}
 use Rattle.lexicon_definitions.specs.Lexicons.{Lexicon}
 use Rattle.lexicon_text_definitions.specs.FileLines.{lines_of_bytes}
-use Rattle.batch_replies.specs.Serving.{WroteReplies, WroteFirstReplies}
+use Rattle.batch_reader.specs.Serving.{WroteReplies, WroteFirstReplies}
 use Rattle.lexicon_text_definitions.specs.declared.limits.TheConstants.{MOST_FILE_BYTES}
 use Rattle.run_definitions.specs.Commands.{FileWord}
 use Rattle.run_definitions.specs.Ends as ends
 use Rattle.run_definitions.specs.Ends.{Outcome, outcome_over}
 use Rattle.run_definitions.specs.Refusals.{file_refusal}
-use Rattle.run_definitions.specs.SegmentOutcomes as lexicons
-use Rattle.run_definitions.specs.SegmentOutcomes.{NotThere, DoesTell}
-use Rattle.run_definitions.specs.BuildOutcomes.{Missing, Refused, Holds, IsMissing, IsLarge, IsSound}
+use Rattle.run_definitions.specs.LexiconTells as lexicons
+use Rattle.run_definitions.specs.LexiconTells.{NotThere, DoesTell}
+use Rattle.run_definitions.specs.SourceTells.{Missing, Refused, Holds, IsMissing, IsLarge, IsSound}
 use Rattle.run_definitions.specs.BatchOutcomes.{TextTells, IsTextOutcome, IsBatchOutcome, IsBatchSoFar}
 use Rattle.sandhi_program.specs.declared.status.Status.{Status}
 use Rattle.sandhi_program.specs.declared.status.Status.TheVariants.{Done, Usage, BadFile}

@@ -10,7 +10,8 @@ use Rattle.run_definitions.specs.Commands.{FileWord}
 use Rattle.run_definitions.specs.Ends as ends
 use Rattle.run_definitions.specs.Ends.{Outcome, outcome_over}
 use Rattle.run_definitions.specs.Refusals.{file_refusal}
-use Rattle.run_definitions.specs.BuildOutcomes.{Missing, Refused, Holds, DoesTellSource, IsMissing, IsLarge, IsFaulty, IsSound, AreTables, AreStems, OfLimit, OfText, IsLexiconOutcome, IsStemsOutcome, IsTablesOutcome, IsBuildOutcome, lexicon_fault}
+use Rattle.run_definitions.specs.SourceTells.{Missing, Refused, Holds, DoesTellSource, IsMissing, IsLarge, IsFaulty, IsSound}
+use Rattle.run_definitions.specs.BuildOutcomes.{AreTables, AreStems, OfLimit, OfText, IsLexiconOutcome, IsStemsOutcome, IsTablesOutcome, IsBuildOutcome, lexicon_fault}
 use Rattle.sandhi_program.specs.declared.status.Status.TheVariants.{Done, Usage, BadFile}
 use Rattle.sandhi_program.specs.declared.status.AnyFault.{AnyFault}
 use Rattle.sandhi_program.specs.declared.build.Built.{Built}

@@ -4,7 +4,7 @@ use Rattle.outside.specs.Files.{Files, contents_of}
 use Rattle.run_definitions.specs.Commands.{FileWord}
 use Rattle.run_definitions.specs.Ends as ends
 use Rattle.run_definitions.specs.Ends.{outcome_over}
-use Rattle.run_definitions.specs.SegmentOutcomes.{NotThere, Refused, Holds, IsMissing, IsLexicon}
+use Rattle.run_definitions.specs.LexiconTells.{NotThere, Refused, Holds, IsMissing, IsLexicon}
 use Rattle.run_definitions.specs.CheckOutcomes.{IsCheckOutcome}
 use Rattle.lexicon_text_definitions.specs.FileReadings.{IsReadAs}
 use Rattle.lexicon_text_definitions.specs.declared.limits.TheConstants.{MOST_FILE_BYTES}

@@ -8,7 +8,7 @@ use Rattle.text_definitions.specs.Schemes.{Scheme}
 use Rattle.lexicon_definitions.specs.Lexicons.{Lexicon}
 use Rattle.run_definitions.specs.Commands.{Command, Read, Batch, FileWord, AreWordsOf, out_of, DoWrite, WriteNoFile, DoReadInput, IsToldWhereRead}
 use Rattle.run_definitions.specs.Ends as ends
-use Rattle.run_definitions.specs.SegmentOutcomes.{Holds, DoesTell}
+use Rattle.run_definitions.specs.LexiconTells.{Holds, DoesTell}
 use Rattle.run_definitions.specs.ReadOutcomes.{IsReadOutcome}
 use Rattle.run_definitions.specs.BatchOutcomes.{IsBatchOutcome}
 use Rattle.run_definitions.specs.Outcomes.{Outcome, IsOutcome, OfCommand, IsSoFar, OfOne}

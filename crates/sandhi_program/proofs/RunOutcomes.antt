@@ -3,7 +3,8 @@ use Rattle.std.proofs.Common.{◌≡◌, ℕ, List, Option, Some, refl, ap, ◌�
 use Rattle.outside.specs.Files.{Files}
 use Rattle.lexicon_text_definitions.proofs.OneReading.{one_reading}
 use Rattle.run_definitions.specs.Commands.{Command, FileWord, AreWordsOf, AreOfNoCommand, DoWrite, WriteNoFile, files_of, out_of}
-use Rattle.run_definitions.specs.Outcomes.{Outcome, IsOutcome, IsOutcomeOf, OfNoCommand, OfCommand, usage_outcome}
+use Rattle.run_definitions.specs.Outcomes.{Outcome, IsOutcome, IsOutcomeOf, OfNoCommand, OfCommand}
+use Rattle.run_definitions.specs.Refusals.{usage_outcome}
 use Rattle.run_definitions.proofs.OneCommand.{one_command}
 use Rattle.run_definitions.proofs.OneOutcome.{one_outcome}
 use Rattle.sandhi_program.specs.declared.status.Status.{Status}

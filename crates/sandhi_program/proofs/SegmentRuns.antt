@@ -6,7 +6,8 @@ use Rattle.run_definitions.specs.Commands.{FileWord}
 use Rattle.run_definitions.specs.Ends as ends
 use Rattle.run_definitions.specs.Ends.{Outcome, outcome_over}
 use Rattle.run_definitions.specs.SegmentOutcomes as outcomes
-use Rattle.run_definitions.specs.SegmentOutcomes.{IsSegmentOutcome, DoesTell, NotThere, Refused, Holds, IsMissing, IsLarge, IsFaulty, IsLexicon}
+use Rattle.run_definitions.specs.LexiconTells.{DoesTell, NotThere, Refused, Holds, IsMissing, IsLarge, IsFaulty, IsLexicon}
+use Rattle.run_definitions.specs.SegmentOutcomes.{IsSegmentOutcome}
 use Rattle.lexicon_text_definitions.specs.FileReadings.{IsReadAs}
 use Rattle.lexicon_file.specs.Contents.{fault_of}
 use Rattle.lexicon_text_definitions.specs.declared.limits.TheConstants.{MOST_FILE_BYTES}

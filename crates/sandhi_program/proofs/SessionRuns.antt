@@ -13,7 +13,7 @@ use Rattle.reader_session.specs.Served.{IsEnd, WroteSession}
 use Rattle.run_definitions.specs.Commands.{FileWord}
 use Rattle.run_definitions.specs.Ends as ends
 use Rattle.run_definitions.specs.Ends.{outcome_over}
-use Rattle.run_definitions.specs.SegmentOutcomes.{NotThere, Refused, Holds, DoesTell, IsMissing, IsLexicon}
+use Rattle.run_definitions.specs.LexiconTells.{NotThere, Refused, Holds, DoesTell, IsMissing, IsLexicon}
 use Rattle.run_definitions.specs.ReadOutcomes.{end_with, IsReadOutcome, IsReadSoFar}
 use Rattle.sandhi_program.specs.declared.status.Status.{Status}
 use Rattle.sandhi_program.specs.declared.status.Status.TheVariants.{Usage, ReadFault, WriteFault, BadFile}

@@ -4,10 +4,10 @@ use Rattle.outside.specs.Counts.{Rose}
 use Rattle.outside.specs.Files.{Files}
 use Rattle.text_definitions.specs.Schemes.{Scheme}
 use Rattle.lexicon_definitions.specs.Lexicons.{Lexicon}
-use Rattle.batch_replies.specs.Serving.{WroteReplies, WroteFirstReplies}
+use Rattle.batch_reader.specs.Serving.{WroteReplies, WroteFirstReplies}
 use Rattle.run_definitions.specs.Commands.{FileWord}
-use Rattle.run_definitions.specs.SegmentOutcomes.{Holds, DoesTell}
-use Rattle.run_definitions.specs.BuildOutcomes as sources
+use Rattle.run_definitions.specs.LexiconTells.{Holds, DoesTell}
+use Rattle.run_definitions.specs.SourceTells as sources
 use Rattle.run_definitions.specs.BatchOutcomes.{TextTells, IsTextOutcome, IsBatchOutcome}
 use Rattle.sandhi_program.specs.declared.status.Status.{Status}
 use Rattle.sandhi_program.specs.declared.status.Status.TheVariants.{Done, ReadFault, WriteFault}

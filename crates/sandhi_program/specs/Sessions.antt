@@ -11,7 +11,7 @@ use Rattle.reader_session.specs.declared.serve_end.ServeEnd.TheVariants as serve
 use Rattle.reader_session.specs.Served.{IsEnd, WroteSession, WroteFront, RepliedToTaken}
 use Rattle.run_definitions.specs.Commands.{Command, Read, Batch, FileWord, AreWordsOf, DoReadInput, files_of, out_of}
 use Rattle.run_definitions.specs.Refusals.{file_refusal}
-use Rattle.run_definitions.specs.SegmentOutcomes.{Holds, DoesTell}
+use Rattle.run_definitions.specs.LexiconTells.{Holds, DoesTell}
 use Rattle.run_definitions.specs.Outcomes.{IsOutcomeOf}
 use Rattle.sandhi_program.specs.declared.status.Status.{Status}
 use Rattle.sandhi_program.specs.declared.status.Status.TheVariants.{Done, Memory, ReadFault, WriteFault, BadFile, TooMuch}

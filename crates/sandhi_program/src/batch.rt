@@ -11,7 +11,7 @@ use super::reading::read_file;
 use super::segment::SegmentError;
 use super::status::{AnyFault, Status};
 use annotated_trie::Lexicon;
-use batch_replies::Batch;
+use batch_reader::Batch;
 use command_words::BatchWords;
 use lexicon_text_definitions::MOST_FILE_BYTES;
 use outside::{Gate, Shelf, Sink, WriteError};

@@ -7,9 +7,9 @@ ghost use Rattle.sandhi_program.specs.RunEnds.{devices, Ran};
 
 use super::ending::finish;
 use super::status::Status;
+use answer_printing::rest_line;
 use demo_counts::{DemoCounts, count_demo};
 use outside::Sink;
-use page_printing::rest_line;
 use phoneme::Memory;
 use std::alloc::Global;
 use std::thread::Threads;

@@ -6,7 +6,7 @@ ghost use Rattle.run_definitions.specs.Commands.{FileWord, Read, AreWordsOf, Are
 ghost use Rattle.run_definitions.specs.Commands.{DoWrite, WriteNoFile, DoReadInput, IsToldWhereRead};
 ghost use Rattle.command_words.specs.Meant.{command_meant};
 ghost use Rattle.run_definitions.specs.Ends as ends;
-ghost use Rattle.run_definitions.specs.SegmentOutcomes.{Holds, DoesTell};
+ghost use Rattle.run_definitions.specs.LexiconTells.{Holds, DoesTell};
 ghost use Rattle.run_definitions.specs.Outcomes.{Outcome, IsOutcome, IsSoFar};
 ghost use Rattle.sandhi_program.specs.Ends.{WroteAll, WrotePrefix, IsNoFault, MayEndNoCommand};
 ghost use Rattle.sandhi_program.specs.RunEnds.{devices};

@@ -1,2 +1,3 @@
 pub mod LeadSearches
 pub mod PhaseBits
+pub mod TripleLemmas

@@ -1,1 +1,2 @@
 pub mod LeadPlaces
+pub mod Triples

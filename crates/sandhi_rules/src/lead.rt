@@ -43,8 +43,8 @@ impl Lead {
     }
 }
 
-/// Puts the lead of the rule among the leads, in its place, where it is none of them. A final rule has none.
-pub(crate) fn add_lead(alloc: Global, leads: &mut Vec<Lead>, rule: &Rule) -> Result<(), Memory>
+/// Puts the lead of the rule into rising leads, unless it is there. A final rule has none.
+pub fn add_lead(alloc: Global, leads: &mut Vec<Lead>, rule: &Rule) -> Result<(), Memory>
     requires { IsStrictlySortedBy compare_leads leads.old.items }
     ensures ok { OnOk result (leads.new.items ≡ with_lead leads.old.items rule.now.v rule.now.after) }
 {

@@ -1,5 +1,6 @@
-ghost use Rattle.std.specs.Prelude.{◌≡◌, ◌≢◌, ◌<◌, ◌↔◌, [], IsTrue};
-ghost use Rattle.lexicon_definitions.specs.Rules.{IsStrict, IsInner, IsFinal, HasPhase};
+ghost use Rattle.std.specs.Prelude.{◌≡◌, ◌≢◌, ◌<◌, ◌≤◌, ◌^◌, ◌↔◌, [], IsTrue};
+ghost use Rattle.lexicon_definitions.specs.declared.limits.TheConstants.{MOST_PHASES};
+ghost use Rattle.lexicon_definitions.specs.Rules.{IsStrict, IsInner, IsFinal, HasPhase, all_phases as all_phases_of, unlimited_rule};
 
 use lexicon_definitions::MOST_PHASES;
 use phoneme::Word;
@@ -33,7 +34,31 @@ pub(crate) fn has_phase(phases: u16, phase: u32) -> bool
     phase < MOST_PHASES as u32 && (phases >> phase) & 1 == 1
 }
 
+/// The set of the first count phases.
+fn all_phases(count: usize) -> u16
+    requires { count ≤ MOST_PHASES }
+    ensures { result ≡ all_phases_of count }
+{
+    ((1u32 << count) - 1) as u16
+}
+
 impl Rule {
+    /// The rule with this `u`, `v` and `w` that is unlimited over so many phases.
+    pub fn unlimited(count: usize, u: Word, v: Word, w: Word) -> Rule
+        requires { count ≤ MOST_PHASES }
+        ensures { result ≡ unlimited_rule count u v w }
+    {
+        let before = all_phases(count);
+        let after = if v.is_empty() { 0 } else { before };
+        Rule {
+            u,
+            v,
+            w,
+            before,
+            after,
+        }
+    }
+
     /// Whether neither `u` nor `w` is empty, as of every rule of a rule set (Huet 2005).
     pub fn is_strict(&self) -> bool
         ensures { IsTrue result ↔ IsStrict self.now }

@@ -8,9 +8,9 @@ use Rattle.lexicon_definitions.specs.Tries.{Row, walk}
 use Rattle.segmentation_definitions.specs.StepBounds.{looks_at_one}
 use Rattle.derivation.specs.declared.step.Step.{Step}
 use Rattle.annotated_trie.specs.Searched.{SearchedLexicon}
-use Rattle.resumption.specs.declared.frame.TheConstants.{NODES_OF_FRAME}
-use Rattle.resumption.specs.declared.frame.Frame.{Frame}
-use Rattle.resumption.specs.declared.state.Resumption.{Resumption}
+use Rattle.search_frames.specs.declared.frame.TheConstants.{NODES_OF_FRAME}
+use Rattle.search_frames.specs.declared.frame.Frame.{Frame}
+use Rattle.search_frames.specs.declared.resumption.Resumption.{Resumption}
 use Rattle.search_frames.specs.Standings.{rules_in}
 use Rattle.search_frames.specs.Frames.{step_of, frame_of, IsFrame}
 use Rattle.search_frames.specs.Changes.{HasSet}

@@ -24,3 +24,4 @@ pub mod TriedWays
 pub mod PassedKeys
 pub mod ArrivedKeys
 pub mod TurnedKeys
+pub mod TestRules

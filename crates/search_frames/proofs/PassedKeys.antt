@@ -9,7 +9,7 @@ use Rattle.derivation.specs.Steps.{key_of}
 use Rattle.derivation.specs.declared.step.Step.{Step}
 use Rattle.answer_paths.specs.Following.{MayStand}
 use Rattle.annotated_trie.specs.Searched.{SearchedLexicon}
-use Rattle.resumption.specs.declared.state.Resumption.{Resumption}
+use Rattle.search_frames.specs.declared.resumption.Resumption.{Resumption}
 use Rattle.search_frames.specs.declared.place.Place.{Place}
 use Rattle.search_frames.specs.declared.testing.Test.{Test}
 use Rattle.search_frames.specs.Standings.{Standing, IsPossible, LeadsOn, Ends, rules_in}

@@ -7,9 +7,9 @@ use Rattle.text_definitions.specs.Lines.{Line}
 use Rattle.segmentation_definitions.specs.Listings.{Key}
 use Rattle.derivation.specs.declared.step.Step.{Step}
 use Rattle.annotated_trie.specs.Searched.{SearchedLexicon, IsSearchedLexicon}
-use Rattle.resumption.specs.declared.frame.TheConstants.{NODES_OF_FRAME}
-use Rattle.resumption.specs.declared.frame.Frame.{Frame}
-use Rattle.resumption.specs.declared.state.Resumption.{Resumption}
+use Rattle.search_frames.specs.declared.frame.TheConstants.{NODES_OF_FRAME}
+use Rattle.search_frames.specs.declared.frame.Frame.{Frame}
+use Rattle.search_frames.specs.declared.resumption.Resumption.{Resumption}
 use Rattle.search_frames.specs.declared.place.Place.{Place}
 use Rattle.search_frames.specs.Standings.{IsPossible, rules_in}
 use Rattle.search_frames.specs.Frames.{step_of, frame_of, place_of, here_of, standing_of, node_of, changes_at, IsFrame, HasNothingToTry, HasNoChange, HasPhasesFrom, LeftNode}

@@ -9,9 +9,9 @@ use Rattle.segmentation_definitions.specs.Listings.{Key, compare_keys}
 use Rattle.derivation.specs.Steps.{key_of}
 use Rattle.derivation.specs.declared.step.Step.{Step}
 use Rattle.annotated_trie.specs.Searched.{SearchedLexicon, IsSearchedLexicon}
-use Rattle.resumption.specs.declared.frame.TheConstants.{NODES_OF_FRAME}
-use Rattle.resumption.specs.declared.frame.Frame.{Frame}
-use Rattle.resumption.specs.declared.state.Resumption.{Resumption}
+use Rattle.search_frames.specs.declared.frame.TheConstants.{NODES_OF_FRAME}
+use Rattle.search_frames.specs.declared.frame.Frame.{Frame}
+use Rattle.search_frames.specs.declared.resumption.Resumption.{Resumption}
 use Rattle.search_frames.specs.declared.place.Place.{Place}
 use Rattle.search_frames.specs.Standings.{IsPossible}
 use Rattle.search_frames.specs.Frames.{step_of, frame_of, place_of, here_of, standing_of, key_at, node_of, changes_at, IsUntried, IsFrame, HasLaterToTry, HasNoChange, HasPhasesFrom, WentOn, IsAtKey}

@@ -8,7 +8,7 @@ use Rattle.text_definitions.specs.Lines.{Line}
 use Rattle.segmentation_definitions.specs.Listings.{Key, compare_keys}
 use Rattle.segmentation_definitions.proofs.KeyLists.{compare_keys_exact, compare_keys_total}
 use Rattle.annotated_trie.specs.Searched.{SearchedLexicon}
-use Rattle.resumption.specs.declared.state.Resumption.{Resumption}
+use Rattle.search_frames.specs.declared.resumption.Resumption.{Resumption}
 use Rattle.search_frames.specs.declared.place.Place.{Place}
 use Rattle.search_frames.specs.Standings.{IsPossible}
 use Rattle.search_frames.specs.Frames.{IsUntried, HasAllToTry, HasNothingToTry, WentOn, standing_of, here_of, place_of, key_at}

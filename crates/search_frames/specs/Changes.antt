@@ -4,8 +4,8 @@ use Rattle.lexicon_definitions.specs.declared.limits.TheConstants.{MOST_RULES}
 use Rattle.lexicon_definitions.specs.Tries.{row_of}
 use Rattle.derivation.specs.declared.step.Step.{Step}
 use Rattle.annotated_trie.specs.Choices.{AnnotatedTrie, choices_of}
-use Rattle.resumption.specs.declared.frame.Frame.{Frame}
-use Rattle.resumption.specs.declared.state.Resumption.{Resumption}
+use Rattle.search_frames.specs.declared.frame.Frame.{Frame}
+use Rattle.search_frames.specs.declared.resumption.Resumption.{Resumption}
 use Rattle.search_frames.specs.Frames.{changes_at, step_of, frame_of, ChangesFrom}
 
 -- the change may be made at the node: it is none, and a form ends there; or it is a choice

@@ -12,9 +12,9 @@ use Rattle.derivation.specs.declared.step.Step.{Step}
 use Rattle.derivation.specs.declared.entrance.Entrance.TheVariants as program
 use Rattle.annotated_trie.specs.Choices.{AnnotatedTrie, choices_of}
 use Rattle.answer_paths.specs.Fronts.{supplied}
-use Rattle.resumption.specs.declared.frame.TheConstants.{NODES_OF_FRAME}
-use Rattle.resumption.specs.declared.frame.Frame.{Frame}
-use Rattle.resumption.specs.declared.state.Resumption.{Resumption}
+use Rattle.search_frames.specs.declared.frame.TheConstants.{NODES_OF_FRAME}
+use Rattle.search_frames.specs.declared.frame.Frame.{Frame}
+use Rattle.search_frames.specs.declared.resumption.Resumption.{Resumption}
 use Rattle.search_frames.specs.declared.place.Place.{Place}
 use Rattle.annotated_trie.specs.Searched.{SearchedLexicon}
 use Rattle.search_frames.specs.Standings.{Standing, IsPossible, rules_in}

@@ -1,3 +1,4 @@
+pub mod Copies
 pub mod Standings
 pub mod Frames
 pub mod Tests

@@ -4,7 +4,7 @@ use Rattle.text_definitions.specs.Lines.{Line}
 use Rattle.lexicon_definitions.specs.Lexicons.{rule_of}
 use Rattle.segmentation_definitions.specs.Listings.{Key}
 use Rattle.annotated_trie.specs.Searched.{SearchedLexicon}
-use Rattle.resumption.specs.declared.state.Resumption.{Resumption}
+use Rattle.search_frames.specs.declared.resumption.Resumption.{Resumption}
 use Rattle.search_frames.specs.Standings.{rules_in}
 use Rattle.search_frames.specs.Frames.{IsFrame, IsUntried, changes_at, place_of, step_of}
 

@@ -7,13 +7,13 @@ ghost use Rattle.search_frames.specs.Changes.{MayBeMade, IsPlaceAfter};
 ghost use Rattle.search_frames.specs.Costs.{HasAtMostChoices, steps_from_change, steps_left};
 ghost use Rattle.search_frames.specs.Arrivals.{IsInPhase, IsNextAt};
 
+use super::{Frame, NODES_OF_FRAME, Resumption};
 use super::stepping::{change_from, set_key};
 use super::walking::walk_phase;
 use annotated_trie::Lexicon;
 use derivation::Key;
 use outside::Steps;
 use phoneme::Line;
-use resumption::{Frame, NODES_OF_FRAME, Resumption};
 use shared_trie::Node;
 
 /// Begins the phase, counted from 0, at the frame, which is not past it, unless it has begun it.

@@ -3,11 +3,11 @@ ghost use Rattle.std.specs.Bool.{OnTrue, OnFalse};
 ghost use Rattle.search_frames.specs.Frames.{IsFrame, ChangesFrom, WentOn, HasNothingToTry, still_to_try};
 ghost use Rattle.search_frames.specs.Costs.{HasAtMostChoices, steps_left};
 
+use super::Resumption;
 use super::stepping::{leave_node, next_change};
 use annotated_trie::Lexicon;
 use outside::Steps;
 use phoneme::Line;
-use resumption::Resumption;
 
 /// Brings the frame at the level, counted from 0, to its next key: the first possible one that it has still to try. False where
 /// there is none.

@@ -6,6 +6,7 @@ ghost use Rattle.search_frames.specs.Reached.{IsReached};
 ghost use Rattle.search_frames.specs.Costs.{HasAtMostChoices};
 ghost use Rattle.search_frames.specs.Turns.{HasToTry, IsTurn, HasFallen, HasPaid};
 
+use super::Resumption;
 use super::going_on::go_on;
 use super::place::Place;
 use super::skipping::skip_unwritten;
@@ -15,7 +16,6 @@ use derivation::{Guide, OpenGuide};
 use outside::Steps;
 use phoneme::Line;
 use reader_choices::Choices;
-use resumption::Resumption;
 
 /// What the next key of a frame does: there is none; or it ends the line; or it leads on to another place.
 #[derive(Clone, Copy, Debug, PartialEq, Eq)]

@@ -1,7 +1,8 @@
 //! The frames of a search over tries (own; after the backtracking search of Huet 2005): which keys may follow at a place of
-//! the line, one after another in their order, and whether one leads on or ends the line.
+//! the line, one after another in their order, and whether one leads on or ends the line. The state of a search is a value, which can
+//! be kept and gone on from later (`Resumption`).
 //!
-//! Proved: `open_frame` makes a frame that has everything to try (`all`); `go_on` brings it to its next key, which is the first
+//! Proved: `Resumption::copy` gives the same in every field (`ok`). `open_frame` makes a frame that has everything to try (`all`); `go_on` brings it to its next key, which is the first
 //! of those left, and leaves just those after it, and answers false only where none is left (`went_on`, `nothing`); `seek`
 //! brings it to a given key, or answers false where this is not possible there (`found`, `not_possible`); `go_to` brings it to a
 //! possible key that it has still to try (`at`); `skip_unwritten` leaves out only keys whose rule's `w` does not come next in the
@@ -15,29 +16,39 @@
 
 mod arriving;
 mod entering;
+mod frame;
 mod going_on;
 mod guiding;
 mod letter_testing;
 mod line_tests;
 mod opening;
 mod place;
+mod resumption;
 mod rooms;
 mod seeking;
+mod sharing;
 mod skipping;
+mod stand;
 mod stepping;
 mod testing;
+#[cfg(test)]
+mod tests;
 mod walking;
 mod ways;
 
 pub use arriving::go_to;
+pub use frame::{Frame, NODES_OF_FRAME};
 pub use going_on::go_on;
 pub use guiding::{SearchGuide, ToTry, Turn};
 pub use letter_testing::{LetterTest, test_letters};
 pub use opening::open_frame;
 pub use place::Place;
+pub use resumption::Resumption;
 pub use rooms::new_stack;
 pub use seeking::seek;
+pub use sharing::resumptions_are_shared;
 pub use skipping::skip_unwritten;
+pub use stand::Stand;
 pub use testing::{Test, test_key};
 pub use walking::supplied_letters;
 pub use ways::{Way, push_ways};

@@ -2,13 +2,13 @@ ghost use Rattle.std.specs.Prelude.{◌≡◌, ◌+◌, ◌<◌, ◌≤◌, ℕ,
 ghost use Rattle.search_frames.specs.Frames.{IsStack, IsFrame, IsPlaceIn, HasAllToTry, ChangesFrom, place_of};
 ghost use Rattle.search_frames.specs.Costs.{HasAtMostChoices, steps_left, steps_of_frame};
 
+use super::{Frame, Resumption};
 use super::Place;
 use super::walking::{supplied_letters, walk_phase};
 use annotated_trie::Lexicon;
 use derivation::Step;
 use outside::Steps;
 use phoneme::Line;
-use resumption::{Frame, Resumption};
 
 /// Makes the frame at the level, counted from 0, one that stands at the place and has still to try every key.
 pub fn open_frame<L>(

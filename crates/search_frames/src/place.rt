@@ -1,9 +1,9 @@
 ghost use Rattle.std.specs.Prelude.{◌≡◌, ◌<◌, length};
 ghost use Rattle.search_frames.specs.Frames.{IsStack, place_of};
 
+use super::Resumption;
 use derivation::Entrance;
 use phase_automaton::State;
-use resumption::Resumption;
 
 /// Where a search stands between two forms: how many letters of the line are derived, how the next form is entered, and the
 /// state of the grammar after the phases so far.

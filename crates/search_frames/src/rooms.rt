@@ -1,12 +1,12 @@
 ghost use Rattle.std.specs.Prelude.{◌≡◌, ◌*◌, ◌^◌, ◌<◌, length, IfOk};
-ghost use Rattle.resumption.specs.declared.frame.TheConstants.{NODES_OF_FRAME};
-ghost use Rattle.resumption.specs.declared.stand.Stand.TheVariants as stand;
+ghost use Rattle.search_frames.specs.declared.frame.TheConstants.{NODES_OF_FRAME};
+ghost use Rattle.search_frames.specs.declared.stand.Stand.TheVariants as stand;
 ghost use Rattle.search_frames.specs.Frames.{IsStack};
 
+use super::{Frame, NODES_OF_FRAME, Resumption, Stand};
 use annotated_trie::Lexicon;
 use derivation::{Entrance, Step};
 use phoneme::Memory;
-use resumption::{Frame, NODES_OF_FRAME, Resumption, Stand};
 use std::alloc::Global;
 
 /// So many copies of the value, which are written all at once.

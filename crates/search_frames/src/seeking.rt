@@ -5,13 +5,13 @@ ghost use Rattle.search_frames.specs.Frames.{IsFrame, ChangesFrom, IsAtKey, here
 ghost use Rattle.search_frames.specs.Standings.{IsPossible};
 ghost use Rattle.search_frames.specs.Changes.{MayBeMade, IsPlaceAfter};
 
+use super::{NODES_OF_FRAME, Resumption};
 use super::stepping::set_key;
 use super::walking::walk_phase;
 use annotated_trie::Lexicon;
 use derivation::Key;
 use outside::Steps;
 use phoneme::Line;
-use resumption::{NODES_OF_FRAME, Resumption};
 use shared_trie::Node;
 
 /// The place after that of the change among those that may be made at the node. None where it is not one of them.

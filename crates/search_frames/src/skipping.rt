@@ -5,11 +5,11 @@ ghost use Rattle.search_frames.specs.Costs.{HasAtMostChoices, steps_from_change,
 ghost use Rattle.search_frames.specs.Changes.{HasSet};
 ghost use Rattle.search_frames.specs.Skips.{HasSkipped, SkippedUnwritten};
 
+use super::{NODES_OF_FRAME, Resumption};
 use super::line_tests::{begins_with, w_of};
 use annotated_trie::Lexicon;
 use outside::Steps;
 use phoneme::{Letter, Line};
-use resumption::{NODES_OF_FRAME, Resumption};
 use shared_trie::Node;
 
 /// The place of the first change of the node, from the place `next` on, that is a rule whose `w` comes first among the letters. The

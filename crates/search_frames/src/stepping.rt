@@ -5,11 +5,11 @@ ghost use Rattle.search_frames.specs.Frames.{IsStack, IsFrame, ChangesFrom, Went
 ghost use Rattle.search_frames.specs.Costs.{HasAtMostChoices, steps_from_change, steps_left, steps_after_node};
 ghost use Rattle.search_frames.specs.Changes.{IsChangeFrom, HasNoChangeFrom, HasSet};
 
+use super::{NODES_OF_FRAME, Resumption};
 use super::walking::walk_phase;
 use annotated_trie::Lexicon;
 use outside::Steps;
 use phoneme::Line;
-use resumption::{NODES_OF_FRAME, Resumption};
 use shared_trie::Node;
 
 /// A change that may be made at a node, and the place of the next one to try.

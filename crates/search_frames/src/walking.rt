@@ -3,14 +3,14 @@ ghost use Rattle.lexicon_definitions.specs.Leads.{leads_of};
 ghost use Rattle.lexicon_definitions.specs.Tries.{walk};
 ghost use Rattle.derivation.specs.Guides.{IsEntranceOver, entrance_of};
 ghost use Rattle.answer_paths.specs.Fronts.{supplied};
-ghost use Rattle.resumption.specs.declared.frame.TheConstants.{NODES_OF_FRAME};
+ghost use Rattle.search_frames.specs.declared.frame.TheConstants.{NODES_OF_FRAME};
 ghost use Rattle.search_frames.specs.Frames.{IsPlaced, IsFrame, HasPhasesFrom, ChangesFrom, place_of, step_of};
 
+use super::{NODES_OF_FRAME, Resumption};
 use annotated_trie::Lexicon;
 use derivation::Entrance;
 use outside::Steps;
 use phoneme::{Letter, Line};
-use resumption::{NODES_OF_FRAME, Resumption};
 use sandhi_rules::RuleSet;
 use shared_trie::{Node, Store};
 

@@ -5,6 +5,7 @@ ghost use Rattle.search_frames.specs.Frames.{IsStack, IsPlaceIn, standing_of};
 ghost use Rattle.search_frames.specs.Costs.{HasAtMostChoices, steps_of_frame};
 ghost use Rattle.search_frames.specs.WaysFrom.{AppendsWays};
 
+use super::Resumption;
 use super::going_on::go_on;
 use super::letter_testing::{LetterTest, test_letters};
 use super::opening::open_frame;
@@ -15,7 +16,6 @@ use derivation::{Key, Step};
 use outside::Steps;
 use phoneme::{Line, Memory};
 use reader_choices::Choices;
-use resumption::Resumption;
 
 /// A key that leads on from a place or ends the line there, whatever the grammar says, and which of the two (own): its phase, counted
 /// from 0, how many letters of the line it takes, and its rule, counted from 1, 0 for no change.

@@ -13,9 +13,9 @@ use Rattle.derivation.specs.Guides.{entrance_of}
 use Rattle.derivation.specs.Steps.{key_of}
 use Rattle.derivation.specs.declared.step.Step.{Step}
 use Rattle.annotated_trie.specs.Searched.{SearchedLexicon}
-use Rattle.resumption.specs.declared.frame.Frame.{Frame}
-use Rattle.resumption.specs.declared.frame.TheConstants.{NODES_OF_FRAME}
-use Rattle.resumption.specs.declared.state.Resumption.{Resumption}
+use Rattle.search_frames.specs.declared.frame.Frame.{Frame}
+use Rattle.search_frames.specs.declared.frame.TheConstants.{NODES_OF_FRAME}
+use Rattle.search_frames.specs.declared.resumption.Resumption.{Resumption}
 use Rattle.search_frames.specs.Standings.{IsPossible, rules_in}
 use Rattle.search_frames.specs.Frames.{IsStack, IsPlaceIn, IsFrame, IsUntried, HasLaterToTry, ChangesFrom, changes_at, step_of, frame_of, node_of, place_of, here_of, key_at, standing_of}
 use Rattle.segmenter.specs.Chains.{KeepsBefore}

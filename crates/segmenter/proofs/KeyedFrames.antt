@@ -8,7 +8,7 @@ use Rattle.segmentation_definitions.specs.Listings.{Key}
 use Rattle.listing_laws.specs.Ways.{IsPath}
 use Rattle.derivation.specs.declared.step.Key.{Key as ProgramKey}
 use Rattle.annotated_trie.specs.Searched.{SearchedLexicon}
-use Rattle.resumption.specs.declared.state.Resumption.{Resumption}
+use Rattle.search_frames.specs.declared.resumption.Resumption.{Resumption}
 use Rattle.search_frames.specs.declared.place.Place.{Place}
 use Rattle.search_frames.specs.Standings.{Standing, ways_in}
 use Rattle.search_frames.specs.Frames.{standing_of}

@@ -11,8 +11,8 @@ use Rattle.segmentation_definitions.specs.StepBounds.{looks_at_one, advance_boun
 use Rattle.derivation.specs.declared.entrance.Entrance.{Entrance}
 use Rattle.annotated_trie.specs.Searched.{SearchedLexicon, IsSearchedLexicon}
 use Rattle.lexicon_definitions.specs.declared.limits.TheConstants.{MOST_RULES}
-use Rattle.resumption.specs.declared.frame.TheConstants.{NODES_OF_FRAME}
-use Rattle.resumption.specs.declared.state.Resumption.{Resumption}
+use Rattle.search_frames.specs.declared.frame.TheConstants.{NODES_OF_FRAME}
+use Rattle.search_frames.specs.declared.resumption.Resumption.{Resumption}
 use Rattle.search_frames.specs.Standings.{Standing, after, opening, rules_in}
 use Rattle.search_frames.specs.Frames.{here_of, still_to_try}
 use Rattle.search_frames.specs.Reached.{rank}

@@ -13,7 +13,7 @@ use Rattle.segmentation_definitions.specs.Listings.{Key, compare_keys}
 use Rattle.segmentation_definitions.proofs.KeyLists.{compare_keys_total}
 use Rattle.listing_laws.specs.Ways.{IsPath}
 use Rattle.annotated_trie.specs.Searched.{SearchedLexicon, IsSearchedLexicon}
-use Rattle.resumption.specs.declared.state.Resumption.{Resumption}
+use Rattle.search_frames.specs.declared.resumption.Resumption.{Resumption}
 use Rattle.search_frames.specs.declared.place.Place.{Place}
 use Rattle.search_frames.specs.Standings.{Standing, IsPossible, LeadsOn, Ends, after, ways_in}
 use Rattle.search_frames.specs.Frames.{IsFrame, IsUntried, HasAllToTry, HasLaterToTry, ChangesFrom, here_of, place_of, key_at, standing_of}

@@ -7,8 +7,8 @@ use Rattle.segmentation_definitions.specs.Listings.{IsAbove, IsNext}
 use Rattle.derivation.specs.Steps.{steps_of}
 use Rattle.derivation.specs.declared.step.Step.{Step as ProgramStep}
 use Rattle.annotated_trie.specs.Searched.{SearchedLexicon, IsSearchedLexicon}
-use Rattle.resumption.specs.declared.stand.Stand.TheVariants as stand
-use Rattle.resumption.specs.declared.state.Resumption.{Resumption}
+use Rattle.search_frames.specs.declared.stand.Stand.TheVariants as stand
+use Rattle.search_frames.specs.declared.resumption.Resumption.{Resumption}
 use Rattle.search_frames.specs.Standings.{opening, rules_in}
 use Rattle.segmenter.specs.Chains.{HasFound, HasNone, Every, ComesAfter}
 use Rattle.segmenter.specs.Moves.{StandsAtNext, HasNoNext, HasMoved}

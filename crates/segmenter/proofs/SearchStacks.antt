@@ -7,11 +7,11 @@ use Rattle.segmentation_definitions.specs.Listings.{Key, AtAnswer}
 use Rattle.listing_laws.specs.Ways.{IsPath}
 use Rattle.derivation.specs.Steps.{steps_of}
 use Rattle.annotated_trie.specs.Searched.{SearchedLexicon}
-use Rattle.resumption.specs.Copies.{IsCopyOf}
-use Rattle.resumption.specs.declared.frame.TheConstants.{NODES_OF_FRAME}
-use Rattle.resumption.specs.declared.stand.Stand.{Stand}
-use Rattle.resumption.specs.declared.stand.Stand.TheVariants as stand
-use Rattle.resumption.specs.declared.state.Resumption.{Resumption}
+use Rattle.search_frames.specs.Copies.{IsCopyOf}
+use Rattle.search_frames.specs.declared.frame.TheConstants.{NODES_OF_FRAME}
+use Rattle.search_frames.specs.declared.stand.Stand.{Stand}
+use Rattle.search_frames.specs.declared.stand.Stand.TheVariants as stand
+use Rattle.search_frames.specs.declared.resumption.Resumption.{Resumption}
 use Rattle.search_frames.specs.Standings.{Standing, after, opening, rules_in, ways_in}
 use Rattle.search_frames.specs.Frames.{IsStack, IsFrame, here_of}
 use Rattle.search_frames.specs.Reached.{IsReached}

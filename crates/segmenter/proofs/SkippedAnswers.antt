@@ -9,9 +9,9 @@ use Rattle.segmentation_definitions.specs.Listings.{Key, keys_of, AtAnswer}
 use Rattle.listing_laws.specs.Positions.{IsFirst}
 use Rattle.derivation.specs.Steps.{steps_of}
 use Rattle.annotated_trie.specs.Searched.{SearchedLexicon, IsSearchedLexicon}
-use Rattle.resumption.specs.declared.stand.Stand.{Stand}
-use Rattle.resumption.specs.declared.stand.Stand.TheVariants as stand
-use Rattle.resumption.specs.declared.state.Resumption.{Resumption}
+use Rattle.search_frames.specs.declared.stand.Stand.{Stand}
+use Rattle.search_frames.specs.declared.stand.Stand.TheVariants as stand
+use Rattle.search_frames.specs.declared.resumption.Resumption.{Resumption}
 use Rattle.search_frames.specs.Standings.{opening, rules_in, ways_in}
 use Rattle.search_frames.specs.Frames.{here_of}
 use Rattle.segmenter.specs.Chains.{AreFrames, HasFound, HasNone, HasRoom, ComesAfter, LeadAlong}

@@ -25,7 +25,7 @@ use Rattle.derivation.specs.Steps as program
 use Rattle.derivation.specs.declared.step.Step.{Step as ProgramStep}
 use Rattle.derivation.proofs.PlacedSteps.{same_keys}
 use Rattle.annotated_trie.specs.Searched.{SearchedLexicon, IsSearchedLexicon}
-use Rattle.resumption.specs.declared.state.Resumption.{Resumption}
+use Rattle.search_frames.specs.declared.resumption.Resumption.{Resumption}
 use Rattle.search_frames.specs.Standings.{Standing, rules_in, Ends, after, opening, ways_in}
 use Rattle.search_frames.specs.Frames.{IsFrame, here_of, key_at, step_of}
 use Rattle.segmenter.specs.Chains.{AreFrames, HasNone, Every, ComesAfter, LeadAlong}

@@ -7,8 +7,8 @@ use Rattle.segmentation_definitions.specs.Listings.{Key, compare_keys}
 use Rattle.listing_laws.specs.Ways.{IsPath}
 use Rattle.listing_laws.specs.Positions.{IsFirst}
 use Rattle.annotated_trie.specs.Searched.{SearchedLexicon}
-use Rattle.resumption.specs.declared.frame.TheConstants.{NODES_OF_FRAME}
-use Rattle.resumption.specs.declared.state.Resumption.{Resumption}
+use Rattle.search_frames.specs.declared.frame.TheConstants.{NODES_OF_FRAME}
+use Rattle.search_frames.specs.declared.resumption.Resumption.{Resumption}
 use Rattle.search_frames.specs.Standings.{Standing, LeadsOn, after, ways_in}
 use Rattle.search_frames.specs.Frames.{IsStack, IsFrame, IsUntried, HasLaterToTry, here_of, key_at}
 use Rattle.search_frames.specs.Reached.{rank}

@@ -4,7 +4,7 @@ use Rattle.text_definitions.specs.Lines.{Line}
 use Rattle.segmentation_definitions.specs.Listings.{Key}
 use Rattle.derivation.specs.declared.step.Key.{Key as ProgramKey}
 use Rattle.annotated_trie.specs.Searched.{SearchedLexicon}
-use Rattle.resumption.specs.declared.state.Resumption.{Resumption}
+use Rattle.search_frames.specs.declared.resumption.Resumption.{Resumption}
 use Rattle.search_frames.specs.declared.testing.Test.{Test}
 use Rattle.search_frames.specs.declared.testing.Test.TheVariants as test
 use Rattle.search_frames.specs.Standings.{Standing}

@@ -7,8 +7,8 @@ use Rattle.segmentation_definitions.specs.Listings.{IsAbove, IsNext}
 use Rattle.segmentation_definitions.specs.Answers.{IsAnswer}
 use Rattle.derivation.specs.Steps.{steps_of}
 use Rattle.annotated_trie.specs.Searched.{SearchedLexicon}
-use Rattle.resumption.specs.declared.stand.Stand.TheVariants as stand
-use Rattle.resumption.specs.declared.state.Resumption.{Resumption}
+use Rattle.search_frames.specs.declared.stand.Stand.TheVariants as stand
+use Rattle.search_frames.specs.declared.resumption.Resumption.{Resumption}
 use Rattle.search_frames.specs.Standings.{rules_in}
 use Rattle.segmenter.specs.Searches.{StandsAtAnswer, position_of, steps_in}
 

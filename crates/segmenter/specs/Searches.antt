@@ -10,9 +10,9 @@ use Rattle.listing_laws.specs.Ways.{IsPath}
 use Rattle.derivation.specs.Steps.{steps_of, StandIn}
 use Rattle.derivation.specs.declared.step.Step.{Step as ProgramStep}
 use Rattle.annotated_trie.specs.Searched.{SearchedLexicon}
-use Rattle.resumption.specs.declared.stand.Stand.{Stand}
-use Rattle.resumption.specs.declared.stand.Stand.TheVariants as stand
-use Rattle.resumption.specs.declared.state.Resumption.{Resumption}
+use Rattle.search_frames.specs.declared.stand.Stand.{Stand}
+use Rattle.search_frames.specs.declared.stand.Stand.TheVariants as stand
+use Rattle.search_frames.specs.declared.resumption.Resumption.{Resumption}
 use Rattle.search_frames.specs.Frames.{IsStack}
 use Rattle.search_frames.specs.Standings.{rules_in, opening, ways_in}
 use Rattle.segmenter.specs.Chains.{AreFrames}

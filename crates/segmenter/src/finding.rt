@@ -15,8 +15,7 @@ use annotated_trie::Lexicon;
 use outside::Steps;
 use phoneme::Line;
 use reader_choices::Choices;
-use resumption::Resumption;
-use search_frames::{Place, SearchGuide, ToTry, Turn, open_frame};
+use search_frames::{Place, Resumption, SearchGuide, ToTry, Turn, open_frame};
 
 /// Finds the first path from the place, with the frames from the level on. False where there is none.
 #[cycle(find)]

@@ -15,8 +15,7 @@ use derivation::Key;
 use outside::Steps;
 use phoneme::Line;
 use reader_choices::Choices;
-use resumption::Resumption;
-use search_frames::{Place, Test, open_frame, seek, test_key};
+use search_frames::{Place, Resumption, Test, open_frame, seek, test_key};
 
 /// Makes the frame at the level, counted from 0, one that stands at the place and at the key, and tells what the key does there.
 fn stand_at_key(

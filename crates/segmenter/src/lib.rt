@@ -17,6 +17,8 @@ mod finding;
 mod keyed;
 mod resuming;
 mod search;
+#[cfg(test)]
+mod tests;
 
 pub use resuming::ResumeError;
 pub use search::Search;

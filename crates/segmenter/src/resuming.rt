@@ -3,7 +3,7 @@ ghost use Rattle.std.specs.Bool.{OnTrue, OnFalse};
 ghost use Rattle.segmentation_definitions.specs.Derivations.{Step};
 ghost use Rattle.segmentation_definitions.specs.Listings.{AtAnswer};
 ghost use Rattle.annotated_trie.specs.Searched.{IsSearchedLexicon};
-ghost use Rattle.resumption.specs.declared.stand.Stand.TheVariants as stand;
+ghost use Rattle.search_frames.specs.declared.stand.Stand.TheVariants as stand;
 ghost use Rattle.segmenter.specs.declared.resuming.ResumeError.TheVariants.{NotAnAnswer as ErrorNotAnAnswer, Memory as ErrorMemory};
 ghost use Rattle.segmenter.specs.Chains.{KeepsBefore};
 ghost use Rattle.segmenter.specs.GivenKeys.{keys_of_given};
@@ -22,8 +22,7 @@ use derivation::Key;
 use outside::Steps;
 use phoneme::{Line, Memory};
 use reader_choices::Choices;
-use resumption::{Resumption, Stand};
-use search_frames::SearchGuide;
+use search_frames::{Resumption, SearchGuide, Stand};
 use std::alloc::Global;
 use thiserror::Error;
 

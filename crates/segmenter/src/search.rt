@@ -4,7 +4,7 @@ ghost use Rattle.text_definitions.specs.Lines.{Line as LineValue};
 ghost use Rattle.segmentation_definitions.specs.Items.{Choice};
 ghost use Rattle.segmentation_definitions.specs.Listings.{BeforeFirst};
 ghost use Rattle.annotated_trie.specs.Searched.{IsSearchedLexicon};
-ghost use Rattle.resumption.specs.declared.stand.Stand.TheVariants as stand;
+ghost use Rattle.search_frames.specs.declared.stand.Stand.TheVariants as stand;
 ghost use Rattle.search_frames.specs.Frames.{IsPlaceIn, standing_of};
 ghost use Rattle.search_frames.specs.Standings.{opening};
 ghost use Rattle.segmenter.specs.Chains.{KeepsBefore};
@@ -21,8 +21,7 @@ use derivation::{Entrance, Step};
 use outside::Steps;
 use phoneme::{Line, Memory};
 use reader_choices::Choices;
-use resumption::{Resumption, Stand};
-use search_frames::{Place, SearchGuide, new_stack};
+use search_frames::{Place, Resumption, SearchGuide, Stand, new_stack};
 use std::alloc::Global;
 use std::marker::Model;
 

@@ -3,3 +3,8 @@ pub mod KeptPlaces
 pub mod OneReply
 pub mod OneSession
 pub mod PagesReplied
+pub mod KeptStates
+pub mod NeverPastLast
+pub mod AnswerBounds
+pub mod SavedStates
+pub mod PagesPrinted

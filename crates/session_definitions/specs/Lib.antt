@@ -1,3 +1,5 @@
+pub mod Numbers
+pub mod LineWhys
 pub mod Requests
 pub mod SessionLines
 pub mod States
@@ -5,3 +7,5 @@ pub mod PrintedSummaries
 pub mod Replies
 pub mod Sessions
 pub mod PageReplies
+pub mod ReachedStates
+pub mod PrintedPages

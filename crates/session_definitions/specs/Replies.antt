@@ -2,10 +2,9 @@
 -- their order; a refusal leaves the session as it was.
 use Rattle.std.specs.Prelude.{◌≡◌, ℕ, ◌-◌, ◌<◌, nat_le, Bool, MatchBool, if◌then◌else◌, Option, Some, None, Result, Ok, Err, List, [], ◌∷◌, ◌++◌, length, codes, All}
 use Rattle.std.specs.List.{slice_get}
-use Rattle.std.specs.Fmt.{decimal}
 use Rattle.text_definitions.specs.Lines.{Line}
 use Rattle.text_definitions.specs.Schemes.{Scheme}
-use Rattle.text_definitions.specs.LineTexts.{LineFault, Misspelled, NoLetters, TooLong, place_of, line_of_text}
+use Rattle.text_definitions.specs.LineTexts.{LineFault, line_of_text}
 use Rattle.lexicon_definitions.specs.Lexicons.{Lexicon}
 use Rattle.lexicon_text_definitions.specs.FileLines as file
 use Rattle.segmentation_definitions.specs.declared.limits.TheConstants.{MOST_CHOICES}
@@ -16,6 +15,7 @@ use Rattle.segmentation_definitions.specs.Listings.{Position, BeforeFirst, AtAns
 use Rattle.segmentation_definitions.specs.PrintedAnswers.{output_line, next_number, printed_page}
 use Rattle.bookmark_definitions.specs.Bookmarks.{Bookmark}
 use Rattle.bookmark_definitions.specs.BookmarkTexts.{text_of_bookmark}
+pub use Rattle.session_definitions.specs.LineWhys.{why_no_line}
 use Rattle.session_definitions.specs.SessionLines.{line_text, is_long}
 use Rattle.session_definitions.specs.States.{State, fresh, after_answers, after_choice, after_undo, after_resume, bookmark_at}
 use Rattle.session_definitions.specs.PrintedSummaries.{printed_summary, printed_tags, analyses_of_item}
@@ -44,12 +44,6 @@ abbrev pub refused : State → List ℕ → Reply
 refused state why = reply_in state (output_line (codes "? " ++ why))
 
 -- ---- `text SCHEME TEXT`
-
--- why a text is no line: `spelling AT`, `no letters` or `too long`
-abbrev pub why_no_line : LineFault → List ℕ
-why_no_line (Misspelled fault) = codes "spelling " ++ decimal (place_of fault)
-why_no_line NoLetters = codes "no letters"
-why_no_line TooLong = codes "too long"
 
 -- the line from now on, without choices and with nothing printed; or the fault of the text
 abbrev pub reply_to_line : State → Result Line LineFault → Reply

@@ -1,12 +1,11 @@
 -- What a line of a session asks for: its first word, up to the first blank, and the rest after this blank (own).
-use Rattle.std.specs.Prelude.{ℕ, ◌&&◌, nat_le, Bool, true, false, if◌then◌else◌, Option, Some, None, List, [], ◌∷◌, length, codes}
-use Rattle.std.specs.Str.{bytes_eq, all_ascii_digits}
-use Rattle.std.specs.Str.Parse.{digits_value}
-use Rattle.text_definitions.specs.Schemes.{Scheme, Slp1, Wx, Velthuis, Devanagari}
+use Rattle.std.specs.Prelude.{ℕ, Bool, true, false, if◌then◌else◌, Option, Some, None, List, [], ◌∷◌, codes}
+use Rattle.std.specs.Str.{bytes_eq}
+use Rattle.text_definitions.specs.Schemes.{Scheme, scheme_named}
 use Rattle.lexicon_text_definitions.specs.FileLines.{Parts, parts_of}
 use Rattle.bookmark_definitions.specs.Bookmarks.{Bookmark}
 use Rattle.bookmark_definitions.specs.BookmarkReadings.{bookmark_of_text}
-use Rattle.session_definitions.specs.declared.limits.TheConstants.{MOST_PAGE}
+pub use Rattle.session_definitions.specs.Numbers.{page_size_of, item_number_of}
 
 -- what a line asks for: a line of text to be read, a page, the summary, an item to be kept or rejected, the newest choice to
 -- be taken back, the analyses of an item, a bookmark, to go on from one, or the end; None stands for what could not be
@@ -27,30 +26,6 @@ pub data Request : Type 0 where
 abbrev pub after_blank : Option (List ℕ) → List ℕ
 after_blank None = []
 after_blank (Some rest) = rest
-
--- the scheme of this name
-abbrev pub scheme_named : List ℕ → Option Scheme
-scheme_named name =
-    if bytes_eq name (codes "slp1") then Some Slp1
-    else if bytes_eq name (codes "wx") then Some Wx
-    else if bytes_eq name (codes "velthuis") then Some Velthuis
-    else if bytes_eq name (codes "devanagari") then Some Devanagari
-    else None
-
--- one digit or more, but not too many, which may begin with 0
-abbrev pub are_digits_up_to : ℕ → List ℕ → Bool
-are_digits_up_to most text = nat_le 1 (length text) && nat_le (length text) most && all_ascii_digits text
-
--- how many answers a page may have, as one to four digits write it: at least 1, and not too many
-abbrev pub page_size_of : List ℕ → Option ℕ
-page_size_of text =
-    if are_digits_up_to 4 text && nat_le 1 (digits_value 10 text) && nat_le (digits_value 10 text) MOST_PAGE
-    then Some (digits_value 10 text) else None
-
--- the number of an item, counted from 1, as one to nine digits write it
-abbrev pub item_number_of : List ℕ → Option ℕ
-item_number_of text =
-    if are_digits_up_to 9 text && nat_le 1 (digits_value 10 text) then Some (digits_value 10 text) else None
 
 -- the request, where nothing comes after its word
 abbrev pub alone : List ℕ → Request → Request

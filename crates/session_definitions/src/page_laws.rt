@@ -1,13 +1,18 @@
-ghost use Rattle.std.specs.Prelude.{◌≡◌, ℕ, Option, List};
+ghost use Rattle.std.specs.Prelude.{◌≡◌, ◌++◌, ◌∷◌, [], ℕ, Option, Some, List, All, false};
+ghost use Rattle.std.specs.List.{flat_map};
 ghost use Rattle.text_definitions.specs.Lines.{Line};
 ghost use Rattle.lexicon_definitions.specs.Lexicons.{Lexicon};
+ghost use Rattle.lexicon_text_definitions.specs.FileLines as file;
 ghost use Rattle.segmentation_definitions.specs.Derivations.{Step};
-ghost use Rattle.segmentation_definitions.specs.Listings.{Position, BeforeFirst, IsListingAbove, IsListing};
+ghost use Rattle.segmentation_definitions.specs.Listings.{Position, BeforeFirst, Page, ArePages, IsListingAbove, IsListing};
 ghost use Rattle.bookmark_definitions.specs.Bookmarks.{Bookmark};
-ghost use Rattle.session_definitions.specs.States.{State, after_resume};
+ghost use Rattle.session_definitions.specs.SessionLines.{lines_of_input};
+ghost use Rattle.session_definitions.specs.States.{State, opening, after_resume};
 ghost use Rattle.session_definitions.specs.Requests.{Summary, Tags, Mark};
-ghost use Rattle.session_definitions.specs.Replies.{Reply, refused, IsReplyTo, IsPositionOfBookmark};
+ghost use Rattle.session_definitions.specs.Replies.{Open, Reply, refused, IsReplyTo, IsPositionOfBookmark};
+ghost use Rattle.session_definitions.specs.Sessions.{End, AreReplies, IsSession};
 ghost use Rattle.session_definitions.specs.PageReplies.{KeepsPlace, ArePageReplies};
+ghost use Rattle.session_definitions.specs.PrintedPages.{IsBetweenChanges, PrintsPages};
 
 /// For one line and one list of choices, the pages from nothing printed up to `end` are together the listing, wherever they were
 /// cut; those from a later position on are what lies above it; and after a bookmark was resumed they are what lies above its
@@ -34,4 +39,19 @@ pub fn requests_between_pages_keep_the_place()
     ensures mark { (lexicon : Lexicon) (state : State) (reply : Reply)
         → IsReplyTo lexicon state Mark reply → KeepsPlace state reply }
     ensures refusal { (state : State) (why : List ℕ) (reply : Reply) → reply ≡ refused state why → KeepsPlace state reply }
+{}
+
+/// Between two changes of its line or its choices a session prints pages that follow one another, and beside them only replies that
+/// keep the place. So from before the first answer on, up to a page that ends with `end`, its pages are together the listing.
+pub fn a_session_prints_the_listing()
+    ensures session { (lexicon : Lexicon) (input output : List ℕ) (end : End) (before between following : List file.Line) (front : List ℕ)
+        (state : State) (line : Line) → IsSession lexicon input output end → lines_of_input input ≡ before ++ (between ++ following)
+        → AreReplies lexicon opening before front (Open state) → state.line ≡ Some line → All IsBetweenChanges between
+        → (printed : List ℕ) × (rest : List ℕ) × (pages : List Page) × (output ≡ front ++ (printed ++ rest))
+        × PrintsPages lexicon line state printed pages }
+    ensures pages { (lexicon : Lexicon) (line : Line) (state : State) (output : List ℕ) (pages : List Page)
+        → PrintsPages lexicon line state output pages → ArePages lexicon line state.choices state.position pages }
+    ensures listing { (lexicon : Lexicon) (line : Line) (state : State) (output : List ℕ) (pages : List Page) (last : Page)
+        → state.position ≡ BeforeFirst → PrintsPages lexicon line state output (pages ++ last ∷ []) → last.more ≡ false
+        → IsListing lexicon line state.choices (flat_map (λ page. page.answers) (pages ++ last ∷ [])) }
 {}

@@ -14,7 +14,7 @@ use Rattle.derivation.specs.Steps.{key_of}
 use Rattle.derivation.specs.declared.step.Key.{Key as ProgramKey}
 use Rattle.derivation.specs.declared.step.Step.{Step}
 use Rattle.annotated_trie.specs.Searched.{SearchedLexicon, IsSearchedLexicon}
-use Rattle.resumption.specs.declared.state.Resumption.{Resumption}
+use Rattle.search_frames.specs.declared.resumption.Resumption.{Resumption}
 use Rattle.search_frames.specs.declared.guiding.ToTry.{ToTry}
 use Rattle.search_frames.specs.declared.guiding.ToTry.TheVariants.{All as AllKeys, Later as LaterKeys}
 use Rattle.search_frames.specs.declared.guiding.Turn.{Turn}

@@ -28,4 +28,3 @@ mod AnswerItems
 mod TableItems
 mod SummarySteps
 mod SummaryRuleSets
-mod TestRules

@@ -14,8 +14,7 @@ use annotated_trie::Lexicon;
 use outside::Steps;
 use phoneme::{Line, Memory};
 use reader_choices::Choices;
-use resumption::Resumption;
-use search_frames::{Place, Way, push_ways};
+use search_frames::{Place, Resumption, Way, push_ways};
 
 /// Puts into the table, which has the opening alone, every place that a search comes to: from each place in the order of the table,
 /// wherever a way leads on to. A way leads only to places that stand later in the table. The ways are kept. Refused only for want of

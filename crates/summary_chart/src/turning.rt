@@ -15,8 +15,7 @@ use outside::Steps;
 use phase_automaton::State;
 use phoneme::Line;
 use reader_choices::Choices;
-use resumption::Resumption;
-use search_frames::{LetterTest, Place, SearchGuide, ToTry, Turn, Way, go_to};
+use search_frames::{LetterTest, Place, Resumption, SearchGuide, ToTry, Turn, Way, go_to};
 use std::cmp::Ordering;
 
 /// The order of keys: by phase, then the longer form first, then by rule (own).

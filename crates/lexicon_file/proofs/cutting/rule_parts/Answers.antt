@@ -2,27 +2,28 @@
 use Rattle.std.proofs.Common.{◌∙◌, ◌||◌, Some, None, sym}
 use Rattle.lexicon_text_definitions.specs.FileLines.{has_mark}
 use Rattle.std.proofs.lemmas.Bool.{cond-true, cond-false}
-use Rattle.lexicon_file.proofs.CutLemmas.{missed, found, no_bar, no_sign, shape_cut}
+use Rattle.list_laws.proofs.CutLaws.{not_cut, cut_as_parted}
+use Rattle.lexicon_file.proofs.CutLemmas.{no_bar, no_sign, shape_cut}
 use Rattle.lexicon_file.proofs.cutting.rule_parts.Goals as goal
 
 pub returns-in_default : goal.returns-in_default
-returns-in_default c = no_bar c.args.field.now (missed 124 c.args.field.now c.in_default.ensures)
+returns-in_default c = no_bar c.args.field.now (not_cut 124 c.args.field.now c.in_default.ensures)
 
 pub returns-in_default-cut : goal.returns-in_default-cut
 returns-in_default-cut c =
-    no_sign c.args.field.now c.in-Some.u.now c.in-Some.rest.now (found 124 c.args.field.now c.in-Some.u.now c.in-Some.rest.now c.in-Some.ensures)
-    (missed 62 c.in-Some.rest.now c.in_default-cut.ensures)
+    no_sign c.args.field.now c.in-Some.u.now c.in-Some.rest.now (cut_as_parted 124 c.args.field.now c.in-Some.u.now c.in-Some.rest.now c.in-Some.ensures)
+    (not_cut 62 c.in-Some.rest.now c.in_default-cut.ensures)
 
 pub returns-then-has_marks : goal.returns-then-has_marks
 returns-then-has_marks c =
     shape_cut c.args.field.now c.in-Some.u.now c.in-Some.rest.now c.in-Some-cut.v.now c.in-Some-cut.w.now
-    (found 124 c.args.field.now c.in-Some.u.now c.in-Some.rest.now c.in-Some.ensures)
-    (found 62 c.in-Some.rest.now c.in-Some-cut.v.now c.in-Some-cut.w.now c.in-Some-cut.ensures)
+    (cut_as_parted 124 c.args.field.now c.in-Some.u.now c.in-Some.rest.now c.in-Some.ensures)
+    (cut_as_parted 62 c.in-Some.rest.now c.in-Some-cut.v.now c.in-Some-cut.w.now c.in-Some-cut.ensures)
     ∙ cond-true (has_mark c.in-Some.u.now || has_mark c.in-Some-cut.v.now || has_mark c.in-Some-cut.w.now) None (Some (record { u = c.in-Some.u.now; v = c.in-Some-cut.v.now; w = c.in-Some-cut.w.now })) (sym c.has_marks.ensures ∙ c.if-has_marks.true)
 
 pub returns-else-has_marks : goal.returns-else-has_marks
 returns-else-has_marks c =
     shape_cut c.args.field.now c.in-Some.u.now c.in-Some.rest.now c.in-Some-cut.v.now c.in-Some-cut.w.now
-    (found 124 c.args.field.now c.in-Some.u.now c.in-Some.rest.now c.in-Some.ensures)
-    (found 62 c.in-Some.rest.now c.in-Some-cut.v.now c.in-Some-cut.w.now c.in-Some-cut.ensures)
+    (cut_as_parted 124 c.args.field.now c.in-Some.u.now c.in-Some.rest.now c.in-Some.ensures)
+    (cut_as_parted 62 c.in-Some.rest.now c.in-Some-cut.v.now c.in-Some-cut.w.now c.in-Some-cut.ensures)
     ∙ cond-false (has_mark c.in-Some.u.now || has_mark c.in-Some-cut.v.now || has_mark c.in-Some-cut.w.now) None (Some (record { u = c.in-Some.u.now; v = c.in-Some-cut.v.now; w = c.in-Some-cut.w.now })) (sym c.has_marks.ensures ∙ c.if-has_marks.false)

@@ -4,7 +4,8 @@ use Rattle.outside.specs.Told.{bytes_after}
 use Rattle.std.specs.Prelude.{codes}
 use Rattle.segmentation_definitions.specs.PrintedAnswers.{output_line}
 use Rattle.run_definitions.specs.Commands.{AreWordsOf, AreOfNoCommand}
-use Rattle.run_definitions.specs.Outcomes.{usage_outcome, OfNone}
+use Rattle.run_definitions.specs.Refusals.{usage_outcome}
+use Rattle.run_definitions.specs.Outcomes.{OfNone}
 use Rattle.command_words.specs.Meant.{command_meant}
 use Rattle.sandhi_program.specs.Sessions.{source_told}
 use Rattle.sandhi_program.proofs.Runs.{may_end}

@@ -3,8 +3,8 @@
 use Rattle.std.proofs.Common.{◌≡◌, ◌<◌, ℕ, drop, arith, refl, sym, ap, subst}
 use Rattle.std.specs.List.{Contains}
 use Rattle.segmentation_definitions.specs.Listings.{Key}
-use Rattle.resumption.specs.declared.frame.TheConstants.{NODES_OF_FRAME}
-use Rattle.resumption.specs.declared.frame.Frame.{Frame}
+use Rattle.search_frames.specs.declared.frame.TheConstants.{NODES_OF_FRAME}
+use Rattle.search_frames.specs.declared.frame.Frame.{Frame}
 use Rattle.search_frames.specs.declared.place.Place.{Place}
 use Rattle.search_frames.specs.Standings.{IsPossible}
 use Rattle.search_frames.specs.Frames.{IsUntried, frame_of, node_of, here_of, standing_of, changes_at}

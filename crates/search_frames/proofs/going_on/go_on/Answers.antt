@@ -1,6 +1,6 @@
 -- Nodes and phases are left until a key is found, and what is to try stays meanwhile (`StepLoops`).
 use Rattle.std.proofs.Common.{◌+◌, ◌≤◌, arith, sym, subst}
-use Rattle.resumption.specs.declared.state.Resumption.{Resumption}
+use Rattle.search_frames.specs.declared.resumption.Resumption.{Resumption}
 use Rattle.search_frames.specs.Costs.{steps_left, steps_after_node}
 use Rattle.search_frames.proofs.StepLoops.{HasSameToTry, same_at_first, same_after_leaving, went_on_at_last, nothing_at_first}
 use Rattle.search_frames.proofs.going_on.go_on.Goals as goal

@@ -1,9 +1,9 @@
 -- Where the phase of the key was begun, the key has its node and its change there if it is possible, and the frame is brought to
 -- it (`StepMoves`).
 use Rattle.std.proofs.Common.{◌≡◌, ◌<◌, ℕ, length, arith, sym, ap, subst, get_or}
-use Rattle.resumption.specs.declared.frame.TheConstants.{NODES_OF_FRAME}
-use Rattle.resumption.specs.declared.frame.Frame.{Frame}
-use Rattle.resumption.specs.declared.state.Resumption.{Resumption}
+use Rattle.search_frames.specs.declared.frame.TheConstants.{NODES_OF_FRAME}
+use Rattle.search_frames.specs.declared.frame.Frame.{Frame}
+use Rattle.search_frames.specs.declared.resumption.Resumption.{Resumption}
 use Rattle.search_frames.specs.Frames.{frame_of, node_of}
 use Rattle.search_frames.specs.Changes.{MayBeMade, IsPlaceAfter}
 use Rattle.search_frames.proofs.StepFrames.{frame_read, node_read, node_there}

@@ -3,8 +3,8 @@
 use Rattle.std.proofs.Common.{◌≡◌, ◌<◌, ◌+◌, ◌-◌, arith, ap, ◌∙◌}
 use Rattle.text_definitions.specs.Lines.{Line}
 use Rattle.derivation.specs.declared.step.Step.{Step}
-use Rattle.resumption.specs.declared.frame.TheConstants.{NODES_OF_FRAME}
-use Rattle.resumption.specs.declared.frame.Frame.{Frame}
+use Rattle.search_frames.specs.declared.frame.TheConstants.{NODES_OF_FRAME}
+use Rattle.search_frames.specs.declared.frame.Frame.{Frame}
 use Rattle.search_frames.specs.Frames.{frame_of, step_of, node_of}
 use Rattle.search_frames.proofs.StepFrames.{frame_read, step_read, node_read, node_there}
 use Rattle.search_frames.proofs.StepSkips.{skipped_there, skipped_keys}

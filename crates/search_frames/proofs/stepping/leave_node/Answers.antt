@@ -2,7 +2,7 @@
 -- (`StepLeaves`).
 use Rattle.std.proofs.Common.{◌≡◌, ◌+◌, arith, sym, ap}
 use Rattle.derivation.specs.declared.step.Step.{Step}
-use Rattle.resumption.specs.declared.frame.Frame.{Frame}
+use Rattle.search_frames.specs.declared.frame.Frame.{Frame}
 use Rattle.search_frames.specs.Frames.{frame_of, step_of}
 use Rattle.search_frames.proofs.StepFrames.{frame_read, step_read}
 use Rattle.search_frames.proofs.StepLeaves.{left_back, left_phase}

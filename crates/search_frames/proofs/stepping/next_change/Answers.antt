@@ -1,8 +1,8 @@
 -- What is read of the stack is its frame and a node of this (`StepFrames`), so the first change that may be made there is the
 -- key that comes first (`StepMoves`).
 use Rattle.std.proofs.Common.{◌≡◌, ◌<◌, ◌≤◌, ◌+◌, ◌-◌, ℕ, arith, ap, subst}
-use Rattle.resumption.specs.declared.frame.TheConstants.{NODES_OF_FRAME}
-use Rattle.resumption.specs.declared.frame.Frame.{Frame}
+use Rattle.search_frames.specs.declared.frame.TheConstants.{NODES_OF_FRAME}
+use Rattle.search_frames.specs.declared.frame.Frame.{Frame}
 use Rattle.search_frames.specs.Frames.{frame_of, node_of}
 use Rattle.search_frames.specs.Changes.{IsChangeFrom, HasNoChangeFrom}
 use Rattle.search_frames.proofs.StepFrames.{frame_read, node_read, node_there}

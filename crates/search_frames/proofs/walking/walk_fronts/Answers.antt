@@ -1,7 +1,7 @@
 -- A walk along the lead and then letters of the line is one along the letters from where the lead leads.
 use Rattle.std.proofs.Common.{take, IsSome, ◌-◌, sym, ◌∙◌, subst, arith}
 use Rattle.lexicon_definitions.proofs.TrieWalks.{walk-two}
-use Rattle.resumption.specs.declared.frame.TheConstants.{NODES_OF_FRAME}
+use Rattle.search_frames.specs.declared.frame.TheConstants.{NODES_OF_FRAME}
 use Rattle.search_frames.proofs.WalkLemmas.{nowhere_after, short_after}
 use Rattle.search_frames.proofs.FrameCosts.{fronts_cost}
 use Rattle.search_frames.proofs.walking.walk_fronts.Goals as goal

@@ -2,7 +2,7 @@
 use Rattle.std.proofs.Common.{◌≡◌, ℕ, ◌+◌, ◌<◌, length, take, Some, None, sym, ◌∙◌, ap, arith, length-set}
 use Rattle.std.proofs.lemmas.List.{take-set-le}
 use Rattle.lexicon_definitions.specs.Tries.{walk}
-use Rattle.resumption.specs.declared.frame.TheConstants.{NODES_OF_FRAME}
+use Rattle.search_frames.specs.declared.frame.TheConstants.{NODES_OF_FRAME}
 use Rattle.search_frames.proofs.WalkLemmas.{walk_next, has_place, walked_below, more_walked}
 use Rattle.search_frames.proofs.walking.walk_letters.Goals as goal
 use Rattle.search_frames.proofs.walking.walk_letters.Goals.{else-loop-letter-test, then-loop-letter-test+in_default}

@@ -12,9 +12,9 @@ use Rattle.derivation.specs.Guides.{entrance_of}
 use Rattle.derivation.specs.declared.step.Step.{Step}
 use Rattle.answer_paths.specs.Fronts.{supplied}
 use Rattle.annotated_trie.specs.Choices.{AnnotatedTrie}
-use Rattle.resumption.specs.declared.frame.TheConstants.{NODES_OF_FRAME}
-use Rattle.resumption.specs.declared.frame.Frame.{Frame}
-use Rattle.resumption.specs.declared.state.Resumption.{Resumption}
+use Rattle.search_frames.specs.declared.frame.TheConstants.{NODES_OF_FRAME}
+use Rattle.search_frames.specs.declared.frame.Frame.{Frame}
+use Rattle.search_frames.specs.declared.resumption.Resumption.{Resumption}
 use Rattle.search_frames.specs.Frames.{step_of, frame_of, here_of}
 use Rattle.search_frames.proofs.PossibleKeys.{root_in, short_walks}
 use Rattle.search_frames.proofs.WalkFrames.{AreFronts, AreFronts-same, begun_frame, begun_phases, written}

@@ -3,7 +3,7 @@ use Rattle.std.proofs.Common.{◌≡◌, [], ◌∷◌, ◌++◌, map, string_by
 use Rattle.lexicon_definitions.specs.GrammarFaults.{IsGrammarTextWithinLimits}
 use Rattle.lexicon_definitions.specs.Lexicons.{IsRuleSet}
 use Rattle.lexicon_definitions.specs.Limits.{IsRuleSetWithinLimits}
-use Rattle.summary_chart.proofs.TestRules.{rules_of_test, is_rule_set, is_within_limits, same_rules}
+use Rattle.search_frames.proofs.TestRules.{rules_of_test, is_rule_set, is_within_limits, same_rules}
 use Rattle.summary_chart.proofs.tests.lexicon.Given.{Over}
 use Rattle.summary_chart.proofs.tests.lexicon.Goals as goal
 use Rattle.summary_chart.proofs.tests.lexicon.Goals.{After-new}

@@ -2,7 +2,8 @@
 use Rattle.std.proofs.Common.{◌≡◌, not, List, [], ◌∷◌, ◌++◌, ap, ◌∙◌}
 use Rattle.lexicon_definitions.specs.Rules.{Rule}
 use Rattle.lexicon_file.proofs.LeadLemmas.{leads_put}
-use Rattle.lexicon_file.proofs.TripleLemmas.{twin_told, triples_pushed, refused}
+use Rattle.sandhi_rules.proofs.TripleLemmas.{triples_pushed}
+use Rattle.lexicon_file.proofs.TripleLemmas.{twin_told, refused}
 use Rattle.lexicon_file.proofs.rules_so_far.RulesSoFar.add.Goals as goal
 
 pub invariant_of-self-2 : goal.invariant_of-self-2

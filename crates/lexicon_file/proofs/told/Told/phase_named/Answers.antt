@@ -8,5 +8,5 @@ use Rattle.lexicon_file.proofs.told.Told.phase_named.Goals as goal
 
 pub returns-clause-named : goal.returns-clause-named
 returns-clause-named c =
-    c.place_of.ensures.named
+    c.phase_named.ensures.named
     ∙ ap (position (bytes_eq c.args.name.now)) (ap (map (string_bytes {Z = Global})) c.as_slice.ensures.value ∙ ap (λ (told : Told). told.names) c.self.view_is)

@@ -1,7 +1,8 @@
 -- A triple that is new goes last with its rule, whose lead is put in its place; one that is there is a twin.
 use Rattle.std.proofs.Common.{not, List, [], ◌∷◌, ◌++◌, ap, ◌∙◌}
 use Rattle.lexicon_definitions.specs.Rules.{Rule}
-use Rattle.rule_file.proofs.TripleLemmas.{twin_told, triples_pushed, leads_rising, leads_pushed, told_twice}
+use Rattle.sandhi_rules.proofs.TripleLemmas.{twin_told, triples_pushed}
+use Rattle.rule_file.proofs.TripleLemmas.{leads_rising, leads_pushed, told_twice}
 use Rattle.rule_file.proofs.rules_so_far.RulesSoFar.with_rule.Goals as goal
 
 pub returns-then-not-branch-clause-twice : goal.returns-then-not-branch-clause-twice

@@ -3,9 +3,9 @@ use Rattle.std.proofs.Common.{◌≡◌, true, Err, List, [], ◌∷◌, ◌++�
 use Rattle.std.specs.List.{list_any}
 use Rattle.std.specs.Vec.Iter.{into_iter_items}
 use Rattle.std.proofs.lemmas.Result.{err_from_is_err_and}
-use Rattle.lexicon_definitions.specs.Rules.{Rule}
+use Rattle.lexicon_definitions.specs.Rules.{Rule, is_twin}
 use Rattle.rule_file_definitions.specs.EntryWhys as entries
-use Rattle.rule_file_definitions.specs.RuleEntries.{is_twin, have_twins, add_rules}
+use Rattle.rule_file_definitions.specs.RuleEntries.{have_twins, add_rules}
 use Rattle.rule_file.specs.declared.entry_error.EntryError.{EntryError}
 use Rattle.rule_file.specs.Faults.{IfWhy}
 use Rattle.rule_file.proofs.FaultLemmas.{with_why}

@@ -1,3 +1,0 @@
-pub mod ReadLines
-pub mod RepliedLines
-pub mod ServedLines

@@ -1,3 +1,0 @@
-pub mod MarkedReadings
-pub mod ResumedReadings
-pub mod ResumeReplies

@@ -1,6 +1,0 @@
--- So far the choices are those that were gone over.
-use Rattle.std.proofs.Common.{◌≡◌}
-use Rattle.bookmark_replies.proofs.resuming.choices_of.Given as goal
-
-abbrev pub invariant-loop-choice : goal.invariant-loop-choice
-invariant-loop-choice l = l.choices ≡ l.yielded

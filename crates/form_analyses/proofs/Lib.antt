@@ -1,3 +1,0 @@
-pub mod PhaseAnalyses
-pub mod PutAnalyses
-pub mod SearchedForms

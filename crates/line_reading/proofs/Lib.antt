@@ -1,2 +1,0 @@
-pub mod AnswerBounds
-pub mod RefusedReplies

@@ -1,2 +1,0 @@
-pub mod PrintedPages
-pub mod ListedAnswers

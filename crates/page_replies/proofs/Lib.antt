@@ -1,4 +1,0 @@
-mod PagePositions
-mod PageReadings
-mod RefusedPages
-mod SummarizedReadings

@@ -1,9 +1,0 @@
--- The refusal, by its lemma.
-use Rattle.page_replies.proofs.RefusedPages.{no_line_for_summary}
-use Rattle.page_replies.proofs.summing.reply_with_summary.Goals as goal
-
-pub returns-in_default : goal.returns-in_default
-returns-in_default c = record {
-  ok = no_line_for_summary c.args.lexicon.now c.args.old c.args.output.now.items c.refuse.new.output.items c.refuse.result c.in_default.is
-      c.refuse.ensures.output c.refuse.ensures.same;
-}

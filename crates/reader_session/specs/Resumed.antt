@@ -1,0 +1,50 @@
+-- What resuming at a bookmark gives (own).
+use Rattle.std.specs.Prelude.{◌≡◌, ℕ, ◌<◌, Option, Some, None, List, [], ◌∷◌, length, All}
+use Rattle.std.specs.Option.{option_map}
+use Rattle.text_definitions.specs.Lines.{Line}
+use Rattle.lexicon_definitions.specs.Lexicons.{Lexicon}
+use Rattle.segmentation_definitions.specs.Items.{Choice}
+use Rattle.segmentation_definitions.specs.Listings.{Position}
+use Rattle.derivation.specs.declared.step.Step.{Step as ProgramStep}
+use Rattle.derivation.specs.declared.step.Key.{Key as ProgramKey}
+use Rattle.annotated_trie.specs.Searched.{SearchedLexicon}
+use Rattle.bookmark_definitions.specs.Bookmarks.{Bookmark, IsBookmark}
+use Rattle.bookmarks.specs.declared.bookmark.Bookmark.{Bookmark as ProgramBookmark}
+use Rattle.bookmarks.specs.Values.{keys_of, bookmark_of}
+use Rattle.segmenter.specs.Searches.{SearchValue, IsCurrent}
+use Rattle.session_definitions.specs.States.{after_resume}
+use Rattle.session_definitions.specs.Replies.{IsPositionOfBookmark}
+use Rattle.reader_session.specs.declared.reading.Reading.{Reading}
+use Rattle.reader_session.specs.Readings.{IsReading, state_with}
+
+-- the lexicon has the phase of the item of each choice
+abbrev pub HasPhases : Lexicon → List Choice → Type 0
+HasPhases lexicon choices = All (λ choice. choice.item.phase < length lexicon.phases) choices
+
+-- the bookmark is one over the lexicon at this position, and the line is read on from there
+pub record IsResumedAt (searched : SearchedLexicon) (mark : Bookmark) (reading : Reading) (position : Position) : Type 0 where
+  pub is_reading : IsReading searched reading
+  pub is_position : IsPositionOfBookmark searched.lexicon mark position
+  pub state : state_with searched.lexicon.rules reading ≡ after_resume mark position
+
+-- the line is read on from the bookmark; or none is, and the bookmark is not one over the lexicon
+abbrev pub IsResumed : SearchedLexicon → Bookmark → Option Reading → Type 0
+IsResumed searched mark None = (position : Position) → IsPositionOfBookmark searched.lexicon mark position → ⊥
+IsResumed searched mark (Some reading) = (position : Position) × IsResumedAt searched mark reading position
+
+-- these are the program's steps of the answer at which the search stands, none where it stands at none
+abbrev pub IsLastOf : SearchValue → List ProgramStep → Type 0
+IsLastOf search [] = IsCurrent search None
+IsLastOf search (step ∷ steps) = IsCurrent search (Some (step ∷ steps))
+
+-- the bookmark with these parts
+abbrev pub mark_with : Line → List Choice → ℕ → List ProgramKey → Bookmark
+mark_with line choices printed keys = record { line = line; choices = choices; printed = printed; keys = keys_of keys }
+
+-- the bookmark that was read, if any, is one
+abbrev pub IsMark : Option ProgramBookmark → Type 0
+IsMark None = Unit {0}
+IsMark (Some mark) = IsBookmark (bookmark_of mark)
+
+abbrev pub value_of_mark : Option ProgramBookmark → Option Bookmark
+value_of_mark mark = option_map bookmark_of mark

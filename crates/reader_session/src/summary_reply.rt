@@ -1,0 +1,49 @@
+ghost use Rattle.std.specs.Prelude.{◌≡◌, IfOk, Some};
+ghost use Rattle.session_definitions.specs.Requests.{Summary};
+ghost use Rattle.session_definitions.specs.Replies.{IsSummaryReply, IsReplyTo};
+ghost use Rattle.reader_session.specs.Readings.{IsReading, IsReadingOver, GoesOn, GoesOnWith, state_with, state_of};
+
+use super::reading::Reading;
+use super::refusing::refuse;
+use super::summary_printing::push_summary;
+use annotated_trie::Lexicon;
+use outside::Steps;
+use phoneme::Memory;
+use std::alloc::Global;
+
+/// Appends the items of all answers, which the chart tells, and keeps them.
+fn push_new_summary(
+    alloc: Global,
+    lexicon: &Lexicon,
+    reading: Reading,
+    output: &mut Vec<u8>,
+) -> Result<Reading, Memory>
+    requires reading { IsReading lexicon.now reading }
+    ensures ok { IfOk result (GoesOnWith lexicon.now
+        (IsSummaryReply lexicon.now.lexicon (state_with lexicon.now.lexicon.rules reading) reading.line) output.old.items output.new.items) }
+{
+    let mut reading = reading;
+    let mut steps = Steps::<()>::new();
+    let items = reading.chart.summary(alloc, lexicon, &reading.line, &reading.choices, &mut steps)?;
+    push_summary(alloc, output, lexicon.rules(), items.as_slice())?;
+    reading.summary = Some(items);
+    Ok(reading)
+}
+
+/// `summary`: the items of all answers.
+pub(crate) fn reply_with_summary(
+    alloc: Global,
+    lexicon: &Lexicon,
+    old: Option<Reading>,
+    output: &mut Vec<u8>,
+) -> Result<Option<Reading>, Memory>
+    requires reading { IsReadingOver lexicon.now old }
+    ensures ok { IfOk result (GoesOn lexicon.now
+        (IsReplyTo lexicon.now.lexicon (state_of lexicon.now.lexicon.rules old) Summary) output.old.items output.new.items) }
+{
+    let Some(reading) = old else {
+        return refuse(output, "no text", None);
+    };
+    let reading = push_new_summary(alloc, lexicon, reading, output)?;
+    Ok(Some(reading))
+}

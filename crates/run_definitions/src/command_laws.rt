@@ -1,0 +1,112 @@
+ghost use Rattle.std.specs.Prelude.{◌≡◌, ◌↔◌, ◌∷◌, ℕ, List, Option, codes};
+ghost use Rattle.outside.specs.Files.{Files};
+ghost use Rattle.text_definitions.specs.Schemes.{Scheme};
+ghost use Rattle.run_definitions.specs.Arguments.{FileWord};
+ghost use Rattle.run_definitions.specs.Ends.{Outcome};
+ghost use Rattle.run_definitions.specs.Refusals.{usage_outcome};
+ghost use Rattle.run_definitions.specs.SegmentOutcomes.{AreSegmentWords, IsSegmentOutcome, IsSegmentRun};
+ghost use Rattle.run_definitions.specs.CheckOutcomes.{AreCheckWords, IsCheckOutcome, IsCheckRun};
+ghost use Rattle.run_definitions.specs.BuildOutcomes.{AreBuildWords, IsBuildOutcome, IsBuildRun};
+ghost use Rattle.run_definitions.specs.ReadOutcomes.{AreReadWords, IsReadOutcome, IsReadRun, IsReadSoFar};
+ghost use Rattle.run_definitions.specs.BatchOutcomes.{AreBatchWords, IsBatchOutcome, IsBatchRun, IsBatchSoFar};
+ghost use Rattle.run_definitions.specs.DemoOutcomes.{AreDemoWords, IsDemoOutcome, IsDemoRun};
+ghost use Rattle.run_definitions.specs.Commands.{Command, Segment, Check, Build, Read, Batch, Demo};
+ghost use Rattle.run_definitions.specs.Commands.{name_of_command, AreWordsOf, DoWrite, WriteNoFile, DoReadInput};
+ghost use Rattle.run_definitions.specs.Outcomes.{IsOutcome, IsSoFar};
+
+/// The outcomes of a run whose first word is `segment` are just those that the definitions of `segment` alone give; so is what it may have
+/// come to write where it stops.
+pub fn segment_alone()
+    ensures words { (lex : FileWord) (scheme : Scheme) (text : List ℕ) (words : List (List ℕ)) → AreSegmentWords lex scheme text words ↔ AreWordsOf (Segment lex scheme text) words }
+    ensures run { (words following : List (List ℕ)) (files : Files) (input : Option (List ℕ)) (outcome : Outcome)
+        → words ≡ codes "segment" ∷ following → IsOutcome words files input outcome ↔ IsSegmentRun words files outcome }
+    ensures outcome { (lex : FileWord) (scheme : Scheme) (text : List ℕ) (words : List (List ℕ)) (files : Files) (input : Option (List ℕ)) (outcome : Outcome)
+        → AreSegmentWords lex scheme text words → IsOutcome words files input outcome ↔ IsSegmentOutcome lex scheme text files outcome }
+    ensures so_far { (lex : FileWord) (scheme : Scheme) (text : List ℕ) (words : List (List ℕ)) (files : Files) (input : Option (List ℕ)) (output : List ℕ)
+        → AreSegmentWords lex scheme text words → IsSoFar words files input output
+        ↔ ((outcome : Outcome) × IsSegmentOutcome lex scheme text files outcome × (output ≡ outcome.output)) }
+    ensures writes { (lex : FileWord) (scheme : Scheme) (text : List ℕ) (words : List (List ℕ)) → AreSegmentWords lex scheme text words → WriteNoFile words }
+    ensures input { (lex : FileWord) (scheme : Scheme) (text : List ℕ) (words : List (List ℕ)) → AreSegmentWords lex scheme text words → DoReadInput words → ⊥ }
+{}
+
+/// The outcomes of a run whose first word is `check` are just those that the definitions of `check` alone give; so is what it may have
+/// come to write where it stops.
+pub fn check_alone()
+    ensures words { (lex : FileWord) (words : List (List ℕ)) → AreCheckWords lex words ↔ AreWordsOf (Check lex) words }
+    ensures run { (words following : List (List ℕ)) (files : Files) (input : Option (List ℕ)) (outcome : Outcome)
+        → words ≡ codes "check" ∷ following → IsOutcome words files input outcome ↔ IsCheckRun words files outcome }
+    ensures outcome { (lex : FileWord) (words : List (List ℕ)) (files : Files) (input : Option (List ℕ)) (outcome : Outcome)
+        → AreCheckWords lex words → IsOutcome words files input outcome ↔ IsCheckOutcome lex files outcome }
+    ensures so_far { (lex : FileWord) (words : List (List ℕ)) (files : Files) (input : Option (List ℕ)) (output : List ℕ)
+        → AreCheckWords lex words → IsSoFar words files input output
+        ↔ ((outcome : Outcome) × IsCheckOutcome lex files outcome × (output ≡ outcome.output)) }
+    ensures writes { (lex : FileWord) (words : List (List ℕ)) → AreCheckWords lex words → WriteNoFile words }
+    ensures input { (lex : FileWord) (words : List (List ℕ)) → AreCheckWords lex words → DoReadInput words → ⊥ }
+{}
+
+/// The outcomes of a run whose first word is `build` are just those that the definitions of `build` alone give; so is what it may have
+/// come to write where it stops.
+pub fn build_alone()
+    ensures words { (rules tables stems out : FileWord) (words : List (List ℕ)) → AreBuildWords rules tables stems out words ↔ AreWordsOf (Build rules tables stems out) words }
+    ensures run { (words following : List (List ℕ)) (files : Files) (input : Option (List ℕ)) (outcome : Outcome)
+        → words ≡ codes "build" ∷ following → IsOutcome words files input outcome ↔ IsBuildRun words files outcome }
+    ensures outcome { (rules tables stems out : FileWord) (words : List (List ℕ)) (files : Files) (input : Option (List ℕ)) (outcome : Outcome)
+        → AreBuildWords rules tables stems out words → IsOutcome words files input outcome ↔ IsBuildOutcome rules tables stems out files outcome }
+    ensures so_far { (rules tables stems out : FileWord) (words : List (List ℕ)) (files : Files) (input : Option (List ℕ)) (output : List ℕ)
+        → AreBuildWords rules tables stems out words → IsSoFar words files input output
+        ↔ ((outcome : Outcome) × IsBuildOutcome rules tables stems out files outcome × (output ≡ outcome.output)) }
+    ensures writes { (rules tables stems out : FileWord) (words : List (List ℕ)) (other : FileWord) → AreBuildWords rules tables stems out words → DoWrite words other → other ≡ out }
+    ensures input { (rules tables stems out : FileWord) (words : List (List ℕ)) → AreBuildWords rules tables stems out words → DoReadInput words → ⊥ }
+{}
+
+/// The outcomes of a run whose first word is `read` are just those that the definitions of `read` alone give; so is what it may have
+/// come to write where it stops.
+pub fn read_alone()
+    ensures words { (lex : FileWord) (words : List (List ℕ)) → AreReadWords lex words ↔ AreWordsOf (Read lex) words }
+    ensures run { (words following : List (List ℕ)) (files : Files) (input : Option (List ℕ)) (outcome : Outcome)
+        → words ≡ codes "read" ∷ following → IsOutcome words files input outcome ↔ IsReadRun words files input outcome }
+    ensures outcome { (lex : FileWord) (words : List (List ℕ)) (files : Files) (input : Option (List ℕ)) (outcome : Outcome)
+        → AreReadWords lex words → IsOutcome words files input outcome ↔ IsReadOutcome lex files input outcome }
+    ensures so_far { (lex : FileWord) (words : List (List ℕ)) (files : Files) (input : Option (List ℕ)) (output : List ℕ)
+        → AreReadWords lex words → IsSoFar words files input output
+        ↔ IsReadSoFar lex files input output }
+    ensures writes { (lex : FileWord) (words : List (List ℕ)) → AreReadWords lex words → WriteNoFile words }
+    ensures input { (lex : FileWord) (words : List (List ℕ)) → AreReadWords lex words → DoReadInput words }
+{}
+
+/// The outcomes of a run whose first word is `batch` are just those that the definitions of `batch` alone give; so is what it may have
+/// come to write where it stops.
+pub fn batch_alone()
+    ensures words { (lex : FileWord) (scheme : Scheme) (file : FileWord) (count : ℕ) (words : List (List ℕ)) → AreBatchWords lex scheme file count words ↔ AreWordsOf (Batch lex scheme file count) words }
+    ensures run { (words following : List (List ℕ)) (files : Files) (input : Option (List ℕ)) (outcome : Outcome)
+        → words ≡ codes "batch" ∷ following → IsOutcome words files input outcome ↔ IsBatchRun words files outcome }
+    ensures outcome { (lex : FileWord) (scheme : Scheme) (file : FileWord) (count : ℕ) (words : List (List ℕ)) (files : Files) (input : Option (List ℕ)) (outcome : Outcome)
+        → AreBatchWords lex scheme file count words → IsOutcome words files input outcome ↔ IsBatchOutcome lex scheme file count files outcome }
+    ensures so_far { (lex : FileWord) (scheme : Scheme) (file : FileWord) (count : ℕ) (words : List (List ℕ)) (files : Files) (input : Option (List ℕ)) (output : List ℕ)
+        → AreBatchWords lex scheme file count words → IsSoFar words files input output
+        ↔ IsBatchSoFar lex scheme file count files output }
+    ensures writes { (lex : FileWord) (scheme : Scheme) (file : FileWord) (count : ℕ) (words : List (List ℕ)) → AreBatchWords lex scheme file count words → WriteNoFile words }
+    ensures input { (lex : FileWord) (scheme : Scheme) (file : FileWord) (count : ℕ) (words : List (List ℕ)) → AreBatchWords lex scheme file count words → DoReadInput words → ⊥ }
+{}
+
+/// The outcomes of a run whose first word is `demo` are just those that the definitions of `demo` alone give; so is what it may have
+/// come to write where it stops.
+pub fn demo_alone()
+    ensures words { (number : ℕ) (words : List (List ℕ)) → AreDemoWords number words ↔ AreWordsOf (Demo number) words }
+    ensures run { (words following : List (List ℕ)) (files : Files) (input : Option (List ℕ)) (outcome : Outcome)
+        → words ≡ codes "demo" ∷ following → IsOutcome words files input outcome ↔ IsDemoRun words files outcome }
+    ensures outcome { (number : ℕ) (words : List (List ℕ)) (files : Files) (input : Option (List ℕ)) (outcome : Outcome)
+        → AreDemoWords number words → IsOutcome words files input outcome ↔ IsDemoOutcome number files outcome }
+    ensures so_far { (number : ℕ) (words : List (List ℕ)) (files : Files) (input : Option (List ℕ)) (output : List ℕ)
+        → AreDemoWords number words → IsSoFar words files input output
+        ↔ ((outcome : Outcome) × IsDemoOutcome number files outcome × (output ≡ outcome.output)) }
+    ensures writes { (number : ℕ) (words : List (List ℕ)) → AreDemoWords number words → WriteNoFile words }
+    ensures input { (number : ℕ) (words : List (List ℕ)) → AreDemoWords number words → DoReadInput words → ⊥ }
+{}
+
+/// A run whose first word is the name of no command, or that has no word, is refused with `usage`.
+pub fn other_words_alone()
+    ensures { (words : List (List ℕ)) (files : Files) (input : Option (List ℕ)) (outcome : Outcome)
+        → ((command : Command) (following : List (List ℕ)) → words ≡ name_of_command command ∷ following → ⊥)
+        → IsOutcome words files input outcome ↔ (outcome ≡ usage_outcome files) }
+{}

@@ -1,3 +1,0 @@
-pub mod LineReplies
-pub mod OpenReplies
-pub mod ShortTexts

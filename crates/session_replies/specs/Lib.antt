@@ -1,2 +1,0 @@
-pub mod SessionValues
-pub mod Answered

@@ -1,6 +1,0 @@
-/// How a session stands after a reply: it goes on, or it is over.
-#[derive(Clone, Copy, Debug, PartialEq, Eq)]
-pub enum After {
-    Open,
-    Over,
-}

@@ -1,0 +1,25 @@
+# Completion of sandhi's words in bash.
+_sandhi() {
+    local word="${COMP_WORDS[COMP_CWORD]}" command="${COMP_WORDS[1]-}" before="${COMP_WORDS[COMP_CWORD - 1]}" number
+    local schemes="slp1 wx velthuis devanagari"
+    COMPREPLY=()
+    if [ "$COMP_CWORD" = 1 ]; then
+        mapfile -t COMPREPLY < <(compgen -W "segment read batch check build demo" -- "$word")
+        return
+    fi
+    number="$COMP_CWORD"
+    if [ "$command" = segment ] && [ "$before" = --in ]; then
+        mapfile -t COMPREPLY < <(compgen -W "$schemes" -- "$word")
+        return
+    elif [ "$command" = segment ] && [[ "$word" = -* ]]; then
+        mapfile -t COMPREPLY < <(compgen -W "--in" -- "$word")
+        return
+    elif [ "$command" = segment ] && [[ " ${COMP_WORDS[*]:2:COMP_CWORD-2} " = *" --in "* ]]; then
+        number=$((COMP_CWORD - 2))
+    fi
+    case "$command $number" in
+    "batch 3") mapfile -t COMPREPLY < <(compgen -W "$schemes" -- "$word") ;;
+    "segment 2" | "read 2" | "check 2" | "batch 2" | "batch 4" | "build "[2-5]) mapfile -t COMPREPLY < <(compgen -f -- "$word") ;;
+    esac
+}
+complete -o filenames -F _sandhi sandhi
