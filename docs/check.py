@@ -10,7 +10,7 @@ run, and a line says so."""
 import sys
 from pathlib import Path
 
-from tools.counts import check_facts, check_limits, check_lists, check_numbers
+from tools.counts import check_commands, check_facts, check_limits, check_lists, check_numbers
 from tools.definitions import check_definitions
 from tools.documents import Document
 from tools.examples import check_examples
@@ -20,13 +20,13 @@ from tools.names import check_names
 from tools.tree import Tree
 
 ROOT = Path(__file__).resolve().parent.parent
-FOLDERS = ("", "docs", "lexicons/starter", "worked", "page")
+PAGES = ("*.md", "[!.]*/*.md", "lexicons/*/*.md")
 WITH_EXAMPLES = ("README.md", "docs/GUIDE.md")
 
 
 def read_documents():
-    """The documents of the repository, the first page first."""
-    return [Document(ROOT, path) for folder in FOLDERS for path in sorted((ROOT / folder).glob("*.md"))]
+    """The documents of the repository: the first page, those of its folders, and those of the lexicons."""
+    return [Document(ROOT, path) for pages in PAGES for path in sorted(ROOT.glob(pages))]
 
 
 def complaints(tree, documents):
@@ -41,6 +41,7 @@ def complaints(tree, documents):
     yield from check_facts(tree, documents)
     yield from check_numbers(tree, documents)
     yield from check_lists(tree, documents)
+    yield from check_commands(tree, by_name["README.md"])
     yield from check_limits(tree, by_name["docs/FORMATS.md"])
 
 

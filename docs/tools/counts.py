@@ -72,24 +72,34 @@ def check_lists(tree, documents):
 
 
 def first_words(document, number):
-    """The first word in backticks of each row of the table that follows a line."""
+    """The word in backticks, or the number, with which each row of the table that follows a line begins."""
     rows = []
     for block in document.blocks:
         if block.line > number and block.is_row() and (not rows or block.line == rows[-1].line + 1):
             rows.append(block)
-    found = [re.match(r"`([^` ]+)", row.cells()[0]) for row in rows]
+    found = [re.match(r"`?(\d+|(?<=`)[^` ]+)", row.cells()[0]) for row in rows]
     return [word[1] for word in found if word]
 
 
 def list_of(tree, what):
-    """What a mark names: the commands, the words of a session, the files of worked rows, or the variants of an enum."""
+    """What a mark names: commands, words of a session, exit statuses, files of worked rows, or the variants of an enum."""
     if what == "commands":
         return tree.commands()
     if what == "session words":
         return tree.session_words()
+    if what == "exit statuses":
+        return [str(number) for number, _ in enumerate(tree.variants("Status"))]
     if what == "worked rows":
         return sorted(str(path.relative_to(tree.root)) for path in tree.root.glob("worked/rows/*"))
     return tree.variants(what)
+
+
+def check_commands(tree, document):
+    """The first page has a heading for each command, and for no others."""
+    headings = dict.fromkeys(block.headings[2] for block in document.blocks if "The commands" in block.headings and len(block.headings) == 3)
+    told = [heading[1:].split()[0].strip("`") for heading in headings if heading.startswith("`")]
+    if told != tree.commands():
+        yield document.name, 1, f"the headings of commands are {', '.join(told)}"
 
 
 def check_limits(tree, document):
