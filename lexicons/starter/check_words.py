@@ -20,7 +20,7 @@ from collections import defaultdict
 from pathlib import Path
 
 HERE = Path(__file__).resolve().parent
-PART = re.compile(r"([^ \[\]()]+)\[([a-z0-9_]+)\]")
+MEMBER = re.compile(r"([^-\[\]]+)(?:\[([a-z0-9_]+)\])?")
 WORD = re.compile(r"^\| ([a-z ]+) \|[^|]+\| ([^|]+) \|$")
 SECTION = "\n## Roots and meanings\n"
 TENSES = ("pr", "impf", "imp", "opt", "fut", "perf", "aor")
@@ -93,12 +93,19 @@ def read_words():
     return {word: tags for word, tags in words.items() if word not in first}, first
 
 
-def stems_of_readings(tables, stems):
-    """The stems, with their classes, of which a form stands in a reading in its phase, each with such a form."""
+def parts_of_readings():
+    """The forms of all readings, each with its phase, or with None where the reading tells no phase."""
     parts = set()
     for path in (HERE / "readings").glob("*.tsv"):
         for line in path.read_text(encoding="utf-8").splitlines():
-            parts.update(PART.findall(line.split("\t")[3]))
+            for form, phase in MEMBER.findall(line.split("\t")[3].replace(" ", "-")):
+                parts.add((form, phase or None))
+    return parts
+
+
+def stems_of_readings(tables, stems):
+    """The stems, with their classes, of which a form is a word or a member of a word in a reading, each with such a form."""
+    parts = parts_of_readings()
     unturned = {form.translate(UNTURNED) for form, _ in parts}
     found = {}
     for stem, name in stems:
@@ -106,7 +113,7 @@ def stems_of_readings(tables, stems):
             front = prefix + stem[: len(stem) - cut]
             if (front + ending).translate(UNTURNED) in unturned:
                 form = join(front, ending)
-                if (form, phase) in parts:
+                if (form, phase) in parts or (form, None) in parts:
                     found[stem, name] = form
     return found
 
