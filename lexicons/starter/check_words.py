@@ -6,11 +6,11 @@
 Nothing but the files beside this script is read: the words of roots.csv are those of the table in README.md, and which
 stems the readings have is found by inflecting stems.csv with tables.csv.
 
-Each fault is printed with its file and line. A fault is a line that has not its fields, is not above the line before it,
-or has a stem, with its class, that is not in stems.csv; a word that the table does not have, or that no form of the stem
-fits; a meaning that is empty or has more than five words; and a stem of the readings that has no meaning, or a tense and
-no root. It ends with status 1 where there is a fault. `--missing` prints each stem of stems.csv that has no meaning, or a
-tense and no root; this is no fault.
+Each fault is printed with its file and line. A fault is a line that has not its fields, is not above the line before
+it, or has a stem, with its class, that is not in stems.csv; a word that the table does not have, or that no form of the
+stem fits; a meaning that is empty or has more than five words; and a stem of the readings that has no meaning, or a
+tense and no root. It ends with status 1 where there is a fault. `--missing` prints each stem of stems.csv that has no
+meaning, or a tense and no root; this is no fault.
 """
 
 import csv
@@ -104,7 +104,7 @@ def parts_of_readings():
 
 
 def stems_of_readings(tables, stems):
-    """The stems, with their classes, of which a form is a word or a member of a word in a reading, each with such a form."""
+    """The stems, with their classes, of which a form is a word or a member in a reading, each with such a form."""
     parts = parts_of_readings()
     unturned = {form.translate(UNTURNED) for form, _ in parts}
     found = {}
@@ -119,7 +119,7 @@ def stems_of_readings(tables, stems):
 
 
 def read_rows(name, sizes, faults):
-    """The lines of a file as lists of fields, each with its number. Faults are lines of other sizes, and not rising ones."""
+    """The lines of a file as lists of fields, each with its number. Faults are other sizes, and lines not rising."""
     rows, before = [], ""
     for number, line in enumerate((HERE / name).read_text(encoding="utf-8").splitlines(), 1):
         fields = line.split(",")
