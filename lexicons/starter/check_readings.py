@@ -208,7 +208,7 @@ def words_of_things(tables):
 
 def loose_ends(rules):
     """The rules with a grammar in which the last members of compounds stand alone too."""
-    return rules.replace("((ind | pron ", "((ind | ifc | pron ")
+    return rules.replace("(ind | pron ", "(ind | ifc | pron ")
 
 
 def without_blanks(text):
