@@ -11,7 +11,8 @@ Each line of such a file has four fields, separated by tabs: a number, the sourc
 reading. A reading is words in SLP1, separated by blanks. A word is FORM or FORM[PHASE], or members of a compound or
 of a verb with preverbs with - between: Darma-kzetre, sam-ava-itAH. A form without a phase may have any. Members that
 are joined by - may be one form of the lexicon too, where sandhi makes this form of them (retroflex letters apart):
-a lexicon that has durlaBa reads duH-laBam.
+a lexicon that has durlaBa reads duH-laBam. Likewise a form may be a member and last members of phase `ifc`, which
+are suffixes mostly: kArya and taH for kAryataH.
 
 The script builds the lexicon into a temporary folder, checks it, and opens one session on it. It lists the answers of
 each line page by page, up to 10,000, and prints how many there are, and which is the first that is the reading: its
@@ -144,26 +145,32 @@ class Reading:
             self.wholes[begin, end] = self.sandhi.joined([member[0] for member in self.members[begin:end]])
         return form.translate(DENTALS) in self.wholes[begin, end]
 
+    def ends(self, answer, first, place):
+        """The pairs (forms, members) that agree from a form of an answer and a member of the reading on."""
+        form, phase = answer[first]
+        name, wanted, last = self.members[place]
+        if form == name and wanted in (None, phase):
+            yield first + 1, place + 1
+        end = place + 1
+        while not last and end < len(self.members):
+            last = self.members[end][2]
+            end += 1
+            if self.is_whole(form, place, end):
+                yield first + 1, end
+        after = first + 1
+        while after < len(answer) and answer[after][1] == "ifc":
+            after += 1
+            if name.translate(DENTALS) in self.sandhi.joined([part for part, _ in answer[first:after]]):
+                yield after, place + 1
+
     def is_answer(self, answer):
         """Whether the parts of an answer are this reading."""
-        places = {0}
-        for form, phase in answer:
-            after = set()
-            for place in places:
-                if place < len(self.members):
-                    name, wanted, ends = self.members[place]
-                    if form == name and wanted in (None, phase):
-                        after.add(place + 1)
-                    end = place + 1
-                    while not ends and end < len(self.members):
-                        ends = self.members[end][2]
-                        end += 1
-                        if self.is_whole(form, place, end):
-                            after.add(end)
-            places = after
-            if not places:
-                return False
-        return len(self.members) in places
+        reached = {(0, 0)}
+        for first in range(len(answer)):
+            for place in range(len(self.members)):
+                if (first, place) in reached:
+                    reached.update(self.ends(answer, first, place))
+        return (len(answer), len(self.members)) in reached
 
 
 class Found:
