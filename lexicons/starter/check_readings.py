@@ -25,6 +25,7 @@ must be there, and where the lexicon cannot be built or has an overlap.
 """
 
 import argparse
+import itertools
 import re
 import statistics
 import subprocess
@@ -253,6 +254,13 @@ def work_of(source):
     return re.split(r"[\d,]", source)[0].strip()
 
 
+def passages(rows, founds):
+    """What was found for the lines of one work that come one after another, with the source of the first of them."""
+    runs = itertools.groupby(zip(rows, founds), lambda pair: work_of(pair[0][1]))
+    parts = [list(run) for _, run in runs]
+    return [(part[0][0][1], [found for _, found in part]) for part in parts]
+
+
 def read_lines(session, rows, sandhi):
     """Prints a row for each line. Returns what was found for each, and the numbers of those whose reading is missing."""
     founds, missing = [], []
@@ -280,14 +288,11 @@ def read_files(session, files, sandhi):
         if must:
             wanting += len(missing)
             print(f"{path.name}: {len(founds)} lines, {len(missing)} readings missing {' '.join(missing)}".rstrip())
-        groups = {}
-        for row, found in zip(rows, founds):
-            groups.setdefault(work_of(row[1]), []).append(found)
-        wholes.append((path.name, founds, [] if must else list(groups.items())))
+        wholes.append((path.name, founds, [] if must else passages(rows, founds)))
     print(f"{'':44} lines answer reading  first   <=3   <=10 fewest forms: first, <=3, <=10")
     for name, founds, groups in wholes:
-        for work, part in groups:
-            print(shares("  " + work, part))
+        for source, part in groups:
+            print(shares(f"  from {source} on", part))
         print(shares(name, founds))
     print(f"{'answers a line':44} median     mean   most   <=10  <=100 <=1000")
     for name, founds, _ in wholes:
