@@ -80,22 +80,28 @@ def accepted(reply):
     return reply
 
 
-def read_answer(line):
-    """The answer of a printed line."""
+def read_answer(line, steps_seen):
+    """The answer of a printed line. A step that was seen before is the same value, so that pages take little room."""
     number, forms = line.split(": ", 1)
     steps, at, lead = [], 0, 0
-    for form, phase, u, v, w in SEGMENT.findall(forms):
-        rule = Rule(u, v, w) if u else None
-        step = Step(Segment(at, lead, phase, form), len(form) - lead - len(u), rule)
+    for found in SEGMENT.findall(forms):
+        key = (at, lead, found)
+        step = steps_seen.get(key) or steps_seen.setdefault(key, step_at(*key))
         steps.append(step)
-        at, lead = step.written_to, len(v)
+        at, lead = step.written_to, len(found[3])
     return Answer(int(number), tuple(steps))
+
+
+def step_at(at, lead, found):
+    """The step of a form that was found in a printed answer."""
+    form, phase, u, v, w = found
+    return Step(Segment(at, lead, phase, form), len(form) - lead - len(u), Rule(u, v, w) if u else None)
 
 
 def read_page(reply):
     """The answers of a reply to `page`."""
-    lines = accepted(reply)
-    return Page([read_answer(line) for line in lines[:-1]], lines[-1] == "more")
+    lines, steps_seen = accepted(reply), {}
+    return Page([read_answer(line, steps_seen) for line in lines[:-1]], lines[-1] == "more")
 
 
 def read_summary(reply):
