@@ -27,14 +27,18 @@ function answerElement(answer, blanks, actions) {
   const frame = make("div", { class: "analyses-frame" });
   const words = answer.steps.flatMap((step, number) => {
     const next = answer.steps[number + 1];
-    const form = formElement(step, () => toggleAnalyses(frame, [step], actions));
-    return next || step.rule ? [form, jointElement(step, next, blanks)] : [form];
+    const isHyphened = next && isOneWord(step, next, blanks);
+    const unit = make("span", { class: "unit" },
+      formElement(step, () => toggleAnalyses(frame, [step], actions)),
+      isHyphened ? make("span", { class: "hyphen" }, "-") : null,
+      step.rule ? ruleElement(step.rule) : null);
+    return isHyphened || !next ? [unit, make("wbr")] : [unit, " "];
   });
   const all = make("button", {
     type: "button", class: "quiet all-analyses", "aria-label": `All analyses of answer ${answer.number}`,
     on: { click: () => toggleAnalyses(frame, answer.steps, actions) },
   }, "analyses");
-  return make("li", { value: answer.number, class: "answer" }, make("p", { class: "words sanskrit" }, words, all), frame);
+  return make("li", { value: answer.number, class: "answer" }, make("p", { class: "words sanskrit" }, words), all, frame);
 }
 
 function formElement(step, onClick) {
@@ -45,15 +49,16 @@ function formElement(step, onClick) {
   }, form);
 }
 
-/** What stands between two forms: a hyphen in a compound, else a blank; and the rule by which they met. */
-function jointElement(step, next, blanks) {
-  const letters = step.at + step.taken;
-  const isCut = blanks.some((blank) => letters <= blank && blank <= step.writtenTo);
-  const sign = next && !isCut && isJoined(step.phase, next.phase) ? "-" : " ";
-  const { rule } = step;
-  const told = rule ? ruleInWords(`${rule.u}|${rule.v}>${rule.w}`, setting("output")) : null;
-  return make("span", { class: sign === "-" ? "joint hyphen" : "joint" }, sign,
-    told ? make("span", { class: "rule" }, make("span", { class: "unseen" }, " by "), told, " ") : null);
+/** Whether two forms make a compound, or a preverb and its verb: no blank of the line is where they meet. */
+function isOneWord(step, next, blanks) {
+  const from = step.at + step.taken;
+  const isCut = blanks.some((blank) => from <= blank && blank <= step.writtenTo);
+  return !isCut && isJoined(step.phase, next.phase);
+}
+
+/** The rule by which a form met the next one, or by which the line ends. */
+function ruleElement({ u, v, w }) {
+  return make("span", { class: "rule" }, make("span", { class: "unseen" }, " by "), ruleInWords(`${u}|${v}>${w}`, setting("output")));
 }
 
 async function toggleAnalyses(frame, segments, actions) {

@@ -65,7 +65,8 @@ function boxElement(box, number, kept, actions) {
       on: { click: () => actions.keep(box) },
     },
       make("span", { class: "form sanskrit" }, form),
-      make("span", { class: "phase" }, box.phase, box.isCertain ? make("span", { class: "mark-certain" }, " ✓") : null)
+      make("span", { class: "phase" }, box.phase),
+      box.isCertain ? make("span", { class: "mark-certain" }, "✓") : null
     ),
     make("button", {
       type: "button", class: "reject", "aria-label": `Reject ${form}, ${box.phase}`, title: `Reject ${form}`, tabindex: -1,

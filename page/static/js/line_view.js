@@ -87,7 +87,7 @@ function drawChanges(actions) {
   fill(
     byId("notice"),
     make("div", { class: "changed" },
-      make("p", {}, "Read as ", make("span", { class: "sanskrit" }, read), ":"),
+      make("p", {}, "Not read as it was typed, but as ", make("span", { class: "sanskrit" }, read)),
       make("ul", {}, told),
       make("button", { type: "button", class: "quiet", on: { click: actions.readAsTyped } }, "Read as it was typed")
     )

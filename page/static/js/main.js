@@ -127,6 +127,7 @@ function draw() {
   drawLine(actions);
   drawChoices(actions);
   drawStretch();
+  for (const id of ["grid-frame", "legend", "box-details"]) show(byId(id), reading.boxes.length > 0);
   drawGrid(actions);
   drawLegend();
   drawAnswers(actions);
