@@ -9,14 +9,14 @@ from readings import (
     MOST_ANALYSES, PAGE, PROGRAM_SCHEMES, analyses_of, find_stretch, mark_of_text, read_from, shown_answers, state_of,
 )
 from replies import Refusal
-from session import BadCommand, Ended, OutOfTime
+from session import BadCommand, BadLexicon, Ended, OutOfTime
 from texts import NoText
 
 MOST_SHOWN = 100  # answers that are handed on at once
 MOST_STATES = 40  # lines of a text whose states are asked for at once
 MOST_LINE_NUMBER = 999_999
 MOST_PARTS = 99
-REFUSALS = (Refusal, NoText, NotWritten, CannotBuild)
+REFUSALS = (Refusal, NoText, NotWritten, CannotBuild, BadLexicon)
 
 
 class Questions:

@@ -3,7 +3,6 @@
 import http.server
 import json
 import threading
-import urllib.parse
 from pathlib import Path
 
 from guards import HEADERS, Fields, Refused, body_length, check_host, check_question, new_token, read_body
@@ -62,7 +61,7 @@ class Handler(http.server.BaseHTTPRequestHandler):
             self._send(refused.status, "application/json", body)
 
     def _file(self):
-        path = urllib.parse.urlsplit(self.path).path
+        path = self.path.split("?", 1)[0]
         if path not in self.server.files:
             raise Refused(404, "there is no such file")
         return self.server.files[path]

@@ -45,7 +45,7 @@ function formElement(step, onClick) {
   const form = showWord(setting("output"), step.form);
   return make("button", {
     type: "button", class: `form hue-${hueOf(step.phase, state.server.phases)}`,
-    "aria-label": `Analyses of ${form}, ${phaseInWords(step.phase)}`, on: { click: onClick },
+    "aria-label": `Analyses of ${form}, ${phaseInWords(step.phase)}`, data: { phase: step.phase }, on: { click: onClick },
   }, form);
 }
 
