@@ -6,10 +6,11 @@ from lexicons import CannotBuild, Meanings
 from notes import NoteFolder, NotWritten, is_finished
 from reader import Busy, TooManyCommands
 from readings import (
-    MOST_ANALYSES, PAGE, PROGRAM_SCHEMES, analyses_of, find_stretch, mark_of_text, read_from, shown_answers, state_of,
+    MOST_ANALYSES, PAGE, PROGRAM_SCHEMES, analyses_of, mark_of_text, read_from, shown_answers, state_of,
 )
 from replies import Refusal
 from session import BadCommand, BadLexicon, Ended, OutOfTime
+from stretch import find_stretch
 from texts import NoText
 
 MOST_SHOWN = 100  # answers that are handed on at once

@@ -1,4 +1,4 @@
-"""What the page asks of a session: a line, its reading under choices, analyses, and the stretch that can't be read."""
+"""What the page asks of a session: a line, its reading under choices, analyses, and the states of lines."""
 
 import itertools
 import threading
@@ -11,7 +11,6 @@ from replies import Refusal, accepted, read_analyses, read_page, read_summary
 
 PAGE = 1_000  # the most answers that the program prints at once
 MOST_KEPT_READINGS = 8  # readings that are kept for paging and sorting
-MOST_STRETCH_QUESTIONS = 400
 MOST_ANALYSES = 200
 PROGRAM_SCHEMES = ("slp1", "wx", "velthuis", "devanagari")
 
@@ -68,43 +67,6 @@ def analyses_of(exchange, bookmark, segments):
     numbers = {item.segment: item.number for item in read_summary(exchange.ask("summary"))}
     found = (numbers.get(segment) for segment in segments[:MOST_ANALYSES])
     return [read_analyses(exchange.ask(f"tags {number}")) if number else [] for number in found]
-
-
-class Stretch(NamedTuple):
-    """The pieces of a line between its blanks, and which of them stand in a run that can be read."""
-
-    pieces: list
-    is_read: list
-    questions: int
-    is_whole: bool  # whether all runs were asked for that could tell more
-
-
-def runs_of(count):
-    """All runs of pieces but the whole line, as their first number and the number after the last, longest first."""
-    for length in range(count - 1, 0, -1):
-        for first in range(count - length + 1):
-            yield first, first + length
-
-
-def find_stretch(exchange, bookmark):
-    """Asks for runs of consecutive pieces, longest first, leaving out those inside a run that can be read."""
-    pieces = bookmark.line.split("_")
-    read_runs, questions = [], 0
-    for first, after in runs_of(len(pieces)):
-        if any(begin <= first and after <= end for begin, end in read_runs):
-            continue
-        if questions == MOST_STRETCH_QUESTIONS:
-            return told_stretch(pieces, read_runs, questions, False)
-        questions += 1
-        accepted(exchange.ask("text slp1 " + " ".join(pieces[first:after])))
-        if read_page(exchange.ask("page 1")).answers:
-            read_runs.append((first, after))
-    return told_stretch(pieces, read_runs, questions, True)
-
-
-def told_stretch(pieces, read_runs, questions, is_whole):
-    is_read = [any(begin <= place < end for begin, end in read_runs) for place in range(len(pieces))]
-    return Stretch(pieces, is_read, questions, is_whole)
 
 
 def state_of(exchange, scheme, text):

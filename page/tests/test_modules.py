@@ -12,9 +12,10 @@ from boxes import make_boxes
 from lexicons import Builder, Meanings, own_lexicon, read_phases, unsplit_rules
 from notes import NoteFolder, NotWritten, can_annotate, is_finished
 from reader import Reader
-from readings import find_stretch, mark_of_text, read_from, runs_of, shown_answers, state_of
+from readings import mark_of_text, read_from, shown_answers, state_of
 from replies import Refusal, Rule, read_page
 from session import BadCommand, BadLexicon, Ended, OutOfTime, Session, as_line
+from stretch import find_stretch, runs_of, texts_of
 from texts import NoText, Texts
 
 import reference
@@ -190,6 +191,12 @@ class Boxes(WithFolder):
 class Questions(WithFolder):
     def test_runs_are_asked_longest_first(self):
         self.assertEqual(list(runs_of(3)), [(0, 2), (1, 3), (0, 1), (1, 2), (2, 3)])
+
+    def test_a_run_is_asked_for_as_it_may_have_been_before_sandhi(self):
+        self.assertEqual(texts_of(["rAmo", "vanaM"], 0, 1), ["rAmo", "rAmaH"])
+        self.assertEqual(texts_of(["so", "'smi"], 1, 2), ["'smi", "asmi"])
+        self.assertEqual(texts_of(["rAmo", "vanaM"], 1, 2), ["vanaM"])
+        self.assertEqual(texts_of(["na", "'", "na"], 1, 2), ["'", "a"])
 
     def test_what_is_in_no_run_that_can_be_read(self):
         lexicon = self.lexicon(SMALL)

@@ -6,6 +6,12 @@ export function parts(bookmark) {
   return { line, choices: choices ? choices.split(",") : [] };
 }
 
+/** A bookmark before its first answer. A text that is no bookmark stays as it is, so that the program refuses it. */
+export function atFirst(bookmark) {
+  const { line, choices } = parts(bookmark);
+  return bookmark.startsWith("1;") && line ? withChoices(line, choices) : bookmark;
+}
+
 /** The bookmark of a line and choices before its first answer. */
 export function withChoices(line, choices) {
   return `1;${line};${choices.join(",")};0;`;

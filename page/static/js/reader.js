@@ -1,7 +1,7 @@
 // Reading a line: what is asked of the server, and what of its answers the page keeps.
 
 import { ask, wasReplaced } from "./api.js";
-import { choosing, parts as bookmarkParts, withChoices, withoutChoices } from "./bookmark.js";
+import { atFirst, choosing, parts as bookmarkParts, withChoices, withoutChoices } from "./bookmark.js";
 import { clean } from "./cleaning.js";
 import { schemeNamed } from "./schemes.js";
 import { setting } from "./settings.js";
@@ -72,8 +72,7 @@ export async function readPart(part) {
 
 /** Reads a bookmark. Gives `{ refused }` where the lexicon has no such line and choices. */
 export async function readBookmark(bookmark) {
-  const { line, choices } = bookmarkParts(bookmark);
-  const reading = await askForReading("reading", { bookmark: withChoices(line, choices) });
+  const reading = await askForReading("reading", { bookmark: atFirst(bookmark) });
   return reading.refused ? reading : adopt({ reading, begin: 0, stretch: null });
 }
 
