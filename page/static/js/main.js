@@ -131,6 +131,12 @@ function draw() {
   drawGrid(actions);
   drawLegend();
   drawAnswers(actions);
+  texts.markLine();
+}
+
+/** Draws all anew in other letters. */
+function redraw() {
+  if (state.reading) draw();
   texts.drawTextRoom();
 }
 
@@ -201,7 +207,7 @@ async function start() {
   applyTheme();
   state.server = await ask("start", {});
   drawServer();
-  prepareSwitch("output-switch", "output", OUTPUTS, () => state.reading && draw());
+  prepareSwitch("output-switch", "output", OUTPUTS, redraw);
   prepareSwitch("theme-switch", "theme", THEMES, applyTheme);
   prepareSwitch("order-switch", "order", ORDERS, () => actions.showAnswers(0));
   byId("sandhi-shown").addEventListener("change", () => {

@@ -113,7 +113,16 @@ function printDevanagari(word) {
   return printed;
 }
 
-/** A word for reading: as `printWord`, but in IAST no `_` stands between letters. */
+const MOST_SHOWN = 5000; // words that are kept
+const shown = new Map();
+
+/** A word for reading: as `printWord`, but in IAST no `_` stands between letters. Words come again, so they are kept. */
 export function showWord(scheme, word) {
-  return scheme === "iast" ? printWord(scheme, word).replaceAll("_", "") : printWord(scheme, word);
+  const key = `${scheme} ${word}`;
+  const known = shown.get(key);
+  if (known !== undefined) return known;
+  if (shown.size >= MOST_SHOWN) shown.clear();
+  const printed = printWord(scheme, word);
+  shown.set(key, scheme === "iast" ? printed.replaceAll("_", "") : printed);
+  return shown.get(key);
 }

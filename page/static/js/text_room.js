@@ -13,6 +13,7 @@ const room = { name: null, scheme: null, entries: [] };
 export function prepareTextRoom(actions) {
   const { texts, given } = state.server;
   show(byId("text-room"), texts.length > 0);
+  document.querySelector(".rooms").classList.toggle("with-text", texts.length > 0);
   fill(byId("text-name"), make("option", { value: "" }, "none"), texts.map((name) => make("option", { value: name }, name)));
   byId("text-name").addEventListener("change", () => actions.openText(byId("text-name").value));
   byId("export").addEventListener("click", exportFinished);
@@ -98,7 +99,16 @@ export function drawTextRoom() {
   const { canFinish } = state.server;
   byId("text-note").textContent = room.name ? noteOfRoom(finished, canFinish) : "";
   show(byId("export"), finished > 0);
-  fill(byId("text-lines"), room.entries.map((entry) => entryElement(entry)));
+  const cut = new Set(room.entries.filter((entry) => entry.part > 1).map((entry) => entry.line));
+  fill(byId("text-lines"), room.entries.map((entry) => entryElement(entry, cut.has(entry.line))));
+  markLine();
+}
+
+/** Marks the line that is read, and draws the control that finishes it. */
+export function markLine() {
+  const here = room.entries.indexOf(hereEntry());
+  byId("text-lines").querySelector("[aria-current]")?.removeAttribute("aria-current");
+  byId("text-lines").children[here]?.firstChild.setAttribute("aria-current", "true");
   drawFinish();
 }
 
@@ -108,22 +118,19 @@ function noteOfRoom(finished, canFinish) {
   return canFinish ? `${lines}, ${finished} finished` : lines;
 }
 
-function entryElement(entry) {
-  const isHere = entry === hereEntry();
-  const number = entry.part > 1 || room.entries.some((other) => other.line === entry.line && other.part > 1)
-    ? `${entry.line}.${entry.part}` : String(entry.line);
+function entryElement(entry, isCut) {
   const told = stateInWords(entry);
   const text = entry.lineText ? lineInOutput(entry.lineText) : entry.typed;
   const attributes = {
-    type: "button", class: `text-line ${told.replaceAll(" ", "-")}`, "aria-current": isHere && "true",
-    on: { click: () => actionsOfLines.openEntry(entry) },
+    type: "button", class: `text-line ${told.replaceAll(" ", "-")}`, on: { click: () => actionsOfLines.openEntry(entry) },
   };
   return make("li", {}, make("button", attributes,
-    make("span", { class: "number" }, number), make("span", { class: "text sanskrit" }, text), make("span", { class: "state" }, told)));
+    make("span", { class: "number" }, isCut ? `${entry.line}.${entry.part}` : String(entry.line)),
+    make("span", { class: "text sanskrit" }, text), make("span", { class: "state" }, told)));
 }
 
 /** The control that finishes the line: it is there where the program can, and on where one answer is left. */
-export function drawFinish() {
+function drawFinish() {
   const button = byId("finish");
   const entry = hereEntry();
   const { reading } = state;
