@@ -1,7 +1,8 @@
 ghost use Rattle.std.specs.Prelude.{◌≡◌, ◌+◌, ◌<◌, ◌≤◌, ℕ, length, OnOk};
 ghost use Rattle.text_definitions.specs.Lines.{IsLine};
 ghost use Rattle.annotated_trie.specs.Searched.{IsSearchedLexicon};
-ghost use Rattle.search_frames.specs.Frames.{IsStack, IsPlaceIn, standing_of};
+ghost use Rattle.search_frames.specs.Stacks.{IsStack, room_of};
+ghost use Rattle.search_frames.specs.Frames.{IsConfigurationIn, numbered_of};
 ghost use Rattle.search_frames.specs.Costs.{HasAtMostChoices, steps_of_frame};
 ghost use Rattle.search_frames.specs.WaysFrom.{AppendsWays};
 
@@ -9,7 +10,7 @@ use super::Resumption;
 use super::going_on::go_on;
 use super::letter_testing::{LetterTest, test_letters};
 use super::opening::open_frame;
-use super::place::Place;
+use super::configuration::Configuration;
 use super::skipping::skip_unwritten;
 use annotated_trie::Lexicon;
 use derivation::Key;
@@ -30,19 +31,19 @@ pub fn push_ways<L>(
     lexicon: &Lexicon,
     line: &Line,
     choices: &Choices,
-    place: Place,
+    place: Configuration,
     walker: &mut Resumption,
     ways: &mut Vec<Way>,
     steps: &mut Steps<L>,
 ) -> Result<(), Memory>
     requires searched { IsSearchedLexicon lexicon.now }
     requires line { IsLine line.now }
-    requires place { IsPlaceIn lexicon.now line.now place }
+    requires place { IsConfigurationIn lexicon.now line.now place }
     requires walker { IsStack walker.old }
-    requires room { 0 < length walker.old.frames.items }
-    ensures ok { OnOk result (AppendsWays lexicon.now line.now choices.now (standing_of lexicon.now place) ways.old.items ways.new.items) }
+    requires room { 0 < room_of walker.old }
+    ensures ok { OnOk result (AppendsWays lexicon.now line.now choices.now (numbered_of lexicon.now place) ways.old.items ways.new.items) }
     ensures walker { OnOk result (IsStack walker.new) }
-    ensures room { OnOk result (length walker.new.frames.items ≡ length walker.old.frames.items) }
+    ensures room { OnOk result (room_of walker.new ≡ room_of walker.old) }
     ensures steps { (most : ℕ) → HasAtMostChoices lexicon.now.tries most → steps.new ≤ steps.old + steps_of_frame lexicon.now most }
 {
     open_frame(lexicon, line, walker, 0, place, steps);

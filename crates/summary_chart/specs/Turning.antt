@@ -12,7 +12,7 @@ use Rattle.search_frames.specs.declared.guiding.ToTry.{ToTry}
 use Rattle.search_frames.specs.declared.guiding.ToTry.TheVariants.{All, Later}
 use Rattle.search_frames.specs.declared.guiding.Turn.{Turn}
 use Rattle.search_frames.specs.declared.guiding.Turn.TheVariants.{Nothing, Ends as ToEnd, LeadsOn as ToPlace}
-use Rattle.search_frames.specs.Standings.{Standing, IsPossible, Ends}
+use Rattle.search_frames.specs.Configurations.{NumberedConfiguration, IsPossible, Ends}
 use Rattle.search_frames.specs.Tests.{LeadsTo}
 use Rattle.summary_chart.specs.declared.table.Table.{Table}
 use Rattle.summary_chart.specs.Spreading.{GoesFurtherBy}
@@ -32,13 +32,13 @@ last_tried step All = None
 last_tried step Later = Some (record { phase = step.phase; taken = step.taken; rule = step.rule })
 
 -- the answer says what the key does here under the table: it does not go further, or it ends the line, or it leads on to this place
-abbrev pub IsTestUnder : SearchedLexicon → Line → List Choice → Table → Standing → Key → Turn → Type 0
+abbrev pub IsTestUnder : SearchedLexicon → Line → List Choice → Table → NumberedConfiguration → Key → Turn → Type 0
 IsTestUnder searched line choices table here key Nothing = GoesFurtherBy searched line choices table here key → ⊥
 IsTestUnder searched line choices table here key ToEnd = Ends searched line choices here key
 IsTestUnder searched line choices table here key (ToPlace next) = LeadsTo searched line choices here key next
 
 -- the first of the keys after the last one that go further, and what it does
-pub record IsFirstLiving (searched : SearchedLexicon) (line : Line) (choices : List Choice) (table : Table) (here : Standing) (last : Option ProgramKey) (found : Key) (turn : Turn) : Type 0 where
+pub record IsFirstLiving (searched : SearchedLexicon) (line : Line) (choices : List Choice) (table : Table) (here : NumberedConfiguration) (last : Option ProgramKey) (found : Key) (turn : Turn) : Type 0 where
   pub possible : IsPossible searched line here found
   pub after : IsAfter last found
   pub test : IsTestUnder searched line choices table here found turn
@@ -46,6 +46,6 @@ pub record IsFirstLiving (searched : SearchedLexicon) (line : Line) (choices : L
   pub first : (key : Key) → IsPossible searched line here key → IsAfter last key → GoesFurtherBy searched line choices table here key → IsFrom found key
 
 -- no key after the last one goes further
-abbrev pub HasNoLiving : SearchedLexicon → Line → List Choice → Table → Standing → Option ProgramKey → Type 0
+abbrev pub HasNoLiving : SearchedLexicon → Line → List Choice → Table → NumberedConfiguration → Option ProgramKey → Type 0
 HasNoLiving searched line choices table here last =
     (key : Key) → IsPossible searched line here key → IsAfter last key → GoesFurtherBy searched line choices table here key → ⊥

@@ -1,7 +1,7 @@
 ghost use Rattle.std.specs.Prelude.{◌≡◌, ◌↔◌, IsTrue, length, MatchOption};
 ghost use Rattle.derivation.specs.Steps.{key_meant};
 ghost use Rattle.annotated_trie.specs.Searched.{IsSearchedLexicon};
-ghost use Rattle.search_frames.specs.Frames.{IsPlaceIn, standing_of};
+ghost use Rattle.search_frames.specs.Frames.{IsConfigurationIn, numbered_of};
 ghost use Rattle.search_frames.specs.WaysFrom.{AreWaysFrom, IsWayFrom, key_of_way};
 ghost use Rattle.summary_chart.specs.Tables.{IsTable};
 ghost use Rattle.summary_chart.specs.Spreading.{leads_in};
@@ -15,7 +15,7 @@ use outside::Steps;
 use phase_automaton::State;
 use phoneme::Line;
 use reader_choices::Choices;
-use search_frames::{LetterTest, Place, Resumption, SearchGuide, ToTry, Turn, Way, go_to};
+use search_frames::{LetterTest, Configuration, Resumption, SearchGuide, ToTry, Turn, Way, go_to};
 use std::cmp::Ordering;
 
 /// Whether the key comes after the last one, which any key does where there is none.
@@ -43,15 +43,15 @@ fn test_way(
     lexicon: &Lexicon,
     line: &Line,
     choices: &Choices,
-    place: &Place,
+    place: &Configuration,
     way: &Way,
     table: &Table,
 ) -> Turn
     requires searched { IsSearchedLexicon lexicon.now }
-    requires place { IsPlaceIn lexicon.now line.now place.now }
-    requires way { IsWayFrom lexicon.now line.now choices.now (standing_of lexicon.now place.now) way.now }
+    requires place { IsConfigurationIn lexicon.now line.now place.now }
+    requires way { IsWayFrom lexicon.now line.now choices.now (numbered_of lexicon.now place.now) way.now }
     requires table { IsTable (leads_in lexicon.now) (length line.now.letters) table.now }
-    ensures { IsTestUnder lexicon.now line.now choices.now table.now (standing_of lexicon.now place.now) (key_of_way way.now) result }
+    ensures { IsTestUnder lexicon.now line.now choices.now table.now (numbered_of lexicon.now place.now) (key_of_way way.now) result }
 {
     let automaton = lexicon.automaton();
     // Its contract says that there are not too many states.
@@ -67,7 +67,7 @@ fn test_way(
             }
         }
         LetterTest::LeadsOn { at, entrance } => {
-            let next = Place {
+            let next = Configuration {
                 at,
                 entrance,
                 state,
@@ -86,17 +86,17 @@ fn find_living(
     lexicon: &Lexicon,
     line: &Line,
     choices: &Choices,
-    place: &Place,
+    place: &Configuration,
     ways: &[Way],
     last: Option<Key>,
     table: &Table,
 ) -> Option<(Key, Turn)>
     requires searched { IsSearchedLexicon lexicon.now }
-    requires place { IsPlaceIn lexicon.now line.now place.now }
-    requires ways { AreWaysFrom lexicon.now line.now choices.now (standing_of lexicon.now place.now) ways.now }
+    requires place { IsConfigurationIn lexicon.now line.now place.now }
+    requires ways { AreWaysFrom lexicon.now line.now choices.now (numbered_of lexicon.now place.now) ways.now }
     requires table { IsTable (leads_in lexicon.now) (length line.now.letters) table.now }
-    ensures { MatchOption result (HasNoLiving lexicon.now line.now choices.now table.now (standing_of lexicon.now place.now) last)
-        (λ found. IsFirstLiving lexicon.now line.now choices.now table.now (standing_of lexicon.now place.now) last (key_meant found.0) found.1) }
+    ensures { MatchOption result (HasNoLiving lexicon.now line.now choices.now table.now (numbered_of lexicon.now place.now) last)
+        (λ found. IsFirstLiving lexicon.now line.now choices.now table.now (numbered_of lexicon.now place.now) last (key_meant found.0) found.1) }
 {
     for way in ways {
         let key = way.key;
@@ -129,11 +129,11 @@ impl SearchGuide for Chart {
     ) -> Turn {
         // Its contract says that there are not too many states.
         lexicon.automaton().states();
-        let place = Place::of_frame(stack, level);
+        let place = Configuration::of_frame(stack, level);
         let Some(ways) = self.ways_from(&place) else {
             return Turn::Nothing;
         };
-        let last = last_tried(&stack.steps[level], to_try);
+        let last = last_tried(&stack.step(level), to_try);
         let Some((key, turn)) = find_living(lexicon, line, choices, &place, ways, last, &self.table)
         else {
             return Turn::Nothing;
