@@ -1,7 +1,6 @@
 -- Numbers and words are read as they are written: digits without a 0 before others are the decimal of their value, and a
 -- word is spelled in one way.
 use Rattle.std.proofs.Common.{◌≡◌, ℕ, zero, suc, ◌^◌, ◌<◌, ◌≤◌, Bool, true, false, cond, not, ◌&&◌, Ok, Err, List, [], ◌∷◌, length, get_or, eqb, leb, Some, None, refl, sym, ◌∙◌, ap, subst, arith}
-use Rattle.std.specs.List.{list_all}
 use Rattle.std.specs.Fmt.{decimal}
 use Rattle.std.specs.Char.{is_ascii_digit}
 use Rattle.std.specs.Str.{all_ascii_digits}
@@ -9,26 +8,17 @@ use Rattle.std.specs.Str.Parse.{digits_value}
 use Rattle.std.proofs.lemmas.Bool.{and_parts, and_from, not_from_false, false_from_ne_true, ne_eqb, eq-eqb, eqb-true, leb-true, le-leb}
 use Rattle.std.proofs.lemmas.Fmt.{decimal_digit, first_decimal, decimal_nonempty, digits_decimal, digits_value-decimal, decimal-digits_value}
 use Rattle.std.proofs.lemmas.List.Elements.{recursion_from_All}
-use Rattle.std.proofs.lemmas.Str.Parse.{IsNumeralModel, numerals_by_value, tells_all_ascii_digits}
 use Rattle.text_definitions.specs.Letters.{IsLetter}
 use Rattle.text_definitions.specs.Words.{IsWord}
 use Rattle.text_definitions.specs.Spellings.{Reading}
 use Rattle.text_definitions.specs.Slp1.{slp1_table, word_of_slp1, slp1_of_word}
+use Rattle.text_definitions.proofs.DecimalDigits.{digits_tell}
 use Rattle.text_definitions.proofs.SpelledWords.{spelled_from_read, word_from_read, read_from_spelled, is_no_letter, free_word}
 use Rattle.list_laws.proofs.Marks.{is_free}
 use Rattle.bookmark_definitions.specs.BookmarkReadings.{is_number, number_up_to, word_up_to}
 use Rattle.std.proofs.lemmas.Option.{cond_some}
 
 -- ---- numbers
-
--- digits tell their value
-pub digits_tell : IsNumeralModel (λ ds. all_ascii_digits ds ≡ true) (digits_value 10)
-digits_tell = numerals_by_value (λ ds. all_ascii_digits ds ≡ true) tells_all_ascii_digits
-
--- a test of each byte
-pub all_digits : (text : List ℕ) → list_all is_ascii_digit text ≡ all_ascii_digits text
-all_digits [] = refl
-all_digits (byte ∷ text) = ap (λ rest. is_ascii_digit byte && rest) (all_digits text)
 
 not_a_zero : (test : Bool) → not test ≡ true → test ≡ true → ⊥
 not_a_zero true h e = cc

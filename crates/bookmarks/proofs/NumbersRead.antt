@@ -7,7 +7,7 @@ use Rattle.std.proofs.lemmas.Str.{IsUtf8-from_ascii}
 use Rattle.std.proofs.lemmas.Str.Parse.{parse_digits}
 use Rattle.std.proofs.lemmas.Fmt.{IsAscii-from_digits}
 use Rattle.bookmark_definitions.specs.BookmarkReadings.{is_number, number_up_to}
-use Rattle.bookmark_definitions.proofs.NumbersAndWords.{digits_tell}
+use Rattle.text_definitions.proofs.DecimalDigits.{digits_tell}
 
 -- a number has one digit or more, and digits alone
 pub record HasDigits (text : List ℕ) : Type 0 where

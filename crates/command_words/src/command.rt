@@ -10,12 +10,11 @@ use super::build_words::BuildWords;
 use super::demo_number::demo_number_of;
 use super::given::{Given, given_of};
 use super::placed_word::PlacedWord;
-use super::scheme_names::scheme_named;
 use phoneme::Memory;
 use run_definitions::MOST_WORD_BYTES;
-use session_requests::page_size_of;
+use session_definitions::MOST_PAGE;
 use std::alloc::Global;
-use text_line::Scheme;
+use text_line::{Scheme, count_up_to};
 
 /// A command with its arguments.
 #[derive(Clone, Copy, Debug)]
@@ -63,7 +62,7 @@ fn scheme_given(values: &[&str]) -> Option<Scheme>
 {
     match values {
         [] => Some(Scheme::Slp1),
-        [value] => scheme_named(value),
+        [value] => Scheme::named(value.as_bytes()),
         [_, _, ..] => None,
     }
 }
@@ -138,8 +137,8 @@ fn batch_with<'a>(given: &Given<'a>) -> Option<Command<'a>>
 {
     match (given.values.as_slice(), given.arguments.as_slice()) {
         ([], [lex, scheme, file, count]) => {
-            let scheme = scheme_named(scheme.name)?;
-            let count = page_size_of(count.name.as_bytes())?;
+            let scheme = Scheme::named(scheme.name.as_bytes())?;
+            let count = count_up_to(4, MOST_PAGE, count.name.as_bytes())?;
             Some(Command::Batch(BatchWords {
                 lex: *lex,
                 scheme,

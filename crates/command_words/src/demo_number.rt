@@ -1,7 +1,7 @@
 ghost use Rattle.std.specs.Prelude.{◌≡◌};
 ghost use Rattle.run_definitions.specs.Commands.{demo_number_of as is_demo_number_of};
 
-use session_requests::digits_up_to;
+use text_line::digits_up_to;
 
 /// The number that one to eighteen digits write.
 pub(crate) fn demo_number_of(text: &str) -> Option<u64>

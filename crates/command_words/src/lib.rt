@@ -19,7 +19,6 @@ mod demo_number;
 mod given;
 mod line;
 mod placed_word;
-mod scheme_names;
 
 pub use batch_words::BatchWords;
 pub use build_words::BuildWords;

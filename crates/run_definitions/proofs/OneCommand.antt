@@ -2,18 +2,18 @@
 use Rattle.std.proofs.Common.{◌≡◌, ℕ, List, [], ◌∷◌, Option, Some, None, sym, ◌∙◌, ap, refl}
 use Rattle.std.specs.Prelude.{◌==◌, if◌then◌else◌, codes, slice_index, option_map}
 use Rattle.std.specs.Str.{bytes_eq}
-use Rattle.text_definitions.specs.Schemes.{Scheme, Slp1, Wx, Velthuis, Devanagari}
+use Rattle.text_definitions.specs.Schemes.{Scheme, Slp1, Wx, Velthuis, Devanagari, name_of_scheme}
 use Rattle.session_definitions.specs.Requests.{page_size_of}
 use Rattle.run_definitions.specs.Arguments.{Given, given_by}
-use Rattle.run_definitions.specs.Commands.{Command, Segment, Check, Build, Read, Batch, Demo, FileWord, demo_number_of, name_of_scheme, GiveScheme, name_of_command, Takes, AreWordsOf}
+use Rattle.run_definitions.specs.Commands.{Command, Segment, Check, Build, Read, Batch, Demo, FileWord, demo_number_of, GiveScheme, name_of_command, Takes, AreWordsOf}
 
 -- schemes are told by the first byte of their names
-scheme_named : List ℕ → Scheme
-scheme_named name =
+scheme_begun : List ℕ → Scheme
+scheme_begun name =
     if slice_index name 0 == 115 then Slp1 else (if slice_index name 0 == 119 then Wx else (if slice_index name 0 == 118 then Velthuis else Devanagari))
 
-named_back : (scheme : Scheme) → scheme_named (name_of_scheme scheme) ≡ scheme
-unfolding scheme_named
+named_back : (scheme : Scheme) → scheme_begun (name_of_scheme scheme) ≡ scheme
+unfolding scheme_begun
 named_back Slp1 = refl
 named_back Wx = refl
 named_back Velthuis = refl
@@ -21,12 +21,12 @@ named_back Devanagari = refl
 
 scheme_given : List (List ℕ) → Scheme
 scheme_given [] = Slp1
-scheme_given (value ∷ values) = scheme_named value
+scheme_given (value ∷ values) = scheme_begun value
 
 given_back : (values : List (List ℕ)) (scheme : Scheme) → GiveScheme values scheme → scheme_given values ≡ scheme
 unfolding scheme_given
 given_back [] scheme e = sym e
-given_back (value ∷ []) scheme e = ap scheme_named e ∙ named_back scheme
+given_back (value ∷ []) scheme e = ap scheme_begun e ∙ named_back scheme
 given_back (value ∷ other ∷ values) scheme e = absurd e
 
 segment_from : List (List ℕ) → List FileWord → Option Command
@@ -48,7 +48,7 @@ read_from (lex ∷ others) = Some (Read lex)
 
 batch_from : List FileWord → Option Command
 batch_from (lex ∷ named ∷ file ∷ counted ∷ others) =
-    option_map (λ count. Batch lex (scheme_named named.name) file count) (page_size_of counted.name)
+    option_map (λ count. Batch lex (scheme_begun named.name) file count) (page_size_of counted.name)
 batch_from arguments = None
 
 demo_from : List FileWord → Option Command
@@ -73,8 +73,8 @@ read_back (Build rules tables stems out) values arguments takes = ap build_from 
 read_back (Read lex) values arguments takes = ap read_from takes.1
 read_back (Batch lex scheme file count) values arguments takes =
     let is = takes.1 in
-    ap batch_from is.are ∙ ap (option_map (λ n. Batch lex (scheme_named is.named.name) file n)) is.counts
-    ∙ ap (λ name. Some (Batch lex (scheme_named name) file count)) is.names ∙ ap (λ s. Some (Batch lex s file count)) (named_back scheme)
+    ap batch_from is.are ∙ ap (option_map (λ n. Batch lex (scheme_begun is.named.name) file n)) is.counts
+    ∙ ap (λ name. Some (Batch lex (scheme_begun name) file count)) is.names ∙ ap (λ s. Some (Batch lex s file count)) (named_back scheme)
 read_back (Demo number) values arguments takes = let is = takes.1 in ap demo_from is.are ∙ ap (option_map Demo) is.is
 
 -- words are those of one command

@@ -1,8 +1,9 @@
 -- The words of a run, and the commands that they are (own).
 use Rattle.std.specs.Prelude.{◌≡◌, ℕ, ◌≤◌, if◌then◌else◌, List, [], ◌∷◌, length, codes, All, Option, None, Some}
 use Rattle.std.specs.Str.Parse.{digits_value}
-use Rattle.text_definitions.specs.Schemes.{Scheme, Slp1, Wx, Velthuis, Devanagari}
-use Rattle.session_definitions.specs.Requests.{are_digits_up_to, page_size_of}
+use Rattle.text_definitions.specs.Schemes.{Scheme, Slp1, name_of_scheme}
+use Rattle.text_definitions.specs.TypedNumbers.{are_digits_up_to}
+use Rattle.session_definitions.specs.Requests.{page_size_of}
 use Rattle.run_definitions.specs.declared.limits.TheConstants.{MOST_WORD_BYTES}
 use Rattle.run_definitions.specs.Arguments as arguments
 use Rattle.run_definitions.specs.Arguments.{HaveArguments}
@@ -46,13 +47,6 @@ ReadsInput (Build rules tables stems out) = ⊥
 ReadsInput (Read lex) = Unit {0}
 ReadsInput (Batch lex scheme file count) = ⊥
 ReadsInput (Demo number) = ⊥
-
--- the word that names the scheme
-abbrev pub name_of_scheme : Scheme → List ℕ
-name_of_scheme Slp1 = codes "slp1"
-name_of_scheme Wx = codes "wx"
-name_of_scheme Velthuis = codes "velthuis"
-name_of_scheme Devanagari = codes "devanagari"
 
 -- the values of `--in` give the scheme: at most one of them, which is its name, and none gives SLP1
 abbrev pub GiveScheme : List (List ℕ) → Scheme → Type 0

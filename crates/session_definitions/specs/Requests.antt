@@ -1,8 +1,9 @@
 -- What a line of a session asks for: its first word, up to the first blank, and the rest after this blank (own).
-use Rattle.std.specs.Prelude.{ℕ, ◌&&◌, nat_le, Bool, true, false, if◌then◌else◌, Option, Some, None, List, [], ◌∷◌, length, codes}
-use Rattle.std.specs.Str.{bytes_eq, all_ascii_digits}
+use Rattle.std.specs.Prelude.{ℕ, ◌&&◌, nat_le, Bool, true, false, if◌then◌else◌, Option, Some, None, List, [], ◌∷◌, codes}
+use Rattle.std.specs.Str.{bytes_eq}
 use Rattle.std.specs.Str.Parse.{digits_value}
-use Rattle.text_definitions.specs.Schemes.{Scheme, Slp1, Wx, Velthuis, Devanagari}
+use Rattle.text_definitions.specs.Schemes.{Scheme, scheme_named}
+use Rattle.text_definitions.specs.TypedNumbers.{are_digits_up_to}
 use Rattle.lexicon_text_definitions.specs.FileLines.{Parts, parts_of}
 use Rattle.bookmark_definitions.specs.Bookmarks.{Bookmark}
 use Rattle.bookmark_definitions.specs.BookmarkReadings.{bookmark_of_text}
@@ -27,19 +28,6 @@ pub data Request : Type 0 where
 abbrev pub after_blank : Option (List ℕ) → List ℕ
 after_blank None = []
 after_blank (Some rest) = rest
-
--- the scheme of this name
-abbrev pub scheme_named : List ℕ → Option Scheme
-scheme_named name =
-    if bytes_eq name (codes "slp1") then Some Slp1
-    else if bytes_eq name (codes "wx") then Some Wx
-    else if bytes_eq name (codes "velthuis") then Some Velthuis
-    else if bytes_eq name (codes "devanagari") then Some Devanagari
-    else None
-
--- one digit or more, but not too many, which may begin with 0
-abbrev pub are_digits_up_to : ℕ → List ℕ → Bool
-are_digits_up_to most text = nat_le 1 (length text) && nat_le (length text) most && all_ascii_digits text
 
 -- how many answers a page may have, as one to four digits write it: at least 1, and not too many
 abbrev pub page_size_of : List ℕ → Option ℕ

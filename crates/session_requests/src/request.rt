@@ -11,14 +11,15 @@ ghost use Rattle.session_requests.specs.Meant.{request_meant, IsSoundRequest};
 ghost use Rattle.text_line.specs.Values.{scheme_of};
 
 use crate::cutting::word_and_rest;
-use crate::numbers::{item_number_of, page_size_of};
+use crate::item_number::item_number_of;
 use bookmarks::{Bookmark, BookmarkError, read_bookmark};
 use phoneme::Memory;
+use session_definitions::MOST_PAGE;
 use std::alloc::Global;
-use text_line::Scheme;
+use text_line::{Scheme, count_up_to};
 
-/// What a line of a session asks for. None stands for what could not be read: a scheme that is none, a number that is none, a
-/// text that is no bookmark.
+/// What a line of a session asks for. None stands for what could not be read: another word than the name of a scheme, a text that
+/// is no number of this kind, a text that is no bookmark.
 #[derive(Debug, Drop)]
 pub enum Request<'a> {
     /// `text SCHEME TEXT`: a line of text is to be read.
@@ -55,19 +56,6 @@ pub enum Request<'a> {
     NoWord,
 }
 
-/// The scheme of this name.
-fn scheme_named(name: &[u8]) -> Option<Scheme>
-    ensures { option_map scheme_of result ≡ definitions.scheme_named name.now }
-{
-    match name {
-        b"slp1" => Some(Scheme::Slp1),
-        b"wx" => Some(Scheme::Wx),
-        b"velthuis" => Some(Scheme::Velthuis),
-        b"devanagari" => Some(Scheme::Devanagari),
-        _ => None,
-    }
-}
-
 /// The bookmark that the text is, where it is one.
 fn mark_of(alloc: Global, text: &[u8]) -> Result<Option<Bookmark>, Memory>
     ensures ok { IfOk result (λ mark. option_map bookmark_of mark ≡ bookmark_of_text text.now) }
@@ -87,7 +75,7 @@ fn text_request(rest: &[u8]) -> Request<'_>
 {
     let (name, text) = word_and_rest(rest);
     Request::Text {
-        scheme: scheme_named(name),
+        scheme: Scheme::named(name),
         text,
     }
 }
@@ -118,7 +106,7 @@ fn request_with<'a>(alloc: Global, word: &[u8], rest: &'a [u8]) -> Result<Reques
     if is_word(word, b"text") {
         Ok(text_request(rest))
     } else if is_word(word, b"page") {
-        let count = page_size_of(rest);
+        let count = count_up_to(4, MOST_PAGE, rest);
         Ok(Request::Page { count })
     } else if is_word(word, b"summary") {
         Ok(alone(rest, Request::Summary))

@@ -1,3 +1,4 @@
+pub mod DecimalDigits
 pub mod Tables
 pub mod Readings
 pub mod Bytes

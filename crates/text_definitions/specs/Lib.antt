@@ -8,4 +8,5 @@ pub mod Longest
 pub mod Velthuis
 pub mod Devanagari
 pub mod Schemes
+pub mod TypedNumbers
 pub mod LineTexts

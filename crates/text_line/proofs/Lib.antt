@@ -1,3 +1,4 @@
 pub mod Fronts
+pub mod NumbersRead
 pub mod Steps
 pub mod Encodings

@@ -1,5 +1,6 @@
-ghost use Rattle.std.specs.Prelude.{◌≡◌, ◌^◌, ◌<◌, Ok, length, IfOk, IfErr};
-ghost use Rattle.text_definitions.specs.Schemes.{word_of_text};
+ghost use Rattle.std.specs.Prelude.{◌≡◌, ◌^◌, ◌<◌, Ok, length, IfOk, IfErr, IfSome, IfNone};
+ghost use Rattle.std.specs.Option.{option_map};
+ghost use Rattle.text_definitions.specs.Schemes.{Scheme as DefinedScheme, word_of_text, name_of_scheme, scheme_named};
 ghost use Rattle.latin_schemes.specs.Faults.{IsFaultOf};
 ghost use Rattle.text_line.specs.Values.{scheme_of};
 
@@ -22,6 +23,21 @@ pub enum Scheme {
 }
 
 impl Scheme {
+    /// The scheme of this name, as a line of a session and the words of a run give it.
+    pub fn named(name: &[u8]) -> Option<Scheme>
+        ensures named { option_map scheme_of result ≡ scheme_named name.now }
+        ensures some { IfSome result (λ scheme. name.now ≡ name_of_scheme (scheme_of scheme)) }
+        ensures none { IfNone result ((scheme : DefinedScheme) → name.now ≡ name_of_scheme scheme → ⊥) }
+    {
+        match name {
+            b"slp1" => Some(Scheme::Slp1),
+            b"wx" => Some(Scheme::Wx),
+            b"velthuis" => Some(Scheme::Velthuis),
+            b"devanagari" => Some(Scheme::Devanagari),
+            _ => None,
+        }
+    }
+
     /// The word that the text spells in the scheme, without blanks.
     pub fn read_word(self, alloc: Global, text: &[u8]) -> Result<Word, SpellError>
         requires { length text.now < 2 ^ 32 }

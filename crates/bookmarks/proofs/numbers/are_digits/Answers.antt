@@ -4,7 +4,7 @@ use Rattle.std.specs.Char.{is_ascii_digit}
 use Rattle.std.proofs.lemmas.Iterator.{YieldsList-from_slice}
 use Rattle.std.proofs.lemmas.Iterator.Search.{all_from_yields_List}
 use Rattle.bookmarks.proofs.numbers.are_digits.Goals as goal
-use Rattle.bookmark_definitions.proofs.NumbersAndWords.{all_digits}
+use Rattle.text_definitions.proofs.DecimalDigits.{all_digits}
 
 pub returns : goal.returns
 returns c =

@@ -6,8 +6,8 @@ use Rattle.std.proofs.lemmas.Bool.{and_parts, leb-true}
 use Rattle.std.proofs.lemmas.Str.{IsUtf8-from_ascii}
 use Rattle.std.proofs.lemmas.Str.Parse.{parse_digits, digits_value_short}
 use Rattle.std.proofs.lemmas.Fmt.{IsAscii-from_digits}
-use Rattle.session_definitions.specs.Requests.{are_digits_up_to}
-use Rattle.bookmark_definitions.proofs.NumbersAndWords.{digits_tell}
+use Rattle.text_definitions.specs.TypedNumbers.{are_digits_up_to}
+use Rattle.text_definitions.proofs.DecimalDigits.{digits_tell}
 
 -- one digit or more, and not too many
 pub record HasDigits (most : ℕ) (text : List ℕ) : Type 0 where

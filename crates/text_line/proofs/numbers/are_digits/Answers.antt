@@ -3,8 +3,8 @@ use Rattle.std.proofs.Common.{rules, tests, ◌∙◌}
 use Rattle.std.specs.Char.{is_ascii_digit}
 use Rattle.std.proofs.lemmas.Iterator.{YieldsList-from_slice}
 use Rattle.std.proofs.lemmas.Iterator.Search.{all_from_yields_List}
-use Rattle.session_requests.proofs.numbers.are_digits.Goals as goal
-use Rattle.bookmark_definitions.proofs.NumbersAndWords.{all_digits}
+use Rattle.text_line.proofs.numbers.are_digits.Goals as goal
+use Rattle.text_definitions.proofs.DecimalDigits.{all_digits}
 
 pub returns : goal.returns
 returns c =

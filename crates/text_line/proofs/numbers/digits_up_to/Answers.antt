@@ -1,7 +1,7 @@
 -- Digits are UTF-8, and what a few of them write fits into 64 bits, so neither is refused.
 use Rattle.std.proofs.Common.{sym, ◌∙◌, arith}
-use Rattle.session_requests.proofs.NumbersRead.{digits_utf8, parsed_small, never_refused}
-use Rattle.session_requests.proofs.numbers.digits_up_to.Goals as goal
+use Rattle.text_line.proofs.NumbersRead.{digits_utf8, parsed_small, never_refused}
+use Rattle.text_line.proofs.numbers.digits_up_to.Goals as goal
 
 pub returns-in_default : goal.returns-in_default
 returns-in_default c =
