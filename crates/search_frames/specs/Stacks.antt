@@ -29,7 +29,7 @@ with_position stack position = record { position = position; depth = stack.depth
 abbrev pub with_depth : Resumption → ℕ → Resumption
 with_depth stack depth = record { position = stack.position; depth = depth; steps = stack.steps; frames = stack.frames; nodes = stack.nodes }
 
--- there is a step for each frame, and a frame's places for nodes
+-- there are a step and a frame's nodes for each frame
 pub record IsStack (stack : Resumption) : Type 0 where
   pub steps : length stack.steps.items ≡ length stack.frames.items
   pub nodes : length stack.nodes.items ≡ length stack.frames.items * NODES_OF_FRAME

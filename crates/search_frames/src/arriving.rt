@@ -7,9 +7,9 @@ ghost use Rattle.search_frames.specs.Changes.{MayBeMade, IsPlaceAfter};
 ghost use Rattle.search_frames.specs.Costs.{HasAtMostChoices, steps_from_change, steps_left};
 ghost use Rattle.search_frames.specs.Arrivals.{IsInPhase, IsNextAt};
 
-use super::{Frame, NODES_OF_FRAME, Resumption};
 use super::stepping::{change_from, set_key};
 use super::walking::walk_phase;
+use super::{Frame, NODES_OF_FRAME, Resumption};
 use annotated_trie::Lexicon;
 use derivation::Key;
 use outside::Steps;

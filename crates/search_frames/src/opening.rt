@@ -3,15 +3,14 @@ ghost use Rattle.search_frames.specs.Stacks.{IsStack};
 ghost use Rattle.search_frames.specs.Frames.{IsFrame, IsConfigurationIn, HasAllToTry, ChangesFrom, configuration_at};
 ghost use Rattle.search_frames.specs.Costs.{HasAtMostChoices, steps_left, steps_of_frame};
 
-use super::{Frame, Resumption};
-use super::Configuration;
 use super::walking::{supplied_letters, walk_phase};
+use super::{Configuration, Frame, Resumption};
 use annotated_trie::Lexicon;
 use derivation::Step;
 use outside::Steps;
 use phoneme::Line;
 
-/// Makes the frame at the level, counted from 0, one that stands at the place and has still to try every key.
+/// Makes the frame at the level, counted from 0, one that stands at the configuration and has still to try every key.
 pub fn open_frame<L>(
     lexicon: &Lexicon,
     line: &Line,

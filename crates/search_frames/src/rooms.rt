@@ -3,7 +3,7 @@ ghost use Rattle.search_frames.specs.declared.frame.TheConstants.{NODES_OF_FRAME
 ghost use Rattle.search_frames.specs.declared.position.Position.TheVariants as position;
 ghost use Rattle.search_frames.specs.Stacks.{IsStack, depth_of, position_in, room_of};
 
-use super::{Frame, NODES_OF_FRAME, Resumption, Position};
+use super::{Frame, NODES_OF_FRAME, Position, Resumption};
 use annotated_trie::Lexicon;
 use derivation::{Entrance, Step};
 use phoneme::Memory;

@@ -1,4 +1,4 @@
-use super::{Frame, Resumption, Position};
+use super::{Frame, Position, Resumption};
 use phoneme::is_shared;
 
 /// Resumptions may be handed to another thread, and be read by several at once.

@@ -6,8 +6,8 @@ ghost use Rattle.search_frames.specs.Costs.{HasAtMostChoices, steps_from_change,
 ghost use Rattle.search_frames.specs.Changes.{HasSet};
 ghost use Rattle.search_frames.specs.Skips.{HasSkipped, SkippedUnwritten};
 
-use super::{NODES_OF_FRAME, Resumption};
 use super::line_tests::{begins_with, w_of};
+use super::{NODES_OF_FRAME, Resumption};
 use annotated_trie::Lexicon;
 use outside::Steps;
 use phoneme::{Letter, Line};

@@ -6,8 +6,8 @@ ghost use Rattle.search_frames.specs.Frames.{IsFrame, ChangesFrom, WentOn, LeftN
 ghost use Rattle.search_frames.specs.Costs.{HasAtMostChoices, steps_from_change, steps_left, steps_after_node};
 ghost use Rattle.search_frames.specs.Changes.{IsChangeFrom, HasNoChangeFrom, HasSet};
 
-use super::{NODES_OF_FRAME, Resumption};
 use super::walking::walk_phase;
+use super::{NODES_OF_FRAME, Resumption};
 use annotated_trie::Lexicon;
 use outside::Steps;
 use phoneme::Line;

@@ -1,4 +1,4 @@
-use super::{Frame, Resumption, Position};
+use super::{Frame, Position, Resumption};
 use derivation::{Entrance, Step};
 use form_lists::FormLists;
 use phase_automaton::State;

@@ -7,10 +7,10 @@ ghost use Rattle.search_frames.specs.Costs.{HasAtMostChoices, steps_of_frame};
 ghost use Rattle.search_frames.specs.WaysFrom.{AppendsWays};
 
 use super::Resumption;
+use super::configuration::Configuration;
 use super::going_on::go_on;
 use super::letter_testing::{LetterTest, test_letters};
 use super::opening::open_frame;
-use super::configuration::Configuration;
 use super::skipping::skip_unwritten;
 use annotated_trie::Lexicon;
 use derivation::Key;
@@ -18,14 +18,14 @@ use outside::Steps;
 use phoneme::{Line, Memory};
 use reader_choices::Choices;
 
-/// A key that leads on from a place or ends the line there, whatever the grammar says, and which of the two (own).
+/// A key that leads on from a configuration or ends the line there, whatever the grammar says, and which of the two (own).
 #[derive(Clone, Copy, Debug, PartialEq, Eq)]
 pub struct Way {
     pub key: Key,
     pub test: LetterTest,
 }
 
-/// Appends all ways from the place, in the order of their keys. The place's state is not looked at. `walker` has room for a frame.
+/// Appends all ways from the configuration, in the order of their keys. Its state is not looked at. `walker` has room for a frame.
 /// Refused only for want of memory.
 pub fn push_ways<L>(
     lexicon: &Lexicon,

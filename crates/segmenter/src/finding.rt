@@ -18,7 +18,7 @@ use phoneme::Line;
 use reader_choices::Choices;
 use search_frames::{Configuration, Resumption, SearchGuide, ToTry, Turn, open_frame};
 
-/// Finds the first path from the place, with the frames from the level on. False where there is none.
+/// Finds the first path from the configuration, with the frames from the level on. False where there is none.
 #[cycle(find)]
 pub(crate) fn find_first<D: SearchGuide, L>(
     lexicon: &Lexicon,

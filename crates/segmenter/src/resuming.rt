@@ -22,7 +22,7 @@ use derivation::Key;
 use outside::Steps;
 use phoneme::{Line, Memory};
 use reader_choices::Choices;
-use search_frames::{Resumption, SearchGuide, Position};
+use search_frames::{Position, Resumption, SearchGuide};
 use std::alloc::Global;
 use thiserror::Error;
 

@@ -21,7 +21,7 @@ use derivation::{Entrance, Step};
 use outside::Steps;
 use phoneme::{Line, Memory};
 use reader_choices::Choices;
-use search_frames::{Configuration, Resumption, SearchGuide, Position, new_stack};
+use search_frames::{Configuration, Position, Resumption, SearchGuide, new_stack};
 use std::alloc::Global;
 use std::marker::Model;
 
