@@ -4,7 +4,15 @@ use Rattle.lexicon_definitions.specs.Lexicons.{RuleSet, rule_of}
 use Rattle.segmentation_definitions.specs.Derivations.{Step}
 use Rattle.segmentation_definitions.specs.Items.{Placed}
 use Rattle.segmentation_definitions.specs.Listings.{Key}
+use Rattle.derivation.specs.declared.step.Key.{Key as ProgramKey}
 use Rattle.derivation.specs.declared.step.Step.{Step as ProgramStep}
+
+-- the key of the definitions for which the program's one stands
+abbrev pub key_meant : ProgramKey → Key
+key_meant key = record { phase = key.phase; taken = key.taken; rule = key.rule }
+
+abbrev pub keys_meant : List ProgramKey → List Key
+keys_meant keys = map key_meant keys
 
 -- the key of a step
 abbrev pub key_of : ProgramStep → Key

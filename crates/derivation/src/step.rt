@@ -1,5 +1,7 @@
 ghost use Rattle.std.specs.Prelude.{◌≡◌};
 
+use std::cmp::Ordering;
+
 /// A step of a derivation (Huet 2005): a form of a phase and the rule after it. Phases count from 0 and rules from 1,
 /// where rule 0 is no change. The form's letters are the `lead` letters that the rule before supplies, which are all of
 /// its `v`, then the `taken` letters of the line from `at` on, then the `u` of the rule. `at`, `lead` and `taken` count
@@ -20,6 +22,21 @@ pub struct Key {
     pub phase: u32,
     pub taken: u32,
     pub rule: u32,
+}
+
+impl Key {
+    ghost use Rattle.segmentation_definitions.specs.Listings.{compare_keys};
+    ghost use Rattle.derivation.specs.Steps.{key_meant};
+
+    /// The order of keys: the smaller phase is first, then the larger number of letters taken, then the smaller rule (own).
+    pub fn compare(&self, other: &Key) -> Ordering
+        ensures { result ≡ compare_keys (key_meant self.now) (key_meant other.now) }
+    {
+        self.phase
+            .cmp(&other.phase)
+            .then(other.taken.cmp(&self.taken))
+            .then(self.rule.cmp(&other.rule))
+    }
 }
 
 impl Step {

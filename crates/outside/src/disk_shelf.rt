@@ -2,18 +2,20 @@ ghost use Rattle.std.specs.Prelude.{◌≡◌, ◌<◌, ◌≤◌, vec_len, None
 ghost use Rattle.std.specs.Io.KnownBytes.{Consumes, Appends, IsAtEnd};
 ghost use Rattle.outside.specs.Answers.{OnMissing};
 
-use super::{Failed, Shelf, ShelfError, WriteError};
-use std::alloc::Global;
+use super::replacing::write_file;
+use super::{Shelf, ShelfError, WriteError};
+use std::alloc::{AllocGlobal, Global};
 use std::fs;
-use std::io::{Read, Write};
+use std::io::Read;
 use std::marker::Model;
+use std::random::RandomSource;
 use std::rt::Files;
 
 /// The greatest number of bytes that one read of a file asks for.
 const PIECE: usize = 65536;
 
 /// The files of the machine as a shelf, by their paths. It doesn't tell them, so it never answers `Missing`: a file
-/// that is not there is a failed read, as each `Err` of the machine is. A failed write may leave a part of the file.
+/// that is not there is a failed read, as each `Err` of the machine is. A write that is refused leaves a regular file as it was.
 /// Contracts see it as its counts of faults.
 #[derive(Drop)]
 pub struct DiskShelf<'a, R> {
@@ -46,7 +48,7 @@ impl<'a, R: Files> DiskShelf<'a, R> {
     }
 }
 
-impl<'a, R: Files> Shelf for DiskShelf<'a, R> {
+impl<'a, R: Files + AllocGlobal + RandomSource> Shelf for DiskShelf<'a, R> {
     ghost files = { λ _. None };
 
     ghost failed_reads = { λ s. s.failed_reads };
@@ -62,13 +64,11 @@ impl<'a, R: Files> Shelf for DiskShelf<'a, R> {
     }
 
     fn write(&mut self, name: &str, bytes: &[u8]) -> Result<(), WriteError> {
-        match write_file(self.rt, name, bytes) {
-            Ok(()) => Ok(()),
-            Err(Failed) => {
-                self.failed_writes = self.failed_writes.saturating_add(1);
-                Err(WriteError::Failed)
-            }
+        let answer = write_file(self.rt, name, bytes);
+        if let Err(WriteError::Failed) = &answer {
+            self.failed_writes = self.failed_writes.saturating_add(1);
         }
+        answer
     }
 }
 
@@ -108,26 +108,4 @@ fn read_pieces<F: Read>(file: &mut F, alloc: Global, most: usize) -> Result<Vec<
         bytes.extend_from_slice(&piece[..count])?;
     }
     Ok(bytes)
-}
-
-/// Makes the file, or empties it, and writes all the bytes.
-fn write_file<R: Files>(rt: &R, name: &str, bytes: &[u8]) -> Result<(), Failed> {
-    match fs::create(rt, name) {
-        Ok(mut file) => write_pieces(&mut file, bytes),
-        Err(_error) => Err(Failed),
-    }
-}
-
-/// Writes all the bytes. A write that takes none is a fault.
-fn write_pieces<F: Write>(file: &mut F, bytes: &[u8]) -> Result<(), Failed>
-    ensures { OnOk result (Appends (F.contents file.old) (F.contents file.new) bytes.now) }
-{
-    let mut taken = 0;
-    while taken < bytes.len() {
-        match file.write(&bytes[taken..]) {
-            Ok(count) if count > 0 => taken += count,
-            _ => return Err(Failed),
-        }
-    }
-    Ok(())
 }

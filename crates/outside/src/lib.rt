@@ -26,6 +26,7 @@ mod memory_shelf;
 mod memory_sink;
 mod memory_source;
 mod output_sink;
+mod replacing;
 mod schedule;
 mod shelf;
 mod sink;

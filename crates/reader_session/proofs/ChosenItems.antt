@@ -1,10 +1,10 @@
 -- One choice more or one less: the items of the choices stay within the bounds, and the session's state begins anew.
-use Rattle.std.proofs.Common.{◌≡◌, ℕ, ◌+◌, ◌-◌, ◌<◌, ◌≤◌, nat_le, Bool, true, false, List, [], ◌∷◌, ◌++◌, length, take, All, Contains, Option, Some, None, Result, Ok, Err, IfOk, OnOk, Vec, refl, sym, ◌∙◌, ap, subst, arith}
+use Rattle.std.proofs.Common.{◌≡◌, ℕ, ◌+◌, ◌-◌, ◌<◌, ◌≤◌, inl, inr, nat_le, Bool, true, false, List, [], ◌∷◌, ◌++◌, length, take, All, Contains, Option, Some, None, Result, Ok, Err, IfOk, OnOk, Vec, refl, sym, ◌∙◌, ap, subst, arith}
 use Rattle.std.specs.Prelude.{codes, if◌then◌else◌}
 use Rattle.std.specs.declared.alloc.Global.{Global}
 use Rattle.std.specs.List.{slice_get}
 use Rattle.std.specs.Option.{option_map}
-use Rattle.std.proofs.lemmas.Bool.{lt-leb, le-leb}
+use Rattle.std.proofs.lemmas.Bool.{cases_lt, lt-leb, le-leb}
 use Rattle.std.proofs.lemmas.List.{length-append, take-append-le, take_all}
 use Rattle.std.proofs.lemmas.List.Elements.{All-push, All-pop}
 use Rattle.std.proofs.lemmas.Option.{slice_get_within, get_or_from_slice_get}
@@ -32,12 +32,12 @@ pub more_within : (old new : List Choice) (choice : Choice) → AreWithin old �
 more_within old new choice within item is =
     subst AreWithin (sym is) (All-push (λ (c : Choice). IsItemWithinBounds c.item) old choice within item)
 
--- there was room for the choice, as there are not too many after it
-pub room_before : (old new : List Choice) (choice : Choice) → new ≡ old ++ choice ∷ [] → length new ≤ MOST_CHOICES
-    → length old < MOST_CHOICES
-room_before old new choice is within =
-    let longer : length new ≡ length old + 1 = ap length is ∙ length-append old (choice ∷ []) in
-    omega (arith, within, longer)
+-- there is room for a choice where there are not too many, nor just as many as there may be
+pub room_before : (choices : List Choice) → length choices ≤ MOST_CHOICES → (length choices ≡ MOST_CHOICES → ⊥) → length choices < MOST_CHOICES
+room_before choices few fewer = elim (cases_lt (length choices) MOST_CHOICES) [
+  | inl below ↦ below
+  | inr above ↦ absurd (fewer (omega (arith, few, above)))
+]
 
 -- one choice less
 pub fewer_within : (old new : List Choice) (choice : Choice) → AreWithin old → old ≡ new ++ choice ∷ [] → AreWithin new

@@ -2,7 +2,6 @@
 -- the cases of whether there are last steps.
 use Rattle.std.proofs.Common.{◌≡◌, ◌↔◌, ℕ, zero, suc, ◌*◌, ◌<◌, ◌≤◌, Option, Some, List, [], ◌∷◌, ◌++◌, length, All, refl, ap, sym, subst, ◌∙◌, arith}
 use Rattle.std.proofs.lemmas.List.Elements.{All-nil}
-use Rattle.segmentation_definitions.specs.declared.limits.TheConstants.{MOST_CHOICES}
 use Rattle.segmentation_definitions.specs.Answers.{IsAnswer}
 use Rattle.segmentation_definitions.specs.Listings.{Key}
 use Rattle.segmentation_definitions.specs.PrintedAnswers.{output_line}
@@ -17,16 +16,12 @@ use Rattle.session_definitions.specs.Requests.{Mark}
 use Rattle.session_definitions.specs.Replies.{reply_to_mark, IsReplyTo}
 use Rattle.reader_session.specs.declared.reading.Reading.{Reading}
 use Rattle.reader_session.specs.Readings.{IsReading, IsReadingOver, GoesOn, position_at_last, state_with, state_of}
-use Rattle.reader_session.specs.Marked.{mark_at}
+use Rattle.reader_session.specs.Marked.{mark_of}
 use Rattle.reader_session.proofs.AnswerBounds.{keys_of_answer_within, few_keys_of_answer}
 
 -- the bookmark of what is read
-abbrev pub bookmark_in : SearchedLexicon → Reading → Bookmark
-bookmark_in searched reading = bookmark_at searched.lexicon.rules (state_with searched.lexicon.rules reading) reading.line
-
--- the same from the parts of what is read
-abbrev pub mark_in : Reading → Bookmark
-mark_in reading = mark_at reading.line reading.choices reading.printed reading.last.items
+abbrev pub bookmark_of : SearchedLexicon → Reading → Bookmark
+bookmark_of searched reading = bookmark_at searched.lexicon.rules (state_with searched.lexicon.rules reading) reading.line
 
 -- where there are some of the one only if there are some of the other, there is none where there is none of the other
 none_by : (one other : ℕ) → (0 < one → 0 < other) → other ≡ 0 → one ≡ 0
@@ -53,10 +48,10 @@ module _ (searched : SearchedLexicon) (reading : Reading) (is : IsReading search
   keys_by_steps [] e = refl
   keys_by_steps (step ∷ steps) e =
       same_keys searched.lexicon.rules reading.line.letters (step ∷ steps)
-      (subst (StandIn searched.lexicon.rules reading.line.letters) e (is.last (some_last step steps e)).stand)
+      (subst (StandIn searched.lexicon.rules reading.line.letters) e (is.last (some_last step steps e)).stand_in)
 
   -- the parts of what is read and the keys of its last steps make its bookmark
-  bookmark_is : mark_in reading ≡ bookmark_in searched reading
+  bookmark_is : mark_of reading ≡ bookmark_of searched reading
   bookmark_is =
       let same = keys_by_steps reading.last.items refl in
       λ i. record { line = reading.line; choices = reading.choices; printed = reading.printed; keys = same i }
@@ -74,12 +69,12 @@ module _ (searched : SearchedLexicon) (reading : Reading) (is : IsReading search
         none = (λ none. absurd (cc (none)), λ none. absurd (omega arith));
       }
 
-  has_bookmark : IsSearchedLexicon searched → length reading.choices ≤ MOST_CHOICES → IsBookmark (bookmark_in searched reading)
-  has_bookmark lexicon few =
+  has_bookmark : IsSearchedLexicon searched → IsBookmark (bookmark_of searched reading)
+  has_bookmark lexicon =
       let keys = marked_keys lexicon reading.last.items refl in
       record {
         line = is.line;
-        few_choices = few;
+        few_choices = is.few;
         items = is.items;
         printed = is.printed;
         few_keys = keys.few;
@@ -90,10 +85,10 @@ module _ (searched : SearchedLexicon) (reading : Reading) (is : IsReading search
         );
       }
 
-  pub mark_is_bookmark : IsSearchedLexicon searched → length reading.choices ≤ MOST_CHOICES → IsBookmark (mark_in reading)
-  mark_is_bookmark lexicon few = subst IsBookmark (sym bookmark_is) (has_bookmark lexicon few)
+  pub mark_is_bookmark : IsSearchedLexicon searched → IsBookmark (mark_of reading)
+  mark_is_bookmark lexicon = subst IsBookmark (sym bookmark_is) (has_bookmark lexicon)
 
-  goes_on_marked : (before now : List ℕ) → now ≡ before ++ output_line (text_of_bookmark (mark_in reading))
+  goes_on_marked : (before now : List ℕ) → now ≡ before ++ output_line (text_of_bookmark (mark_of reading))
       → GoesOn searched (IsReplyTo searched.lexicon (state_with searched.lexicon.rules reading) Mark) before now (Some reading)
   goes_on_marked before now e = record {
     reply = reply_to_mark searched.lexicon (state_with searched.lexicon.rules reading) reading.line;
@@ -110,7 +105,7 @@ reading_marked searched old reading e is = subst (IsReadingOver searched) e is
 
 -- the reply with the text of the bookmark
 pub reply_marked : (searched : SearchedLexicon) (old : Option Reading) (reading : Reading) (before now : List ℕ) → old ≡ Some reading
-    → IsReadingOver searched old → now ≡ before ++ output_line (text_of_bookmark (mark_in reading))
+    → IsReadingOver searched old → now ≡ before ++ output_line (text_of_bookmark (mark_of reading))
     → GoesOn searched (IsReplyTo searched.lexicon (state_of searched.lexicon.rules old) Mark) before now (Some reading)
 reply_marked searched old reading before now e is bytes =
     subst (λ old. GoesOn searched (IsReplyTo searched.lexicon (state_of searched.lexicon.rules old) Mark) before now (Some reading)) (sym e)

@@ -27,11 +27,11 @@ use Rattle.reader_session.proofs.PagePositions.{last_is_among, HaveSameAbove, sa
 
 -- the search that goes on from where a reading stands, as it is seen
 abbrev pub search_in : SearchedLexicon → Reading → SearchValue
-search_in searched reading = value_of searched reading.line reading.choices reading.stand
+search_in searched reading = value_of searched reading.line reading.choices reading.resumption
 
 -- the same reading, after a page
 abbrev pub paged : Reading → Resumption → ℕ → Vec ProgramStep Global → Reading
-paged reading stand printed last = record reading { stand = stand; printed = printed; last = last }
+paged reading resumption printed last = record reading { resumption = resumption; printed = printed; last = last }
 
 -- ---- the steps that are kept
 
@@ -71,9 +71,9 @@ number_kept search (first ∷ answers) before after kept old new some within is 
 -- ---- the reading after a page
 
 module _ (searched : SearchedLexicon) (reading : Reading) (is : IsReading searched reading) (new : SearchValue) (number count many total : ℕ)
-    (before after end : List ℕ) (last : Vec ProgramStep Global) (stand : Resumption)
+    (before after end : List ℕ) (last : Vec ProgramStep Global) (resumption : Resumption)
     (printed : HasPrinted (search_in searched reading) new number count before after reading.last.items last.items many)
-    (stands : StandsWhere new stand) (told : HasToldRest new after end)
+    (stands : StandsWhere new resumption) (told : HasToldRest new after end)
     (total_is : total ≡ min (reading.printed + many) LAST_ANSWER_NUMBER) where
   stays : new ≡ standing_at (search_in searched reading) new.position
   stays = printed.listed.same
@@ -88,33 +88,34 @@ module _ (searched : SearchedLexicon) (reading : Reading) (is : IsReading search
       (same_after searched.lexicon reading.line reading.choices (search_in searched reading).position (position_in searched.lexicon.rules reading)
       printed.answers is.above)
 
-  position_is : position_in searched.lexicon.rules (paged reading stand total last)
+  position_is : position_in searched.lexicon.rules (paged reading resumption total last)
       ≡ position_after (position_in searched.lexicon.rules reading) printed.answers
   position_is = position_kept (search_in searched reading) printed.answers reading.last.items last.items printed.last
 
-  -- the saved stand is where the search stood
-  saved : StandsWhere (standing_at (search_in searched reading) new.position) stand
-  saved = subst (λ (search : SearchValue). StandsWhere search stand) stays stands
+  -- the saved resumption is where the search was
+  saved : StandsWhere (standing_at (search_in searched reading) new.position) resumption
+  saved = subst (λ (search : SearchValue). StandsWhere search resumption) stays stands
 
   total_after : total ≡ min (reading.printed + length printed.answers) LAST_ANSWER_NUMBER
   total_after = total_is ∙ ap (λ n. min (reading.printed + n) LAST_ANSWER_NUMBER) (sym printed.many)
 
   old_steps : 0 < length reading.last.items → AreStepsOf searched reading.line reading.choices reading.last.items
-  old_steps some = let steps = is.last some in (steps.stand, steps.answer)
+  old_steps some = let steps = is.last some in (steps.stand_in, steps.answer)
 
-  new_steps : 0 < length last.items → AreAnswerSteps searched (paged reading stand total last)
+  new_steps : 0 < length last.items → AreAnswerSteps searched (paged reading resumption total last)
   new_steps some =
       let steps = steps_kept (search_in searched reading) printed.answers reading.last.items last.items printed.last printed.listed.first old_steps some in
-      record { stand = steps.0; answer = steps.1 }
+      record { stand_in = steps.0; answer = steps.1 }
 
-  pub reading_after_page : IsReading searched (paged reading stand total last)
+  pub reading_after_page : IsReading searched (paged reading resumption total last)
   reading_after_page = record {
     line = is.line;
+    few = is.few;
     chart = is.chart;
     guide = is.guide;
     exact = is.exact;
     stack = saved.is_stack;
-    above = subst (λ position. HaveSameAbove searched.lexicon reading.line reading.choices position (position_in searched.lexicon.rules (paged reading stand total last)))
+    above = subst (λ position. HaveSameAbove searched.lexicon reading.line reading.choices position (position_in searched.lexicon.rules (paged reading resumption total last)))
         (sym saved.position)
         (subst (λ position. HaveSameAbove searched.lexicon reading.line reading.choices new.position position) (sym position_is) same_above);
     last = new_steps;
@@ -142,7 +143,7 @@ module _ (searched : SearchedLexicon) (reading : Reading) (is : IsReading search
 
   pub replies_with_page : number ≡ next_number reading.printed
       → GoesOnWith searched (IsPageReply searched.lexicon (state_with searched.lexicon.rules reading) count reading.line) before end
-      (paged reading stand total last)
+      (paged reading resumption total last)
   replies_with_page number_is =
       let state = state_with searched.lexicon.rules reading in
       record {

@@ -17,7 +17,7 @@ use Rattle.bookmark_definitions.specs.Bookmarks.{Bookmark, IsBookmark}
 use Rattle.bookmarks.specs.Values.{keys_of}
 use Rattle.session_definitions.specs.Replies.{IsPositionOfKeys}
 use Rattle.search_frames.specs.Guided.{IsGuideOf, IsExactOf}
-use Rattle.segmenter.specs.GivenKeys.{keys_of_given}
+use Rattle.derivation.specs.Steps.{keys_meant}
 use Rattle.segmenter.specs.Searches.{SearchValue, AreNoKeys, StandsAtKeys, StandsWhere, position_of}
 use Rattle.summary_chart.specs.Charts.{CoversPlace, says_of}
 use Rattle.summary_chart.specs.PlaceWays.{IsChartOf}
@@ -37,7 +37,7 @@ position_by_last search (key ∷ keys) (step ∷ steps) at is_last = is_last.0
 
 -- they are those of an answer
 record AreOfAnswer (search : SearchValue) (last : List ProgramStep) : Type 0 where
-  stand : StandIn search.searched.lexicon.rules search.line.letters last
+  stand_in : StandIn search.searched.lexicon.rules search.line.letters last
   answer : IsAnswer search.searched.lexicon search.line search.choices (steps_of search.searched.lexicon.rules search.line.letters last)
 
 of_answer : (search : SearchValue) (keys : List Key) (last : List ProgramStep) → StandsAtKeys search keys → IsLastOf search last
@@ -47,7 +47,7 @@ of_answer search [] (step ∷ steps) at is_last some = absurd (cc (at, is_last.0
 of_answer search (key ∷ keys) (step ∷ steps) at is_last some =
     let same : at.0 ≡ steps_of search.searched.lexicon.rules search.line.letters (step ∷ steps) = cc (at.1, is_last.0) in
     record {
-      stand = is_last.1;
+      stand_in = is_last.1;
       answer = subst (IsAnswer search.searched.lexicon search.line search.choices) same at.2;
     }
 
@@ -74,14 +74,14 @@ position_of_keys search (key ∷ keys) at = (at.0, at.2, at.3, at.1)
 
 -- keys of no answer have no position
 no_position : (searched : SearchedLexicon) (line : Line) (choices : List Choice) (keys : List ProgramKey) (position : Position)
-    → keys ≢ [] → AreNoKeys searched line choices (keys_of_given keys)
+    → keys ≢ [] → AreNoKeys searched line choices (keys_meant keys)
     → IsPositionOfKeys searched.lexicon line choices (keys_of keys) position → ⊥
 no_position searched line choices [] position some none is = absurd (some refl)
 no_position searched line choices (key ∷ keys) position some none is = none is.0 is.1 is.2
 
 -- a bookmark with keys of no answer is none over the lexicon
 pub none_resumed : (searched : SearchedLexicon) (line : Line) (choices : List Choice) (printed : ℕ) (keys : List ProgramKey)
-    → keys ≢ [] → AreNoKeys searched line choices (keys_of_given keys)
+    → keys ≢ [] → AreNoKeys searched line choices (keys_meant keys)
     → IsResumed searched (record { line = line; choices = choices; printed = printed; keys = keys_of keys }) None
 none_resumed searched line choices printed keys some none =
     λ position is. no_position searched line choices keys position some none is.keys
@@ -102,9 +102,9 @@ module _ (searched : SearchedLexicon) (reading : Reading) (keys : List Key) (sum
   abbrev pub search_at : Position → SearchValue
   search_at position = record { searched = searched; line = reading.line; choices = reading.choices; position = position }
 
-  same_above : (position : Position) (answer : List Step) → position_of searched reading.line reading.stand ≡ position
+  same_above : (position : Position) (answer : List Step) → position_of searched reading.line reading.resumption ≡ position
       → position ≡ position_in searched.lexicon.rules reading
-      → IsAbove searched.lexicon.rules (position_of searched reading.line reading.stand) answer
+      → IsAbove searched.lexicon.rules (position_of searched reading.line reading.resumption) answer
       ↔ IsAbove searched.lexicon.rules (position_in searched.lexicon.rules reading) answer
   same_above position answer stands is =
       let same = stands ∙ is in (
@@ -117,12 +117,13 @@ module _ (searched : SearchedLexicon) (reading : Reading) (keys : List Key) (sum
       → IsGuideOf searched reading.line reading.choices (CoversPlace reading.chart.table) (says_of reading.chart.table)
       → IsExactOf searched reading.line reading.choices (says_of reading.chart.table)
       → StandsAtKeys (search_at position) keys → IsLastOf (search_at position) reading.last.items
-      → StandsWhere (search_at position) reading.stand → IsResumedAt searched mark_of reading position
+      → StandsWhere (search_at position) reading.resumption → IsResumedAt searched mark_of reading position
   resumed_at position mark phases chart guide exact at is_last stands =
       let is : position ≡ position_in searched.lexicon.rules reading = position_by_last (search_at position) keys reading.last.items at is_last in
       record {
         is_reading = record {
           line = mark.line;
+          few = mark.few_choices;
           chart = chart;
           guide = guide;
           exact = exact;
@@ -130,7 +131,7 @@ module _ (searched : SearchedLexicon) (reading : Reading) (keys : List Key) (sum
           above = λ answer is_answer. same_above position answer stands.position is;
           last = λ some.
               let of = of_answer (search_at position) keys reading.last.items at is_last some in
-              record { stand = of.stand; answer = of.answer };
+              record { stand_in = of.stand_in; answer = of.answer };
           some_printed = last_if_printed (search_at position) keys reading.last.items reading.printed at is_last mark.no_keys;
           printed = mark.printed;
           items = mark.items;
@@ -152,9 +153,9 @@ module _ (searched : SearchedLexicon) (reading : Reading) (keys : List Key) (sum
       → IsGuideOf searched reading.line reading.choices (CoversPlace reading.chart.table) (says_of reading.chart.table)
       → IsExactOf searched reading.line reading.choices (says_of reading.chart.table)
       → search ≡ search_at search.position → StandsAtKeys search keys → IsLastOf search reading.last.items
-      → StandsWhere search reading.stand → IsResumed searched mark_of (Some reading)
+      → StandsWhere search reading.resumption → IsResumed searched mark_of (Some reading)
   resumed search mark phases chart guide exact over at is_last stands = (
     search.position,
     resumed_at search.position mark phases chart guide exact (subst (λ search. StandsAtKeys search keys) over at)
-        (subst (λ search. IsLastOf search reading.last.items) over is_last) (subst (λ search. StandsWhere search reading.stand) over stands),
+        (subst (λ search. IsLastOf search reading.last.items) over is_last) (subst (λ search. StandsWhere search reading.resumption) over stands),
   )

@@ -19,12 +19,13 @@ module _ (searched : SearchedLexicon) (reading : Reading) (is : IsReading search
   reading_with_summary : IsReading searched (summarized reading items)
   reading_with_summary = record {
     line = is.line;
+    few = is.few;
     chart = is.chart;
     guide = is.guide;
     exact = is.exact;
     stack = is.stack;
     above = is.above;
-    last = λ some. let steps = is.last some in record { stand = steps.stand; answer = steps.answer };
+    last = λ some. let steps = is.last some in record { stand_in = steps.stand_in; answer = steps.answer };
     some_printed = is.some_printed;
     printed = is.printed;
     items = is.items;

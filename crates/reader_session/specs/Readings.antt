@@ -3,7 +3,7 @@ use Rattle.std.specs.Prelude.{◌≡◌, ℕ, ◌<◌, ◌≤◌, ◌↔◌, Opt
 use Rattle.std.specs.Option.{option_map}
 use Rattle.text_definitions.specs.Lines.{IsLine}
 use Rattle.lexicon_definitions.specs.Lexicons.{RuleSet}
-use Rattle.segmentation_definitions.specs.declared.limits.TheConstants.{LAST_ANSWER_NUMBER}
+use Rattle.segmentation_definitions.specs.declared.limits.TheConstants.{MOST_CHOICES, LAST_ANSWER_NUMBER}
 use Rattle.segmentation_definitions.specs.Derivations.{Step}
 use Rattle.segmentation_definitions.specs.Items.{Item}
 use Rattle.segmentation_definitions.specs.Answers.{IsAnswer}
@@ -47,19 +47,20 @@ state_of rules (Some reading) = state_with rules reading
 
 -- the steps are those of an answer
 pub record AreAnswerSteps (searched : SearchedLexicon) (reading : Reading) : Type 0 where
-  pub stand : StandIn searched.lexicon.rules reading.line.letters reading.last.items
+  pub stand_in : StandIn searched.lexicon.rules reading.line.letters reading.last.items
   pub answer : IsAnswer searched.lexicon reading.line reading.choices (steps_of searched.lexicon.rules reading.line.letters reading.last.items)
 
--- the chart is that of the line and its choices; the search stands where the answers still to come are those after the last one
+-- there are not too many choices; the chart is that of the line and its choices; the search stands where the answers still to come are those after the last one
 -- printed; and what is kept is what the session may say of them
 pub record IsReading (searched : SearchedLexicon) (reading : Reading) : Type 0 where
   pub line : IsLine reading.line
+  pub few : length reading.choices ≤ MOST_CHOICES
   pub chart : IsChartOf searched reading.line reading.choices reading.chart
   pub guide : IsGuideOf searched reading.line reading.choices (CoversPlace reading.chart.table) (says_of reading.chart.table)
   pub exact : IsExactOf searched reading.line reading.choices (says_of reading.chart.table)
-  pub stack : IsStackOf searched reading.line reading.choices reading.stand
+  pub stack : IsStackOf searched reading.line reading.choices reading.resumption
   pub above : (answer : List Step) → IsAnswer searched.lexicon reading.line reading.choices answer
-      → IsAbove searched.lexicon.rules (position_of searched reading.line reading.stand) answer
+      → IsAbove searched.lexicon.rules (position_of searched reading.line reading.resumption) answer
       ↔ IsAbove searched.lexicon.rules (position_in searched.lexicon.rules reading) answer
   pub last : 0 < length reading.last.items → AreAnswerSteps searched reading
   pub some_printed : (0 < length reading.last.items) ↔ (0 < reading.printed)

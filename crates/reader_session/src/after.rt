@@ -1,4 +1,4 @@
-/// How a session stands after a reply: it goes on, or it is over.
+/// Whether a session goes on after a reply, or is over.
 #[derive(Clone, Copy, Debug, PartialEq, Eq)]
 pub(crate) enum After {
     Open,

@@ -1,4 +1,5 @@
 ghost use Rattle.std.specs.Prelude.{◌≡◌, ◌^◌, ◌<◌, length, IfOk};
+ghost use Rattle.annotated_trie.specs.Searched.{IsSearchedLexicon};
 ghost use Rattle.session_requests.specs.Meant.{request_meant, IsSoundRequest};
 ghost use Rattle.session_definitions.specs.Replies.{IsReplyTo};
 ghost use Rattle.reader_session.specs.Readings.{IsReadingOver, state_of};
@@ -37,6 +38,7 @@ pub(crate) fn answer(
     output: &mut Vec<u8>,
 ) -> Result<(Option<Reading>, After), Memory>
     requires texts { texts.now ≡ lexicon.now.lexicon.rules }
+    requires lexicon { IsSearchedLexicon lexicon.now }
     requires reading { IsReadingOver lexicon.now old }
     requires sound { IsSoundRequest request }
     requires short { HasShortText request }

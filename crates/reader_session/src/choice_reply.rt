@@ -3,6 +3,7 @@ ghost use Rattle.segmentation_definitions.specs.declared.limits.TheConstants.{MO
 ghost use Rattle.bookmark_definitions.specs.Bookmarks.{IsItemWithinBounds};
 ghost use Rattle.session_definitions.specs.Requests.{Choose, Undo};
 ghost use Rattle.session_definitions.specs.Replies.{reply_to_choice, reply_to_undo, IsReplyTo};
+ghost use Rattle.annotated_trie.specs.Searched.{IsSearchedLexicon};
 ghost use Rattle.reader_session.specs.Readings.{IsReading, IsReadingOver, GoesOn, GoesOnWith, state_with, state_of};
 
 use super::adding::add_choice;
@@ -30,31 +31,15 @@ fn choose(
     ensures ok { IfOk result (GoesOnWith lexicon.now
         (λ reply. reply ≡ reply_to_choice (state_with lexicon.now.lexicon.rules reading) kept item) output.old.items output.new.items) }
 {
-    let Reading {
-        line,
-        mut choices,
-        chart,
-        stand,
-        printed,
-        last,
-        summary,
-    } = reading;
-    match add_choice(&mut choices, kept, item) {
+    let mut reading = reading;
+    match add_choice(&mut reading.choices, kept, item) {
         Ok(()) => {
             push_ok(output)?;
-            Reading::new(alloc, lexicon, line, choices)
+            Reading::new(alloc, lexicon, reading.line, reading.choices)
         }
         Err(ChoiceError::Full) => {
             push_refusal(output, "too many")?;
-            Ok(Reading {
-                line,
-                choices,
-                chart,
-                stand,
-                printed,
-                last,
-                summary,
-            })
+            Ok(reading)
         }
         Err(ChoiceError::Memory) => Err(Memory),
     }
@@ -70,6 +55,7 @@ pub(crate) fn reply_to_choice(
     number: Option<u32>,
     output: &mut Vec<u8>,
 ) -> Result<Option<Reading>, Memory>
+    requires lexicon { IsSearchedLexicon lexicon.now }
     requires reading { IsReadingOver lexicon.now old }
     requires number { number ≡ Some 0 → ⊥ }
     ensures ok { IfOk result (GoesOn lexicon.now
@@ -81,8 +67,6 @@ pub(crate) fn reply_to_choice(
     let Some(reading) = old else {
         return refuse(output, "no text", None);
     };
-    // The proof knows what a lexicon is only of one whose rules are read.
-    let _rules = lexicon.rules();
     match numbered_item(alloc, &reading.summary, number) {
         Ok(item) => Ok(Some(choose(alloc, lexicon, reading, kept, item, output)?)),
         Err(NoItem::NoSummary) => refuse(output, "no summary", Some(reading)),

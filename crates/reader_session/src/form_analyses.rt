@@ -24,27 +24,24 @@ fn node_after(store: &Store, from: Node, letters: &[Letter]) -> Option<Node>
     let mut steps = Steps::<()>::new();
     let mut node = from;
     for letter in letters {
-        let Some(child) = store.child(node, *letter, &mut steps) else {
-            return None;
-        };
-        node = child;
+        node = store.child(node, *letter, &mut steps)?;
     }
     Some(node)
 }
 
-/// Puts the analysis in its place in a rising list, unless it is there.
+/// Inserts the analysis into a rising list where it belongs, unless it is there.
 fn put_analysis(analyses: &mut Vec<Analysis>, analysis: Analysis) -> Result<(), Memory>
     requires rising { IsStrictlySortedBy compare_analyses (map text_analysis analyses.old.items) }
     ensures ok { OnOk result (map text_analysis analyses.new.items
         ≡ with_element compare_analyses (map text_analysis analyses.old.items) (text_analysis analysis)) }
 {
-    if let Err(place) = analyses.binary_search_by(|other| other.compare(&analysis)) {
-        analyses.insert(place, analysis)?;
+    if let Err(index) = analyses.binary_search_by(|other| other.compare(&analysis)) {
+        analyses.insert(index, analysis)?;
     }
     Ok(())
 }
 
-/// The analyses that the deltas give the form, rising. A form has few analyses, so each is put in its place at once: deltas come
+/// The analyses that the deltas give the form, rising. A form has few analyses, so each is inserted where it belongs at once: deltas come
 /// by how much they cut, and analyses by their stems.
 fn analyses_by_deltas(
     alloc: Global,

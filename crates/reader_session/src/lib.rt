@@ -1,7 +1,7 @@
 //! A reading session served over a source and a sink (after the lean reader of Goyal and Huet 2016): the lines of the input are
 //! read piece by piece, each is answered, and its reply is written before the next line is looked at.
 //!
-//! `input` and `lines` cut the input into lines. A `Session` is what stands between two lines; `answering` leads each request to the
+//! `input` and `lines` cut the input into lines. A `Session` is the state between two lines; `answering` leads each request to the
 //! module that replies to it, which is named after its word. What is read, with the choices of the reader, is a `Reading`.
 //!
 //! Proved of `serve`, over every source and every sink, by the names of its contract:

@@ -1,4 +1,4 @@
-ghost use Rattle.std.specs.Prelude.{◌≡◌, ℕ, List, [], ◌∷◌, ◌++◌, MatchOption, OnOk, OnErr, IfOk};
+ghost use Rattle.std.specs.Prelude.{◌≡◌, [], ◌∷◌, ◌++◌, OnOk, OnErr, IfOk};
 ghost use Rattle.outside.specs.Answers.{OnFailedWrite};
 ghost use Rattle.outside.specs.Counts.{Rose};
 ghost use Rattle.lexicon_text_definitions.specs.FileLines.{lines_of_bytes};
@@ -7,16 +7,8 @@ ghost use Rattle.reader_session.specs.Serving.{HasNoEnd, HasServed, HasStopped, 
 use super::after::After;
 use super::session::Session;
 use outside::{Sink, WriteError, write_all};
+use phoneme::cut_at;
 use std::alloc::Global;
-
-/// The bytes before and after the first line end, where there is one.
-fn first_line(bytes: &[u8]) -> Option<(&[u8], &[u8])>
-    ensures { MatchOption result (HasNoEnd bytes.now)
-        (λ parts. (bytes.now ≡ parts.0.now ++ 10 ∷ parts.1.now) × HasNoEnd parts.0.now) }
-{
-    let at = bytes.iter().position(|byte| *byte == b'\n')?;
-    Some((&bytes[..at], &bytes[at + 1..]))
-}
 
 /// Writes the reply to one line of the input, whose line end is not among its bytes, and answers how the session stands then.
 fn serve_line<O: Sink>(
@@ -57,7 +49,7 @@ pub(crate) fn serve_piece<O: Sink>(
     ensures faults { OnOk result (O.faults sink.new ≡ O.faults sink.old) }
 {
     let mut left = piece;
-    while let Some((line, following)) = first_line(left) {
+    while let Some((line, following)) = cut_at(left, b'\n') {
         rest.extend_from_slice(line)?;
         let After::Open = serve_line(alloc, session, rest, true, sink)? else {
             return Ok(After::Over);

@@ -16,20 +16,20 @@ use segmentation_definitions::LAST_ANSWER_NUMBER;
 use segmenter::Search;
 use std::alloc::Global;
 
-/// Appends `more` where an answer is left after the one at which the search stands, else `end`; and answers where it stood.
+/// Appends `more` where an answer is left after the current one of the search, else `end`; and answers where the search was before.
 fn push_rest<D: SearchGuide>(
     alloc: Global,
     search: &mut Search<D>,
     output: &mut Vec<u8>,
 ) -> Result<Resumption, Memory>
-    ensures stand { IfOk result (StandsWhere search.old) }
+    ensures resumption { IfOk result (StandsWhere search.old) }
     ensures rest { OnOk result (HasToldRest search.old output.old.items output.new.items) }
 {
-    let stand = search.save(alloc)?;
+    let resumption = search.save(alloc)?;
     let mut steps = Steps::<()>::new();
     let more = search.advance(&mut steps);
     output.extend_from_slice(rest_line(more).as_bytes())?;
-    Ok(stand)
+    Ok(resumption)
 }
 
 /// Appends the next answers, at most `count`. The search goes on from where the page before ended.
@@ -50,16 +50,16 @@ fn push_next_page(
         line,
         choices,
         chart,
-        stand,
+        resumption,
         printed,
         mut last,
         summary,
     } = reading;
     let mut steps = Steps::<()>::new();
     let first = LAST_ANSWER_NUMBER.min(printed + 1);
-    let (answers, stand) = {
+    let (answers, resumption) = {
         let mut printer = AnswerPrinter::new(alloc, texts, &line)?;
-        let mut search = Search::go_on(lexicon, &line, &choices, &chart, stand);
+        let mut search = Search::go_on(lexicon, &line, &choices, &chart, resumption);
         let answers = push_answers(
             alloc,
             output,
@@ -76,7 +76,7 @@ fn push_next_page(
         line,
         choices,
         chart,
-        stand,
+        resumption,
         printed: LAST_ANSWER_NUMBER.min(printed + answers as u64),
         last,
         summary,

@@ -13,15 +13,15 @@ use segmenter::Search;
 use std::alloc::Global;
 use summary_chart::Chart;
 
-/// A line that is read, with the reader's choices and its chart, which is made once for them. The search stands where its pages
-/// were left; `printed` answers were printed, the last of them with the steps `last`; and there is a summary where one was
-/// asked for.
+/// A line that is read, with the reader's choices and its chart, which is made once for them. `resumption` is where its
+/// pages were left; `printed` answers were printed, the last of them with the steps `last`; and there is a summary where one
+/// was asked for.
 #[derive(Drop)]
 pub(crate) struct Reading {
     pub line: Line,
     pub choices: Choices,
     pub chart: Chart,
-    pub stand: Resumption,
+    pub resumption: Resumption,
     pub printed: u64,
     pub last: Vec<Step>,
     pub summary: Option<Vec<Item>>,
@@ -41,12 +41,12 @@ impl Reading {
     {
         let mut steps = Steps::<()>::new();
         let chart = Chart::build(alloc, lexicon, &line, &choices, &mut steps)?;
-        let stand = Search::new(alloc, lexicon, &line, &choices, &chart)?.into_resumption();
+        let resumption = Search::new(alloc, lexicon, &line, &choices, &chart)?.into_resumption();
         Ok(Reading {
             line,
             choices,
             chart,
-            stand,
+            resumption,
             printed: 0,
             last: Vec::new(alloc),
             summary: None,

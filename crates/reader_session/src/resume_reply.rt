@@ -47,7 +47,7 @@ fn choices_of(alloc: Global, list: Vec<Choice>) -> Result<Option<Choices>, Memor
     Ok(Some(choices))
 }
 
-/// The steps of the answer at which the search stands. None where it stands at none.
+/// The steps of the current answer of the search. None where it has none.
 fn last_steps<D: SearchGuide>(alloc: Global, search: &Search<D>) -> Result<Vec<Step>, Memory>
     ensures ok { IfOk result (λ last. IsLastOf search.now last.items) }
 {
@@ -78,12 +78,12 @@ fn resume_at(
         Err(ResumeError::Memory) => return Err(Memory),
     };
     let last = last_steps(alloc, &search)?;
-    let stand = search.into_resumption();
+    let resumption = search.into_resumption();
     Ok(Some(Reading {
         line,
         choices,
         chart,
-        stand,
+        resumption,
         printed,
         last,
         summary: None,

@@ -73,7 +73,7 @@ impl Status {
             ),
             Status::ReadFault => Some("a file is not there, or it or the input could not be read"),
             Status::WriteFault => Some(
-                "the output could not be written, or the file OUT that `build` makes: without a line `forms` OUT may hold anything",
+                "the output could not be written, or the file OUT that `build` makes, which then stays as it was",
             ),
             Status::TooMuch => Some("the input of a session may have 16777216 bytes"),
             Status::Done | Status::BadFile { .. } | Status::BadText { .. } => None,

@@ -9,7 +9,7 @@ use Rattle.derivation.specs.declared.step.Step.{Step}
 use Rattle.annotated_trie.specs.Searched.{SearchedLexicon, IsSearchedLexicon}
 use Rattle.search_frames.specs.declared.frame.Frame.{Frame}
 use Rattle.search_frames.specs.declared.resumption.Resumption.{Resumption}
-use Rattle.search_frames.specs.Standings.{IsPossible, rules_in}
+use Rattle.search_frames.specs.Configurations.{IsPossible, rules_in}
 use Rattle.search_frames.specs.Frames.{step_of, frame_of, here_of, node_of, changes_at, IsFrame, IsUntried}
 use Rattle.search_frames.specs.Changes.{MayBeMade, IsChangeFrom, HasSet}
 use Rattle.search_frames.specs.Costs.{steps_of_node, steps_from_change, steps_of_phase, steps_left_in_phase, steps_left}

@@ -11,7 +11,7 @@ use Rattle.annotated_trie.specs.Searched.{SearchedLexicon}
 use Rattle.search_frames.specs.declared.frame.TheConstants.{NODES_OF_FRAME}
 use Rattle.search_frames.specs.declared.frame.Frame.{Frame}
 use Rattle.search_frames.specs.declared.resumption.Resumption.{Resumption}
-use Rattle.search_frames.specs.Standings.{rules_in}
+use Rattle.search_frames.specs.Configurations.{rules_in}
 use Rattle.search_frames.specs.Frames.{step_of, frame_of, IsFrame}
 use Rattle.search_frames.specs.Changes.{HasSet}
 use Rattle.search_frames.specs.Costs.{steps_of_node, steps_from_change, steps_of_phase, steps_left_in_phase, steps_left, steps_after_node, steps_of_frame}

@@ -14,9 +14,9 @@ pub mod StepLeaves
 pub mod StepLoops
 pub mod StepMoves
 pub mod StepSkips
-pub mod StandingRanks
-pub mod ReachedStandings
-pub mod StandingPaths
+pub mod ConfigurationRanks
+pub mod ReachedConfigurations
+pub mod ConfigurationPaths
 pub mod LeadingTo
 pub mod FrameCosts
 pub mod TriedKeys

@@ -10,28 +10,28 @@ use Rattle.derivation.specs.declared.step.Step.{Step}
 use Rattle.answer_paths.specs.Following.{MayStand}
 use Rattle.annotated_trie.specs.Searched.{SearchedLexicon}
 use Rattle.search_frames.specs.declared.resumption.Resumption.{Resumption}
-use Rattle.search_frames.specs.declared.place.Place.{Place}
+use Rattle.search_frames.specs.declared.configuration.Configuration.{Configuration}
 use Rattle.search_frames.specs.declared.testing.Test.{Test}
-use Rattle.search_frames.specs.Standings.{Standing, IsPossible, LeadsOn, Ends, rules_in}
-use Rattle.search_frames.specs.Frames.{IsFrame, IsUntried, HasNothingToTry, ChangesFrom, WentOn, here_of, place_of, key_at, standing_of, step_of, still_to_try}
+use Rattle.search_frames.specs.Configurations.{NumberedConfiguration, IsPossible, LeadsOn, Ends, rules_in}
+use Rattle.search_frames.specs.Frames.{IsFrame, IsUntried, HasNothingToTry, ChangesFrom, WentOn, here_of, configuration_at, key_at, numbered_of, step_of, still_to_try}
 use Rattle.search_frames.specs.Skips.{IsUnwritten, SkippedUnwritten}
 use Rattle.search_frames.specs.Tests.{IsRefused, IsTestOf}
 use Rattle.search_frames.specs.Turns.{BeginsPath, HasTurned, HasNoTurn}
-use Rattle.search_frames.proofs.StandingRanks.{possible_if_leads, possible_if_ends}
+use Rattle.search_frames.proofs.ConfigurationRanks.{possible_if_leads, possible_if_ends}
 use Rattle.search_frames.proofs.StepLoops.{changes_twice}
 
 -- the test of the key that the frame has come to
-pub test_here : (searched : SearchedLexicon) (line : Line) (choices : List Choice) (stack : Resumption) (level : ℕ) (place : Place) (step : Step) (test : Test)
-    → place ≡ place_of stack level → step ≡ step_of stack level → IsTestOf searched line choices (standing_of searched place) (key_of step) test
+pub test_here : (searched : SearchedLexicon) (line : Line) (choices : List Choice) (stack : Resumption) (level : ℕ) (place : Configuration) (step : Step) (test : Test)
+    → place ≡ configuration_at stack level → step ≡ step_of stack level → IsTestOf searched line choices (numbered_of searched place) (key_of step) test
     → IsTestOf searched line choices (here_of searched stack level) (key_at stack level) test
 test_here searched line choices stack level place step test place_is step_is exact =
     subst (λ (s : Step). IsTestOf searched line choices (here_of searched stack level) (key_of s) test) step_is
-    (subst (λ (p : Place). IsTestOf searched line choices (standing_of searched p) (key_of step) test) place_is exact)
+    (subst (λ (p : Configuration). IsTestOf searched line choices (numbered_of searched p) (key_of step) test) place_is exact)
 
 -- the frame stays in its place, and each key with which a path begins is still to try if it was so at first, and no other
 pub record IsPassing (searched : SearchedLexicon) (line : Line) (choices : List Choice) (level : ℕ) (first stack : Resumption) : Type 0 where
   pub frame : IsFrame searched line stack level
-  pub same_place : place_of stack level ≡ place_of first level
+  pub same_configuration : configuration_at stack level ≡ configuration_at first level
   pub changes : ChangesFrom level first stack
   pub left : (key : Key) → BeginsPath searched line choices (here_of searched first level) key → IsUntried searched first level key
       → IsUntried searched stack level key
@@ -41,20 +41,20 @@ pub record IsPassing (searched : SearchedLexicon) (line : Line) (choices : List 
 
 module _ (searched : SearchedLexicon) (line : Line) (choices : List Choice) where
   -- a key with which a path begins ends the line or leads on
-  pub begins_cases : (here : Standing) (key : Key) → BeginsPath searched line choices here key
+  pub begins_cases : (here : NumberedConfiguration) (key : Key) → BeginsPath searched line choices here key
       → Ends searched line choices here key ⊎ LeadsOn searched line choices here key
   begins_cases here key ([], ends) = inl ends
   begins_cases here key (later ∷ keys, (next, (leads, same), path)) = inr leads
 
   -- so it is possible
-  pub begins_possible : (here : Standing) (key : Key) → BeginsPath searched line choices here key → IsPossible searched line here key
+  pub begins_possible : (here : NumberedConfiguration) (key : Key) → BeginsPath searched line choices here key → IsPossible searched line here key
   begins_possible here key begins = elim (begins_cases here key begins) [
     | inl ends ↦ possible_if_ends searched line choices here key ends
     | inr leads ↦ possible_if_leads searched line choices here key leads
   ]
 
   -- and may stand there
-  begins_stands : (here : Standing) (key : Key) → BeginsPath searched line choices here key
+  begins_stands : (here : NumberedConfiguration) (key : Key) → BeginsPath searched line choices here key
       → MayStand searched.lexicon line choices here.at here.entrance key
   begins_stands here key begins = elim (begins_cases here key begins) [
     | inl ends ↦ ends.stands
@@ -65,48 +65,48 @@ module _ (searched : SearchedLexicon) (line : Line) (choices : List Choice) wher
     pub passing_at_first : IsFrame searched line first level → IsPassing searched line choices level first first
     passing_at_first frame = record {
       frame = frame;
-      same_place = refl;
-      changes = record { stand = refl; depth = refl; room = refl; is_stack = frame.placed.is_stack; steps = refl; frames = refl; nodes = refl };
+      same_configuration = refl;
+      changes = record { position = refl; depth = refl; room = refl; is_stack = frame.placed.is_stack; steps = refl; frames = refl; nodes = refl };
       left = λ key begins untried. untried;
       only = λ key possible untried. untried;
       no_more = omega arith;
     }
 
-    possible_in : (stack : Resumption) → place_of stack level ≡ place_of first level → (key : Key) → IsPossible searched line (here_of searched first level) key
+    possible_in : (stack : Resumption) → configuration_at stack level ≡ configuration_at first level → (key : Key) → IsPossible searched line (here_of searched first level) key
         → IsPossible searched line (here_of searched stack level) key
-    possible_in stack place key possible = subst (λ (p : Place). IsPossible searched line (standing_of searched p) key) (sym place) possible
+    possible_in stack place key possible = subst (λ (p : Configuration). IsPossible searched line (numbered_of searched p) key) (sym place) possible
 
     -- the frame has nothing left to try, so there is no turn
     pub no_turn : (old : Resumption) → IsPassing searched line choices level first old → HasNothingToTry searched line old level
         → HasNoTurn searched line choices level first
     no_turn old passing nothing key begins untried =
-        nothing key (possible_in old passing.same_place key (begins_possible (here_of searched first level) key begins)) (passing.left key begins untried)
+        nothing key (possible_in old passing.same_configuration key (begins_possible (here_of searched first level) key begins)) (passing.left key begins untried)
 
     -- the loop has come to a key of the frame
     module _ (old mid : Resumption) (passing : IsPassing searched line choices level first old) (went : WentOn searched line level old mid)
         (changes : ChangesFrom level old mid) where
-      place_mid : place_of mid level ≡ place_of first level
-      place_mid = went.same_place ∙ passing.same_place
+      place_mid : configuration_at mid level ≡ configuration_at first level
+      place_mid = went.same_configuration ∙ passing.same_configuration
 
       pub here_mid : here_of searched mid level ≡ here_of searched first level
-      here_mid = ap (standing_of searched) place_mid
+      here_mid = ap (numbered_of searched) place_mid
 
       pub changes_mid : ChangesFrom level first mid
       changes_mid = changes_twice level first old mid passing.changes changes
 
       possible_key : IsPossible searched line (here_of searched first level) (key_at mid level)
-      possible_key = subst (λ (p : Place). IsPossible searched line (standing_of searched p) (key_at mid level)) passing.same_place went.possible
+      possible_key = subst (λ (p : Configuration). IsPossible searched line (numbered_of searched p) (key_at mid level)) passing.same_configuration went.possible
 
       -- which was to try at first, and comes before all others with which a path begins
       pub turned : HasTurned searched line choices level first mid
       turned = record {
         frame = went.frame;
-        same_place = place_mid;
+        same_configuration = place_mid;
         possible = possible_key;
         untried = passing.only (key_at mid level) possible_key went.untried;
         first = λ key begins untried.
-            went.first key (possible_in old passing.same_place key (begins_possible (here_of searched first level) key begins)) (passing.left key begins untried);
-        left = λ key possible untried. passing.only key possible (went.left key (possible_in old passing.same_place key possible) untried);
+            went.first key (possible_in old passing.same_configuration key (begins_possible (here_of searched first level) key begins)) (passing.left key begins untried);
+        left = λ key possible untried. passing.only key possible (went.left key (possible_in old passing.same_configuration key possible) untried);
         later = went.later;
       }
 
@@ -115,7 +115,7 @@ module _ (searched : SearchedLexicon) (line : Line) (choices : List Choice) wher
           (skipped : SkippedUnwritten searched line level mid new) where
         not_refused : (key : Key) → key_at mid level ≡ key → BeginsPath searched line choices (here_of searched first level) key → ⊥
         not_refused key same begins =
-            let not = subst (λ (h : Standing). IsRefused searched line choices h (key_at mid level)) here_mid refused in
+            let not = subst (λ (h : NumberedConfiguration). IsRefused searched line choices h (key_at mid level)) here_mid refused in
             elim (begins_cases (here_of searched first level) (key_at mid level) (subst (BeginsPath searched line choices (here_of searched first level)) (sym same) begins)) [
               | inl ends ↦ not.ends ends
               | inr leads ↦ not.leads_on leads
@@ -124,7 +124,7 @@ module _ (searched : SearchedLexicon) (line : Line) (choices : List Choice) wher
         not_unwritten : (key : Key) → BeginsPath searched line choices (here_of searched first level) key
             → IsUnwritten searched (drop ((step_of mid level).at + key.taken) line.letters) key.rule → ⊥
         not_unwritten key begins unwritten = unwritten
-            (subst (λ (p : Place). take (length (rule_of (rules_in searched) key.rule).w) (drop (p.at + key.taken) line.letters) ≡ (rule_of (rules_in searched) key.rule).w)
+            (subst (λ (p : Configuration). take (length (rule_of (rules_in searched) key.rule).w) (drop (p.at + key.taken) line.letters) ≡ (rule_of (rules_in searched) key.rule).w)
             (sym place_mid) (begins_stands (here_of searched first level) key begins).written)
 
         still_left : (key : Key) → BeginsPath searched line choices (here_of searched first level) key → IsUntried searched first level key
@@ -143,7 +143,7 @@ module _ (searched : SearchedLexicon) (line : Line) (choices : List Choice) wher
             → still_to_try searched mid level < still_to_try searched old level → IsPassing searched line choices level first new
         passing_refused changes_new no_more falls = record {
           frame = skipped.frame;
-          same_place = skipped.same_place ∙ place_mid;
+          same_configuration = skipped.same_configuration ∙ place_mid;
           changes = changes_twice level first mid new changes_mid changes_new;
           left = still_left;
           only = λ key possible untried. turned.left key possible (skipped.only key untried);

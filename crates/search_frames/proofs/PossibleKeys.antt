@@ -15,13 +15,13 @@ use Rattle.segmentation_definitions.specs.Listings.{Key}
 use Rattle.answer_paths.specs.Fronts.{supplied}
 use Rattle.annotated_trie.specs.Choices.{LeadsToEnd, choices_of}
 use Rattle.annotated_trie.specs.Searched.{SearchedLexicon, IsSearchedLexicon}
-use Rattle.search_frames.specs.Standings.{Standing, IsPossible, rules_in}
+use Rattle.search_frames.specs.Configurations.{NumberedConfiguration, IsPossible, rules_in}
 use Rattle.search_frames.specs.Frames.{changes_at}
 use Rattle.search_frames.proofs.WalkDeltas.{delta_exists}
 use Rattle.list_laws.proofs.Elements.{some_element, some_by_element}
 
 -- the letters by which a search that stands here comes to a form's u, where it takes so many letters of the line
-abbrev pub front_at : Line → Standing → ℕ → List ℕ
+abbrev pub front_at : Line → NumberedConfiguration → ℕ → List ℕ
 front_at line here taken = supplied here.entrance ++ take taken (drop here.at line.letters)
 
 -- the root of the phase
@@ -116,7 +116,7 @@ module _ (searched : SearchedLexicon) (is : IsSearchedLexicon searched) where
       let has = ((node_after phase low).deltas word leads.reached leads.walked delta).0 among in
       subst (IsForm searched.lexicon phase) has.has_letters (form_among (forms_of searched.lexicon phase) has.form has.is_among)
 
-  module _ (line : Line) (here : Standing) (key : Key) where
+  module _ (line : Line) (here : NumberedConfiguration) (key : Key) where
     -- a possible key's phase is one
     pub possible_phase : IsPossible searched line here key → key.phase < length (rules_in searched).names
     possible_phase possible =

@@ -18,14 +18,15 @@ use Rattle.annotated_trie.specs.Searched.{SearchedLexicon, IsSearchedLexicon}
 use Rattle.search_frames.specs.declared.frame.TheConstants.{NODES_OF_FRAME}
 use Rattle.search_frames.specs.declared.frame.Frame.{Frame}
 use Rattle.search_frames.specs.declared.resumption.Resumption.{Resumption}
-use Rattle.search_frames.specs.declared.place.Place.{Place}
-use Rattle.search_frames.specs.Standings.{IsPossible, rules_in}
-use Rattle.search_frames.specs.Frames.{step_of, frame_of, place_of, here_of, standing_of, node_of, IsStack, IsPlaceIn, IsFrame, ChangesFrom}
+use Rattle.search_frames.specs.declared.configuration.Configuration.{Configuration}
+use Rattle.search_frames.specs.Configurations.{IsPossible, rules_in}
+use Rattle.search_frames.specs.Stacks.{IsStack}
+use Rattle.search_frames.specs.Frames.{step_of, frame_of, configuration_at, here_of, numbered_of, node_of, IsConfigurationIn, IsFrame, ChangesFrom}
 use Rattle.search_frames.specs.Changes.{MayBeMade}
 use Rattle.search_frames.proofs.PossibleKeys.{reached_there, possible_ends, change_possible}
 
 -- so many letters lead from the root of the phase at the place to the node that is kept for them
-abbrev WalksAt : SearchedLexicon → Line → ℕ → ℕ → ℕ → Place → List ℕ → Type 0
+abbrev WalksAt : SearchedLexicon → Line → ℕ → ℕ → ℕ → Configuration → List ℕ → Type 0
 WalksAt searched line level taken phase place nodes =
     walk searched.tries.trie.rows (slice_index_or searched.tries.trie.roots phase 0)
     (supplied (entrance_of (leads_of (rules_in searched).rules) place.entrance) ++ take taken (drop place.at line.letters))
@@ -36,7 +37,7 @@ pub record IsKept (level : ℕ) (old new : Resumption) : Type 0 where
   pub changes : ChangesFrom level old new
   pub same_phase : (step_of new level).phase ≡ (step_of old level).phase
   pub same_lead : (step_of new level).lead ≡ (step_of old level).lead
-  pub same_place : place_of new level ≡ place_of old level
+  pub same_configuration : configuration_at new level ≡ configuration_at old level
   pub same_nodes : new.nodes.items ≡ old.nodes.items
   pub fewer : (frame_of new level).walked ≤ (frame_of old level).walked
 
@@ -44,32 +45,32 @@ module _ (searched : SearchedLexicon) (line : Line) (level : ℕ) where
   -- it is a frame still
   pub frame_kept : (old new : Resumption) → IsFrame searched line old level → IsKept level old new → IsFrame searched line new level
   frame_kept old new frame kept =
-      let at : (step_of new level).at ≡ (step_of old level).at = ap (λ (place : Place). place.at) kept.same_place in
+      let at : (step_of new level).at ≡ (step_of old level).at = ap (λ (place : Configuration). place.at) kept.same_configuration in
       let within = frame.placed.within in
       let lead = frame.placed.lead in
       record {
         placed = record {
           is_stack = kept.changes.is_stack;
           there = omega (arith, frame.placed.there, kept.changes.room);
-          within = subst (IsPlaceIn searched line) (sym kept.same_place) within;
-          lead = kept.same_lead ∙ subst (λ (place : Place). (step_of old level).lead ≡ length (supplied (standing_of searched place).entrance)) (sym kept.same_place) lead;
+          within = subst (IsConfigurationIn searched line) (sym kept.same_configuration) within;
+          lead = kept.same_lead ∙ subst (λ (place : Configuration). (step_of old level).lead ≡ length (supplied (numbered_of searched place).entrance)) (sym kept.same_configuration) lead;
         };
         phase = omega (arith, frame.phase, kept.same_phase);
         few = omega (arith, frame.few, kept.fewer);
         letters = omega (arith, frame.letters, at, kept.fewer);
         walked = λ taken low.
-            subst (λ (phase : ℕ). WalksAt searched line level taken phase (place_of new level) new.nodes.items) (sym kept.same_phase)
-            (subst (λ (place : Place). WalksAt searched line level taken (step_of old level).phase place new.nodes.items) (sym kept.same_place)
-            (subst (λ (nodes : List ℕ). WalksAt searched line level taken (step_of old level).phase (place_of old level) nodes) (sym kept.same_nodes)
+            subst (λ (phase : ℕ). WalksAt searched line level taken phase (configuration_at new level) new.nodes.items) (sym kept.same_phase)
+            (subst (λ (place : Configuration). WalksAt searched line level taken (step_of old level).phase place new.nodes.items) (sym kept.same_configuration)
+            (subst (λ (nodes : List ℕ). WalksAt searched line level taken (step_of old level).phase (configuration_at old level) nodes) (sym kept.same_nodes)
             (frame.walked taken (omega (arith, low, kept.fewer)))));
       }
 
   module _ (is : IsSearchedLexicon searched) (stack : Resumption) (frame : IsFrame searched line stack level) where
     -- the letters of the phase lead to the node kept for them
     walked_at : (key : Key) → (step_of stack level).phase ≡ key.phase → key.taken < (frame_of stack level).walked
-        → WalksAt searched line level key.taken key.phase (place_of stack level) stack.nodes.items
+        → WalksAt searched line level key.taken key.phase (configuration_at stack level) stack.nodes.items
     walked_at key phase low =
-        subst (λ (p : ℕ). WalksAt searched line level key.taken p (place_of stack level) stack.nodes.items) phase (frame.walked key.taken low)
+        subst (λ (p : ℕ). WalksAt searched line level key.taken p (configuration_at stack level) stack.nodes.items) phase (frame.walked key.taken low)
 
     -- what is kept is a node
     pub node_there : (taken : ℕ) → taken < (frame_of stack level).walked → node_of stack level taken < length searched.tries.trie.rows

@@ -10,9 +10,9 @@ use Rattle.annotated_trie.specs.Searched.{SearchedLexicon, IsSearchedLexicon}
 use Rattle.search_frames.specs.declared.frame.TheConstants.{NODES_OF_FRAME}
 use Rattle.search_frames.specs.declared.frame.Frame.{Frame}
 use Rattle.search_frames.specs.declared.resumption.Resumption.{Resumption}
-use Rattle.search_frames.specs.declared.place.Place.{Place}
-use Rattle.search_frames.specs.Standings.{IsPossible, rules_in}
-use Rattle.search_frames.specs.Frames.{step_of, frame_of, place_of, here_of, standing_of, node_of, changes_at, IsFrame, HasNothingToTry, HasNoChange, HasPhasesFrom, LeftNode}
+use Rattle.search_frames.specs.declared.configuration.Configuration.{Configuration}
+use Rattle.search_frames.specs.Configurations.{IsPossible, rules_in}
+use Rattle.search_frames.specs.Frames.{step_of, frame_of, configuration_at, here_of, numbered_of, node_of, changes_at, IsFrame, HasNothingToTry, HasNoChange, HasPhasesFrom, LeftNode}
 use Rattle.search_frames.specs.Changes.{HasSet}
 use Rattle.search_frames.proofs.PossibleKeys.{possible_phase}
 use Rattle.search_frames.proofs.StepChanges.{made_among}
@@ -37,7 +37,7 @@ module _ (searched : SearchedLexicon) (line : Line) (level : ℕ) (old new : Res
         changes = set.changes;
         same_phase = ap (λ (step : Step). step.phase) set.is_step;
         same_lead = ap (λ (step : Step). step.lead) set.is_step;
-        same_place = λ i. record { at = (set.is_step i).at; entrance = (set.is_frame i).entrance; state = (set.is_frame i).state };
+        same_configuration = λ i. record { at = (set.is_step i).at; entrance = (set.is_frame i).entrance; state = (set.is_frame i).state };
         same_nodes = set.nodes;
         fewer = omega (arith, walked_is);
       } in
@@ -52,7 +52,7 @@ module _ (searched : SearchedLexicon) (line : Line) (level : ℕ) (old new : Res
       in
       record {
         frame = frame_kept searched line level old new frame kept;
-        same_place = kept.same_place;
+        same_configuration = kept.same_configuration;
         same = λ key possible. (
           λ untried. elim untried [
             | inl low ↦ inl (omega (arith, low, kept.same_phase))
@@ -75,12 +75,12 @@ module _ (searched : SearchedLexicon) (line : Line) (level : ℕ) (old new : Res
 
   -- a frame without nodes that began the next phase has left its own
   pub left_phase : (next : ℕ) → (frame_of old level).walked ≡ 0 → next ≡ (step_of old level).phase + 1 → IsFrame searched line new level
-      → place_of new level ≡ place_of old level → HasPhasesFrom searched line next new level → LeftNode searched line level old new
-  left_phase next none is_next frame same_place phases = record {
+      → configuration_at new level ≡ configuration_at old level → HasPhasesFrom searched line next new level → LeftNode searched line level old new
+  left_phase next none is_next frame same_configuration phases = record {
     frame = frame;
-    same_place = same_place;
+    same_configuration = same_configuration;
     same = λ key possible.
-        let there = phases key (subst (λ (place : Place). IsPossible searched line (standing_of searched place) key) (sym same_place) possible) in (
+        let there = phases key (subst (λ (place : Configuration). IsPossible searched line (numbered_of searched place) key) (sym same_configuration) possible) in (
           λ untried. elim untried [
             | inl low ↦ there.1 (omega (arith, low, is_next))
             | inr (phase, inl fewer) ↦ absurd (omega (arith, fewer, none))

@@ -12,9 +12,9 @@ use Rattle.annotated_trie.specs.Searched.{SearchedLexicon, IsSearchedLexicon}
 use Rattle.search_frames.specs.declared.frame.TheConstants.{NODES_OF_FRAME}
 use Rattle.search_frames.specs.declared.frame.Frame.{Frame}
 use Rattle.search_frames.specs.declared.resumption.Resumption.{Resumption}
-use Rattle.search_frames.specs.declared.place.Place.{Place}
-use Rattle.search_frames.specs.Standings.{IsPossible}
-use Rattle.search_frames.specs.Frames.{step_of, frame_of, place_of, here_of, standing_of, key_at, node_of, changes_at, IsUntried, IsFrame, HasLaterToTry, HasNoChange, HasPhasesFrom, WentOn, IsAtKey}
+use Rattle.search_frames.specs.declared.configuration.Configuration.{Configuration}
+use Rattle.search_frames.specs.Configurations.{IsPossible}
+use Rattle.search_frames.specs.Frames.{step_of, frame_of, configuration_at, here_of, numbered_of, key_at, node_of, changes_at, IsUntried, IsFrame, HasLaterToTry, HasNoChange, HasPhasesFrom, WentOn, IsAtKey}
 use Rattle.search_frames.specs.Changes.{MayBeMade, HasLaterFrom, IsChangeFrom, HasNoChangeFrom, IsPlaceAfter, HasSet}
 use Rattle.search_frames.proofs.StepKeys.{before_from_less, less_from_before}
 use Rattle.search_frames.proofs.StepFrames.{IsKept, frame_kept, made_at, made_possible}
@@ -62,7 +62,7 @@ module _ (level : ℕ) (old new : Resumption) (taken rule next : ℕ) (set : Has
     changes = set.changes;
     same_phase = ap (λ (step : Step). step.phase) set.is_step;
     same_lead = ap (λ (step : Step). step.lead) set.is_step;
-    same_place = λ i. record { at = (set.is_step i).at; entrance = (set.is_frame i).entrance; state = (set.is_frame i).state };
+    same_configuration = λ i. record { at = (set.is_step i).at; entrance = (set.is_frame i).entrance; state = (set.is_frame i).state };
     same_nodes = set.nodes;
     fewer = omega (arith, walked_is, low);
   }
@@ -123,7 +123,7 @@ module _ (searched : SearchedLexicon) (is : IsSearchedLexicon searched) (line : 
       ] in
       record {
         frame = new_frame;
-        same_place = kept.same_place;
+        same_configuration = kept.same_configuration;
         possible = subst (IsPossible searched line (here_of searched old level)) (sym key_equal) (made_possible searched line level is old frame key refl (omega (arith, walked)) change.made);
         untried = subst (IsUntried searched old level) (sym key_equal) (inr (refl, inr (sym walked, change.there)));
         first = subst (λ (k : Key). (other : Key) → IsPossible searched line (here_of searched old level) other → IsUntried searched old level other → (k ≡ other) ⊎ (compare_keys k other ≡ Less)) (sym key_equal) first;
@@ -151,7 +151,7 @@ module _ (searched : SearchedLexicon) (is : IsSearchedLexicon searched) (line : 
       none key.rule made (subst (λ (n : ℕ). Contains (drop (frame_of stack level).next (changes_at searched.tries (node_of stack level n))) key.rule) same among)
 
   -- the frame that began the key's phase, and was then set to the key, is at it
-  pub at_key : (old mid new : Resumption) (key : Key) (next : ℕ) → IsFrame searched line mid level → place_of mid level ≡ place_of old level
+  pub at_key : (old mid new : Resumption) (key : Key) (next : ℕ) → IsFrame searched line mid level → configuration_at mid level ≡ configuration_at old level
       → (step_of mid level).phase ≡ key.phase → key.taken < (frame_of mid level).walked → IsPlaceAfter searched.tries (node_of mid level key.taken) key.rule next
       → HasSet level (step_with mid level key.taken key.rule) (frame_with mid level (key.taken + 1) next) mid new → IsAtKey searched line level key old new
   at_key old mid new key next frame place phase low after set =
@@ -160,17 +160,17 @@ module _ (searched : SearchedLexicon) (is : IsSearchedLexicon searched) (line : 
       let possible = made_possible searched line level is mid frame key phase low after.made in
       record {
         frame = new_frame;
-        same_place = kept.same_place ∙ place;
+        same_configuration = kept.same_configuration ∙ place;
         is_at = key_is level mid new key.taken key.rule next set ∙ (λ i. record { phase = phase i; taken = key.taken; rule = key.rule });
-        possible = subst (λ (p : Place). IsPossible searched line (standing_of searched p) key) place possible;
+        possible = subst (λ (p : Configuration). IsPossible searched line (numbered_of searched p) key) place possible;
         later = later_left new new_frame (at_step level mid new key.taken key.rule next set searched after.later);
       }
 
   -- where the phase of a key was begun, a possible key takes fewer letters than its nodes
-  pub walked_to : (old mid : Resumption) (key : Key) → place_of mid level ≡ place_of old level → (step_of mid level).phase ≡ key.phase
+  pub walked_to : (old mid : Resumption) (key : Key) → configuration_at mid level ≡ configuration_at old level → (step_of mid level).phase ≡ key.phase
       → HasPhasesFrom searched line key.phase mid level → IsPossible searched line (here_of searched old level) key → key.taken < (frame_of mid level).walked
   walked_to old mid key place phase phases possible =
-      let there = subst (λ (p : Place). IsPossible searched line (standing_of searched p) key) (sym place) possible in
+      let there = subst (λ (p : Configuration). IsPossible searched line (numbered_of searched p) key) (sym place) possible in
       elim ((phases key there).1 (omega arith)) [
         | inl low ↦ absurd (omega (arith, low, phase))
         | inr (same, inl fewer) ↦ omega (arith, fewer)
@@ -178,7 +178,7 @@ module _ (searched : SearchedLexicon) (is : IsSearchedLexicon searched) (line : 
       ]
 
   -- and its change may be made at its node
-  pub made_there : (old mid : Resumption) (key : Key) → IsFrame searched line mid level → place_of mid level ≡ place_of old level → (step_of mid level).phase ≡ key.phase
+  pub made_there : (old mid : Resumption) (key : Key) → IsFrame searched line mid level → configuration_at mid level ≡ configuration_at old level → (step_of mid level).phase ≡ key.phase
       → key.taken < (frame_of mid level).walked → IsPossible searched line (here_of searched old level) key → MayBeMade searched.tries (node_of mid level key.taken) key.rule
   made_there old mid key frame place phase low possible =
-      made_at searched line level is mid frame key (subst (λ (p : Place). IsPossible searched line (standing_of searched p) key) (sym place) possible) phase low
+      made_at searched line level is mid frame key (subst (λ (p : Configuration). IsPossible searched line (numbered_of searched p) key) (sym place) possible) phase low

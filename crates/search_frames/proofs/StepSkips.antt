@@ -13,7 +13,7 @@ use Rattle.annotated_trie.specs.Searched.{SearchedLexicon}
 use Rattle.search_frames.specs.declared.frame.TheConstants.{NODES_OF_FRAME}
 use Rattle.search_frames.specs.declared.frame.Frame.{Frame}
 use Rattle.search_frames.specs.declared.resumption.Resumption.{Resumption}
-use Rattle.search_frames.specs.Standings.{rules_in}
+use Rattle.search_frames.specs.Configurations.{rules_in}
 use Rattle.search_frames.specs.Frames.{step_of, frame_of, node_of, changes_at, IsFrame, still_to_try}
 use Rattle.search_frames.specs.Changes.{HasSet}
 use Rattle.search_frames.specs.Costs.{steps_from_change, steps_of_phase, steps_left_in_phase, steps_left}
@@ -82,7 +82,7 @@ module _ (searched : SearchedLexicon) (line : Line) (level : ℕ) where
   pub skipped_no_key : (stack : Resumption) → IsFrame searched line stack level → SkippedUnwritten searched line level stack stack
   skipped_no_key stack frame = record {
     frame = frame;
-    same_place = refl;
+    same_configuration = refl;
     left = λ key untried. inl untried;
     only = λ key untried. untried;
   }
@@ -96,7 +96,7 @@ module _ (searched : SearchedLexicon) (line : Line) (level : ℕ) where
       changes = set.changes;
       same_phase = ap (λ (step : Step). step.phase) set.is_step;
       same_lead = ap (λ (step : Step). step.lead) set.is_step;
-      same_place = λ i. record { at = (set.is_step i).at; entrance = (set.is_frame i).entrance; state = (set.is_frame i).state };
+      same_configuration = λ i. record { at = (set.is_step i).at; entrance = (set.is_frame i).entrance; state = (set.is_frame i).state };
       same_nodes = set.nodes;
       fewer = omega (arith, walked_is);
     }
@@ -120,7 +120,7 @@ module _ (searched : SearchedLexicon) (line : Line) (level : ℕ) where
         → SkippedUnwritten searched line level old new
     skipped_keys taken frame walked skipped = record {
       frame = frame_kept searched line level old new frame kept;
-      same_place = kept.same_place;
+      same_configuration = kept.same_configuration;
       left = λ key untried. elim untried [
         | inl low ↦ inl (inl (omega (arith, low, kept.same_phase)))
         | inr (phase, inl fewer) ↦ inl (inr (kept.same_phase ∙ phase, inl (omega (arith, fewer, walked_is))))

@@ -9,14 +9,14 @@ use Rattle.segmentation_definitions.specs.Listings.{Key, compare_keys}
 use Rattle.segmentation_definitions.proofs.KeyLists.{compare_keys_exact, compare_keys_total}
 use Rattle.annotated_trie.specs.Searched.{SearchedLexicon}
 use Rattle.search_frames.specs.declared.resumption.Resumption.{Resumption}
-use Rattle.search_frames.specs.declared.place.Place.{Place}
-use Rattle.search_frames.specs.Standings.{IsPossible}
-use Rattle.search_frames.specs.Frames.{IsUntried, HasAllToTry, HasNothingToTry, WentOn, standing_of, here_of, place_of, key_at}
+use Rattle.search_frames.specs.declared.configuration.Configuration.{Configuration}
+use Rattle.search_frames.specs.Configurations.{IsPossible}
+use Rattle.search_frames.specs.Frames.{IsUntried, HasAllToTry, HasNothingToTry, WentOn, numbered_of, here_of, configuration_at, key_at}
 use Rattle.search_frames.proofs.StepKeys.{IsBefore, before_from_less}
 
 -- the first frame of the stack has tried the key, which is possible at the place
-pub record IsTried (searched : SearchedLexicon) (line : Line) (place : Place) (stack : Resumption) (key : Key) : Type 0 where
-  pub possible : IsPossible searched line (standing_of searched place) key
+pub record IsTried (searched : SearchedLexicon) (line : Line) (place : Configuration) (stack : Resumption) (key : Key) : Type 0 where
+  pub possible : IsPossible searched line (numbered_of searched place) key
   pub tried : IsUntried searched stack 0 key → ⊥
 
 not_before_itself : (key : Key) → IsBefore key key → ⊥
@@ -39,28 +39,28 @@ not_greater left right same greater = own_reverse (compare_keys right right) (co
 less_if_greater : (left right : Key) → compare_keys left right ≡ Greater → compare_keys right left ≡ Less
 less_if_greater left right greater = compare_keys_total.antisymm right left ∙ ap ordering_reverse greater
 
-module _ (searched : SearchedLexicon) (line : Line) (place : Place) where
+module _ (searched : SearchedLexicon) (line : Line) (place : Configuration) where
   -- a key that is possible at the place is so where the first frame stands
-  pub possible_here : (stack : Resumption) → place_of stack 0 ≡ place → (key : Key) → IsPossible searched line (standing_of searched place) key
+  pub possible_here : (stack : Resumption) → configuration_at stack 0 ≡ place → (key : Key) → IsPossible searched line (numbered_of searched place) key
       → IsPossible searched line (here_of searched stack 0) key
-  possible_here stack here key possible = subst (λ (p : Place). IsPossible searched line (standing_of searched p) key) (sym here) possible
+  possible_here stack here key possible = subst (λ (p : Configuration). IsPossible searched line (numbered_of searched p) key) (sym here) possible
 
   -- a frame that has all to try has tried none
-  pub none_tried : (stack : Resumption) → place_of stack 0 ≡ place → HasAllToTry searched line stack 0 → (key : Key) → IsTried searched line place stack key → ⊥
+  pub none_tried : (stack : Resumption) → configuration_at stack 0 ≡ place → HasAllToTry searched line stack 0 → (key : Key) → IsTried searched line place stack key → ⊥
   none_tried stack here all key tried = tried.tried (all key (possible_here stack here key tried.possible))
 
   -- one that has nothing to try has tried all
-  pub all_tried : (stack : Resumption) → place_of stack 0 ≡ place → HasNothingToTry searched line stack 0
-      → (key : Key) → IsPossible searched line (standing_of searched place) key → IsTried searched line place stack key
+  pub all_tried : (stack : Resumption) → configuration_at stack 0 ≡ place → HasNothingToTry searched line stack 0
+      → (key : Key) → IsPossible searched line (numbered_of searched place) key → IsTried searched line place stack key
   all_tried stack here nothing key possible = record { possible = possible; tried = nothing key (possible_here stack here key possible) }
 
-  module _ (old new : Resumption) (here : place_of old 0 ≡ place) (went : WentOn searched line 0 old new) where
+  module _ (old new : Resumption) (here : configuration_at old 0 ≡ place) (went : WentOn searched line 0 old new) where
     -- the key to which a frame went on is possible at the place
-    pub possible_at : IsPossible searched line (standing_of searched place) (key_at new 0)
-    possible_at = subst (λ (p : Place). IsPossible searched line (standing_of searched p) (key_at new 0)) here went.possible
+    pub possible_at : IsPossible searched line (numbered_of searched place) (key_at new 0)
+    possible_at = subst (λ (p : Configuration). IsPossible searched line (numbered_of searched p) (key_at new 0)) here went.possible
 
-    there : place_of new 0 ≡ place
-    there = went.same_place ∙ here
+    there : configuration_at new 0 ≡ place
+    there = went.same_configuration ∙ here
 
     -- what it had tried it has tried, and its new key
     pub still_tried : (key : Key) → IsTried searched line place old key → IsTried searched line place new key

@@ -16,10 +16,10 @@ use Rattle.segmentation_definitions.specs.Listings.{Key, compare_keys}
 use Rattle.answer_paths.specs.Following.{MayStand}
 use Rattle.annotated_trie.specs.Searched.{SearchedLexicon}
 use Rattle.search_frames.specs.declared.resumption.Resumption.{Resumption}
-use Rattle.search_frames.specs.declared.place.Place.{Place}
+use Rattle.search_frames.specs.declared.configuration.Configuration.{Configuration}
 use Rattle.search_frames.specs.declared.ways.Way.{Way}
-use Rattle.search_frames.specs.Standings.{rules_in}
-use Rattle.search_frames.specs.Frames.{HasAllToTry, HasNothingToTry, WentOn, standing_of, place_of, step_of, key_at}
+use Rattle.search_frames.specs.Configurations.{rules_in}
+use Rattle.search_frames.specs.Frames.{HasAllToTry, HasNothingToTry, WentOn, numbered_of, configuration_at, step_of, key_at}
 use Rattle.search_frames.specs.LetterTests.{MayNeither}
 use Rattle.search_frames.specs.Skips.{IsUnwritten, SkippedUnwritten}
 use Rattle.search_frames.specs.WaysFrom.{key_of_way, IsWayFrom, AppendsWays}
@@ -30,15 +30,15 @@ abbrev pub keys_of_ways : List Way → List Key
 keys_of_ways ways = map key_of_way ways
 
 -- these are just the ways among the keys that the first frame has tried, in their order
-pub record AreTriedWays (searched : SearchedLexicon) (line : Line) (choices : List Choice) (place : Place) (stack : Resumption) (ways : List Way) : Type 0 where
-  pub each : All (IsWayFrom searched line choices (standing_of searched place)) ways
+pub record AreTriedWays (searched : SearchedLexicon) (line : Line) (choices : List Choice) (place : Configuration) (stack : Resumption) (ways : List Way) : Type 0 where
+  pub each : All (IsWayFrom searched line choices (numbered_of searched place)) ways
   pub tried : (key : Key) → Contains (keys_of_ways ways) key → IsTried searched line place stack key
-  pub all : (key : Key) → IsTried searched line place stack key → (MayNeither searched line choices (standing_of searched place) key → ⊥)
+  pub all : (key : Key) → IsTried searched line place stack key → (MayNeither searched line choices (numbered_of searched place) key → ⊥)
       → Contains (keys_of_ways ways) key
   pub rising : IsStrictlySortedBy compare_keys (keys_of_ways ways)
 
 -- they come after those before
-pub record AppendsTried (searched : SearchedLexicon) (line : Line) (choices : List Choice) (place : Place) (stack : Resumption) (old new : List Way) : Type 0 where
+pub record AppendsTried (searched : SearchedLexicon) (line : Line) (choices : List Choice) (place : Configuration) (stack : Resumption) (old new : List Way) : Type 0 where
   pub ways : List Way
   pub appended : new ≡ old ++ ways
   pub are : AreTriedWays searched line choices place stack ways
@@ -50,15 +50,15 @@ none_rise = tt
 one_rises : (key : Key) → IsStrictlySortedBy compare_keys (key ∷ [])
 one_rises key = sorted-cons compare_keys key [] (All-nil (λ other. compare_keys key other ≡ Less)) none_rise
 
-module _ (searched : SearchedLexicon) (line : Line) (choices : List Choice) (place : Place) where
+module _ (searched : SearchedLexicon) (line : Line) (choices : List Choice) (place : Configuration) where
   -- at first there are none
-  pub none_at_first : (stack : Resumption) (old : List Way) → place_of stack 0 ≡ place → HasAllToTry searched line stack 0
+  pub none_at_first : (stack : Resumption) (old : List Way) → configuration_at stack 0 ≡ place → HasAllToTry searched line stack 0
       → AppendsTried searched line choices place stack old old
   none_at_first stack old here all = record {
     ways = [];
     appended = sym (append-nil old);
     are = record {
-      each = All-nil (IsWayFrom searched line choices (standing_of searched place));
+      each = All-nil (IsWayFrom searched line choices (numbered_of searched place));
       tried = λ key among. absurd (not_Contains-nil key among);
       all = λ key tried may. absurd (none_tried searched line place stack here all key tried);
       rising = none_rise;
@@ -66,8 +66,8 @@ module _ (searched : SearchedLexicon) (line : Line) (choices : List Choice) (pla
   }
 
   -- where nothing is left to try these are all
-  pub all_at_last : (stack : Resumption) (old new : List Way) → place_of stack 0 ≡ place → HasNothingToTry searched line stack 0
-      → AppendsTried searched line choices place stack old new → AppendsWays searched line choices (standing_of searched place) old new
+  pub all_at_last : (stack : Resumption) (old new : List Way) → configuration_at stack 0 ≡ place → HasNothingToTry searched line stack 0
+      → AppendsTried searched line choices place stack old new → AppendsWays searched line choices (numbered_of searched place) old new
   all_at_last stack old new here nothing so_far = record {
     ways = so_far.ways;
     appended = so_far.appended;
@@ -78,17 +78,17 @@ module _ (searched : SearchedLexicon) (line : Line) (choices : List Choice) (pla
     };
   }
 
-  module _ (old mid : Resumption) (here : place_of old 0 ≡ place) (went : WentOn searched line 0 old mid) where
+  module _ (old mid : Resumption) (here : configuration_at old 0 ≡ place) (went : WentOn searched line 0 old mid) where
     -- the way of the new key is put to the end
-    more : (way : Way) (ways : List Way) → key_of_way way ≡ key_at mid 0 → IsWayFrom searched line choices (standing_of searched place) way
+    more : (way : Way) (ways : List Way) → key_of_way way ≡ key_at mid 0 → IsWayFrom searched line choices (numbered_of searched place) way
         → AreTriedWays searched line choices place old ways → AreTriedWays searched line choices place mid (ways ++ way ∷ [])
     more way ways key_is is so_far =
         let keys = keys_of_ways ways in
         let new : keys_of_ways (ways ++ way ∷ []) ≡ keys ++ key_at mid 0 ∷ [] =
         map-append key_of_way ways (way ∷ []) ∙ ap (λ (k : Key). keys ++ k ∷ []) key_is in
         record {
-          each = All-append (IsWayFrom searched line choices (standing_of searched place)) ways (way ∷ []) so_far.each
-              (All-cons (IsWayFrom searched line choices (standing_of searched place)) way [] is (All-nil (IsWayFrom searched line choices (standing_of searched place))));
+          each = All-append (IsWayFrom searched line choices (numbered_of searched place)) ways (way ∷ []) so_far.each
+              (All-cons (IsWayFrom searched line choices (numbered_of searched place)) way [] is (All-nil (IsWayFrom searched line choices (numbered_of searched place))));
           tried = λ key among. elim (Contains-append_cases keys (key_at mid 0 ∷ []) key (subst (λ (ks : List Key). Contains ks key) new among)) [
             | inl before ↦ still_tried searched line place old mid here went key (so_far.tried key before)
             | inr last ↦ elim (Contains-cons_cases (key_at mid 0) [] key last) [
@@ -109,7 +109,7 @@ module _ (searched : SearchedLexicon) (line : Line) (choices : List Choice) (pla
         }
 
     pub way_appended : (way : Way) (first before after : List Way) → key_of_way way ≡ key_at mid 0
-        → IsWayFrom searched line choices (standing_of searched place) way → after ≡ before ++ way ∷ []
+        → IsWayFrom searched line choices (numbered_of searched place) way → after ≡ before ++ way ∷ []
         → AppendsTried searched line choices place old first before → AppendsTried searched line choices place mid first after
     way_appended way first before after key_is is put so_far = record {
       ways = so_far.ways ++ way ∷ [];
@@ -119,31 +119,31 @@ module _ (searched : SearchedLexicon) (line : Line) (choices : List Choice) (pla
 
     -- a key that is refused has none, nor have those that are then left out
     module _ (new : Resumption) (skipped : SkippedUnwritten searched line 0 mid new)
-        (refused : MayNeither searched line choices (standing_of searched place) (key_at mid 0)) where
-      there : place_of mid 0 ≡ place
-      there = went.same_place ∙ here
+        (refused : MayNeither searched line choices (numbered_of searched place) (key_at mid 0)) where
+      there : configuration_at mid 0 ≡ place
+      there = went.same_configuration ∙ here
 
-      written : (key : Key) → MayStand searched.lexicon line choices (standing_of searched place).at (standing_of searched place).entrance key
+      written : (key : Key) → MayStand searched.lexicon line choices (numbered_of searched place).at (numbered_of searched place).entrance key
           → IsUnwritten searched (drop ((step_of mid 0).at + key.taken) line.letters) key.rule → ⊥
       written key stands unwritten = unwritten
-          (subst (λ (p : Place). take (length (rule_of (rules_in searched) key.rule).w) (drop (p.at + key.taken) line.letters) ≡ (rule_of (rules_in searched) key.rule).w)
+          (subst (λ (p : Configuration). take (length (rule_of (rules_in searched) key.rule).w) (drop (p.at + key.taken) line.letters) ≡ (rule_of (rules_in searched) key.rule).w)
           (sym there) stands.written)
 
       neither : (key : Key) → IsUnwritten searched (drop ((step_of mid 0).at + key.taken) line.letters) key.rule
-          → MayNeither searched line choices (standing_of searched place) key
+          → MayNeither searched line choices (numbered_of searched place) key
       neither key unwritten = record {
         leads_on = λ leads. written key leads.stands unwritten;
         ends = λ ends. written key ends.stands unwritten;
       }
 
-      kept : (key : Key) → IsTried searched line place mid key → (MayNeither searched line choices (standing_of searched place) key → ⊥)
+      kept : (key : Key) → IsTried searched line place mid key → (MayNeither searched line choices (numbered_of searched place) key → ⊥)
           → IsTried searched line place old key
       kept key tried may = elim (tried_before searched line place old mid here went key tried) [
         | inl before ↦ before
-        | inr same ↦ absurd (may (subst (MayNeither searched line choices (standing_of searched place)) same refused))
+        | inr same ↦ absurd (may (subst (MayNeither searched line choices (numbered_of searched place)) same refused))
       ]
 
-      tried_by_order : (key : Key) → IsTried searched line place new key → (MayNeither searched line choices (standing_of searched place) key → ⊥)
+      tried_by_order : (key : Key) → IsTried searched line place new key → (MayNeither searched line choices (numbered_of searched place) key → ⊥)
           → (order : Ordering) → compare_keys (key_at mid 0) key ≡ order → IsTried searched line place old key
       tried_by_order key tried may Less same =
           absurd (elim (skipped.left key ((went.later key (possible_here searched line place mid there key tried.possible)).1 same)) [

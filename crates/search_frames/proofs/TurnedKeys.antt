@@ -8,9 +8,9 @@ use Rattle.segmentation_definitions.specs.Items.{Choice}
 use Rattle.segmentation_definitions.specs.Listings.{Key, compare_keys}
 use Rattle.annotated_trie.specs.Searched.{SearchedLexicon, IsSearchedLexicon}
 use Rattle.search_frames.specs.declared.resumption.Resumption.{Resumption}
-use Rattle.search_frames.specs.declared.place.Place.{Place}
-use Rattle.search_frames.specs.Standings.{IsPossible}
-use Rattle.search_frames.specs.Frames.{frame_of, here_of, standing_of, node_of, changes_at, IsFrame, IsUntried, IsAtKey}
+use Rattle.search_frames.specs.declared.configuration.Configuration.{Configuration}
+use Rattle.search_frames.specs.Configurations.{IsPossible}
+use Rattle.search_frames.specs.Frames.{frame_of, here_of, numbered_of, node_of, changes_at, IsFrame, IsUntried, IsAtKey}
 use Rattle.search_frames.specs.Turns.{BeginsPath, HasTurned}
 use Rattle.search_frames.proofs.StepKeys.{IsBefore, before_from_less}
 use Rattle.search_frames.proofs.StepChanges.{made_later_there}
@@ -46,7 +46,7 @@ module _ (searched : SearchedLexicon) (is : IsSearchedLexicon searched) (line : 
     pub left_at_key : (other : Key) → IsPossible searched line (here_of searched stack level) other → IsUntried searched new level other
         → IsUntried searched stack level other
     left_at_key other possible later =
-        let there = subst (λ (p : Place). IsPossible searched line (standing_of searched p) other) (sym at.same_place) possible in
+        let there = subst (λ (p : Configuration). IsPossible searched line (numbered_of searched p) other) (sym at.same_configuration) possible in
         untried_after key other untried possible
         (subst (λ (k : Key). compare_keys k other ≡ Less) at.is_at ((at.later other there).0 later))
 
@@ -57,7 +57,7 @@ module _ (searched : SearchedLexicon) (is : IsSearchedLexicon searched) (line : 
         → HasTurned searched line choices level stack new
     turned_to_key choices first = record {
       frame = at.frame;
-      same_place = at.same_place;
+      same_configuration = at.same_configuration;
       possible = subst (IsPossible searched line (here_of searched stack level)) (sym at.is_at) at.possible;
       untried = subst (IsUntried searched stack level) (sym at.is_at) untried;
       first = λ other begins to_try.

@@ -16,9 +16,9 @@ use Rattle.search_frames.specs.declared.frame.TheConstants.{NODES_OF_FRAME}
 use Rattle.search_frames.specs.declared.frame.Frame.{Frame}
 use Rattle.search_frames.specs.declared.resumption.Resumption.{Resumption}
 use Rattle.annotated_trie.specs.Searched.{SearchedLexicon, IsSearchedLexicon}
-use Rattle.search_frames.specs.declared.place.Place.{Place}
-use Rattle.search_frames.specs.Standings.{IsPossible, rules_in}
-use Rattle.search_frames.specs.Frames.{IsPlaced, IsPlaceIn, IsFrame, IsUntried, HasPhasesFrom, step_of, frame_of, place_of, here_of, standing_of, node_of, changes_at}
+use Rattle.search_frames.specs.declared.configuration.Configuration.{Configuration}
+use Rattle.search_frames.specs.Configurations.{IsPossible, rules_in}
+use Rattle.search_frames.specs.Frames.{IsPlaced, IsConfigurationIn, IsFrame, IsUntried, HasPhasesFrom, step_of, frame_of, configuration_at, here_of, numbered_of, node_of, changes_at}
 use Rattle.search_frames.proofs.PossibleKeys.{root_in, possible_walks, possible_change}
 use Rattle.search_frames.proofs.StepFrames.{frame_read, step_read}
 
@@ -123,7 +123,7 @@ module _ (searched : SearchedLexicon) (line : Line) (old new : Resumption) (leve
       → length new.nodes.items ≡ length old.nodes.items
       → AreFronts searched.tries.trie.rows (root_in searched phase) (supplied (here_of searched old level).entrance) (drop (step_of old level).at line.letters)
       new.nodes.items (level * NODES_OF_FRAME) walked
-      → Begins searched line new level phase × (place_of new level ≡ place_of old level)
+      → Begins searched line new level phase × (configuration_at new level ≡ configuration_at old level)
   written placed low step_there frame_there steps frames nodes fronts =
       let any_step : Step = record { phase = 0; rule = 0; at = 0; lead = 0; taken = 0 } in
       let any_frame : Frame = record { entrance = program.Start; state = Some 0; walked = 0; next = 0 } in
@@ -140,7 +140,7 @@ module _ (searched : SearchedLexicon) (line : Line) (old new : Resumption) (leve
       let entrance : (frame_of new level).entrance ≡ (frame_of old level).entrance = ap (λ (f : Frame). f.entrance) new_frame ∙ ap (λ (f : Frame). f.entrance) was_frame in
       let state : (frame_of new level).state ≡ (frame_of old level).state = ap (λ (f : Frame). f.state) new_frame ∙ ap (λ (f : Frame). f.state) was_frame in
       let lead : (step_of new level).lead ≡ (step_of old level).lead = ap (λ (s : Step). s.lead) new_step ∙ ap (λ (s : Step). s.lead) was_step in
-      let place : place_of new level ≡ place_of old level = λ i. record { at = at i; entrance = entrance i; state = state i } in
+      let place : configuration_at new level ≡ configuration_at old level = λ i. record { at = at i; entrance = entrance i; state = state i } in
       let steps_long : length new.steps.items ≡ length old.steps.items = ap length steps ∙ length-set old.steps.items level after_step in
       let frames_long : length new.frames.items ≡ length old.frames.items = ap length frames ∙ length-set old.frames.items level after_frame in (
         record {
@@ -150,14 +150,14 @@ module _ (searched : SearchedLexicon) (line : Line) (old new : Resumption) (leve
               nodes = nodes ∙ placed.is_stack.nodes ∙ ap (λ (n : ℕ). n * NODES_OF_FRAME) (sym frames_long);
             };
             there = omega (arith, here, frames_long);
-            within = subst (IsPlaceIn searched line) (sym place) placed.within;
-            lead = lead ∙ placed.lead ∙ ap (λ (p : Place). length (supplied (standing_of searched p).entrance)) (sym place);
+            within = subst (IsConfigurationIn searched line) (sym place) placed.within;
+            lead = lead ∙ placed.lead ∙ ap (λ (p : Configuration). length (supplied (numbered_of searched p).entrance)) (sym place);
           };
           low = low;
           phase_is = ap (λ (s : Step). s.phase) new_step;
           next_is = ap (λ (f : Frame). f.next) new_frame;
           fronts =
-              subst (λ (p : Place). AreFronts searched.tries.trie.rows (root_in searched phase) (supplied (standing_of searched p).entrance) (drop p.at line.letters) new.nodes.items (level * NODES_OF_FRAME) (frame_of new level).walked)
+              subst (λ (p : Configuration). AreFronts searched.tries.trie.rows (root_in searched phase) (supplied (numbered_of searched p).entrance) (drop p.at line.letters) new.nodes.items (level * NODES_OF_FRAME) (frame_of new level).walked)
               (sym place)
               (subst (λ (w : ℕ). AreFronts searched.tries.trie.rows (root_in searched phase) (supplied (here_of searched old level).entrance) (drop (step_of old level).at line.letters) new.nodes.items (level * NODES_OF_FRAME) w)
               (sym (ap (λ (f : Frame). f.walked) new_frame)) fronts);

@@ -5,13 +5,13 @@ use Rattle.segmentation_definitions.specs.Listings.{Key}
 use Rattle.annotated_trie.specs.Searched.{SearchedLexicon}
 use Rattle.search_frames.specs.declared.frame.Frame.{Frame}
 use Rattle.search_frames.specs.declared.resumption.Resumption.{Resumption}
-use Rattle.search_frames.specs.Standings.{IsPossible}
-use Rattle.search_frames.specs.Frames.{IsFrame, IsUntried, here_of, place_of, step_of}
+use Rattle.search_frames.specs.Configurations.{IsPossible}
+use Rattle.search_frames.specs.Frames.{IsFrame, IsUntried, here_of, configuration_at, step_of}
 
 -- the frame stands where it stood, in this phase, and what was still to try there is still to try
 pub record IsInPhase (searched : SearchedLexicon) (line : Line) (level phase : ℕ) (old new : Resumption) : Type 0 where
   pub frame : IsFrame searched line new level
-  pub same_place : place_of new level ≡ place_of old level
+  pub same_configuration : configuration_at new level ≡ configuration_at old level
   pub begun : (step_of new level).phase ≡ phase
   pub left : (key : Key) → IsPossible searched line (here_of searched old level) key → phase ≡ key.phase
       → IsUntried searched old level key → IsUntried searched new level key

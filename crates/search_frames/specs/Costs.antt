@@ -5,7 +5,7 @@ use Rattle.annotated_trie.specs.Choices.{AnnotatedTrie, choices_of}
 use Rattle.annotated_trie.specs.Searched.{SearchedLexicon}
 use Rattle.search_frames.specs.declared.frame.TheConstants.{NODES_OF_FRAME}
 use Rattle.search_frames.specs.declared.resumption.Resumption.{Resumption}
-use Rattle.search_frames.specs.Standings.{rules_in}
+use Rattle.search_frames.specs.Configurations.{rules_in}
 use Rattle.search_frames.specs.Frames.{step_of, frame_of}
 
 -- no node has more choices than this

@@ -15,13 +15,14 @@ use Rattle.answer_paths.specs.Fronts.{supplied}
 use Rattle.search_frames.specs.declared.frame.TheConstants.{NODES_OF_FRAME}
 use Rattle.search_frames.specs.declared.frame.Frame.{Frame}
 use Rattle.search_frames.specs.declared.resumption.Resumption.{Resumption}
-use Rattle.search_frames.specs.declared.place.Place.{Place}
+use Rattle.search_frames.specs.declared.configuration.Configuration.{Configuration}
 use Rattle.annotated_trie.specs.Searched.{SearchedLexicon}
-use Rattle.search_frames.specs.Standings.{Standing, IsPossible, rules_in}
+use Rattle.search_frames.specs.Stacks.{IsStack}
+use Rattle.search_frames.specs.Configurations.{NumberedConfiguration, IsPossible, rules_in}
 
 -- where a search stands that is at the program's place
-abbrev pub standing_of : SearchedLexicon → Place → Standing
-standing_of searched place = record {
+abbrev pub numbered_of : SearchedLexicon → Configuration → NumberedConfiguration
+numbered_of searched place = record {
   at = place.at;
   entrance = entrance_of (leads_of (rules_in searched).rules) place.entrance;
   state = place.state;
@@ -35,16 +36,16 @@ abbrev pub frame_of : Resumption → ℕ → Frame
 frame_of stack level = slice_index_or stack.frames.items level (record { entrance = program.Start; state = Some 0; walked = 0; next = 0 })
 
 -- the place of the frame at a level
-abbrev pub place_of : Resumption → ℕ → Place
-place_of stack level = record {
+abbrev pub configuration_at : Resumption → ℕ → Configuration
+configuration_at stack level = record {
   at = (step_of stack level).at;
   entrance = (frame_of stack level).entrance;
   state = (frame_of stack level).state;
 }
 
 -- where the frame at a level stands
-abbrev pub here_of : SearchedLexicon → Resumption → ℕ → Standing
-here_of searched stack level = standing_of searched (place_of stack level)
+abbrev pub here_of : SearchedLexicon → Resumption → ℕ → NumberedConfiguration
+here_of searched stack level = numbered_of searched (configuration_at stack level)
 
 -- the key of the step at a level
 abbrev pub key_at : Resumption → ℕ → Key
@@ -53,11 +54,6 @@ key_at stack level = key_of (step_of stack level)
 -- the node that the frame at a level has walked to by so many letters of the line
 abbrev pub node_of : Resumption → ℕ → ℕ → ℕ
 node_of stack level taken = slice_index_or stack.nodes.items (level * NODES_OF_FRAME + taken) 0
-
--- there is a step for each frame, and a frame's places for nodes
-pub record IsStack (stack : Resumption) : Type 0 where
-  pub steps : length stack.steps.items ≡ length stack.frames.items
-  pub nodes : length stack.nodes.items ≡ length stack.frames.items * NODES_OF_FRAME
 
 -- the changes that are tried at a node: none, then each rule that is a choice there
 abbrev pub changes_at : AnnotatedTrie → ℕ → List ℕ
@@ -74,14 +70,14 @@ IsUntried searched stack level key =
     × Contains (drop (frame_of stack level).next (changes_at searched.tries (node_of stack level key.taken))) key.rule)))
 
 -- the program's place is one of the lexicon and the line
-abbrev pub IsPlaceIn : SearchedLexicon → Line → Place → Type 0
-IsPlaceIn searched line place = IsWithin searched.lexicon searched.machine line place.at place.entrance place.state
+abbrev pub IsConfigurationIn : SearchedLexicon → Line → Configuration → Type 0
+IsConfigurationIn searched line place = IsWithin searched.lexicon searched.machine line place.at place.entrance place.state
 
 -- the frame at a level stands at a place of the lexicon and the line, and its step tells how many letters are supplied there
 pub record IsPlaced (searched : SearchedLexicon) (line : Line) (stack : Resumption) (level : ℕ) : Type 0 where
   pub is_stack : IsStack stack
   pub there : level < length stack.frames.items
-  pub within : IsPlaceIn searched line (place_of stack level)
+  pub within : IsConfigurationIn searched line (configuration_at stack level)
   pub lead : (step_of stack level).lead ≡ length (supplied (here_of searched stack level).entrance)
 
 -- the letters by which the frame at a level comes to its form's u, where it takes so many letters of the line
@@ -122,7 +118,7 @@ HasLaterToTry searched line stack level = (key : Key) → IsPossible searched li
 
 -- nothing changes before the level, and the room stays
 pub record ChangesFrom (level : ℕ) (old new : Resumption) : Type 0 where
-  pub stand : new.stand ≡ old.stand
+  pub position : new.position ≡ old.position
   pub depth : new.depth ≡ old.depth
   pub room : length new.frames.items ≡ length old.frames.items
   pub is_stack : IsStack new
@@ -134,7 +130,7 @@ pub record ChangesFrom (level : ℕ) (old new : Resumption) : Type 0 where
 -- that come after it are left
 pub record WentOn (searched : SearchedLexicon) (line : Line) (level : ℕ) (old new : Resumption) : Type 0 where
   pub frame : IsFrame searched line new level
-  pub same_place : place_of new level ≡ place_of old level
+  pub same_configuration : configuration_at new level ≡ configuration_at old level
   pub possible : IsPossible searched line (here_of searched old level) (key_at new level)
   pub untried : IsUntried searched old level (key_at new level)
   pub first : (key : Key) → IsPossible searched line (here_of searched old level) key → IsUntried searched old level key
@@ -145,7 +141,7 @@ pub record WentOn (searched : SearchedLexicon) (line : Line) (level : ℕ) (old 
 -- the frame was brought to the key, which is possible there, and just those that come after it are left
 pub record IsAtKey (searched : SearchedLexicon) (line : Line) (level : ℕ) (key : Key) (old new : Resumption) : Type 0 where
   pub frame : IsFrame searched line new level
-  pub same_place : place_of new level ≡ place_of old level
+  pub same_configuration : configuration_at new level ≡ configuration_at old level
   pub is_at : key_at new level ≡ key
   pub possible : IsPossible searched line (here_of searched old level) key
   pub later : HasLaterToTry searched line new level
@@ -159,7 +155,7 @@ still_to_try searched stack level =
 -- the frame left its node, or its phase: the same is still to try as before
 pub record LeftNode (searched : SearchedLexicon) (line : Line) (level : ℕ) (old new : Resumption) : Type 0 where
   pub frame : IsFrame searched line new level
-  pub same_place : place_of new level ≡ place_of old level
+  pub same_configuration : configuration_at new level ≡ configuration_at old level
   pub same : (key : Key) → IsPossible searched line (here_of searched old level) key → IsUntried searched old level key ↔ IsUntried searched new level key
 
 -- the frame has no possible key left with the letters that it has walked

@@ -7,7 +7,7 @@ use Rattle.phase_automaton.specs.Automata.{Recognizes}
 use Rattle.derivation.specs.Guides.{IsGuideFor, IsExact}
 use Rattle.derivation.specs.declared.entrance.Entrance.{Entrance}
 use Rattle.annotated_trie.specs.Searched.{SearchedLexicon}
-use Rattle.search_frames.specs.Standings.{rules_in}
+use Rattle.search_frames.specs.Configurations.{rules_in}
 
 -- the guide is one for the lexicon, the line and the choices, whichever states of the grammar the machine's numbers stand for
 abbrev pub IsGuideOf : SearchedLexicon → Line → List Choice → (ℕ → Entrance → Option ℕ → Type 0) → (ℕ → Entrance → Option ℕ → Bool) → Type 0

@@ -13,28 +13,28 @@ use Rattle.annotated_trie.specs.Searched.{SearchedLexicon}
 use Rattle.answer_paths.specs.Following.{MayStand}
 use Rattle.search_frames.specs.declared.letter_testing.LetterTest.{LetterTest}
 use Rattle.search_frames.specs.declared.letter_testing.LetterTest.TheVariants as test
-use Rattle.search_frames.specs.Standings.{Standing, rules_in, after}
+use Rattle.search_frames.specs.Configurations.{NumberedConfiguration, rules_in, after}
 
 -- the step may stand here, and another form can follow it
-pub record MayLeadOn (searched : SearchedLexicon) (line : Line) (choices : List Choice) (here : Standing) (key : Key) : Type 0 where
+pub record MayLeadOn (searched : SearchedLexicon) (line : Line) (choices : List Choice) (here : NumberedConfiguration) (key : Key) : Type 0 where
   pub stands : MayStand searched.lexicon line choices here.at here.entrance key
   pub inner : 0 < key.rule → IsInner (rule_of (rules_in searched) key.rule)
   pub left : key.rule ≡ 0 → here.at + key.taken < length line.letters
 
 -- the step may stand here, and the line ends after it
-pub record MayEndLine (searched : SearchedLexicon) (line : Line) (choices : List Choice) (here : Standing) (key : Key) : Type 0 where
+pub record MayEndLine (searched : SearchedLexicon) (line : Line) (choices : List Choice) (here : NumberedConfiguration) (key : Key) : Type 0 where
   pub stands : MayStand searched.lexicon line choices here.at here.entrance key
   pub final_rule : 0 < key.rule → IsFinal (rule_of (rules_in searched) key.rule)
   pub all : here.at + key.taken + length (rule_of (rules_in searched) key.rule).w ≡ length line.letters
   pub blanks_before : All (λ blank. blank ≤ here.at) line.blanks
 
 -- neither
-pub record MayNeither (searched : SearchedLexicon) (line : Line) (choices : List Choice) (here : Standing) (key : Key) : Type 0 where
+pub record MayNeither (searched : SearchedLexicon) (line : Line) (choices : List Choice) (here : NumberedConfiguration) (key : Key) : Type 0 where
   pub leads_on : MayLeadOn searched line choices here key → ⊥
   pub ends : MayEndLine searched line choices here key → ⊥
 
 -- another form can follow, entered so after so many letters
-pub record MayLeadTo (searched : SearchedLexicon) (line : Line) (choices : List Choice) (here : Standing) (key : Key) (at : ℕ) (entrance : Entrance) : Type 0 where
+pub record MayLeadTo (searched : SearchedLexicon) (line : Line) (choices : List Choice) (here : NumberedConfiguration) (key : Key) (at : ℕ) (entrance : Entrance) : Type 0 where
   pub may : MayLeadOn searched line choices here key
   pub at_is : at ≡ (after searched line here key).at
   pub entrance_is : entrance_of (leads_of (rules_in searched).rules) entrance ≡ (after searched line here key).entrance
@@ -42,7 +42,7 @@ pub record MayLeadTo (searched : SearchedLexicon) (line : Line) (choices : List 
   pub over : IsEntranceOver (leads_of (rules_in searched).rules) entrance
 
 -- the answer says what the key may do here
-abbrev pub IsLetterTestOf : SearchedLexicon → Line → List Choice → Standing → Key → LetterTest → Type 0
+abbrev pub IsLetterTestOf : SearchedLexicon → Line → List Choice → NumberedConfiguration → Key → LetterTest → Type 0
 IsLetterTestOf searched line choices here key test.Refused = MayNeither searched line choices here key
 IsLetterTestOf searched line choices here key test.Ends = MayEndLine searched line choices here key
 IsLetterTestOf searched line choices here key (test.LeadsOn at entrance) = MayLeadTo searched line choices here key at entrance

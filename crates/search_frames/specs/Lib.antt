@@ -1,5 +1,6 @@
+pub mod Stacks
 pub mod Copies
-pub mod Standings
+pub mod Configurations
 pub mod Frames
 pub mod Tests
 pub mod Changes

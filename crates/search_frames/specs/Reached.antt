@@ -7,10 +7,10 @@ use Rattle.segmentation_definitions.specs.Configurations.{Start, entrance_after}
 use Rattle.answer_paths.specs.Fronts.{supplied, IsLedTo}
 use Rattle.phase_automaton.specs.Automata.{state_after}
 use Rattle.annotated_trie.specs.Searched.{SearchedLexicon}
-use Rattle.search_frames.specs.Standings.{Standing, rules_in}
+use Rattle.search_frames.specs.Configurations.{NumberedConfiguration, rules_in}
 
 -- the front of an answer ends where the search stands
-pub record IsReached (searched : SearchedLexicon) (line : Line) (choices : List Choice) (here : Standing) : Type 0 where
+pub record IsReached (searched : SearchedLexicon) (line : Line) (choices : List Choice) (here : NumberedConfiguration) : Type 0 where
   pub front : List Step
   pub led : IsLedTo searched.lexicon line choices front
   pub at : here.at ≡ covered_from (rules_in searched) 0 [] front
@@ -18,5 +18,5 @@ pub record IsReached (searched : SearchedLexicon) (line : Line) (choices : List 
   pub state : here.state ≡ state_after searched.machine (phases_of front)
 
 -- twice the letters that are derived, and one more where no rule supplies letters to the next form
-abbrev pub rank : Standing → ℕ
+abbrev pub rank : NumberedConfiguration → ℕ
 rank here = 2 * here.at + after_lead (length (supplied here.entrance))

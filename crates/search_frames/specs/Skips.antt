@@ -5,8 +5,8 @@ use Rattle.lexicon_definitions.specs.Lexicons.{rule_of}
 use Rattle.segmentation_definitions.specs.Listings.{Key}
 use Rattle.annotated_trie.specs.Searched.{SearchedLexicon}
 use Rattle.search_frames.specs.declared.resumption.Resumption.{Resumption}
-use Rattle.search_frames.specs.Standings.{rules_in}
-use Rattle.search_frames.specs.Frames.{IsFrame, IsUntried, changes_at, place_of, step_of}
+use Rattle.search_frames.specs.Configurations.{rules_in}
+use Rattle.search_frames.specs.Frames.{IsFrame, IsUntried, changes_at, configuration_at, step_of}
 
 -- the w of the rule does not come first among the letters
 abbrev pub IsUnwritten : SearchedLexicon → List ℕ → ℕ → Type 0
@@ -21,7 +21,7 @@ pub record HasSkipped (searched : SearchedLexicon) (letters : List ℕ) (node ne
 -- the frame stands where it stood, and each key that it has no longer to try has a rule whose w does not come next in the line
 pub record SkippedUnwritten (searched : SearchedLexicon) (line : Line) (level : ℕ) (old new : Resumption) : Type 0 where
   pub frame : IsFrame searched line new level
-  pub same_place : place_of new level ≡ place_of old level
+  pub same_configuration : configuration_at new level ≡ configuration_at old level
   pub left : (key : Key) → IsUntried searched old level key
       → IsUntried searched new level key ⊎ IsUnwritten searched (drop ((step_of old level).at + key.taken) line.letters) key.rule
   pub only : (key : Key) → IsUntried searched new level key → IsUntried searched old level key

@@ -11,8 +11,8 @@ use Rattle.search_frames.specs.declared.guiding.Turn.{Turn}
 use Rattle.search_frames.specs.declared.guiding.Turn.TheVariants as turn
 use Rattle.search_frames.specs.declared.guiding.ToTry.{ToTry}
 use Rattle.search_frames.specs.declared.guiding.ToTry.TheVariants as to_try
-use Rattle.search_frames.specs.Standings.{Standing, IsPossible, Ends, ways_in}
-use Rattle.search_frames.specs.Frames.{IsFrame, IsUntried, HasAllToTry, HasLaterToTry, here_of, place_of, key_at, still_to_try}
+use Rattle.search_frames.specs.Configurations.{NumberedConfiguration, IsPossible, Ends, ways_in}
+use Rattle.search_frames.specs.Frames.{IsFrame, IsUntried, HasAllToTry, HasLaterToTry, here_of, configuration_at, key_at, still_to_try}
 use Rattle.search_frames.specs.Tests.{LeadsTo}
 use Rattle.search_frames.specs.Costs.{steps_left}
 
@@ -22,14 +22,14 @@ HasToTry searched line stack level to_try.All = HasAllToTry searched line stack 
 HasToTry searched line stack level to_try.Later = HasLaterToTry searched line stack level
 
 -- some path from here begins with the key
-abbrev pub BeginsPath : SearchedLexicon → Line → List Choice → Standing → Key → Type 0
+abbrev pub BeginsPath : SearchedLexicon → Line → List Choice → NumberedConfiguration → Key → Type 0
 BeginsPath searched line choices here key = (keys : List Key) × IsPath (ways_in searched line choices) here (key ∷ keys)
 
 -- the frame was brought to a key that it had still to try: each other such key with which a path begins comes after it, and just
 -- the keys after it are left
 pub record HasTurned (searched : SearchedLexicon) (line : Line) (choices : List Choice) (level : ℕ) (old new : Resumption) : Type 0 where
   pub frame : IsFrame searched line new level
-  pub same_place : place_of new level ≡ place_of old level
+  pub same_configuration : configuration_at new level ≡ configuration_at old level
   pub possible : IsPossible searched line (here_of searched old level) (key_at new level)
   pub untried : IsUntried searched old level (key_at new level)
   pub first : (key : Key) → BeginsPath searched line choices (here_of searched old level) key → IsUntried searched old level key

@@ -2,7 +2,7 @@ ghost use Rattle.std.specs.Prelude.{◌≡◌, ◌+◌, ◌<◌, ◌≤◌, ℕ,
 ghost use Rattle.lexicon_definitions.specs.declared.limits.TheConstants.{MOST_RULES};
 ghost use Rattle.annotated_trie.specs.Searched.{IsSearchedLexicon};
 ghost use Rattle.search_frames.specs.Frames.{IsFrame, ChangesFrom, IsAtKey, IsUntried, changes_at, here_of, step_of, still_to_try};
-ghost use Rattle.search_frames.specs.Standings.{IsPossible};
+ghost use Rattle.search_frames.specs.Configurations.{IsPossible};
 ghost use Rattle.search_frames.specs.Changes.{MayBeMade, IsPlaceAfter};
 ghost use Rattle.search_frames.specs.Costs.{HasAtMostChoices, steps_from_change, steps_left};
 ghost use Rattle.search_frames.specs.Arrivals.{IsInPhase, IsNextAt};

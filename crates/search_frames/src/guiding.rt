@@ -8,7 +8,7 @@ ghost use Rattle.search_frames.specs.Turns.{HasToTry, IsTurn, HasFallen, HasPaid
 
 use super::Resumption;
 use super::going_on::go_on;
-use super::place::Place;
+use super::configuration::Configuration;
 use super::skipping::skip_unwritten;
 use super::testing::{Test, test_key};
 use annotated_trie::Lexicon;
@@ -22,7 +22,7 @@ use reader_choices::Choices;
 pub enum Turn {
     Nothing,
     Ends,
-    LeadsOn(Place),
+    LeadsOn(Configuration),
 }
 
 /// What a frame has still to try: every key that is possible at its place, or just the keys after that of its step.
@@ -80,7 +80,7 @@ impl SearchGuide for OpenGuide {
         steps: &mut Steps<L>,
     ) -> Turn {
         while go_on(lexicon, line, stack, level, steps) {
-            let place = Place::of_frame(stack, level);
+            let place = Configuration::of_frame(stack, level);
             match test_key(lexicon, line, choices, &place, &stack.steps[level]) {
                 Test::Refused => skip_unwritten(lexicon, line, stack, level, steps),
                 Test::Ends => return Turn::Ends,

@@ -6,11 +6,11 @@ ghost use Rattle.derivation.specs.Guides.{IsEntranceOver, entrance_of};
 ghost use Rattle.derivation.specs.Steps.{key_of};
 ghost use Rattle.answer_paths.specs.Fronts.{supplied};
 ghost use Rattle.answer_paths.specs.Following.{MayStand, is_start, placed_at};
-ghost use Rattle.search_frames.specs.Frames.{IsPlaceIn, standing_of};
-ghost use Rattle.search_frames.specs.Standings.{IsPossible};
+ghost use Rattle.search_frames.specs.Frames.{IsConfigurationIn, numbered_of};
+ghost use Rattle.search_frames.specs.Configurations.{IsPossible};
 ghost use Rattle.search_frames.specs.LetterTests.{IsLetterTestOf};
 
-use super::Place;
+use super::Configuration;
 use super::entering::{entrance_after, is_first, may_enter};
 use super::line_tests::{
     ends_line, goes_on, has_no_blank_after, has_no_blank_inside, is_written, may_follow, w_of,
@@ -32,7 +32,7 @@ pub enum LetterTest {
 }
 
 /// Whether the step at the place passes the local test of each choice.
-fn is_allowed(rules: &RuleSet, line: &Line, choices: &Choices, place: &Place, step: &Step) -> bool
+fn is_allowed(rules: &RuleSet, line: &Line, choices: &Choices, place: &Configuration, step: &Step) -> bool
     requires over { IsEntranceOver (leads_of rules.now.rules) place.now.entrance }
     requires at { step.now.at ≡ place.now.at }
     requires lead { step.now.lead ≡ length (supplied (entrance_of (leads_of rules.now.rules) place.now.entrance)) }
@@ -45,12 +45,12 @@ fn is_allowed(rules: &RuleSet, line: &Line, choices: &Choices, place: &Place, st
 }
 
 /// Whether the step may stand at the place, whether another form follows it or not.
-fn may_stand(lexicon: &Lexicon, line: &Line, choices: &Choices, place: &Place, step: &Step) -> bool
-    requires place { IsPlaceIn lexicon.now line.now place.now }
+fn may_stand(lexicon: &Lexicon, line: &Line, choices: &Choices, place: &Configuration, step: &Step) -> bool
+    requires place { IsConfigurationIn lexicon.now line.now place.now }
     requires at { step.now.at ≡ place.now.at }
-    requires lead { step.now.lead ≡ length (supplied (standing_of lexicon.now place.now).entrance) }
-    requires possible { IsPossible lexicon.now line.now (standing_of lexicon.now place.now) (key_of step.now) }
-    ensures { let here = standing_of lexicon.now place.now in IsTrue result ↔ MayStand lexicon.now.lexicon line.now choices.now here.at here.entrance (key_of step.now) }
+    requires lead { step.now.lead ≡ length (supplied (numbered_of lexicon.now place.now).entrance) }
+    requires possible { IsPossible lexicon.now line.now (numbered_of lexicon.now place.now) (key_of step.now) }
+    ensures { let here = numbered_of lexicon.now place.now in IsTrue result ↔ MayStand lexicon.now.lexicon line.now choices.now here.at here.entrance (key_of step.now) }
 {
     let rules = lexicon.rules();
     is_written(rules, line, place, step)
@@ -66,15 +66,15 @@ pub fn test_letters(
     lexicon: &Lexicon,
     line: &Line,
     choices: &Choices,
-    place: &Place,
+    place: &Configuration,
     step: &Step,
 ) -> LetterTest
     requires line { IsLine line.now }
-    requires place { IsPlaceIn lexicon.now line.now place.now }
+    requires place { IsConfigurationIn lexicon.now line.now place.now }
     requires at { step.now.at ≡ place.now.at }
-    requires lead { step.now.lead ≡ length (supplied (standing_of lexicon.now place.now).entrance) }
-    requires possible { IsPossible lexicon.now line.now (standing_of lexicon.now place.now) (key_of step.now) }
-    ensures exact { IsLetterTestOf lexicon.now line.now choices.now (standing_of lexicon.now place.now) (key_of step.now) result }
+    requires lead { step.now.lead ≡ length (supplied (numbered_of lexicon.now place.now).entrance) }
+    requires possible { IsPossible lexicon.now line.now (numbered_of lexicon.now place.now) (key_of step.now) }
+    ensures exact { IsLetterTestOf lexicon.now line.now choices.now (numbered_of lexicon.now place.now) (key_of step.now) result }
 {
     if !may_stand(lexicon, line, choices, place, step) {
         return LetterTest::Refused;

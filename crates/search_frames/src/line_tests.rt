@@ -3,20 +3,20 @@ ghost use Rattle.lexicon_definitions.specs.declared.limits.TheConstants.{MOST_RU
 ghost use Rattle.lexicon_definitions.specs.Rules.{HasPhase, IsInner, IsFinal};
 ghost use Rattle.lexicon_definitions.specs.Lexicons.{rule_of};
 
-use super::Place;
+use super::Configuration;
 use derivation::Step;
 use phoneme::{Letter, Line};
 use sandhi_rules::RuleSet;
 
 /// After how many letters of the line the letters end that the step takes at the place.
-pub(crate) fn end_of(place: &Place, step: &Step) -> usize
+pub(crate) fn end_of(place: &Configuration, step: &Step) -> usize
     ensures { result ≡ place.now.at + step.now.taken }
 {
     place.at as usize + step.taken as usize
 }
 
 /// The letters of the line that the step takes at the place.
-pub(crate) fn letters_taken<'a>(line: &'a Line, place: &Place, step: &Step) -> &'a [Letter]
+pub(crate) fn letters_taken<'a>(line: &'a Line, place: &Configuration, step: &Step) -> &'a [Letter]
     requires { place.now.at + step.now.taken ≤ length line.now.letters }
     ensures { result.now ≡ take step.now.taken (drop place.now.at line.now.letters) }
 {
@@ -58,7 +58,7 @@ pub(crate) fn begins_with(letters: &[Letter], word: &[Letter]) -> bool
 }
 
 /// Whether the `w` of the step's rule comes next in the line after the letters that the step takes.
-pub(crate) fn is_written(rules: &RuleSet, line: &Line, place: &Place, step: &Step) -> bool
+pub(crate) fn is_written(rules: &RuleSet, line: &Line, place: &Configuration, step: &Step) -> bool
     requires rule { step.now.rule ≤ length rules.now.rules }
     requires within { place.now.at + step.now.taken ≤ length line.now.letters }
     ensures { IsTrue result ↔ (take (length (rule_of rules.now step.now.rule).w) (drop (place.now.at + step.now.taken) line.now.letters) ≡ (rule_of rules.now step.now.rule).w) }
@@ -79,7 +79,7 @@ pub(crate) fn may_follow(rules: &RuleSet, step: &Step) -> bool
 }
 
 /// Whether no blank stands strictly inside the letters that the step takes at the place.
-pub(crate) fn has_no_blank_inside(line: &Line, place: &Place, step: &Step) -> bool
+pub(crate) fn has_no_blank_inside(line: &Line, place: &Configuration, step: &Step) -> bool
     ensures { IsTrue result ↔ All (λ blank. place.now.at < blank → blank < place.now.at + step.now.taken → ⊥) line.now.blanks }
 {
     let blanks = line.blanks.as_slice();
@@ -91,7 +91,7 @@ pub(crate) fn has_no_blank_inside(line: &Line, place: &Place, step: &Step) -> bo
 }
 
 /// Whether no blank stands after the place.
-pub(crate) fn has_no_blank_after(line: &Line, place: &Place) -> bool
+pub(crate) fn has_no_blank_after(line: &Line, place: &Configuration) -> bool
     ensures { IsTrue result ↔ All (λ blank. blank ≤ place.now.at) line.now.blanks }
 {
     match line.blanks.as_slice().last() {
@@ -102,7 +102,7 @@ pub(crate) fn has_no_blank_after(line: &Line, place: &Place) -> bool
 
 /// Whether another form can follow the step, as far as the line tells: its rule is inner, or nothing changes and letters are
 /// left.
-pub(crate) fn goes_on(rules: &RuleSet, line: &Line, place: &Place, step: &Step) -> bool
+pub(crate) fn goes_on(rules: &RuleSet, line: &Line, place: &Configuration, step: &Step) -> bool
     requires { step.now.rule ≤ length rules.now.rules }
     ensures { IsTrue result ↔ (0 < step.now.rule → IsInner (rule_of rules.now step.now.rule)) × (step.now.rule ≡ 0 → place.now.at + step.now.taken < length line.now.letters) }
 {
@@ -113,7 +113,7 @@ pub(crate) fn goes_on(rules: &RuleSet, line: &Line, place: &Place, step: &Step) 
 }
 
 /// Whether the line is derived to its end after the step: its rule is final, or nothing changes, and no letter is left.
-pub(crate) fn ends_line(rules: &RuleSet, line: &Line, place: &Place, step: &Step) -> bool
+pub(crate) fn ends_line(rules: &RuleSet, line: &Line, place: &Configuration, step: &Step) -> bool
     requires rule { step.now.rule ≤ length rules.now.rules }
     requires within { place.now.at + step.now.taken ≤ length line.now.letters }
     ensures { IsTrue result ↔ (0 < step.now.rule → IsFinal (rule_of rules.now step.now.rule)) × (place.now.at + step.now.taken + length (rule_of rules.now step.now.rule).w ≡ length line.now.letters) }

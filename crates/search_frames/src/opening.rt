@@ -1,9 +1,10 @@
 ghost use Rattle.std.specs.Prelude.{◌≡◌, ◌+◌, ◌<◌, ◌≤◌, ℕ, length};
-ghost use Rattle.search_frames.specs.Frames.{IsStack, IsFrame, IsPlaceIn, HasAllToTry, ChangesFrom, place_of};
+ghost use Rattle.search_frames.specs.Stacks.{IsStack};
+ghost use Rattle.search_frames.specs.Frames.{IsFrame, IsConfigurationIn, HasAllToTry, ChangesFrom, configuration_at};
 ghost use Rattle.search_frames.specs.Costs.{HasAtMostChoices, steps_left, steps_of_frame};
 
 use super::{Frame, Resumption};
-use super::Place;
+use super::Configuration;
 use super::walking::{supplied_letters, walk_phase};
 use annotated_trie::Lexicon;
 use derivation::Step;
@@ -16,14 +17,14 @@ pub fn open_frame<L>(
     line: &Line,
     stack: &mut Resumption,
     level: usize,
-    place: Place,
+    place: Configuration,
     steps: &mut Steps<L>,
 )
     requires stack { IsStack stack.old }
     requires there { level < length stack.old.frames.items }
-    requires place { IsPlaceIn lexicon.now line.now place }
+    requires place { IsConfigurationIn lexicon.now line.now place }
     ensures frame { IsFrame lexicon.now line.now stack.new level }
-    ensures place { place_of stack.new level ≡ place }
+    ensures place { configuration_at stack.new level ≡ place }
     ensures all { HasAllToTry lexicon.now line.now stack.new level }
     ensures changes { ChangesFrom level stack.old stack.new }
     ensures steps { (most : ℕ) → HasAtMostChoices lexicon.now.tries most → steps.new + steps_left lexicon.now most stack.new level ≤ steps.old + steps_of_frame lexicon.now most }

@@ -1,6 +1,6 @@
 ghost use Rattle.std.specs.Prelude.{IfOk};
 
-use super::{Frame, Stand};
+use super::{Frame, Position};
 use derivation::Step;
 use phoneme::Memory;
 use shared_trie::Node;
@@ -11,22 +11,71 @@ use std::alloc::Global;
 /// `walked` are the nodes that it has walked in its present phase.
 #[derive(Debug, Drop)]
 pub struct Resumption {
-    pub stand: Stand,
-    pub depth: u32,
-    pub steps: Vec<Step>,
-    pub frames: Vec<Frame>,
-    pub nodes: Vec<Node>,
+    pub(crate) position: Position,
+    pub(crate) depth: u32,
+    pub(crate) steps: Vec<Step>,
+    pub(crate) frames: Vec<Frame>,
+    pub(crate) nodes: Vec<Node>,
 }
 
 impl Resumption {
+    ghost use Rattle.std.specs.Prelude.{◌≡◌, ◌<◌, ◌≤◌};
     ghost use Rattle.search_frames.specs.Copies.{IsCopyOf};
+    ghost use Rattle.search_frames.specs.Stacks.{IsStack, depth_of, position_in, room_of, steps_in, with_depth, with_position};
+    ghost use Rattle.search_frames.specs.Frames.{step_of};
+
+    /// Where the search stands among its answers.
+    pub fn position(&self) -> Position
+        ensures { result ≡ position_in self.now }
+    {
+        self.position
+    }
+
+    /// How many frames are in use, one for each step of an answer.
+    pub fn depth(&self) -> u32
+        ensures { result ≡ depth_of self.now }
+    {
+        self.depth
+    }
+
+    /// The steps of the frames in use.
+    pub fn steps(&self) -> &[Step]
+        requires stack { IsStack self.now }
+        requires within { depth_of self.now ≤ room_of self.now }
+        ensures { result.now ≡ steps_in self.now }
+    {
+        &self.steps[..self.depth as usize]
+    }
+
+    /// The step of the frame at the level, counted from 0.
+    pub fn step(&self, level: usize) -> Step
+        requires stack { IsStack self.now }
+        requires there { level < room_of self.now }
+        ensures { result ≡ step_of self.now level }
+    {
+        self.steps[level]
+    }
+
+    /// Has the search stand there among its answers.
+    pub fn stand_at(&mut self, position: Position)
+        ensures { self.new ≡ with_position self.old position }
+    {
+        self.position = position;
+    }
+
+    /// Has so many frames be in use.
+    pub fn use_frames(&mut self, depth: u32)
+        ensures { self.new ≡ with_depth self.old depth }
+    {
+        self.depth = depth;
+    }
 
     /// A copy that is kept apart from this one. Refused only for want of memory.
     pub fn copy(&self, alloc: Global) -> Result<Resumption, Memory>
         ensures ok { IfOk result (λ copy. IsCopyOf self.now copy) }
     {
         Ok(Resumption {
-            stand: self.stand,
+            position: self.position,
             depth: self.depth,
             steps: Vec::from_slice(alloc, self.steps.as_slice())?,
             frames: Vec::from_slice(alloc, self.frames.as_slice())?,

@@ -1,9 +1,9 @@
 ghost use Rattle.std.specs.Prelude.{◌≡◌, ◌*◌, ◌^◌, ◌<◌, length, IfOk};
 ghost use Rattle.search_frames.specs.declared.frame.TheConstants.{NODES_OF_FRAME};
-ghost use Rattle.search_frames.specs.declared.stand.Stand.TheVariants as stand;
-ghost use Rattle.search_frames.specs.Frames.{IsStack};
+ghost use Rattle.search_frames.specs.declared.position.Position.TheVariants as position;
+ghost use Rattle.search_frames.specs.Stacks.{IsStack, depth_of, position_in, room_of};
 
-use super::{Frame, NODES_OF_FRAME, Resumption, Stand};
+use super::{Frame, NODES_OF_FRAME, Resumption, Position};
 use annotated_trie::Lexicon;
 use derivation::{Entrance, Step};
 use phoneme::Memory;
@@ -22,9 +22,9 @@ fn filled<T: Copy>(alloc: Global, value: T, count: usize) -> Result<Vec<T>, Memo
 /// memory.
 pub fn new_stack(alloc: Global, lexicon: &Lexicon, room: usize) -> Result<Resumption, Memory>
     requires few { room * NODES_OF_FRAME < 2 ^ 32 }
-    ensures stand { IfOk result (λ stack. stack.stand ≡ stand.Before) }
-    ensures empty { IfOk result (λ stack. stack.depth ≡ 0) }
-    ensures room { IfOk result (λ stack. length stack.frames.items ≡ room) }
+    ensures position { IfOk result (λ stack. position_in stack ≡ position.Before) }
+    ensures empty { IfOk result (λ stack. depth_of stack ≡ 0) }
+    ensures room { IfOk result (λ stack. room_of stack ≡ room) }
     ensures is_stack { IfOk result IsStack }
 {
     // The proof knows that there is a phase only of a lexicon whose rules are read.
@@ -44,7 +44,7 @@ pub fn new_stack(alloc: Global, lexicon: &Lexicon, room: usize) -> Result<Resump
     };
     let node = lexicon.tries().store().root(0);
     Ok(Resumption {
-        stand: Stand::Before,
+        position: Position::Before,
         depth: 0,
         steps: filled(alloc, step, room)?,
         frames: filled(alloc, frame, room)?,

@@ -2,7 +2,7 @@ ghost use Rattle.std.specs.Prelude.{◌≡◌, ◌<◌, length, MatchOption};
 ghost use Rattle.std.specs.Bool.{OnTrue, OnFalse};
 ghost use Rattle.annotated_trie.specs.Searched.{IsSearchedLexicon};
 ghost use Rattle.search_frames.specs.Frames.{IsFrame, ChangesFrom, IsAtKey, here_of};
-ghost use Rattle.search_frames.specs.Standings.{IsPossible};
+ghost use Rattle.search_frames.specs.Configurations.{IsPossible};
 ghost use Rattle.search_frames.specs.Changes.{MayBeMade, IsPlaceAfter};
 
 use super::{NODES_OF_FRAME, Resumption};

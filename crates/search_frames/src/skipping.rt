@@ -1,6 +1,7 @@
 ghost use Rattle.std.specs.Prelude.{◌≡◌, ◌+◌, ◌<◌, ◌≤◌, ℕ, length};
 ghost use Rattle.annotated_trie.specs.Searched.{IsSearchedLexicon};
-ghost use Rattle.search_frames.specs.Frames.{IsStack, IsFrame, ChangesFrom, step_of, frame_of, still_to_try};
+ghost use Rattle.search_frames.specs.Stacks.{IsStack};
+ghost use Rattle.search_frames.specs.Frames.{IsFrame, ChangesFrom, step_of, frame_of, still_to_try};
 ghost use Rattle.search_frames.specs.Costs.{HasAtMostChoices, steps_from_change, steps_left};
 ghost use Rattle.search_frames.specs.Changes.{HasSet};
 ghost use Rattle.search_frames.specs.Skips.{HasSkipped, SkippedUnwritten};

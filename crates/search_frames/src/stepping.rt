@@ -1,7 +1,8 @@
 ghost use Rattle.std.specs.Prelude.{◌≡◌, ◌<◌, ◌≤◌, ℕ, ◌+◌, ◌-◌, ◌^◌, length, MatchOption};
 ghost use Rattle.std.specs.Bool.{OnTrue, OnFalse};
 ghost use Rattle.annotated_trie.specs.Searched.{IsSearchedLexicon};
-ghost use Rattle.search_frames.specs.Frames.{IsStack, IsFrame, ChangesFrom, WentOn, LeftNode, HasNothingToTry, HasNoChange, step_of, frame_of, still_to_try};
+ghost use Rattle.search_frames.specs.Stacks.{IsStack};
+ghost use Rattle.search_frames.specs.Frames.{IsFrame, ChangesFrom, WentOn, LeftNode, HasNothingToTry, HasNoChange, step_of, frame_of, still_to_try};
 ghost use Rattle.search_frames.specs.Costs.{HasAtMostChoices, steps_from_change, steps_left, steps_after_node};
 ghost use Rattle.search_frames.specs.Changes.{IsChangeFrom, HasNoChangeFrom, HasSet};
 

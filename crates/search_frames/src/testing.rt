@@ -2,11 +2,11 @@ ghost use Rattle.std.specs.Prelude.{◌≡◌, length};
 ghost use Rattle.text_definitions.specs.Lines.{IsLine};
 ghost use Rattle.derivation.specs.Steps.{key_of};
 ghost use Rattle.answer_paths.specs.Fronts.{supplied};
-ghost use Rattle.search_frames.specs.Frames.{IsPlaceIn, standing_of};
-ghost use Rattle.search_frames.specs.Standings.{IsPossible};
+ghost use Rattle.search_frames.specs.Frames.{IsConfigurationIn, numbered_of};
+ghost use Rattle.search_frames.specs.Configurations.{IsPossible};
 ghost use Rattle.search_frames.specs.Tests.{IsTestOf};
 
-use super::Place;
+use super::Configuration;
 use super::letter_testing::{LetterTest, test_letters};
 use annotated_trie::Lexicon;
 use derivation::Step;
@@ -18,7 +18,7 @@ use reader_choices::Choices;
 pub enum Test {
     Refused,
     Ends,
-    LeadsOn(Place),
+    LeadsOn(Configuration),
 }
 
 /// What the step, whose key is possible at the place, does there.
@@ -26,15 +26,15 @@ pub fn test_key(
     lexicon: &Lexicon,
     line: &Line,
     choices: &Choices,
-    place: &Place,
+    place: &Configuration,
     step: &Step,
 ) -> Test
     requires line { IsLine line.now }
-    requires place { IsPlaceIn lexicon.now line.now place.now }
+    requires place { IsConfigurationIn lexicon.now line.now place.now }
     requires at { step.now.at ≡ place.now.at }
-    requires lead { step.now.lead ≡ length (supplied (standing_of lexicon.now place.now).entrance) }
-    requires possible { IsPossible lexicon.now line.now (standing_of lexicon.now place.now) (key_of step.now) }
-    ensures exact { IsTestOf lexicon.now line.now choices.now (standing_of lexicon.now place.now) (key_of step.now) result }
+    requires lead { step.now.lead ≡ length (supplied (numbered_of lexicon.now place.now).entrance) }
+    requires possible { IsPossible lexicon.now line.now (numbered_of lexicon.now place.now) (key_of step.now) }
+    ensures exact { IsTestOf lexicon.now line.now choices.now (numbered_of lexicon.now place.now) (key_of step.now) result }
 {
     // Its contract says that the lexicon can be searched.
     lexicon.rules();
@@ -52,7 +52,7 @@ pub fn test_key(
         LetterTest::LeadsOn { at, entrance } => {
             let state = automaton.step(place.state, step.phase);
             if automaton.live(state) {
-                Test::LeadsOn(Place {
+                Test::LeadsOn(Configuration {
                     at,
                     entrance,
                     state,

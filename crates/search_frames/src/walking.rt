@@ -4,7 +4,7 @@ ghost use Rattle.lexicon_definitions.specs.Tries.{walk};
 ghost use Rattle.derivation.specs.Guides.{IsEntranceOver, entrance_of};
 ghost use Rattle.answer_paths.specs.Fronts.{supplied};
 ghost use Rattle.search_frames.specs.declared.frame.TheConstants.{NODES_OF_FRAME};
-ghost use Rattle.search_frames.specs.Frames.{IsPlaced, IsFrame, HasPhasesFrom, ChangesFrom, place_of, step_of};
+ghost use Rattle.search_frames.specs.Frames.{IsPlaced, IsFrame, HasPhasesFrom, ChangesFrom, configuration_at, step_of};
 
 use super::{NODES_OF_FRAME, Resumption};
 use annotated_trie::Lexicon;
@@ -121,7 +121,7 @@ pub(crate) fn walk_phase<L>(
     requires placed { IsPlaced lexicon.now line.now stack.old level }
     requires phase { phase < length lexicon.now.lexicon.rules.names }
     ensures frame { IsFrame lexicon.now line.now stack.new level }
-    ensures place { place_of stack.new level ≡ place_of stack.old level }
+    ensures place { configuration_at stack.new level ≡ configuration_at stack.old level }
     ensures begun { (step_of stack.new level).phase ≡ phase }
     ensures phases { HasPhasesFrom lexicon.now line.now phase stack.new level }
     ensures changes { ChangesFrom level stack.old stack.new }

@@ -1,7 +1,8 @@
 ghost use Rattle.std.specs.Prelude.{◌≡◌, ◌+◌, ◌<◌, ◌≤◌, ℕ, length, OnOk};
 ghost use Rattle.text_definitions.specs.Lines.{IsLine};
 ghost use Rattle.annotated_trie.specs.Searched.{IsSearchedLexicon};
-ghost use Rattle.search_frames.specs.Frames.{IsStack, IsPlaceIn, standing_of};
+ghost use Rattle.search_frames.specs.Stacks.{IsStack, room_of};
+ghost use Rattle.search_frames.specs.Frames.{IsConfigurationIn, numbered_of};
 ghost use Rattle.search_frames.specs.Costs.{HasAtMostChoices, steps_of_frame};
 ghost use Rattle.search_frames.specs.WaysFrom.{AppendsWays};
 
@@ -9,35 +10,19 @@ use super::Resumption;
 use super::going_on::go_on;
 use super::letter_testing::{LetterTest, test_letters};
 use super::opening::open_frame;
-use super::place::Place;
+use super::configuration::Configuration;
 use super::skipping::skip_unwritten;
 use annotated_trie::Lexicon;
-use derivation::{Key, Step};
+use derivation::Key;
 use outside::Steps;
 use phoneme::{Line, Memory};
 use reader_choices::Choices;
 
-/// A key that leads on from a place or ends the line there, whatever the grammar says, and which of the two (own): its phase, counted
-/// from 0, how many letters of the line it takes, and its rule, counted from 1, 0 for no change.
+/// A key that leads on from a place or ends the line there, whatever the grammar says, and which of the two (own).
 #[derive(Clone, Copy, Debug, PartialEq, Eq)]
 pub struct Way {
-    pub phase: u32,
-    pub taken: u32,
-    pub rule: u32,
+    pub key: Key,
     pub test: LetterTest,
-}
-
-impl Way {
-    /// The key of the way.
-    pub fn key(&self) -> Key
-        ensures { result ≡ record { phase = self.now.phase; taken = self.now.taken; rule = self.now.rule } }
-    {
-        Key {
-            phase: self.phase,
-            taken: self.taken,
-            rule: self.rule,
-        }
-    }
 }
 
 /// Appends all ways from the place, in the order of their keys. The place's state is not looked at. `walker` has room for a frame.
@@ -46,19 +31,19 @@ pub fn push_ways<L>(
     lexicon: &Lexicon,
     line: &Line,
     choices: &Choices,
-    place: Place,
+    place: Configuration,
     walker: &mut Resumption,
     ways: &mut Vec<Way>,
     steps: &mut Steps<L>,
 ) -> Result<(), Memory>
     requires searched { IsSearchedLexicon lexicon.now }
     requires line { IsLine line.now }
-    requires place { IsPlaceIn lexicon.now line.now place }
+    requires place { IsConfigurationIn lexicon.now line.now place }
     requires walker { IsStack walker.old }
-    requires room { 0 < length walker.old.frames.items }
-    ensures ok { OnOk result (AppendsWays lexicon.now line.now choices.now (standing_of lexicon.now place) ways.old.items ways.new.items) }
+    requires room { 0 < room_of walker.old }
+    ensures ok { OnOk result (AppendsWays lexicon.now line.now choices.now (numbered_of lexicon.now place) ways.old.items ways.new.items) }
     ensures walker { OnOk result (IsStack walker.new) }
-    ensures room { OnOk result (length walker.new.frames.items ≡ length walker.old.frames.items) }
+    ensures room { OnOk result (room_of walker.new ≡ room_of walker.old) }
     ensures steps { (most : ℕ) → HasAtMostChoices lexicon.now.tries most → steps.new ≤ steps.old + steps_of_frame lexicon.now most }
 {
     open_frame(lexicon, line, walker, 0, place, steps);
@@ -67,9 +52,7 @@ pub fn push_ways<L>(
         match test_letters(lexicon, line, choices, &place, &step) {
             LetterTest::Refused => skip_unwritten(lexicon, line, walker, 0, steps),
             test => ways.push(Way {
-                phase: step.phase,
-                taken: step.taken,
-                rule: step.rule,
+                key: step.key(),
                 test,
             })?,
         }

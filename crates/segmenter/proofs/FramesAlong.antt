@@ -7,12 +7,13 @@ use Rattle.segmentation_definitions.specs.Items.{Choice}
 use Rattle.segmentation_definitions.specs.Listings.{Key}
 use Rattle.annotated_trie.specs.Searched.{SearchedLexicon, IsSearchedLexicon}
 use Rattle.search_frames.specs.declared.resumption.Resumption.{Resumption}
-use Rattle.search_frames.specs.Standings.{Standing, after}
+use Rattle.search_frames.specs.Configurations.{NumberedConfiguration, after}
 use Rattle.search_frames.specs.Frames.{IsFrame, HasLaterToTry, here_of}
 use Rattle.search_frames.specs.Reached.{IsReached, rank}
-use Rattle.segmenter.specs.Chains.{AreFrames, LeadAlong, HasFound, HasNone, HasNoneBelow, BeginsUntried, ComesAfter, HasRoom, KeepsBefore}
-use Rattle.search_frames.proofs.StandingRanks.{rank_rises, rank_within}
-use Rattle.search_frames.proofs.ReachedStandings.{reached_after}
+use Rattle.search_frames.specs.Stacks.{KeepsBefore}
+use Rattle.segmenter.specs.Chains.{AreFrames, LeadAlong, HasFound, HasNone, HasNoneBelow, BeginsUntried, ComesAfter, HasRoom}
+use Rattle.search_frames.proofs.ConfigurationRanks.{rank_rises, rank_within}
+use Rattle.search_frames.proofs.ReachedConfigurations.{reached_after}
 use Rattle.segmenter.proofs.PathsFound.{on_true, on_false, none_below_last, none_below_deeper, found_after_deeper, found_after_here, none_after_here}
 
 -- what holds anyway holds in one case
@@ -22,7 +23,7 @@ on_false_too false p = p
 
 module _ (searched : SearchedLexicon) (line : Line) where
   -- the frames in use are as many as the keys
-  pub frames_count : (stack : Resumption) (keys : List Key) (level : ℕ) (here : Standing) → AreFrames searched line stack level here keys
+  pub frames_count : (stack : Resumption) (keys : List Key) (level : ℕ) (here : NumberedConfiguration) → AreFrames searched line stack level here keys
       → level + length keys ≡ stack.depth
   frames_count stack [] level here frames = omega (arith, frames)
   frames_count stack (key ∷ keys) level here frames =
@@ -30,13 +31,13 @@ module _ (searched : SearchedLexicon) (line : Line) where
       omega (arith, more)
 
   -- there is a first frame in use
-  pub first_frame : (stack : Resumption) (keys : List Key) (level : ℕ) (here : Standing) → AreFrames searched line stack level here keys
+  pub first_frame : (stack : Resumption) (keys : List Key) (level : ℕ) (here : NumberedConfiguration) → AreFrames searched line stack level here keys
       → level < stack.depth → IsFrame searched line stack level
   first_frame stack [] level here frames below = absurd (omega (arith, frames, below))
   first_frame stack (key ∷ keys) level here frames below = frames.0
 
   -- it has just its later keys to try
-  pub first_later : (stack : Resumption) (keys : List Key) (level : ℕ) (here : Standing) → AreFrames searched line stack level here keys
+  pub first_later : (stack : Resumption) (keys : List Key) (level : ℕ) (here : NumberedConfiguration) → AreFrames searched line stack level here keys
       → level < stack.depth → HasLaterToTry searched line stack level
   first_later stack [] level here frames below = absurd (omega (arith, frames, below))
   first_later stack (key ∷ keys) level here frames below = frames.2
@@ -49,7 +50,7 @@ pub record Deeper (searched : SearchedLexicon) (line : Line) (choices : List Cho
   pub frames : AreFrames searched line stack (level + 1) (here_of searched stack (level + 1)) keys
   pub along : LeadAlong searched line choices (here_of searched stack (level + 1)) keys
 
-module _ (searched : SearchedLexicon) (line : Line) (choices : List Choice) (stack : Resumption) (level : ℕ) (here : Standing) where
+module _ (searched : SearchedLexicon) (line : Line) (choices : List Choice) (stack : Resumption) (level : ℕ) (here : NumberedConfiguration) where
   pub deeper : (keys : List Key) → IsSearchedLexicon searched → AreFrames searched line stack level here keys
       → LeadAlong searched line choices here keys → level + 1 < stack.depth → IsReached searched line choices here → HasRoom line stack level here
       → Deeper searched line choices stack level

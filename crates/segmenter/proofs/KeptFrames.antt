@@ -16,22 +16,22 @@ use Rattle.annotated_trie.specs.Searched.{SearchedLexicon}
 use Rattle.search_frames.specs.declared.frame.Frame.{Frame}
 use Rattle.search_frames.specs.declared.frame.TheConstants.{NODES_OF_FRAME}
 use Rattle.search_frames.specs.declared.resumption.Resumption.{Resumption}
-use Rattle.search_frames.specs.Standings.{IsPossible, rules_in}
-use Rattle.search_frames.specs.Frames.{IsStack, IsPlaceIn, IsFrame, IsUntried, HasLaterToTry, ChangesFrom, changes_at, step_of, frame_of, node_of, place_of, here_of, key_at, standing_of}
-use Rattle.segmenter.specs.Chains.{KeepsBefore}
+use Rattle.search_frames.specs.Configurations.{IsPossible, rules_in}
+use Rattle.search_frames.specs.Stacks.{IsStack, KeepsBefore, with_depth}
+use Rattle.search_frames.specs.Frames.{IsConfigurationIn, IsFrame, IsUntried, HasLaterToTry, ChangesFrom, changes_at, step_of, frame_of, node_of, configuration_at, here_of, key_at, numbered_of}
 
 -- ---- what stays
 
 pub keeps_itself : (level : ℕ) (stack : Resumption) → IsStack stack → KeepsBefore level stack stack
-keeps_itself level stack is = record { stand = refl; room = refl; is_stack = is; steps = refl; frames = refl; nodes = refl }
+keeps_itself level stack is = record { position = refl; room = refl; is_stack = is; steps = refl; frames = refl; nodes = refl }
 
 pub keeps_if_changes : (level : ℕ) (old new : Resumption) → ChangesFrom level old new → KeepsBefore level old new
 keeps_if_changes level old new c =
-    record { stand = c.stand; room = c.room; is_stack = c.is_stack; steps = c.steps; frames = c.frames; nodes = c.nodes }
+    record { position = c.position; room = c.room; is_stack = c.is_stack; steps = c.steps; frames = c.frames; nodes = c.nodes }
 
 pub keeps_then : (level : ℕ) (old mid new : Resumption) → KeepsBefore level old mid → KeepsBefore level mid new → KeepsBefore level old new
 keeps_then level old mid new a b = record {
-  stand = b.stand ∙ a.stand;
+  position = b.position ∙ a.position;
   room = b.room ∙ a.room;
   is_stack = b.is_stack;
   steps = b.steps ∙ a.steps;
@@ -45,7 +45,7 @@ shorter_front n m xs ys le same = sym (take-take n m xs le) ∙ ap (take n) same
 
 pub keeps_less : (level : ℕ) (old new : Resumption) → KeepsBefore (level + 1) old new → KeepsBefore level old new
 keeps_less level old new k = record {
-  stand = k.stand;
+  position = k.position;
   room = k.room;
   is_stack = k.is_stack;
   steps = shorter_front level (level + 1) new.steps.items old.steps.items (omega arith) k.steps;
@@ -72,7 +72,7 @@ frame_kept level old new k = record {
 pub kept_back : (level : ℕ) (old new : Resumption) → FrameKept level old new → FrameKept level new old
 kept_back level old new k = record { step = sym k.step; frame = sym k.frame; nodes = λ n lt. sym (k.nodes n lt) }
 
-pub place_kept : (level : ℕ) (old new : Resumption) → FrameKept level old new → place_of new level ≡ place_of old level
+pub place_kept : (level : ℕ) (old new : Resumption) → FrameKept level old new → configuration_at new level ≡ configuration_at old level
 place_kept level old new k =
     let step = k.step in
     let frame = k.frame in
@@ -83,7 +83,7 @@ key_kept level old new k = ap key_of k.step
 
 module _ (searched : SearchedLexicon) (line : Line) where
   pub here_kept : (level : ℕ) (old new : Resumption) → FrameKept level old new → here_of searched new level ≡ here_of searched old level
-  here_kept level old new k = ap (standing_of searched) (place_kept level old new k)
+  here_kept level old new k = ap (numbered_of searched) (place_kept level old new k)
 
   pub is_frame_kept : (level : ℕ) (old new : Resumption) → KeepsBefore (level + 1) old new → IsFrame searched line old level
       → IsFrame searched line new level
@@ -95,7 +95,7 @@ module _ (searched : SearchedLexicon) (line : Line) where
         placed = record {
           is_stack = keeps.is_stack;
           there = subst (λ n. level < n) (sym keeps.room) is.placed.there;
-          within = subst (IsPlaceIn searched line) (sym (place_kept level old new kept)) is.placed.within;
+          within = subst (IsConfigurationIn searched line) (sym (place_kept level old new kept)) is.placed.within;
           lead = subst (λ (t : Step). t.lead ≡ length (supplied (entrance_of (leads_of (rules_in searched).rules) (frame_of new level).entrance))) step
               (subst (λ (f : Frame). (step_of old level).lead ≡ length (supplied (entrance_of (leads_of (rules_in searched).rules) f.entrance))) frame is.placed.lead);
         };
@@ -148,7 +148,7 @@ module _ (searched : SearchedLexicon) (line : Line) where
 
   -- how many frames are in use is nothing to a frame
   pub other_depth : (stack : Resumption) (level depth : ℕ) → IsFrame searched line stack level
-      → IsFrame searched line (record { stand = stack.stand; depth = depth; steps = stack.steps; frames = stack.frames; nodes = stack.nodes }) level
+      → IsFrame searched line (with_depth stack depth) level
   other_depth stack level depth is = record {
     placed = record {
       is_stack = record { steps = is.placed.is_stack.steps; nodes = is.placed.is_stack.nodes };
@@ -161,3 +161,24 @@ module _ (searched : SearchedLexicon) (line : Line) where
     letters = is.letters;
     walked = is.walked;
   }
+
+-- nor to those before it
+pub other_depth_keeps : (level : ℕ) (old stack : Resumption) (depth : ℕ) → KeepsBefore level old stack → KeepsBefore level old (with_depth stack depth)
+other_depth_keeps level old stack depth keeps = record {
+  position = keeps.position;
+  room = keeps.room;
+  is_stack = record { steps = keeps.is_stack.steps; nodes = keeps.is_stack.nodes };
+  steps = keeps.steps;
+  frames = keeps.frames;
+  nodes = keeps.nodes;
+}
+
+pub keeps_other_depth : (level : ℕ) (old stack : Resumption) (depth : ℕ) → KeepsBefore level (with_depth old depth) stack → KeepsBefore level old stack
+keeps_other_depth level old stack depth keeps = record {
+  position = keeps.position;
+  room = keeps.room;
+  is_stack = keeps.is_stack;
+  steps = keeps.steps;
+  frames = keeps.frames;
+  nodes = keeps.nodes;
+}

@@ -13,12 +13,12 @@ use Rattle.annotated_trie.specs.Searched.{SearchedLexicon, IsSearchedLexicon}
 use Rattle.lexicon_definitions.specs.declared.limits.TheConstants.{MOST_RULES}
 use Rattle.search_frames.specs.declared.frame.TheConstants.{NODES_OF_FRAME}
 use Rattle.search_frames.specs.declared.resumption.Resumption.{Resumption}
-use Rattle.search_frames.specs.Standings.{Standing, after, opening, rules_in}
+use Rattle.search_frames.specs.Configurations.{NumberedConfiguration, after, opening, rules_in}
 use Rattle.search_frames.specs.Frames.{here_of, still_to_try}
 use Rattle.search_frames.specs.Reached.{rank}
 use Rattle.search_frames.specs.Costs.{HasAtMostChoices, steps_of_phase, steps_left_in_phase, steps_left, steps_of_frame}
 use Rattle.search_frames.proofs.FrameCosts.{some_steps, steps_within}
-use Rattle.search_frames.proofs.StandingRanks.{rank_rises, rank_within}
+use Rattle.search_frames.proofs.ConfigurationRanks.{rank_rises, rank_within}
 use Rattle.segmenter.specs.Chains.{AreFrames, LeadAlong}
 use Rattle.segmenter.specs.Searches.{SearchValue, StandsAtAnswer}
 use Rattle.segmenter.specs.MoveCosts.{AreKnownExact, steps_of_levels, levels_from, levels_after}
@@ -80,7 +80,7 @@ tries_kept searched level old new kept =
 
 module _ (searched : SearchedLexicon) (line : Line) (choices : List Choice) (is : IsSearchedLexicon searched) where
   -- the frame after the first stands at a higher rank
-  pub deeper_rises : (stack : Resumption) (level : ℕ) (here : Standing) (keys : List Key) → AreFrames searched line stack level here keys
+  pub deeper_rises : (stack : Resumption) (level : ℕ) (here : NumberedConfiguration) (keys : List Key) → AreFrames searched line stack level here keys
       → LeadAlong searched line choices here keys → level + 1 < stack.depth → rank here < rank (here_of searched stack (level + 1))
   deeper_rises stack level here [] frames along more = absurd along
   deeper_rises stack level here (key ∷ []) frames along more =
@@ -90,7 +90,7 @@ module _ (searched : SearchedLexicon) (line : Line) (choices : List Choice) (is 
       subst (λ h. rank here < rank h) (sym frames.4.1) (rank_rises searched line choices here key is along.0)
 
   -- keys along which each leads on are no more than the ranks
-  few_keys : (keys : List Key) (here : Standing) → LeadAlong searched line choices here keys → rank here ≤ 2 * length line.letters
+  few_keys : (keys : List Key) (here : NumberedConfiguration) → LeadAlong searched line choices here keys → rank here ≤ 2 * length line.letters
       → rank here + length keys ≤ 2 * length line.letters + 1
   few_keys [] here along within = absurd along
   few_keys (key ∷ []) here along within = omega (arith, within)
@@ -110,7 +110,7 @@ module _ (searched : SearchedLexicon) (line : Line) (choices : List Choice) (is 
   -- ---- whole moves
 
   -- from the opening there are twice as many levels as letters
-  pub first_move : (most steps now : ℕ) → IsLine line → (here : Standing) → here ≡ opening
+  pub first_move : (most steps now : ℕ) → IsLine line → (here : NumberedConfiguration) → here ≡ opening
       → now ≤ steps + 1 + steps_of_levels searched most (levels_from line here) → now ≤ steps + steps_of_levels searched most (4 * length line.letters)
   first_move most steps now line_is here here_is found =
       let cost = steps_of_frame searched most in
@@ -134,7 +134,7 @@ module _ (searched : SearchedLexicon) (line : Line) (choices : List Choice) (is 
       omega (arith, found, whole, one)
 
   -- from an answer those of its frames are left, and then as many entered
-  pub later_move : (most steps now depth : ℕ) (here : Standing) → here ≡ opening → depth ≤ 2 * length line.letters
+  pub later_move : (most steps now depth : ℕ) (here : NumberedConfiguration) → here ≡ opening → depth ≤ 2 * length line.letters
       → now ≤ steps + steps_of_levels searched most (depth - 0 + levels_after line here) → now ≤ steps + steps_of_levels searched most (4 * length line.letters)
   later_move most steps now depth here here_is few found =
       let count = length line.letters in

@@ -14,16 +14,17 @@ use Rattle.segmentation_definitions.proofs.KeyLists.{compare_keys_total}
 use Rattle.listing_laws.specs.Ways.{IsPath}
 use Rattle.annotated_trie.specs.Searched.{SearchedLexicon, IsSearchedLexicon}
 use Rattle.search_frames.specs.declared.resumption.Resumption.{Resumption}
-use Rattle.search_frames.specs.declared.place.Place.{Place}
-use Rattle.search_frames.specs.Standings.{Standing, IsPossible, LeadsOn, Ends, after, ways_in}
-use Rattle.search_frames.specs.Frames.{IsFrame, IsUntried, HasAllToTry, HasLaterToTry, ChangesFrom, here_of, place_of, key_at, standing_of}
+use Rattle.search_frames.specs.declared.configuration.Configuration.{Configuration}
+use Rattle.search_frames.specs.Configurations.{NumberedConfiguration, IsPossible, LeadsOn, Ends, after, ways_in}
+use Rattle.search_frames.specs.Frames.{IsFrame, IsUntried, HasAllToTry, HasLaterToTry, ChangesFrom, here_of, configuration_at, key_at, numbered_of}
 use Rattle.search_frames.specs.Reached.{IsReached}
 use Rattle.search_frames.specs.Tests.{LeadsTo}
 use Rattle.search_frames.specs.Turns.{BeginsPath, HasTurned, HasNoTurn}
-use Rattle.segmenter.specs.Chains.{AreFrames, HasFound, HasNone, Every, BeginsUntried, ComesAfter, HasNoneBelow, KeepsBefore}
+use Rattle.search_frames.specs.Stacks.{KeepsBefore}
+use Rattle.segmenter.specs.Chains.{AreFrames, HasFound, HasNone, Every, BeginsUntried, ComesAfter, HasNoneBelow}
 use Rattle.segmenter.proofs.KeptFrames.{keeps_itself, keeps_if_changes, keeps_then, keeps_less, frame_kept, place_kept, key_kept, here_kept, FrameKept, is_frame_kept, later_kept, untried_kept, kept_back}
 use Rattle.search_frames.proofs.LeadingTo.{LedTo, leads_from}
-use Rattle.search_frames.proofs.StandingRanks.{not_both, possible_if_leads, possible_if_ends}
+use Rattle.search_frames.proofs.ConfigurationRanks.{not_both, possible_if_leads, possible_if_ends}
 
 -- ---- lists of keys by their first keys
 
@@ -40,22 +41,22 @@ not_greater o less greater = cc
 
 module _ (searched : SearchedLexicon) (line : Line) (choices : List Choice) where
   -- a path goes on after its first key, or ends with it
-  pub record GoesOn (here : Standing) (key : Key) (keys : List Key) : Type 0 where
+  pub record GoesOn (here : NumberedConfiguration) (key : Key) (keys : List Key) : Type 0 where
     pub leads : LeadsOn searched line choices here key
     pub path : IsPath (ways_in searched line choices) (after searched line here key) keys
 
-  pub first_of_path : (here : Standing) (key : Key) (keys : List Key) → IsPath (ways_in searched line choices) here (key ∷ keys)
+  pub first_of_path : (here : NumberedConfiguration) (key : Key) (keys : List Key) → IsPath (ways_in searched line choices) here (key ∷ keys)
       → (Ends searched line choices here key × (keys ≡ [])) ⊎ GoesOn here key keys
   first_of_path here key [] ends = inl (ends, refl)
   first_of_path here key (later ∷ keys) (next, (leads, same), path) =
       inr (record { leads = leads; path = subst (λ h. IsPath (ways_in searched line choices) h (later ∷ keys)) same path })
 
-  pub path_with : (here : Standing) (key : Key) (keys : List Key) → LeadsOn searched line choices here key
+  pub path_with : (here : NumberedConfiguration) (key : Key) (keys : List Key) → LeadsOn searched line choices here key
       → IsPath (ways_in searched line choices) (after searched line here key) keys → IsPath (ways_in searched line choices) here (key ∷ keys)
   path_with here key [] leads path = absurd path
   path_with here key (later ∷ keys) leads path = (after searched line here key, (leads, refl), path)
 
-  pub first_possible : (here : Standing) (key : Key) (keys : List Key) → IsPath (ways_in searched line choices) here (key ∷ keys)
+  pub first_possible : (here : NumberedConfiguration) (key : Key) (keys : List Key) → IsPath (ways_in searched line choices) here (key ∷ keys)
       → IsPossible searched line here key
   first_possible here key keys path = elim (first_of_path here key keys path) [
     | inl ends ↦ possible_if_ends searched line choices here key ends.0
@@ -68,7 +69,7 @@ module _ (searched : SearchedLexicon) (line : Line) (choices : List Choice) wher
 -- with one to try at first, but for those that were passed and are no paths
 pub record IsUnderWay (searched : SearchedLexicon) (line : Line) (choices : List Choice) (level : ℕ) (first stack : Resumption) : Type 0 where
   pub frame : IsFrame searched line stack level
-  pub same_place : place_of stack level ≡ place_of first level
+  pub same_configuration : configuration_at stack level ≡ configuration_at first level
   pub keeps : KeepsBefore level first stack
   pub left : (keys : List Key) → IsPath (ways_in searched line choices) (here_of searched first level) keys
       → BeginsUntried searched first level keys → BeginsUntried searched stack level keys
@@ -79,14 +80,14 @@ module _ (searched : SearchedLexicon) (line : Line) (choices : List Choice) (lev
   pub under_way_at_first : IsFrame searched line first level → IsUnderWay searched line choices level first first
   under_way_at_first frame = record {
     frame = frame;
-    same_place = refl;
+    same_configuration = refl;
     keeps = keeps_itself level first frame.placed.is_stack;
     left = λ keys path wanted. wanted;
     only = λ key possible untried. untried;
   }
 
   still_here : (stack : Resumption) → IsUnderWay searched line choices level first stack → here_of searched stack level ≡ here_of searched first level
-  still_here stack under_way = ap (standing_of searched) under_way.same_place
+  still_here stack under_way = ap (numbered_of searched) under_way.same_configuration
 
   pub still_reached : (stack : Resumption) → IsUnderWay searched line choices level first stack → IsReached searched line choices (here_of searched first level)
       → IsReached searched line choices (here_of searched stack level)
@@ -99,7 +100,7 @@ module _ (searched : SearchedLexicon) (line : Line) (choices : List Choice) (lev
     here_old = still_here old under_way
 
     here_mid : here_of searched mid level ≡ here_of searched first level
-    here_mid = ap (standing_of searched) went.same_place ∙ here_old
+    here_mid = ap (numbered_of searched) went.same_configuration ∙ here_old
 
     -- a path that is wanted begins with this key or a later one
     wanted_next : (x : Key) (xs : List Key) → IsPath (ways_in searched line choices) (here_of searched first level) (x ∷ xs)
@@ -126,7 +127,7 @@ module _ (searched : SearchedLexicon) (line : Line) (choices : List Choice) (lev
         → IsUnderWay searched line choices level first mid
     under_way_passed none = record {
       frame = went.frame;
-      same_place = went.same_place ∙ under_way.same_place;
+      same_configuration = went.same_configuration ∙ under_way.same_configuration;
       keeps = keeps_mid;
       left = passed;
       only = only_mid;
@@ -169,7 +170,7 @@ module _ (searched : SearchedLexicon) (line : Line) (choices : List Choice) (lev
         ]
 
     -- the key leads on to a place of higher rank
-    pub led_deeper : (next : Place) → LeadsTo searched line choices (here_of searched old level) (key_at mid level) next → IsSearchedLexicon searched
+    pub led_deeper : (next : Configuration) → LeadsTo searched line choices (here_of searched old level) (key_at mid level) next → IsSearchedLexicon searched
         → IsReached searched line choices (here_of searched first level) → LedTo searched line choices (here_of searched first level) next
     led_deeper next leads is reached =
         leads_from searched line choices (here_of searched first level) (key_at mid level) next
@@ -236,7 +237,7 @@ module _ (searched : SearchedLexicon) (line : Line) (choices : List Choice) (lev
         let few = (is_frame_kept searched line level mid deep keeps went.frame).few in
         record {
           frame = is_frame_kept searched line level mid deep keeps went.frame;
-          same_place = place_kept level mid deep kept ∙ passed.same_place;
+          same_configuration = place_kept level mid deep kept ∙ passed.same_configuration;
           keeps = keeps_then level first mid deep passed.keeps (keeps_less level mid deep keeps);
           left = λ keys path wanted. begins_kept deep kept keys (passed.left keys path wanted);
           only = λ key possible untried. passed.only key possible (untried_kept searched line level deep mid key (kept_back level mid deep kept) few untried);
@@ -277,7 +278,7 @@ module _ (searched : SearchedLexicon) (line : Line) (choices : List Choice) (lev
 
 -- ---- what comes after the keys along which frames stand
 
-module _ (searched : SearchedLexicon) (line : Line) (choices : List Choice) (level : ℕ) (old : Resumption) (here : Standing) (key : Key) (rest : List Key)
+module _ (searched : SearchedLexicon) (line : Line) (choices : List Choice) (level : ℕ) (old : Resumption) (here : NumberedConfiguration) (key : Key) (rest : List Key)
     (frames : AreFrames searched line old level here (key ∷ rest)) where
   nothing_after : (keys earlier : List Key) → keys ≡ [] → ComesAfter earlier keys → ⊥
   nothing_after [] [] none later = later

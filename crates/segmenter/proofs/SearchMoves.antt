@@ -7,35 +7,36 @@ use Rattle.segmentation_definitions.specs.Listings.{IsAbove, IsNext}
 use Rattle.derivation.specs.Steps.{steps_of}
 use Rattle.derivation.specs.declared.step.Step.{Step as ProgramStep}
 use Rattle.annotated_trie.specs.Searched.{SearchedLexicon, IsSearchedLexicon}
-use Rattle.search_frames.specs.declared.stand.Stand.TheVariants as stand
+use Rattle.search_frames.specs.declared.position.Position.TheVariants as position
 use Rattle.search_frames.specs.declared.resumption.Resumption.{Resumption}
-use Rattle.search_frames.specs.Standings.{opening, rules_in}
+use Rattle.search_frames.specs.Configurations.{opening, rules_in}
 use Rattle.segmenter.specs.Chains.{HasFound, HasNone, Every, ComesAfter}
 use Rattle.segmenter.specs.Moves.{StandsAtNext, HasNoNext, HasMoved}
-use Rattle.segmenter.specs.Searches.{IsStackOf, MovedOn, IsCurrent, position_of, position_at, steps_in}
+use Rattle.search_frames.specs.Stacks.{steps_in}
+use Rattle.segmenter.specs.Searches.{IsStackOf, MovedOn, IsCurrent, position_of, position_at}
 use Rattle.segmenter.proofs.StandingAnswers.{frames_stand, next_from_first, none_from_first, next_from_later, none_from_later}
 
 module _ (searched : SearchedLexicon) (line : Line) (choices : List Choice) (old : Resumption) (is : IsSearchedLexicon searched)
     (stack_is : IsStackOf searched line choices old) where
   -- ---- before the first answer
 
-  pub next_before : (new : Resumption) → old.stand ≡ stand.Before → HasFound searched line choices Every new 0 opening
+  pub next_before : (new : Resumption) → old.position ≡ position.Before → HasFound searched line choices Every new 0 opening
       → StandsAtNext searched line choices old new
   next_before new before found =
       let stands = frames_stand searched line choices new found.keys is stack_is.is_line found.frames found.first.path in
       record {
         answer = record { keys = found.keys; frames = found.frames; path = found.first.path };
-        next = subst (λ stand. IsNext searched.lexicon line choices (position_at searched line old stand)
+        next = subst (λ position. IsNext searched.lexicon line choices (position_at searched line old position)
             (steps_of (rules_in searched) line.letters (steps_in new))) (sym before)
             (next_from_first searched line choices is stack_is.is_line found.keys _ found.first stands.answer stands.same);
       }
 
-  pub none_before : old.stand ≡ stand.Before → HasNone searched line choices Every opening → HasNoNext searched line choices old
+  pub none_before : old.position ≡ position.Before → HasNone searched line choices Every opening → HasNoNext searched line choices old
   none_before before none answer answer_is above = none_from_first searched line choices is stack_is.is_line none answer answer_is
 
   -- ---- at an answer
 
-  module _ (at : old.stand ≡ stand.At) where
+  module _ (at : old.position ≡ position.At) where
     pub next_at : (new : Resumption) → HasFound searched line choices (ComesAfter (stack_is.answer at).keys) new 0 opening
         → StandsAtNext searched line choices old new
     next_at new found =
@@ -43,7 +44,7 @@ module _ (searched : SearchedLexicon) (line : Line) (choices : List Choice) (old
         let stands = frames_stand searched line choices new found.keys is stack_is.is_line found.frames found.first.path in
         record {
           answer = record { keys = found.keys; frames = found.frames; path = found.first.path };
-          next = subst (λ stand. IsNext searched.lexicon line choices (position_at searched line old stand)
+          next = subst (λ position. IsNext searched.lexicon line choices (position_at searched line old position)
               (steps_of (rules_in searched) line.letters (steps_in new))) (sym at)
               (next_from_later searched line choices is stack_is.is_line _ here.answer (stack_is.answer at).keys here.same found.keys _ found.first
               stands.answer stands.same);
@@ -53,7 +54,7 @@ module _ (searched : SearchedLexicon) (line : Line) (choices : List Choice) (old
     none_at none answer answer_is above =
         let here = frames_stand searched line choices old (stack_is.answer at).keys is stack_is.is_line (stack_is.answer at).frames (stack_is.answer at).path in
         none_from_later searched line choices is stack_is.is_line _ here.answer (stack_is.answer at).keys here.same none answer answer_is
-        (subst (λ stand. IsAbove (rules_in searched) (position_at searched line old stand) answer) at above)
+        (subst (λ position. IsAbove (rules_in searched) (position_at searched line old position) answer) at above)
 
     -- the steps of the stack are those of the answer at which it stands
     pub current_at : (items : List ProgramStep) → items ≡ old.steps.items
@@ -72,6 +73,6 @@ pub moved_on : (searched : SearchedLexicon) (line : Line) (choices : List Choice
     (record { searched = searched; line = line; choices = choices; position = position_of searched line new })
 moved_on searched line choices old new moved = record {
   answer = steps_of (rules_in searched) line.letters (steps_in new);
-  is = ap (λ stand. record { searched = searched; line = line; choices = choices; position = position_at searched line new stand }) moved.stand;
+  is = ap (λ position. record { searched = searched; line = line; choices = choices; position = position_at searched line new position }) moved.position;
   next = moved.next;
 }

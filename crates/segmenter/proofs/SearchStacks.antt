@@ -9,25 +9,23 @@ use Rattle.derivation.specs.Steps.{steps_of}
 use Rattle.annotated_trie.specs.Searched.{SearchedLexicon}
 use Rattle.search_frames.specs.Copies.{IsCopyOf}
 use Rattle.search_frames.specs.declared.frame.TheConstants.{NODES_OF_FRAME}
-use Rattle.search_frames.specs.declared.stand.Stand.{Stand}
-use Rattle.search_frames.specs.declared.stand.Stand.TheVariants as stand
+use Rattle.search_frames.specs.declared.position.Position.{Position as StackPosition}
+use Rattle.search_frames.specs.declared.position.Position.TheVariants as position
 use Rattle.search_frames.specs.declared.resumption.Resumption.{Resumption}
-use Rattle.search_frames.specs.Standings.{Standing, after, opening, rules_in, ways_in}
-use Rattle.search_frames.specs.Frames.{IsStack, IsFrame, here_of}
+use Rattle.search_frames.specs.Configurations.{NumberedConfiguration, after, opening, rules_in, ways_in}
+use Rattle.search_frames.specs.Stacks.{IsStack, KeepsBefore, steps_in, with_position}
+use Rattle.search_frames.specs.Frames.{IsFrame, here_of}
 use Rattle.search_frames.specs.Reached.{IsReached}
-use Rattle.segmenter.specs.Chains.{AreFrames, LeadAlong, HasRoom, KeepsBefore}
-use Rattle.segmenter.specs.Searches.{IsStackOf, StandsAtAnswer, StandsWhere, position_of, position_at, steps_in}
+use Rattle.segmenter.specs.Chains.{AreFrames, LeadAlong, HasRoom}
+use Rattle.segmenter.specs.Searches.{IsStackOf, StandsAtAnswer, StandsWhere, position_of, position_at}
 use Rattle.segmenter.proofs.KeptFrames.{frame_kept, is_frame_kept, later_kept, here_kept, key_kept}
-use Rattle.search_frames.proofs.ReachedStandings.{opening_reached}
+use Rattle.search_frames.proofs.ReachedConfigurations.{opening_reached}
 use Rattle.segmenter.proofs.StandingAnswers.{frames_count}
 
 -- ---- a stack that stands otherwise
 
-abbrev pub restood : Resumption → Stand → Resumption
-restood stack to = record { stand = to; depth = stack.depth; steps = stack.steps; frames = stack.frames; nodes = stack.nodes }
-
-module _ (searched : SearchedLexicon) (line : Line) (stack : Resumption) (to : Stand) where
-  frame_restood : (level : ℕ) → IsFrame searched line stack level → IsFrame searched line (restood stack to) level
+module _ (searched : SearchedLexicon) (line : Line) (stack : Resumption) (to : StackPosition) where
+  frame_restood : (level : ℕ) → IsFrame searched line stack level → IsFrame searched line (with_position stack to) level
   frame_restood level is = record {
     placed = record {
       is_stack = record { steps = is.placed.is_stack.steps; nodes = is.placed.is_stack.nodes };
@@ -41,16 +39,16 @@ module _ (searched : SearchedLexicon) (line : Line) (stack : Resumption) (to : S
     walked = is.walked;
   }
 
-  pub frames_restood : (keys : List Key) (level : ℕ) (here : Standing) → AreFrames searched line stack level here keys
-      → AreFrames searched line (restood stack to) level here keys
+  pub frames_restood : (keys : List Key) (level : ℕ) (here : NumberedConfiguration) → AreFrames searched line stack level here keys
+      → AreFrames searched line (with_position stack to) level here keys
   frames_restood [] level here frames = frames
   frames_restood (key ∷ keys) level here (frame, here_is, later, key_is, frames) =
       (frame_restood level frame, here_is, later, key_is, frames_restood keys (level + 1) (after searched line here key) frames)
 
 module _ (searched : SearchedLexicon) (line : Line) (choices : List Choice) where
   -- the stack of a search after its frames changed and its stand was set
-  pub stack_restood : (old new : Resumption) (to : Stand) → IsStackOf searched line choices old → KeepsBefore 0 old new
-      → (to ≡ stand.At → StandsAtAnswer searched line choices new) → IsStackOf searched line choices (restood new to)
+  pub stack_restood : (old new : Resumption) (to : StackPosition) → IsStackOf searched line choices old → KeepsBefore 0 old new
+      → (to ≡ position.At → StandsAtAnswer searched line choices new) → IsStackOf searched line choices (with_position new to)
   stack_restood old new to is keeps answer = record {
     is_line = is.is_line;
     is_stack = record { steps = keeps.is_stack.steps; nodes = keeps.is_stack.nodes };
@@ -64,7 +62,7 @@ module _ (searched : SearchedLexicon) (line : Line) (choices : List Choice) wher
 
 copy_keeps : (level : ℕ) (old new : Resumption) → IsStack old → IsCopyOf old new → KeepsBefore level old new
 copy_keeps level old new is copy = record {
-  stand = copy.stand;
+  position = copy.position;
   room = ap length copy.frames;
   is_stack = record {
     steps = ap length copy.steps ∙ is.steps ∙ sym (ap length copy.frames);
@@ -76,7 +74,7 @@ copy_keeps level old new is copy = record {
 }
 
 module _ (searched : SearchedLexicon) (line : Line) (old new : Resumption) (copy : IsCopyOf old new) where
-  frames_copied : (keys : List Key) (level : ℕ) (here : Standing) → AreFrames searched line old level here keys
+  frames_copied : (keys : List Key) (level : ℕ) (here : NumberedConfiguration) → AreFrames searched line old level here keys
       → AreFrames searched line new level here keys
   frames_copied [] level here frames = frames ∙ sym copy.depth
   frames_copied (key ∷ keys) level here (frame, here_is, later, key_is, frames) =
@@ -92,13 +90,13 @@ module _ (searched : SearchedLexicon) (line : Line) (old new : Resumption) (copy
   steps_copied : steps_in new ≡ steps_in old
   steps_copied = ap (λ depth. take depth new.steps.items) copy.depth ∙ ap (take old.depth) copy.steps
 
-  position_as_copied : (at : Stand) → position_at searched line new at ≡ position_at searched line old at
-  position_as_copied stand.Before = refl
-  position_as_copied stand.At = ap (λ steps. AtAnswer (steps_of (rules_in searched) line.letters steps)) steps_copied
-  position_as_copied stand.Past = refl
+  position_as_copied : (at : StackPosition) → position_at searched line new at ≡ position_at searched line old at
+  position_as_copied position.Before = refl
+  position_as_copied position.At = ap (λ steps. AtAnswer (steps_of (rules_in searched) line.letters steps)) steps_copied
+  position_as_copied position.Past = refl
 
   position_copied : position_of searched line new ≡ position_of searched line old
-  position_copied = position_as_copied new.stand ∙ ap (position_at searched line old) copy.stand
+  position_copied = position_as_copied new.position ∙ ap (position_at searched line old) copy.position
 
   -- a copy stands where the original does
   pub copy_stands : (choices : List Choice) → IsStackOf searched line choices old
@@ -109,7 +107,7 @@ module _ (searched : SearchedLexicon) (line : Line) (old new : Resumption) (copy
       is_stack = (copy_keeps 0 old new is.is_stack copy).is_stack;
       room = subst (λ n. 2 * length line.letters ≤ n) (sym (ap length copy.frames)) is.room;
       answer = λ at.
-          let stands = is.answer (sym copy.stand ∙ at) in
+          let stands = is.answer (sym copy.position ∙ at) in
           record { keys = stands.keys; frames = frames_copied stands.keys 0 opening stands.frames; path = stands.path };
     };
     position = position_copied;
@@ -119,7 +117,7 @@ module _ (searched : SearchedLexicon) (line : Line) (old new : Resumption) (copy
 
 module _ (searched : SearchedLexicon) (line : Line) (choices : List Choice) where
   -- along a path each key but the last leads on
-  pub path_leads_along : (keys : List Key) (here : Standing) → IsPath (ways_in searched line choices) here keys
+  pub path_leads_along : (keys : List Key) (here : NumberedConfiguration) → IsPath (ways_in searched line choices) here keys
       → LeadAlong searched line choices here keys
   path_leads_along [] here path = path
   path_leads_along (key ∷ []) here path = tt
@@ -129,13 +127,13 @@ module _ (searched : SearchedLexicon) (line : Line) (choices : List Choice) wher
         (subst (λ here. IsPath (ways_in searched line choices) here (later ∷ keys)) leads.1 path),
   )
 
-  first_stands : (stack : Resumption) (keys : List Key) (here : Standing) → AreFrames searched line stack 0 here keys
+  first_stands : (stack : Resumption) (keys : List Key) (here : NumberedConfiguration) → AreFrames searched line stack 0 here keys
       → IsPath (ways_in searched line choices) here keys → here_of searched stack 0 ≡ here
   first_stands stack [] here frames path = absurd path
   first_stands stack (key ∷ keys) here frames path = frames.1
 
   -- the steps of frames are within the room
-  frames_within : (stack : Resumption) (keys : List Key) (level : ℕ) (here : Standing) → AreFrames searched line stack level here keys
+  frames_within : (stack : Resumption) (keys : List Key) (level : ℕ) (here : NumberedConfiguration) → AreFrames searched line stack level here keys
       → level ≤ length stack.steps.items → stack.depth ≤ length stack.steps.items
   frames_within stack [] level here frames le = let e : level ≡ stack.depth = frames in omega (arith, e)
   frames_within stack (key ∷ keys) level here (frame, here_is, later, key_is, frames) le =

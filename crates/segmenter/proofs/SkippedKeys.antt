@@ -10,10 +10,10 @@ use Rattle.segmentation_definitions.specs.Listings.{Key, compare_keys}
 use Rattle.segmentation_definitions.proofs.KeyLists.{compare_keys_total, compare_keys_exact, same_cons}
 use Rattle.listing_laws.specs.Ways.{IsPath}
 use Rattle.annotated_trie.specs.Searched.{SearchedLexicon}
-use Rattle.search_frames.specs.Standings.{Standing, after, ways_in}
+use Rattle.search_frames.specs.Configurations.{NumberedConfiguration, after, ways_in}
 use Rattle.segmenter.specs.Chains.{ComesAfter}
 use Rattle.segmenter.proofs.StandingAnswers.{less_if_after}
-use Rattle.search_frames.proofs.StandingRanks.{not_both}
+use Rattle.search_frames.proofs.ConfigurationRanks.{not_both}
 use Rattle.segmenter.proofs.PathsFound.{first_of_path}
 use Rattle.list_laws.proofs.Orderings.{less_then_cases}
 
@@ -47,7 +47,7 @@ others_than_first (suc n) (suc depth) (first ∷ here) (key ∷ keys) le (inr (k
 -- ---- what comes after a path and has other first keys
 
 module _ (searched : SearchedLexicon) (line : Line) (choices : List Choice) where
-  pub after_first_keys : (depth n : ℕ) (here keys : List Key) (at : Standing) → n ≡ min depth (length here)
+  pub after_first_keys : (depth n : ℕ) (here keys : List Key) (at : NumberedConfiguration) → n ≡ min depth (length here)
       → IsPath (ways_in searched line choices) at here → IsPath (ways_in searched line choices) at keys
       → slice_cmp compare_keys here keys ≡ Less → take depth keys ≢ take depth here → ComesAfter (take n here) keys
   after_first_keys zero n here keys at count path other less others = absurd (others refl)

@@ -26,12 +26,12 @@ use Rattle.derivation.specs.declared.step.Step.{Step as ProgramStep}
 use Rattle.derivation.proofs.PlacedSteps.{same_keys}
 use Rattle.annotated_trie.specs.Searched.{SearchedLexicon, IsSearchedLexicon}
 use Rattle.search_frames.specs.declared.resumption.Resumption.{Resumption}
-use Rattle.search_frames.specs.Standings.{Standing, rules_in, Ends, after, opening, ways_in}
+use Rattle.search_frames.specs.Configurations.{NumberedConfiguration, rules_in, Ends, after, opening, ways_in}
 use Rattle.search_frames.specs.Frames.{IsFrame, here_of, key_at, step_of}
 use Rattle.segmenter.specs.Chains.{AreFrames, HasNone, Every, ComesAfter, LeadAlong}
-use Rattle.segmenter.specs.Searches.{steps_in}
-use Rattle.search_frames.proofs.StandingPaths.{path_from_opening}
-use Rattle.search_frames.proofs.StandingRanks.{not_both}
+use Rattle.search_frames.specs.Stacks.{steps_in}
+use Rattle.search_frames.proofs.ConfigurationPaths.{path_from_opening}
+use Rattle.search_frames.proofs.ConfigurationRanks.{not_both}
 use Rattle.segmenter.proofs.PathsFound.{GoesOn, first_of_path}
 use Rattle.list_laws.proofs.Orderings.{less_then_cases}
 use Rattle.list_laws.proofs.Elements.{parts_from}
@@ -96,26 +96,26 @@ module _ (searched : SearchedLexicon) (line : Line) (choices : List Choice) (sta
       ∙ ap (λ step. step ∷ drop (level + 1) (steps_in stack)) (get_or-take stack.depth stack.steps.items level d below)
 
   -- frames from a level on are as many as the keys
-  pub frames_count : (keys : List Key) (level : ℕ) (here : Standing) → AreFrames searched line stack level here keys → level + length keys ≡ stack.depth
+  pub frames_count : (keys : List Key) (level : ℕ) (here : NumberedConfiguration) → AreFrames searched line stack level here keys → level + length keys ≡ stack.depth
   frames_count [] level here frames = let e : level ≡ stack.depth = frames in omega arith
   frames_count (key ∷ keys) level here frames =
       let later = frames_count keys (level + 1) (after searched line here key) frames.4 in omega (arith, later)
 
   -- what is supplied after a step is the v of its rule
-  supplied_v : (here : Standing) (key : Key) → supplied (after searched line here key).entrance ≡ (rule_of (rules_in searched) key.rule).v
+  supplied_v : (here : NumberedConfiguration) (key : Key) → supplied (after searched line here key).entrance ≡ (rule_of (rules_in searched) key.rule).v
   supplied_v here key = sym (supplied_after (rules_in searched) (step_at (rules_in searched) line here.at here.entrance key ∷ []))
 
-  stands_here : (level : ℕ) (here : Standing) (key : Key) → IsFrame searched line stack level → here_of searched stack level ≡ here → key_at stack level ≡ key
+  stands_here : (level : ℕ) (here : NumberedConfiguration) (key : Key) → IsFrame searched line stack level → here_of searched stack level ≡ here → key_at stack level ≡ key
       → MayStand searched.lexicon line choices here.at here.entrance key
       → StandsAt (rules_in searched) line.letters here.at (supplied here.entrance) (step_of stack level)
   stands_here level here key frame here_is key_is stands =
-      subst (λ (h : Standing). StandsAt (rules_in searched) line.letters h.at (supplied h.entrance) (step_of stack level)) here_is
+      subst (λ (h : NumberedConfiguration). StandsAt (rules_in searched) line.letters h.at (supplied h.entrance) (step_of stack level)) here_is
       (frame_stands level frame
-      (subst (λ (h : Standing). MayStand searched.lexicon line choices h.at h.entrance (key_at stack level)) (sym here_is)
+      (subst (λ (h : NumberedConfiguration). MayStand searched.lexicon line choices h.at h.entrance (key_at stack level)) (sym here_is)
       (subst (λ key. MayStand searched.lexicon line choices here.at here.entrance key) (sym key_is) stands)))
 
   -- what stands after the first key of a path
-  after_first : (keys : List Key) (level : ℕ) (here : Standing) (key : Key) → AreFrames searched line stack level here (key ∷ keys)
+  after_first : (keys : List Key) (level : ℕ) (here : NumberedConfiguration) (key : Key) → AreFrames searched line stack level here (key ∷ keys)
       → (IsPath (ways_in searched line choices) (after searched line here key) keys
       → StandToEnd (rules_in searched) line.letters (after searched line here key).at (supplied (after searched line here key).entrance) keys (drop (level + 1) (steps_in stack)))
       → (Ends searched line choices here key × (keys ≡ [])) ⊎ GoesOn searched line choices here key keys
@@ -141,7 +141,7 @@ module _ (searched : SearchedLexicon) (line : Line) (choices : List Choice) (sta
   )
 
   -- frames along a path stand to the end of the line
-  frames_to_end : (keys : List Key) (level : ℕ) (here : Standing) → AreFrames searched line stack level here keys
+  frames_to_end : (keys : List Key) (level : ℕ) (here : NumberedConfiguration) → AreFrames searched line stack level here keys
       → IsPath (ways_in searched line choices) here keys
       → StandToEnd (rules_in searched) line.letters here.at (supplied here.entrance) keys (drop level (steps_in stack))
   frames_to_end [] level here frames path = absurd path
@@ -231,7 +231,7 @@ less_if_after (first ∷ earlier) (key ∷ keys) (inr (same, later)) =
 
 module _ (searched : SearchedLexicon) (line : Line) (choices : List Choice) where
   -- of two paths from one place the greater comes after the other, since neither begins with the other
-  pub after_if_less : (earlier keys : List Key) (here : Standing) → IsPath (ways_in searched line choices) here earlier
+  pub after_if_less : (earlier keys : List Key) (here : NumberedConfiguration) → IsPath (ways_in searched line choices) here earlier
       → IsPath (ways_in searched line choices) here keys → slice_cmp compare_keys earlier keys ≡ Less → ComesAfter earlier keys
   after_if_less [] keys here path other less = absurd path
   after_if_less (first ∷ earlier) [] here path other less = absurd other
@@ -300,14 +300,14 @@ module _ (searched : SearchedLexicon) (line : Line) (choices : List Choice) (is 
 
 module _ (searched : SearchedLexicon) (line : Line) (choices : List Choice) where
   -- each key of a path but the last leads on
-  pub along_path : (keys : List Key) (here : Standing) → IsPath (ways_in searched line choices) here keys → LeadAlong searched line choices here keys
+  pub along_path : (keys : List Key) (here : NumberedConfiguration) → IsPath (ways_in searched line choices) here keys → LeadAlong searched line choices here keys
   along_path [] here path = path
   along_path (key ∷ []) here path = tt
   along_path (key ∷ later ∷ keys) here (next, (leads, same), path) =
       (leads, along_path (later ∷ keys) (after searched line here key) (subst (λ next. IsPath (ways_in searched line choices) next (later ∷ keys)) same path))
 
   -- and so does each of its first keys but the last of them
-  pub along_front : (n : ℕ) (keys : List Key) (here : Standing) → LeadAlong searched line choices here keys → 1 ≤ n
+  pub along_front : (n : ℕ) (keys : List Key) (here : NumberedConfiguration) → LeadAlong searched line choices here keys → 1 ≤ n
       → LeadAlong searched line choices here (take n keys)
   along_front zero keys here along some = absurd (omega arith)
   along_front (suc n) [] here along some = along
@@ -319,10 +319,10 @@ module _ (searched : SearchedLexicon) (line : Line) (choices : List Choice) wher
 -- the stack with so many frames in use
 abbrev pub with_depth : ℕ → Resumption → Resumption
 with_depth depth stack =
-    record { stand = stack.stand; depth = depth; steps = stack.steps; frames = stack.frames; nodes = stack.nodes }
+    record { position = stack.position; depth = depth; steps = stack.steps; frames = stack.frames; nodes = stack.nodes }
 
 -- where only the first frames stay in use they stand along the first keys
-pub frames_front : (searched : SearchedLexicon) (line : Line) (stack : Resumption) (depth n : ℕ) (keys : List Key) (level : ℕ) (here : Standing)
+pub frames_front : (searched : SearchedLexicon) (line : Line) (stack : Resumption) (depth n : ℕ) (keys : List Key) (level : ℕ) (here : NumberedConfiguration)
     → AreFrames searched line stack level here keys → n ≤ length keys → depth ≡ level + n
     → AreFrames searched line (with_depth depth stack) level here (take n keys)
 frames_front searched line stack depth zero keys level here frames most is = omega (arith, is)

@@ -1,5 +1,5 @@
 -- Frames of a search one after another, and what a search finds with them (own; after Huet 2005).
-use Rattle.std.specs.Prelude.{◌≡◌, ℕ, ◌+◌, ◌*◌, ◌<◌, ◌≤◌, ◌⊎◌, List, [], ◌∷◌, length, take}
+use Rattle.std.specs.Prelude.{◌≡◌, ℕ, ◌+◌, ◌*◌, ◌<◌, ◌≤◌, ◌⊎◌, List, [], ◌∷◌, length}
 use Rattle.std.specs.declared.cmp.Ordering.TheVariants.{Less}
 use Rattle.text_definitions.specs.Lines.{Line}
 use Rattle.segmentation_definitions.specs.Items.{Choice}
@@ -7,29 +7,29 @@ use Rattle.segmentation_definitions.specs.Listings.{Key, compare_keys}
 use Rattle.listing_laws.specs.Ways.{IsPath}
 use Rattle.listing_laws.specs.Positions.{IsFirst}
 use Rattle.annotated_trie.specs.Searched.{SearchedLexicon}
-use Rattle.search_frames.specs.declared.frame.TheConstants.{NODES_OF_FRAME}
 use Rattle.search_frames.specs.declared.resumption.Resumption.{Resumption}
-use Rattle.search_frames.specs.Standings.{Standing, LeadsOn, after, ways_in}
-use Rattle.search_frames.specs.Frames.{IsStack, IsFrame, IsUntried, HasLaterToTry, here_of, key_at}
+use Rattle.search_frames.specs.Configurations.{NumberedConfiguration, LeadsOn, after, ways_in}
+use Rattle.search_frames.specs.Stacks.{depth_of, room_of}
+use Rattle.search_frames.specs.Frames.{IsFrame, IsUntried, HasLaterToTry, here_of, key_at}
 use Rattle.search_frames.specs.Reached.{rank}
 
 -- the frames from the level on up to the last in use stand one after another along the keys, each at its key, and have just
 -- the later keys still to try
-abbrev pub AreFrames : SearchedLexicon → Line → Resumption → ℕ → Standing → List Key → Type 0
-AreFrames searched line stack level here [] = level ≡ stack.depth
+abbrev pub AreFrames : SearchedLexicon → Line → Resumption → ℕ → NumberedConfiguration → List Key → Type 0
+AreFrames searched line stack level here [] = level ≡ depth_of stack
 AreFrames searched line stack level here (key ∷ keys) =
     IsFrame searched line stack level × (here_of searched stack level ≡ here) × HasLaterToTry searched line stack level
     × (key_at stack level ≡ key) × AreFrames searched line stack (level + 1) (after searched line here key) keys
 
 -- the frames from the level on stand along the first path from here that is wanted
 pub record HasFound (searched : SearchedLexicon) (line : Line) (choices : List Choice) (IsWanted : List Key → Type 0) (stack : Resumption) (level : ℕ)
-    (here : Standing) : Type 0 where
+    (here : NumberedConfiguration) : Type 0 where
   pub keys : List Key
   pub frames : AreFrames searched line stack level here keys
   pub first : IsFirst (ways_in searched line choices) here IsWanted keys
 
 -- no path from here is wanted
-abbrev pub HasNone : SearchedLexicon → Line → List Choice → (List Key → Type 0) → Standing → Type 0
+abbrev pub HasNone : SearchedLexicon → Line → List Choice → (List Key → Type 0) → NumberedConfiguration → Type 0
 HasNone searched line choices IsWanted here =
     (keys : List Key) → IsPath (ways_in searched line choices) here keys → IsWanted keys → ⊥
 
@@ -43,7 +43,7 @@ BeginsUntried searched stack level [] = ⊥
 BeginsUntried searched stack level (key ∷ keys) = IsUntried searched stack level key
 
 -- each key but the last leads on from where those before it lead, so that each frame stands where a search may come to
-abbrev pub LeadAlong : SearchedLexicon → Line → List Choice → Standing → List Key → Type 0
+abbrev pub LeadAlong : SearchedLexicon → Line → List Choice → NumberedConfiguration → List Key → Type 0
 LeadAlong searched line choices here [] = ⊥
 LeadAlong searched line choices here (key ∷ []) = Unit {0}
 LeadAlong searched line choices here (key ∷ later ∷ keys) =
@@ -56,21 +56,12 @@ ComesAfter (first ∷ earlier) [] = ⊥
 ComesAfter (first ∷ earlier) (key ∷ keys) = (compare_keys first key ≡ Less) ⊎ ((first ≡ key) × ComesAfter earlier keys)
 
 -- no path that begins with the key and comes after the rest there
-abbrev pub HasNoneBelow : SearchedLexicon → Line → List Choice → Standing → Key → List Key → Type 0
+abbrev pub HasNoneBelow : SearchedLexicon → Line → List Choice → NumberedConfiguration → Key → List Key → Type 0
 HasNoneBelow searched line choices here key rest =
     (keys : List Key) → IsPath (ways_in searched line choices) here (key ∷ keys) → ComesAfter rest keys → ⊥
 
--- nothing changes before the level but how many frames are in use, and the room stays
-pub record KeepsBefore (level : ℕ) (old new : Resumption) : Type 0 where
-  pub stand : new.stand ≡ old.stand
-  pub room : length new.frames.items ≡ length old.frames.items
-  pub is_stack : IsStack new
-  pub steps : take level new.steps.items ≡ take level old.steps.items
-  pub frames : take level new.frames.items ≡ take level old.frames.items
-  pub nodes : take (level * NODES_OF_FRAME) new.nodes.items ≡ take (level * NODES_OF_FRAME) old.nodes.items
-
 -- there is room for each frame that may stand from the level on: each rises in rank, up to twice the number of letters
-pub record HasRoom (line : Line) (stack : Resumption) (level : ℕ) (here : Standing) : Type 0 where
+pub record HasRoom (line : Line) (stack : Resumption) (level : ℕ) (here : NumberedConfiguration) : Type 0 where
   pub below : level < rank here
   pub within : rank here ≤ 2 * length line.letters
-  pub room : 2 * length line.letters ≤ length stack.frames.items
+  pub room : 2 * length line.letters ≤ room_of stack

@@ -1,32 +1,23 @@
 -- Keys that are given to a search, and the frame that stands at one (own).
-use Rattle.std.specs.Prelude.{◌≡◌, ℕ, List, map}
+use Rattle.std.specs.Prelude.{◌≡◌, ℕ}
 use Rattle.text_definitions.specs.Lines.{Line}
 use Rattle.segmentation_definitions.specs.Listings.{Key}
-use Rattle.derivation.specs.declared.step.Key.{Key as ProgramKey}
 use Rattle.annotated_trie.specs.Searched.{SearchedLexicon}
 use Rattle.search_frames.specs.declared.resumption.Resumption.{Resumption}
 use Rattle.search_frames.specs.declared.testing.Test.{Test}
 use Rattle.search_frames.specs.declared.testing.Test.TheVariants as test
-use Rattle.search_frames.specs.Standings.{Standing}
+use Rattle.search_frames.specs.Configurations.{NumberedConfiguration}
 use Rattle.search_frames.specs.Frames.{IsFrame, HasLaterToTry, here_of, key_at}
 
--- the key of the definitions for which the program's one stands
-abbrev pub key_of_given : ProgramKey → Key
-key_of_given key = record { phase = key.phase; taken = key.taken; rule = key.rule }
-
--- the keys of the definitions for which the program's ones stand
-abbrev pub keys_of_given : List ProgramKey → List Key
-keys_of_given keys = map key_of_given keys
-
 -- the frame at the level stands here at the key, and has just the later keys still to try
-pub record StandsAtKey (searched : SearchedLexicon) (line : Line) (stack : Resumption) (level : ℕ) (here : Standing) (key : Key) : Type 0 where
+pub record StandsAtKey (searched : SearchedLexicon) (line : Line) (stack : Resumption) (level : ℕ) (here : NumberedConfiguration) (key : Key) : Type 0 where
   pub frame : IsFrame searched line stack level
   pub place : here_of searched stack level ≡ here
   pub later : HasLaterToTry searched line stack level
   pub is_at : key_at stack level ≡ key
 
 -- so it does where the test of the key does not refuse it
-abbrev pub StandsUnlessRefused : SearchedLexicon → Line → Resumption → ℕ → Standing → Key → Test → Type 0
+abbrev pub StandsUnlessRefused : SearchedLexicon → Line → Resumption → ℕ → NumberedConfiguration → Key → Test → Type 0
 StandsUnlessRefused searched line stack level here key test.Refused = Unit {0}
 StandsUnlessRefused searched line stack level here key test.Ends = StandsAtKey searched line stack level here key
 StandsUnlessRefused searched line stack level here key (test.LeadsOn next) = StandsAtKey searched line stack level here key

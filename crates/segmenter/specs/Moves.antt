@@ -7,10 +7,12 @@ use Rattle.segmentation_definitions.specs.Listings.{IsAbove, IsNext}
 use Rattle.segmentation_definitions.specs.Answers.{IsAnswer}
 use Rattle.derivation.specs.Steps.{steps_of}
 use Rattle.annotated_trie.specs.Searched.{SearchedLexicon}
-use Rattle.search_frames.specs.declared.stand.Stand.TheVariants as stand
+use Rattle.search_frames.specs.declared.position.Position.TheVariants as position
+use Rattle.search_frames.specs.Stacks.{position_in}
 use Rattle.search_frames.specs.declared.resumption.Resumption.{Resumption}
-use Rattle.search_frames.specs.Standings.{rules_in}
-use Rattle.segmenter.specs.Searches.{StandsAtAnswer, position_of, steps_in}
+use Rattle.search_frames.specs.Configurations.{rules_in}
+use Rattle.search_frames.specs.Stacks.{steps_in}
+use Rattle.segmenter.specs.Searches.{StandsAtAnswer, position_of}
 
 -- the steps in use are those of the next answer after where the old stack stands
 abbrev pub HasNext : SearchedLexicon → Line → List Choice → Resumption → Resumption → Type 0
@@ -29,10 +31,10 @@ pub record StandsAtNext (searched : SearchedLexicon) (line : Line) (choices : Li
 
 -- the stack has moved to the next answer
 pub record HasMoved (searched : SearchedLexicon) (line : Line) (choices : List Choice) (old new : Resumption) : Type 0 where
-  pub stand : new.stand ≡ stand.At
+  pub position : position_in new ≡ position.At
   pub next : HasNext searched line choices old new
 
 -- the stack has come past the last answer
 pub record HasRunOut (searched : SearchedLexicon) (line : Line) (choices : List Choice) (old new : Resumption) : Type 0 where
-  pub stand : new.stand ≡ stand.Past
+  pub position : position_in new ≡ position.Past
   pub none : HasNoNext searched line choices old

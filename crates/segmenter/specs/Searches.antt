@@ -10,11 +10,11 @@ use Rattle.listing_laws.specs.Ways.{IsPath}
 use Rattle.derivation.specs.Steps.{steps_of, StandIn}
 use Rattle.derivation.specs.declared.step.Step.{Step as ProgramStep}
 use Rattle.annotated_trie.specs.Searched.{SearchedLexicon}
-use Rattle.search_frames.specs.declared.stand.Stand.{Stand}
-use Rattle.search_frames.specs.declared.stand.Stand.TheVariants as stand
+use Rattle.search_frames.specs.declared.position.Position.{Position as StackPosition}
+use Rattle.search_frames.specs.declared.position.Position.TheVariants as position
 use Rattle.search_frames.specs.declared.resumption.Resumption.{Resumption}
-use Rattle.search_frames.specs.Frames.{IsStack}
-use Rattle.search_frames.specs.Standings.{rules_in, opening, ways_in}
+use Rattle.search_frames.specs.Stacks.{IsStack, position_in, room_of, steps_in}
+use Rattle.search_frames.specs.Configurations.{rules_in, opening, ways_in}
 use Rattle.segmenter.specs.Chains.{AreFrames}
 
 -- the lexicon, the line, the choices, and the position in the listing of the line's answers
@@ -24,18 +24,14 @@ pub record SearchValue : Type 0 where
   pub choices : List Choice
   pub position : Position
 
--- the steps in use
-abbrev pub steps_in : Resumption → List ProgramStep
-steps_in stack = take stack.depth stack.steps.items
-
 -- where the stack stands in the listing
-abbrev pub position_at : SearchedLexicon → Line → Resumption → Stand → Position
-position_at searched line stack stand.Before = BeforeFirst
-position_at searched line stack stand.At = AtAnswer (steps_of (rules_in searched) line.letters (steps_in stack))
-position_at searched line stack stand.Past = PastLast
+abbrev pub position_at : SearchedLexicon → Line → Resumption → StackPosition → Position
+position_at searched line stack position.Before = BeforeFirst
+position_at searched line stack position.At = AtAnswer (steps_of (rules_in searched) line.letters (steps_in stack))
+position_at searched line stack position.Past = PastLast
 
 abbrev pub position_of : SearchedLexicon → Line → Resumption → Position
-position_of searched line stack = position_at searched line stack stack.stand
+position_of searched line stack = position_at searched line stack (position_in stack)
 
 -- the stack stands at an answer: its frames stand along the keys of a path
 pub record StandsAtAnswer (searched : SearchedLexicon) (line : Line) (choices : List Choice) (stack : Resumption) : Type 0 where
@@ -47,8 +43,8 @@ pub record StandsAtAnswer (searched : SearchedLexicon) (line : Line) (choices : 
 pub record IsStackOf (searched : SearchedLexicon) (line : Line) (choices : List Choice) (stack : Resumption) : Type 0 where
   pub is_line : IsLine line
   pub is_stack : IsStack stack
-  pub room : 2 * length line.letters ≤ length stack.frames.items
-  pub answer : stack.stand ≡ stand.At → StandsAtAnswer searched line choices stack
+  pub room : 2 * length line.letters ≤ room_of stack
+  pub answer : position_in stack ≡ position.At → StandsAtAnswer searched line choices stack
 
 -- the search has moved to the next answer after where it stood
 pub record MovedOn (old new : SearchValue) : Type 0 where

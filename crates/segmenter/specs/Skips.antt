@@ -8,10 +8,12 @@ use Rattle.segmentation_definitions.specs.Listings.{compare_answers}
 use Rattle.segmentation_definitions.specs.Answers.{IsAnswer}
 use Rattle.derivation.specs.Steps.{steps_of}
 use Rattle.annotated_trie.specs.Searched.{SearchedLexicon}
-use Rattle.search_frames.specs.declared.stand.Stand.TheVariants as stand
+use Rattle.search_frames.specs.declared.position.Position.TheVariants as position
+use Rattle.search_frames.specs.Stacks.{position_in}
 use Rattle.search_frames.specs.declared.resumption.Resumption.{Resumption}
-use Rattle.search_frames.specs.Standings.{rules_in}
-use Rattle.segmenter.specs.Searches.{SearchValue, StandsAtAnswer, IsPastKeys, position_of, steps_in}
+use Rattle.search_frames.specs.Configurations.{rules_in}
+use Rattle.search_frames.specs.Stacks.{steps_in}
+use Rattle.segmenter.specs.Searches.{SearchValue, StandsAtAnswer, IsPastKeys, position_of}
 
 -- what a search with this stack is seen as
 abbrev pub value_of : SearchedLexicon → Line → List Choice → Resumption → SearchValue
@@ -42,10 +44,10 @@ pub record StandsPast (searched : SearchedLexicon) (line : Line) (choices : List
 
 -- the stack has moved to this answer
 pub record HasSkipped (searched : SearchedLexicon) (line : Line) (choices : List Choice) (depth : ℕ) (old new : Resumption) : Type 0 where
-  pub stand : new.stand ≡ stand.At
+  pub position : position_in new ≡ position.At
   pub least : HasLeastPast searched line choices depth old new
 
 -- the stack has come past the last answer, since none is past these keys
 pub record HasSkippedOut (searched : SearchedLexicon) (line : Line) (choices : List Choice) (depth : ℕ) (old new : Resumption) : Type 0 where
-  pub stand : new.stand ≡ stand.Past
+  pub position : position_in new ≡ position.Past
   pub none : HasNonePast depth (value_of searched line choices old)

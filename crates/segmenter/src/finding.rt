@@ -3,19 +3,20 @@ ghost use Rattle.std.specs.Bool.{OnTrue, OnFalse};
 ghost use Rattle.text_definitions.specs.Lines.{IsLine};
 ghost use Rattle.segmentation_definitions.specs.Listings.{Key};
 ghost use Rattle.annotated_trie.specs.Searched.{IsSearchedLexicon};
-ghost use Rattle.search_frames.specs.Frames.{IsStack, IsFrame, IsPlaceIn, standing_of, here_of};
+ghost use Rattle.search_frames.specs.Stacks.{IsStack, KeepsBefore, depth_of};
+ghost use Rattle.search_frames.specs.Frames.{IsFrame, IsConfigurationIn, numbered_of, here_of};
 ghost use Rattle.search_frames.specs.Guided.{IsGuideOf, IsExactOf};
 ghost use Rattle.search_frames.specs.Costs.{HasAtMostChoices, steps_left};
 ghost use Rattle.search_frames.specs.Reached.{IsReached};
 ghost use Rattle.search_frames.specs.Turns.{HasToTry};
 ghost use Rattle.segmenter.specs.MoveCosts.{steps_of_levels, levels_from, levels_after};
-ghost use Rattle.segmenter.specs.Chains.{AreFrames, HasFound, HasNone, Every, BeginsUntried, ComesAfter, LeadAlong, HasNoneBelow, HasRoom, KeepsBefore};
+ghost use Rattle.segmenter.specs.Chains.{AreFrames, HasFound, HasNone, Every, BeginsUntried, ComesAfter, LeadAlong, HasNoneBelow, HasRoom};
 
 use annotated_trie::Lexicon;
 use outside::Steps;
 use phoneme::Line;
 use reader_choices::Choices;
-use search_frames::{Place, Resumption, SearchGuide, ToTry, Turn, open_frame};
+use search_frames::{Configuration, Resumption, SearchGuide, ToTry, Turn, open_frame};
 
 /// Finds the first path from the place, with the frames from the level on. False where there is none.
 #[cycle(find)]
@@ -26,7 +27,7 @@ pub(crate) fn find_first<D: SearchGuide, L>(
     guide: &D,
     stack: &mut Resumption,
     level: usize,
-    place: Place,
+    place: Configuration,
     steps: &mut Steps<L>,
 ) -> bool
     requires searched { IsSearchedLexicon lexicon.now }
@@ -34,14 +35,14 @@ pub(crate) fn find_first<D: SearchGuide, L>(
     requires guide { IsGuideOf lexicon.now line.now choices.now (D.covers guide.now) (D.says guide.now) }
     requires known { D.known guide.now lexicon.now line.now choices.now }
     requires stack { IsStack stack.old }
-    requires place { IsPlaceIn lexicon.now line.now place }
-    requires reached { IsReached lexicon.now line.now choices.now (standing_of lexicon.now place) }
-    requires room { HasRoom line.now stack.old level (standing_of lexicon.now place) }
-    ensures found { OnTrue result (HasFound lexicon.now line.now choices.now Every stack.new level (standing_of lexicon.now place)) }
-    ensures none { OnFalse result (HasNone lexicon.now line.now choices.now Every (standing_of lexicon.now place)) }
+    requires place { IsConfigurationIn lexicon.now line.now place }
+    requires reached { IsReached lexicon.now line.now choices.now (numbered_of lexicon.now place) }
+    requires room { HasRoom line.now stack.old level (numbered_of lexicon.now place) }
+    ensures found { OnTrue result (HasFound lexicon.now line.now choices.now Every stack.new level (numbered_of lexicon.now place)) }
+    ensures none { OnFalse result (HasNone lexicon.now line.now choices.now Every (numbered_of lexicon.now place)) }
     ensures changes { KeepsBefore level stack.old stack.new }
     ensures steps_on { IsExactOf lexicon.now line.now choices.now (D.says guide.now) → (most : ℕ) → HasAtMostChoices lexicon.now.tries most
-        → OnTrue result (steps.new ≤ steps.old + 1 + steps_of_levels lexicon.now most (levels_from line.now (standing_of lexicon.now place))) }
+        → OnTrue result (steps.new ≤ steps.old + 1 + steps_of_levels lexicon.now most (levels_from line.now (numbered_of lexicon.now place))) }
     ensures steps_end { IsExactOf lexicon.now line.now choices.now (D.says guide.now) → (most : ℕ) → HasAtMostChoices lexicon.now.tries most
         → OnFalse result (steps.new ≤ steps.old + 1) }
 {
@@ -95,7 +96,7 @@ pub(crate) fn find_next<D: SearchGuide, L>(
         match guide.turn(lexicon, line, choices, stack, level, to_try, steps) {
             Turn::Nothing => return false,
             Turn::Ends => {
-                stack.depth = level as u32 + 1;
+                stack.use_frames(level as u32 + 1);
                 return true;
             }
             Turn::LeadsOn(next) => {
@@ -125,7 +126,7 @@ pub(crate) fn find_later<D: SearchGuide, L>(
     requires guide { IsGuideOf lexicon.now line.now choices.now (D.covers guide.now) (D.says guide.now) }
     requires known { D.known guide.now lexicon.now line.now choices.now }
     requires stack { IsStack stack.old }
-    requires below { level < stack.old.depth }
+    requires below { level < depth_of stack.old }
     requires reached { IsReached lexicon.now line.now choices.now (here_of lexicon.now stack.old level) }
     requires room { HasRoom line.now stack.old level (here_of lexicon.now stack.old level) }
     requires frames { (keys : List Key) × AreFrames lexicon.now line.now stack.old level (here_of lexicon.now stack.old level) keys × LeadAlong lexicon.now line.now choices.now (here_of lexicon.now stack.old level) keys }
@@ -137,9 +138,9 @@ pub(crate) fn find_later<D: SearchGuide, L>(
         → OnFalse result (HasNone lexicon.now line.now choices.now (ComesAfter keys) (here_of lexicon.now stack.old level)) }
     ensures changes { KeepsBefore level stack.old stack.new }
     ensures steps_on { IsExactOf lexicon.now line.now choices.now (D.says guide.now) → (most : ℕ) → HasAtMostChoices lexicon.now.tries most
-        → OnTrue result (steps.new ≤ steps.old + steps_of_levels lexicon.now most (stack.old.depth - level + levels_after line.now (here_of lexicon.now stack.old level))) }
+        → OnTrue result (steps.new ≤ steps.old + steps_of_levels lexicon.now most (depth_of stack.old - level + levels_after line.now (here_of lexicon.now stack.old level))) }
     ensures steps_end { IsExactOf lexicon.now line.now choices.now (D.says guide.now) → (most : ℕ) → HasAtMostChoices lexicon.now.tries most
-        → OnFalse result (steps.new ≤ steps.old + steps_of_levels lexicon.now most (stack.old.depth - level)) }
+        → OnFalse result (steps.new ≤ steps.old + steps_of_levels lexicon.now most (depth_of stack.old - level)) }
 {
     if find_deeper(lexicon, line, choices, guide, stack, level, steps) {
         return true;
@@ -172,7 +173,7 @@ fn find_deeper<D: SearchGuide, L>(
     requires guide { IsGuideOf lexicon.now line.now choices.now (D.covers guide.now) (D.says guide.now) }
     requires known { D.known guide.now lexicon.now line.now choices.now }
     requires stack { IsStack stack.old }
-    requires below { level < stack.old.depth }
+    requires below { level < depth_of stack.old }
     requires reached { IsReached lexicon.now line.now choices.now (here_of lexicon.now stack.old level) }
     requires room { HasRoom line.now stack.old level (here_of lexicon.now stack.old level) }
     requires frames { (keys : List Key) × AreFrames lexicon.now line.now stack.old level (here_of lexicon.now stack.old level) keys × LeadAlong lexicon.now line.now choices.now (here_of lexicon.now stack.old level) keys }
@@ -185,10 +186,10 @@ fn find_deeper<D: SearchGuide, L>(
     ensures changes { KeepsBefore level stack.old stack.new }
     ensures kept { OnFalse result (KeepsBefore (level + 1) stack.old stack.new) }
     ensures steps_on { IsExactOf lexicon.now line.now choices.now (D.says guide.now) → (most : ℕ) → HasAtMostChoices lexicon.now.tries most
-        → OnTrue result (steps.new ≤ steps.old + steps_of_levels lexicon.now most (stack.old.depth - level + levels_after line.now (here_of lexicon.now stack.old level))) }
+        → OnTrue result (steps.new ≤ steps.old + steps_of_levels lexicon.now most (depth_of stack.old - level + levels_after line.now (here_of lexicon.now stack.old level))) }
     ensures steps_end { IsExactOf lexicon.now line.now choices.now (D.says guide.now) → (most : ℕ) → HasAtMostChoices lexicon.now.tries most
-        → OnFalse result (steps.new ≤ steps.old + steps_of_levels lexicon.now most (stack.old.depth - (level + 1))) }
+        → OnFalse result (steps.new ≤ steps.old + steps_of_levels lexicon.now most (depth_of stack.old - (level + 1))) }
 {
-    level + 1 < stack.depth as usize
+    level + 1 < stack.depth() as usize
         && find_later(lexicon, line, choices, guide, stack, level + 1, steps)
 }

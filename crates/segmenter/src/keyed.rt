@@ -3,19 +3,21 @@ ghost use Rattle.std.specs.Bool.{OnTrue, OnFalse};
 ghost use Rattle.text_definitions.specs.Lines.{IsLine};
 ghost use Rattle.listing_laws.specs.Ways.{IsPath};
 ghost use Rattle.annotated_trie.specs.Searched.{IsSearchedLexicon};
-ghost use Rattle.search_frames.specs.Standings.{ways_in};
-ghost use Rattle.search_frames.specs.Frames.{IsStack, IsPlaceIn, standing_of};
+ghost use Rattle.search_frames.specs.Configurations.{ways_in};
+ghost use Rattle.search_frames.specs.Stacks.{IsStack, KeepsBefore, room_of};
+ghost use Rattle.search_frames.specs.Frames.{IsConfigurationIn, numbered_of};
 ghost use Rattle.search_frames.specs.Tests.{IsTestOf};
 ghost use Rattle.search_frames.specs.Reached.{IsReached};
-ghost use Rattle.segmenter.specs.Chains.{AreFrames, HasRoom, KeepsBefore};
-ghost use Rattle.segmenter.specs.GivenKeys.{StandsUnlessRefused, key_of_given, keys_of_given};
+ghost use Rattle.segmenter.specs.Chains.{AreFrames, HasRoom};
+ghost use Rattle.derivation.specs.Steps.{key_meant, keys_meant};
+ghost use Rattle.segmenter.specs.GivenKeys.{StandsUnlessRefused};
 
 use annotated_trie::Lexicon;
 use derivation::Key;
 use outside::Steps;
 use phoneme::Line;
 use reader_choices::Choices;
-use search_frames::{Place, Resumption, Test, open_frame, seek, test_key};
+use search_frames::{Configuration, Resumption, Test, open_frame, seek, test_key};
 
 /// Makes the frame at the level, counted from 0, one that stands at the place and at the key, and tells what the key does there.
 fn stand_at_key(
@@ -24,16 +26,16 @@ fn stand_at_key(
     choices: &Choices,
     stack: &mut Resumption,
     level: usize,
-    place: Place,
+    place: Configuration,
     key: Key,
 ) -> Test
     requires searched { IsSearchedLexicon lexicon.now }
     requires line { IsLine line.now }
     requires stack { IsStack stack.old }
-    requires there { level < length stack.old.frames.items }
-    requires place { IsPlaceIn lexicon.now line.now place }
-    ensures exact { IsTestOf lexicon.now line.now choices.now (standing_of lexicon.now place) (key_of_given key) result }
-    ensures stands { StandsUnlessRefused lexicon.now line.now stack.new level (standing_of lexicon.now place) (key_of_given key) result }
+    requires there { level < room_of stack.old }
+    requires place { IsConfigurationIn lexicon.now line.now place }
+    ensures exact { IsTestOf lexicon.now line.now choices.now (numbered_of lexicon.now place) (key_meant key) result }
+    ensures stands { StandsUnlessRefused lexicon.now line.now stack.new level (numbered_of lexicon.now place) (key_meant key) result }
     ensures changes { KeepsBefore level stack.old stack.new }
 {
     let mut steps = Steps::<()>::new();
@@ -41,7 +43,7 @@ fn stand_at_key(
     if !seek(lexicon, line, stack, level, key) {
         return Test::Refused;
     }
-    test_key(lexicon, line, choices, &place, &stack.steps[level])
+    test_key(lexicon, line, choices, &place, &stack.step(level))
 }
 
 /// Goes from the place along the keys, with the frames from the level on. False where they are no path from there.
@@ -51,18 +53,18 @@ pub(crate) fn find_keys(
     choices: &Choices,
     stack: &mut Resumption,
     level: usize,
-    place: Place,
+    place: Configuration,
     keys: &[Key],
 ) -> bool
     requires searched { IsSearchedLexicon lexicon.now }
     requires line { IsLine line.now }
     requires stack { IsStack stack.old }
-    requires place { IsPlaceIn lexicon.now line.now place }
-    requires reached { IsReached lexicon.now line.now choices.now (standing_of lexicon.now place) }
-    requires room { HasRoom line.now stack.old level (standing_of lexicon.now place) }
-    ensures found { OnTrue result (AreFrames lexicon.now line.now stack.new level (standing_of lexicon.now place) (keys_of_given keys.now)
-        × IsPath (ways_in lexicon.now line.now choices.now) (standing_of lexicon.now place) (keys_of_given keys.now)) }
-    ensures not_there { OnFalse result (IsPath (ways_in lexicon.now line.now choices.now) (standing_of lexicon.now place) (keys_of_given keys.now) → ⊥) }
+    requires place { IsConfigurationIn lexicon.now line.now place }
+    requires reached { IsReached lexicon.now line.now choices.now (numbered_of lexicon.now place) }
+    requires room { HasRoom line.now stack.old level (numbered_of lexicon.now place) }
+    ensures found { OnTrue result (AreFrames lexicon.now line.now stack.new level (numbered_of lexicon.now place) (keys_meant keys.now)
+        × IsPath (ways_in lexicon.now line.now choices.now) (numbered_of lexicon.now place) (keys_meant keys.now)) }
+    ensures not_there { OnFalse result (IsPath (ways_in lexicon.now line.now choices.now) (numbered_of lexicon.now place) (keys_meant keys.now) → ⊥) }
     ensures changes { KeepsBefore level stack.old stack.new }
 {
     let [key, rest @ ..] = keys else {
@@ -71,7 +73,7 @@ pub(crate) fn find_keys(
     match stand_at_key(lexicon, line, choices, stack, level, place, *key) {
         Test::Refused => false,
         Test::Ends => {
-            stack.depth = level as u32 + 1;
+            stack.use_frames(level as u32 + 1);
             rest.is_empty()
         }
         Test::LeadsOn(next) => find_keys(lexicon, line, choices, stack, level + 1, next, rest),

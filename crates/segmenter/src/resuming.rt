@@ -3,10 +3,10 @@ ghost use Rattle.std.specs.Bool.{OnTrue, OnFalse};
 ghost use Rattle.segmentation_definitions.specs.Derivations.{Step};
 ghost use Rattle.segmentation_definitions.specs.Listings.{AtAnswer};
 ghost use Rattle.annotated_trie.specs.Searched.{IsSearchedLexicon};
-ghost use Rattle.search_frames.specs.declared.stand.Stand.TheVariants as stand;
+ghost use Rattle.search_frames.specs.declared.position.Position.TheVariants as position;
 ghost use Rattle.segmenter.specs.declared.resuming.ResumeError.TheVariants.{NotAnAnswer as ErrorNotAnAnswer, Memory as ErrorMemory};
-ghost use Rattle.segmenter.specs.Chains.{KeepsBefore};
-ghost use Rattle.segmenter.specs.GivenKeys.{keys_of_given};
+ghost use Rattle.search_frames.specs.Stacks.{KeepsBefore, position_in};
+ghost use Rattle.derivation.specs.Steps.{keys_meant};
 ghost use Rattle.search_frames.specs.Guided.{IsGuideOf, IsExactOf};
 ghost use Rattle.search_frames.specs.Costs.{HasAtMostChoices};
 ghost use Rattle.segmentation_definitions.specs.StepBounds.{advance_bound};
@@ -22,7 +22,7 @@ use derivation::Key;
 use outside::Steps;
 use phoneme::{Line, Memory};
 use reader_choices::Choices;
-use search_frames::{Resumption, SearchGuide, Stand};
+use search_frames::{Resumption, SearchGuide, Position};
 use std::alloc::Global;
 use thiserror::Error;
 
@@ -57,8 +57,8 @@ impl<'a, D: SearchGuide> Search<'a, D> {
         requires guide { IsGuideOf lexicon.now line.now choices.now (D.covers guide.now) (D.says guide.now) }
         requires known { D.known guide.now lexicon.now line.now choices.now }
         ensures over { IfOk result (λ search. search ≡ record { searched = lexicon.now; line = line.now; choices = choices.now; position = search.position }) }
-        ensures at { IfOk result (λ search. StandsAtKeys search (keys_of_given keys.now)) }
-        ensures not_an_answer { IfErr result (λ error. error ≡ ErrorNotAnAnswer → (keys.now ≢ []) × AreNoKeys lexicon.now line.now choices.now (keys_of_given keys.now)) }
+        ensures at { IfOk result (λ search. StandsAtKeys search (keys_meant keys.now)) }
+        ensures not_an_answer { IfErr result (λ error. error ≡ ErrorNotAnAnswer → (keys.now ≢ []) × AreNoKeys lexicon.now line.now choices.now (keys_meant keys.now)) }
     {
         // The proof knows what a lexicon is only of one whose rules are read.
         let _rules = lexicon.rules();
@@ -102,10 +102,10 @@ fn go_to_keys(
 ) -> bool
     requires searched { IsSearchedLexicon lexicon.now }
     requires stack { IsStackOf lexicon.now line.now choices.now stack.old }
-    requires before { stack.old.stand ≡ stand.Before }
+    requires before { position_in stack.old ≡ position.Before }
     ensures stack { OnTrue result (IsStackOf lexicon.now line.now choices.now stack.new) }
-    ensures at { OnTrue result (StandsAtKeys (value_of lexicon.now line.now choices.now stack.new) (keys_of_given keys.now)) }
-    ensures none { OnFalse result ((keys.now ≢ []) × AreNoKeys lexicon.now line.now choices.now (keys_of_given keys.now)) }
+    ensures at { OnTrue result (StandsAtKeys (value_of lexicon.now line.now choices.now stack.new) (keys_meant keys.now)) }
+    ensures none { OnFalse result ((keys.now ≢ []) × AreNoKeys lexicon.now line.now choices.now (keys_meant keys.now)) }
 {
     if keys.is_empty() {
         return true;
@@ -113,7 +113,7 @@ fn go_to_keys(
     if !find_keys(lexicon, line, choices, stack, 0, opening(lexicon), keys) {
         return false;
     }
-    stack.stand = Stand::At;
+    stack.stand_at(Position::At);
     true
 }
 
@@ -131,14 +131,15 @@ fn find_past<D: SearchGuide, L>(
     requires guide { IsGuideOf lexicon.now line.now choices.now (D.covers guide.now) (D.says guide.now) }
     requires known { D.known guide.now lexicon.now line.now choices.now }
     requires stack { IsStackOf lexicon.now line.now choices.now stack.old }
-    requires at { stack.old.stand ≡ stand.At }
+    requires at { position_in stack.old ≡ position.At }
     requires depth { 1 ≤ depth }
     ensures found { OnTrue result (StandsPast lexicon.now line.now choices.now depth stack.old stack.new) }
     ensures none { OnFalse result (HasNonePast depth (value_of lexicon.now line.now choices.now stack.old)) }
     ensures changes { KeepsBefore 0 stack.old stack.new }
     ensures steps { IsExactOf lexicon.now line.now choices.now (D.says guide.now) → (most : ℕ) → HasAtMostChoices lexicon.now.tries most → steps.new ≤ steps.old + steps_of_levels lexicon.now most (4 * length line.now.letters) }
 {
-    stack.depth = depth.min(stack.depth);
+    let in_use = depth.min(stack.depth());
+    stack.use_frames(in_use);
     find_later(lexicon, line, choices, guide, stack, 0, steps)
 }
 
@@ -157,7 +158,7 @@ fn skip_on<D: SearchGuide, L>(
     requires guide { IsGuideOf lexicon.now line.now choices.now (D.covers guide.now) (D.says guide.now) }
     requires known { D.known guide.now lexicon.now line.now choices.now }
     requires stack { IsStackOf lexicon.now line.now choices.now stack.old }
-    requires at { stack.old.stand ≡ stand.At }
+    requires at { position_in stack.old ≡ position.At }
     requires depth { 1 ≤ depth }
     ensures stack { IsStackOf lexicon.now line.now choices.now stack.new }
     ensures moved { OnTrue result (HasSkipped lexicon.now line.now choices.now depth stack.old stack.new) }
@@ -165,6 +166,7 @@ fn skip_on<D: SearchGuide, L>(
     ensures steps { IsExactOf lexicon.now line.now choices.now (D.says guide.now) → (most : ℕ) → HasAtMostChoices lexicon.now.tries most → steps.new ≤ steps.old + steps_of_levels lexicon.now most (4 * length line.now.letters) }
 {
     let found = find_past(lexicon, line, choices, guide, stack, depth, steps);
-    stack.stand = if found { Stand::At } else { Stand::Past };
+    let position = if found { Position::At } else { Position::Past };
+    stack.stand_at(position);
     found
 }

@@ -4,10 +4,10 @@ ghost use Rattle.text_definitions.specs.Lines.{Line as LineValue};
 ghost use Rattle.segmentation_definitions.specs.Items.{Choice};
 ghost use Rattle.segmentation_definitions.specs.Listings.{BeforeFirst};
 ghost use Rattle.annotated_trie.specs.Searched.{IsSearchedLexicon};
-ghost use Rattle.search_frames.specs.declared.stand.Stand.TheVariants as stand;
-ghost use Rattle.search_frames.specs.Frames.{IsPlaceIn, standing_of};
-ghost use Rattle.search_frames.specs.Standings.{opening};
-ghost use Rattle.segmenter.specs.Chains.{KeepsBefore};
+ghost use Rattle.search_frames.specs.declared.position.Position.TheVariants as position;
+ghost use Rattle.search_frames.specs.Frames.{IsConfigurationIn, numbered_of};
+ghost use Rattle.search_frames.specs.Configurations.{opening};
+ghost use Rattle.search_frames.specs.Stacks.{KeepsBefore, position_in};
 ghost use Rattle.search_frames.specs.Guided.{IsGuideOf, IsExactOf};
 ghost use Rattle.search_frames.specs.Costs.{HasAtMostChoices};
 ghost use Rattle.segmentation_definitions.specs.StepBounds.{advance_bound};
@@ -21,7 +21,7 @@ use derivation::{Entrance, Step};
 use outside::Steps;
 use phoneme::{Line, Memory};
 use reader_choices::Choices;
-use search_frames::{Place, Resumption, SearchGuide, Stand, new_stack};
+use search_frames::{Configuration, Resumption, SearchGuide, Position, new_stack};
 use std::alloc::Global;
 use std::marker::Model;
 
@@ -114,9 +114,9 @@ impl<'a, D: SearchGuide> Search<'a, D> {
     pub fn current(&self) -> Option<&[Step]>
         ensures answer { MatchOption result (IsCurrent self.now None) (λ steps. IsCurrent self.now (Some steps.now)) }
     {
-        match self.stack.stand {
-            Stand::At => Some(&self.stack.steps[..self.stack.depth as usize]),
-            Stand::Before | Stand::Past => None,
+        match self.stack.position() {
+            Position::At => Some(self.stack.steps()),
+            Position::Before | Position::Past => None,
         }
     }
 
@@ -153,8 +153,8 @@ fn find_next_answer<D: SearchGuide, L>(
     ensures changes { KeepsBefore 0 stack.old stack.new }
     ensures steps { IsExactOf lexicon.now line.now choices.now (D.says guide.now) → (most : ℕ) → HasAtMostChoices lexicon.now.tries most → steps.new ≤ steps.old + steps_of_levels lexicon.now most (4 * length line.now.letters) }
 {
-    match stack.stand {
-        Stand::Before => find_first(
+    match stack.position() {
+        Position::Before => find_first(
             lexicon,
             line,
             choices,
@@ -164,8 +164,8 @@ fn find_next_answer<D: SearchGuide, L>(
             opening(lexicon),
             steps,
         ),
-        Stand::At => find_later(lexicon, line, choices, guide, stack, 0, steps),
-        Stand::Past => false,
+        Position::At => find_later(lexicon, line, choices, guide, stack, 0, steps),
+        Position::Past => false,
     }
 }
 
@@ -188,16 +188,17 @@ fn move_on<D: SearchGuide, L>(
     ensures steps { IsExactOf lexicon.now line.now choices.now (D.says guide.now) → (most : ℕ) → HasAtMostChoices lexicon.now.tries most → steps.new ≤ steps.old + steps_of_levels lexicon.now most (4 * length line.now.letters) }
 {
     let found = find_next_answer(lexicon, line, choices, guide, stack, steps);
-    stack.stand = if found { Stand::At } else { Stand::Past };
+    let position = if found { Position::At } else { Position::Past };
+    stack.stand_at(position);
     found
 }
 
 /// Where a search stands before all steps.
-pub(crate) fn opening(lexicon: &Lexicon) -> Place
-    ensures standing { standing_of lexicon.now result ≡ opening }
-    ensures within { (line : LineValue) → IsPlaceIn lexicon.now line result }
+pub(crate) fn opening(lexicon: &Lexicon) -> Configuration
+    ensures standing { numbered_of lexicon.now result ≡ opening }
+    ensures within { (line : LineValue) → IsConfigurationIn lexicon.now line result }
 {
-    Place {
+    Configuration {
         at: 0,
         entrance: Entrance::Start,
         state: lexicon.automaton().start(),
@@ -210,7 +211,7 @@ pub(crate) fn empty_stack(
     lexicon: &Lexicon,
     line: &Line,
 ) -> Result<Resumption, Memory>
-    ensures stand { IfOk result (λ stack. stack.stand ≡ stand.Before) }
+    ensures position { IfOk result (λ stack. position_in stack ≡ position.Before) }
     ensures ok { IfOk result (λ stack. (choices : List Choice) → IsStackOf lexicon.now line.now choices stack) }
 {
     new_stack(alloc, lexicon, 2 * line.letters.as_slice().len())

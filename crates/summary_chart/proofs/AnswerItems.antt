@@ -25,13 +25,13 @@ use Rattle.answer_paths.proofs.AnswerPaths.{path_of_rest, answer_after}
 use Rattle.answer_paths.proofs.AnswerFronts.{front_of_answer}
 use Rattle.phase_automaton.specs.Automata.{state_after}
 use Rattle.annotated_trie.specs.Searched.{SearchedLexicon, IsSearchedLexicon}
-use Rattle.search_frames.specs.declared.place.Place.{Place}
-use Rattle.search_frames.specs.Standings.{Standing, Ends, after, ways_in, rules_in}
-use Rattle.search_frames.specs.Frames.{IsPlaceIn, standing_of}
+use Rattle.search_frames.specs.declared.configuration.Configuration.{Configuration}
+use Rattle.search_frames.specs.Configurations.{NumberedConfiguration, Ends, after, ways_in, rules_in}
+use Rattle.search_frames.specs.Frames.{IsConfigurationIn, numbered_of}
 use Rattle.search_frames.specs.Tests.{LeadsTo}
 use Rattle.search_frames.specs.Reached.{IsReached}
-use Rattle.search_frames.proofs.ReachedStandings.{reached_after}
-use Rattle.search_frames.proofs.StandingPaths.{path_above_is_path}
+use Rattle.search_frames.proofs.ReachedConfigurations.{reached_after}
+use Rattle.search_frames.proofs.ConfigurationPaths.{path_above_is_path}
 use Rattle.summary_chart.specs.Charts.{IsAlive}
 use Rattle.summary_chart.specs.Summaries.{item_with}
 use Rattle.summary_chart.proofs.ProgramPlaces.{place_of_reached}
@@ -128,22 +128,22 @@ key_after_front rules front step rest key keys same =
 -- ---- living places
 
 -- the key ends the line, or leads on to a living place
-abbrev pub GoesOnAlive : SearchedLexicon → Line → List Choice → Standing → Key → Type 0
+abbrev pub GoesOnAlive : SearchedLexicon → Line → List Choice → NumberedConfiguration → Key → Type 0
 GoesOnAlive searched line choices here key =
-    Ends searched line choices here key ⊎ ((next : Place) × LeadsTo searched line choices here key next × IsAlive searched line choices next)
+    Ends searched line choices here key ⊎ ((next : Configuration) × LeadsTo searched line choices here key next × IsAlive searched line choices next)
 
 -- a living place goes further by a step with this item
 pub record IsItemOfLiving (searched : SearchedLexicon) (line : Line) (choices : List Choice) (item : Item) : Type 0 where
-  pub place : Place
-  pub within : IsPlaceIn searched line place
+  pub place : Configuration
+  pub within : IsConfigurationIn searched line place
   pub alive : IsAlive searched line choices place
   pub key : Key
-  pub further : GoesOnAlive searched line choices (standing_of searched place) key
+  pub further : GoesOnAlive searched line choices (numbered_of searched place) key
   pub is : item ≡ item_with searched line place.at place.entrance key
 
 module _ (searched : SearchedLexicon) (line : Line) (choices : List Choice) (is : IsSearchedLexicon searched) (line_is : IsLine line) where
   -- where a place stands for what is reached and has a path, it lives
-  alive_at : (place : Place) (here : Standing) → standing_of searched place ≡ here → IsReached searched line choices here
+  alive_at : (place : Configuration) (here : NumberedConfiguration) → numbered_of searched place ≡ here → IsReached searched line choices here
       → HasPath (ways_in searched line choices) here → IsAlive searched line choices place
   alive_at place here there reached path = record {
     reached = subst (IsReached searched line choices) (sym there) reached;
@@ -151,7 +151,7 @@ module _ (searched : SearchedLexicon) (line : Line) (choices : List Choice) (is 
   }
 
   -- the first key of a path goes on so
-  first_goes_on : (here : Standing) (key : Key) (keys : List Key) → IsReached searched line choices here
+  first_goes_on : (here : NumberedConfiguration) (key : Key) (keys : List Key) → IsReached searched line choices here
       → IsPath (ways_in searched line choices) here (key ∷ keys) → GoesOnAlive searched line choices here key
   first_goes_on here key [] reached ends = inl ends
   first_goes_on here key (later ∷ keys) reached (next, (leads_on, next_is), path) =
@@ -165,15 +165,15 @@ module _ (searched : SearchedLexicon) (line : Line) (choices : List Choice) (is 
       )
 
   -- and a key that goes on so begins a path
-  path_if_goes_on : (here : Standing) (key : Key) → GoesOnAlive searched line choices here key
+  path_if_goes_on : (here : NumberedConfiguration) (key : Key) → GoesOnAlive searched line choices here key
       → (keys : List Key) × IsPath (ways_in searched line choices) here (key ∷ keys)
   path_if_goes_on here key (inl ends) = ([], ends)
   path_if_goes_on here key (inr (next, leads, alive)) = on alive.path.0 alive.path.1
     where
-      on : (keys : List Key) → IsPath (ways_in searched line choices) (standing_of searched next) keys
+      on : (keys : List Key) → IsPath (ways_in searched line choices) (numbered_of searched next) keys
           → (keys : List Key) × IsPath (ways_in searched line choices) here (key ∷ keys)
       on [] path = absurd path
-      on (later ∷ keys) path = (later ∷ keys, (standing_of searched next, (leads.leads_on, leads.is), path))
+      on (later ∷ keys) path = (later ∷ keys, (numbered_of searched next, (leads.leads_on, leads.is), path))
 
   -- ---- from an answer
 
@@ -181,7 +181,7 @@ module _ (searched : SearchedLexicon) (line : Line) (choices : List Choice) (is 
       → item_of (placed_after (rules_in searched) 0 [] front step) ≡ item → IsItemOfLiving searched line choices item
   living_if_answer front step rest item answer item_is =
       let rules = rules_in searched in
-      let here : Standing = record {
+      let here : NumberedConfiguration = record {
         at = covered_from rules 0 [] front;
         entrance = entrance_after rules Start front;
         state = state_after searched.machine (phases_of front);
@@ -205,7 +205,7 @@ module _ (searched : SearchedLexicon) (line : Line) (choices : List Choice) (is 
         alive = alive_at there.place here there.is reached (key ∷ later, path);
         key = key;
         further = subst (λ h. GoesOnAlive searched line choices h key) (sym there.is) (first_goes_on here key later reached path);
-        is = sym item_is ∙ as_told ∙ ap (λ (h : Standing). item_of (placed_at rules line h.at h.entrance key)) (sym there.is);
+        is = sym item_is ∙ as_told ∙ ap (λ (h : NumberedConfiguration). item_of (placed_at rules line h.at h.entrance key)) (sym there.is);
       }
 
   pub item_of_living : (item : Item) → IsItemOfAnswer searched.lexicon line choices item → IsItemOfLiving searched line choices item
@@ -234,7 +234,7 @@ module _ (searched : SearchedLexicon) (line : Line) (choices : List Choice) (is 
   pub item_of_answer : (item : Item) → IsItemOfLiving searched line choices item → IsItemOfAnswer searched.lexicon line choices item
   item_of_answer item living =
       let rules = rules_in searched in
-      let here = standing_of searched living.place in
+      let here = numbered_of searched living.place in
       let reached = living.alive.reached in
       let path = path_if_goes_on here living.key living.further in
       let added = answer_after searched.lexicon line choices (living.key ∷ path.0) reached.front

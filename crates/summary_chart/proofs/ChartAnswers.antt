@@ -4,7 +4,7 @@ use Rattle.std.specs.Prelude.{not, if◌then◌else◌}
 use Rattle.std.proofs.lemmas.Bool.{eq-eqb, ne_eqb, lt-ltb, ltb-true, and_parts, false≢true}
 use Rattle.derivation.specs.declared.entrance.Entrance.{Entrance}
 use Rattle.derivation.specs.declared.entrance.Entrance.TheVariants.{Start, Plain, Lead as ByLead}
-use Rattle.search_frames.specs.declared.place.Place.{Place}
+use Rattle.search_frames.specs.declared.configuration.Configuration.{Configuration}
 use Rattle.summary_chart.specs.declared.state_set.StateSet.{StateSet}
 use Rattle.summary_chart.specs.declared.table.Table.{Table}
 use Rattle.summary_chart.specs.StateSets.{HasState}
@@ -64,12 +64,12 @@ state_if_told set (Some number) told = some_if_told _ told
 -- ---- places
 
 -- the chart says true of just the places of its table
-pub says_if_in : (table : Table) (place : Place) → IsIn table place → IsTrue (says_of table place.at place.entrance place.state)
+pub says_if_in : (table : Table) (place : Configuration) → IsIn table place → IsTrue (says_of table place.at place.entrance place.state)
 says_if_in table place inside =
     if_both (is_entrance place.entrance) (has_state (set_at table place.at place.entrance) place.state)
     (told_entrance place.entrance inside.entrance) (told_state (set_at table place.at place.entrance) place.state inside.state)
 
-pub in_if_says : (table : Table) (place : Place) → IsTrue (says_of table place.at place.entrance place.state) → IsIn table place
+pub in_if_says : (table : Table) (place : Configuration) → IsTrue (says_of table place.at place.entrance place.state) → IsIn table place
 in_if_says table place told =
     let parts = both_if (is_entrance place.entrance) (has_state (set_at table place.at place.entrance) place.state) told in
     record {
@@ -81,7 +81,7 @@ in_if_says table place told =
 pub says_by_set : (table : Table) (at : ℕ) (entrance : Entrance) (set : StateSet) (number : ℕ) (result : Bool) → IsEntrance entrance
     → set ≡ set_at table at entrance → (IsTrue result ↔ HasState set number) → result ≡ says_of table at entrance (Some number)
 says_by_set table at entrance set number result proper same has =
-    let place : Place = record { at = at; entrance = entrance; state = Some number } in
+    let place : Configuration = record { at = at; entrance = entrance; state = Some number } in
     same_truth result (says_of table at entrance (Some number))
     (λ t. says_if_in table place (record { entrance = proper; state = subst (λ (s : StateSet). HasState s number) same (has.0 t) }))
     (λ t. has.1 (subst (λ (s : StateSet). HasState s number) (sym same) (in_if_says table place t).state))

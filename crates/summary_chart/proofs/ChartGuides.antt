@@ -16,12 +16,12 @@ use Rattle.phase_automaton.specs.Automata.{StateMachine, IsStateMachine, IsState
 use Rattle.phase_automaton.proofs.NumberedStates.{same_numbers, live_state}
 use Rattle.derivation.specs.Guides.{configuration_of}
 use Rattle.annotated_trie.specs.Searched.{SearchedLexicon, IsSearchedLexicon}
-use Rattle.search_frames.specs.declared.place.Place.{Place}
-use Rattle.search_frames.specs.Standings.{rules_in}
-use Rattle.search_frames.specs.Frames.{IsPlaceIn, standing_of}
+use Rattle.search_frames.specs.declared.configuration.Configuration.{Configuration}
+use Rattle.search_frames.specs.Configurations.{rules_in}
+use Rattle.search_frames.specs.Frames.{IsConfigurationIn, numbered_of}
 use Rattle.search_frames.specs.Guided.{IsGuideOf, IsExactOf}
 use Rattle.search_frames.specs.Reached.{IsReached}
-use Rattle.search_frames.proofs.StandingPaths.{path_above_is_path}
+use Rattle.search_frames.proofs.ConfigurationPaths.{path_above_is_path}
 use Rattle.summary_chart.specs.declared.table.Table.{Table}
 use Rattle.summary_chart.specs.Spreading.{leads_in}
 use Rattle.summary_chart.specs.Charts.{IsAlive, IsChartTable, CoversPlace, says_of}
@@ -60,11 +60,11 @@ has_path searched line choices front (next ∷ rest) is some answer =
     (keys_after searched.lexicon.rules front (next ∷ rest), path_of_rest searched.lexicon line choices is.lexicon rest front next answer)
 
 module _ (searched : SearchedLexicon) (line : Line) (choices : List Choice) (is : IsSearchedLexicon searched) (line_is : IsLine line)
-    (recognizes : Recognizes searched.machine (tree_of (rules_in searched))) (place : Place) (within : IsPlaceIn searched line place) where
+    (recognizes : Recognizes searched.machine (tree_of (rules_in searched))) (place : Configuration) (within : IsConfigurationIn searched line place) where
   alive_if_stands : StandsInAnswer searched.lexicon line choices (configuration_of searched.lexicon recognizes.states place.at place.entrance place.state)
       → IsAlive searched line choices place
   alive_if_stands stands =
-      let reached : IsReached searched line choices (standing_of searched place) = record {
+      let reached : IsReached searched line choices (numbered_of searched place) = record {
         front = stands.front;
         led = inr (goes_on searched line choices stands.front stands.rest is stands.proper stands.answer);
         at = stands.ends.covered;
@@ -74,7 +74,7 @@ module _ (searched : SearchedLexicon) (line : Line) (choices : List Choice) (is 
       let path = has_path searched line choices stands.front stands.rest is stands.proper stands.answer in
       record {
         reached = reached;
-        path = (path.0, (path_above_is_path searched line choices (standing_of searched place) is line_is reached path.0).1 path.1);
+        path = (path.0, (path_above_is_path searched line choices (numbered_of searched place) is line_is reached path.0).1 path.1);
       }
 
   stands_if_alive : IsAlive searched line choices place
@@ -90,7 +90,7 @@ module _ (searched : SearchedLexicon) (line : Line) (choices : List Choice) (is 
         state = subst (λ state. IsStateAfter (tree_of (rules_in searched)) (phases_of reached.front) (state_at recognizes.states state))
             (sym reached.state) (recognizes.after (phases_of reached.front));
       })
-      (keys, (path_above_is_path searched line choices (standing_of searched place) is line_is reached keys).0 path)
+      (keys, (path_above_is_path searched line choices (numbered_of searched place) is line_is reached keys).0 path)
 
 module _ (searched : SearchedLexicon) (line : Line) (choices : List Choice) (table : Table) (is : IsSearchedLexicon searched) (line_is : IsLine line)
     (chart : IsChartTable searched line choices table) where
@@ -101,13 +101,13 @@ module _ (searched : SearchedLexicon) (line : Line) (choices : List Choice) (tab
       number_within searched.machine state machine within.state_in,
     );
     never_false = λ at entrance state within stands.
-        let place : Place = record { at = at; entrance = entrance; state = state } in
+        let place : Configuration = record { at = at; entrance = entrance; state = state } in
         says_if_in table place ((chart.exact place within).1 (alive_if_stands searched line choices is line_is recognizes place within stands));
   }
 
   pub chart_is_exact : IsExactOf searched line choices (says_of table)
   chart_is_exact recognizes = record {
     never_true = λ at entrance state within told.
-        let place : Place = record { at = at; entrance = entrance; state = state } in
+        let place : Configuration = record { at = at; entrance = entrance; state = state } in
         stands_if_alive searched line choices is line_is recognizes place within ((chart.exact place within).0 (in_if_says table place told));
   }

@@ -1,7 +1,7 @@
 -- A chart turns a frame. Its place is reached, so where a path begins there it is living and stands in the chart, with all its ways;
 -- and a key with which a path begins goes further under the chart's table. So the first way after the keys that the frame has tried
 -- that goes further is what is asked for: no such key comes before it, and those that it leaves out begin no path.
-use Rattle.std.proofs.Common.{◌≡◌, ◌↔◌, ℕ, ◌+◌, ◌≤◌, Option, Some, None, inl, inr, List, [], ◌∷◌, length, get_or, refl, sym, ◌∙◌, ap, subst, arith}
+use Rattle.std.proofs.Common.{◌≡◌, ◌↔◌, ℕ, ◌+◌, ◌≤◌, Option, Some, None, inl, inr, List, [], ◌∷◌, length, refl, sym, ◌∙◌, ap, subst, arith}
 use Rattle.std.proofs.lemmas.List.Elements.{All-contains}
 use Rattle.std.specs.declared.cmp.Ordering.TheVariants.{Less}
 use Rattle.text_definitions.specs.Lines.{Line}
@@ -19,24 +19,24 @@ use Rattle.search_frames.specs.declared.guiding.ToTry.{ToTry}
 use Rattle.search_frames.specs.declared.guiding.ToTry.TheVariants.{All as AllKeys, Later as LaterKeys}
 use Rattle.search_frames.specs.declared.guiding.Turn.{Turn}
 use Rattle.search_frames.specs.declared.guiding.Turn.TheVariants.{Nothing, Ends as ToEnd, LeadsOn as ToPlace}
-use Rattle.search_frames.specs.declared.place.Place.{Place}
+use Rattle.search_frames.specs.declared.configuration.Configuration.{Configuration}
 use Rattle.search_frames.specs.declared.ways.Way.{Way}
-use Rattle.search_frames.specs.Standings.{Standing, IsPossible, Ends, ways_in}
+use Rattle.search_frames.specs.Configurations.{NumberedConfiguration, IsPossible, Ends, ways_in}
 use Rattle.search_frames.specs.Tests.{LeadsTo}
-use Rattle.search_frames.specs.Frames.{IsFrame, IsPlaceIn, IsUntried, IsAtKey, standing_of, here_of, place_of}
+use Rattle.search_frames.specs.Frames.{IsFrame, IsConfigurationIn, IsUntried, IsAtKey, numbered_of, here_of, configuration_at, step_of}
 use Rattle.search_frames.specs.Reached.{IsReached}
 use Rattle.search_frames.specs.Turns.{HasToTry, BeginsPath, HasTurned, HasNoTurn, IsTurn, HasPaid}
 use Rattle.search_frames.specs.Costs.{steps_left}
 use Rattle.search_frames.specs.WaysFrom.{AreWaysFrom}
-use Rattle.search_frames.proofs.StepFrames.{step_read}
-use Rattle.search_frames.proofs.StandingRanks.{possible_if_leads, possible_if_ends}
-use Rattle.search_frames.proofs.ReachedStandings.{reached_after}
+use Rattle.search_frames.proofs.ConfigurationRanks.{possible_if_leads, possible_if_ends}
+use Rattle.search_frames.proofs.ReachedConfigurations.{reached_after}
 use Rattle.summary_chart.specs.Tables.{IsIn, index_in}
 use Rattle.summary_chart.specs.Spreading.{GoesFurtherBy, leads_in}
 use Rattle.summary_chart.specs.Charts.{IsAlive, CoversPlace, index_of_place}
 use Rattle.summary_chart.specs.PlaceWays.{ChartValue, IsChartOf, HasAllWays, HasStopAt, AreWaysAt}
-use Rattle.summary_chart.specs.Turning.{key_for, last_tried, IsFrom, IsAfter, IsTestUnder, IsFirstLiving, HasNoLiving}
-use Rattle.summary_chart.proofs.TableStates.{same_place, index_within}
+use Rattle.derivation.specs.Steps.{key_meant}
+use Rattle.summary_chart.specs.Turning.{last_tried, IsFrom, IsAfter, IsTestUnder, IsFirstLiving, HasNoLiving}
+use Rattle.summary_chart.proofs.TableStates.{same_configuration, index_within}
 use Rattle.summary_chart.proofs.TablePlaces.{has_set}
 use Rattle.summary_chart.proofs.WayTests.{number_in_set}
 use Rattle.summary_chart.proofs.ProgramPlaces.{place_of_reached}
@@ -44,7 +44,7 @@ use Rattle.summary_chart.proofs.ProgramPlaces.{place_of_reached}
 -- ---- keys with which a path begins
 
 -- such a key is possible
-possible_if_begins : (searched : SearchedLexicon) (line : Line) (choices : List Choice) (here : Standing) (key : Key)
+possible_if_begins : (searched : SearchedLexicon) (line : Line) (choices : List Choice) (here : NumberedConfiguration) (key : Key)
     → BeginsPath searched line choices here key → IsPossible searched line here key
 possible_if_begins searched line choices here key ([], ends) = possible_if_ends searched line choices here key ends
 possible_if_begins searched line choices here key (later ∷ keys, (next, (leads, is), path)) =
@@ -52,7 +52,7 @@ possible_if_begins searched line choices here key (later ∷ keys, (next, (leads
 
 module _ (searched : SearchedLexicon) (line : Line) (choices : List Choice) (chart : ChartValue) (chart_is : IsChartOf searched line choices chart) where
   -- and goes further under the chart's table
-  further_if_begins : IsSearchedLexicon searched → (here : Standing) (key : Key) → IsReached searched line choices here → BeginsPath searched line choices here key
+  further_if_begins : IsSearchedLexicon searched → (here : NumberedConfiguration) (key : Key) → IsReached searched line choices here → BeginsPath searched line choices here key
       → GoesFurtherBy searched line choices chart.table here key
   further_if_begins is here key reached ([], ends) = inl ends
   further_if_begins is here key reached (later ∷ keys, (next, (leads, next_is), path)) =
@@ -70,7 +70,7 @@ module _ (searched : SearchedLexicon) (line : Line) (choices : List Choice) (cha
 
   -- ---- the ways of the place
 
-  module _ (place : Place) (within : IsPlaceIn searched line place) where
+  module _ (place : Configuration) (within : IsConfigurationIn searched line place) where
     -- the table can be asked of it
     pub covers_place : IsStateMachine searched.machine → CoversPlace chart.table place.at place.entrance place.state
     covers_place machine = (
@@ -80,7 +80,7 @@ module _ (searched : SearchedLexicon) (line : Line) (choices : List Choice) (cha
 
     -- it stands in the table's order at the same index
     same_index_there : index_in chart.table place.at place.entrance ≡ index_of_place searched place
-    same_index_there = same_place (leads_in searched) (length line.letters) place.at place.entrance chart.table chart_is.table.lawful
+    same_index_there = same_configuration (leads_in searched) (length line.letters) place.at place.entrance chart.table chart_is.table.lawful
 
     -- a place of the chart has a stop
     has_stop : IsIn chart.table place → HasStopAt chart.stops (index_in chart.table place.at place.entrance)
@@ -91,19 +91,19 @@ module _ (searched : SearchedLexicon) (line : Line) (choices : List Choice) (cha
 
     -- the ways of its stop are all from there
     pub ways_there : (ways : List Way) → IsIn chart.table place → AreWaysAt chart.stops chart.ways (index_in chart.table place.at place.entrance) ways
-        → AreWaysFrom searched line choices (standing_of searched place) ways
+        → AreWaysFrom searched line choices (numbered_of searched place) ways
     ways_there ways inside (stop, among, index, found) =
         let all = All-contains (HasAllWays searched line choices chart.ways) chart.stops stop chart_is.ways.each among in
-        subst (AreWaysFrom searched line choices (standing_of searched place)) (sym found)
+        subst (AreWaysFrom searched line choices (numbered_of searched place)) (sym found)
         (all place within inside.entrance (sym same_index_there ∙ sym index))
 
 -- ---- one turn
 
 -- the frame's place, at which the chart is asked
-pub record IsAsked (searched : SearchedLexicon) (line : Line) (choices : List Choice) (chart : ChartValue) (level : ℕ) (old : Resumption) (place : Place) : Type 0 where
+pub record IsAsked (searched : SearchedLexicon) (line : Line) (choices : List Choice) (chart : ChartValue) (level : ℕ) (old : Resumption) (place : Configuration) : Type 0 where
   pub searched_is : IsSearchedLexicon searched
   pub chart_is : IsChartOf searched line choices chart
-  pub place_is : place ≡ place_of old level
+  pub place_is : place ≡ configuration_at old level
   pub frame : IsFrame searched line old level
   pub reached : IsReached searched line choices (here_of searched old level)
 
@@ -112,11 +112,11 @@ pub record HasAfterToTry (searched : SearchedLexicon) (line : Line) (level : ℕ
   pub exact : (key : Key) → IsPossible searched line (here_of searched stack level) key → IsUntried searched stack level key ↔ IsAfter last key
 
 pub after_to_try : (searched : SearchedLexicon) (line : Line) (level : ℕ) (stack : Resumption) (step : Step) (to_try : ToTry) → IsFrame searched line stack level
-    → step ≡ get_or stack.steps.items level step → HasToTry searched line stack level to_try
+    → step ≡ step_of stack level → HasToTry searched line stack level to_try
     → HasAfterToTry searched line level stack (last_tried step to_try)
 after_to_try searched line level stack step AllKeys frame there has = record { exact = λ key possible. (λ untried. tt, λ after. has key possible) }
 after_to_try searched line level stack step LaterKeys frame there has =
-    let step_is = ap key_of (step_read stack level step frame.placed.is_stack frame.placed.there there) in
+    let step_is = ap key_of there in
     record {
       exact = λ key possible. subst (λ (k : Key). IsUntried searched stack level key ↔ (compare_keys k key ≡ Less)) (sym step_is) (has key possible);
     }
@@ -124,12 +124,12 @@ after_to_try searched line level stack step LaterKeys frame there has =
 -- what comes after a key that comes after the last one does so too
 after_later : (last : Option ProgramKey) (found key : Key) → IsAfter last found → compare_keys found key ≡ Less → IsAfter last key
 after_later None found key after later = tt
-after_later (Some last) found key after later = compare_keys_total.trans (key_for last) found key after later
+after_later (Some last) found key after later = compare_keys_total.trans (key_meant last) found key after later
 
-module _ (searched : SearchedLexicon) (line : Line) (choices : List Choice) (chart : ChartValue) (level : ℕ) (old : Resumption) (place : Place)
+module _ (searched : SearchedLexicon) (line : Line) (choices : List Choice) (chart : ChartValue) (level : ℕ) (old : Resumption) (place : Configuration)
     (asked : IsAsked searched line choices chart level old place) where
-  pub place_within : IsPlaceIn searched line place
-  place_within = subst (IsPlaceIn searched line) (sym asked.place_is) asked.frame.placed.within
+  pub place_within : IsConfigurationIn searched line place
+  place_within = subst (IsConfigurationIn searched line) (sym asked.place_is) asked.frame.placed.within
 
   -- without ways, no path begins there
   pub no_ways : (IsIn chart.table place → HasStopAt chart.stops (index_in chart.table place.at place.entrance) → ⊥)
@@ -137,17 +137,17 @@ module _ (searched : SearchedLexicon) (line : Line) (choices : List Choice) (cha
   no_ways none key begins untried =
       let there = sym asked.place_is in
       let inside = (asked.chart_is.table.exact place place_within).1 (record {
-        reached = subst (λ (p : Place). IsReached searched line choices (standing_of searched p)) there asked.reached;
-        path = subst (λ (p : Place). HasPath (ways_in searched line choices) (standing_of searched p)) there (key ∷ begins.0, begins.1);
+        reached = subst (λ (p : Configuration). IsReached searched line choices (numbered_of searched p)) there asked.reached;
+        path = subst (λ (p : Configuration). HasPath (ways_in searched line choices) (numbered_of searched p)) there (key ∷ begins.0, begins.1);
       }) in
       none inside (has_stop searched line choices chart asked.chart_is place place_within inside)
 
   module _ (last : Option ProgramKey) (to_try : HasAfterToTry searched line level old last) where
     -- a key with which a path begins and that was untried is possible at the place, comes after the last one, and goes further
     record IsLiving (key : Key) : Type 0 where
-      possible : IsPossible searched line (standing_of searched place) key
+      possible : IsPossible searched line (numbered_of searched place) key
       after : IsAfter last key
-      further : GoesFurtherBy searched line choices chart.table (standing_of searched place) key
+      further : GoesFurtherBy searched line choices chart.table (numbered_of searched place) key
 
     living : (key : Key) → BeginsPath searched line choices (here_of searched old level) key → IsUntried searched old level key → IsLiving key
     living key begins untried =
@@ -155,20 +155,20 @@ module _ (searched : SearchedLexicon) (line : Line) (choices : List Choice) (cha
         let possible = possible_if_begins searched line choices (here_of searched old level) key begins in
         let further = further_if_begins searched line choices chart asked.chart_is asked.searched_is (here_of searched old level) key asked.reached begins in
         record {
-          possible = subst (λ (p : Place). IsPossible searched line (standing_of searched p) key) there possible;
+          possible = subst (λ (p : Configuration). IsPossible searched line (numbered_of searched p) key) there possible;
           after = (to_try.exact key possible).0 untried;
-          further = subst (λ (p : Place). GoesFurtherBy searched line choices chart.table (standing_of searched p) key) there further;
+          further = subst (λ (p : Configuration). GoesFurtherBy searched line choices chart.table (numbered_of searched p) key) there further;
         }
 
     -- so where no key after the last one goes further, there is none
-    pub none_living : HasNoLiving searched line choices chart.table (standing_of searched place) last → HasNoTurn searched line choices level old
+    pub none_living : HasNoLiving searched line choices chart.table (numbered_of searched place) last → HasNoTurn searched line choices level old
     none_living none key begins untried =
         let is_living = living key begins untried in
         none key is_living.possible is_living.after is_living.further
 
-    module _ (found : Key) (turn : Turn) (first : IsFirstLiving searched line choices chart.table (standing_of searched place) last found turn) where
+    module _ (found : Key) (turn : Turn) (first : IsFirstLiving searched line choices chart.table (numbered_of searched place) last found turn) where
       pub possible_old : IsPossible searched line (here_of searched old level) found
-      possible_old = subst (λ (p : Place). IsPossible searched line (standing_of searched p) found) asked.place_is first.possible
+      possible_old = subst (λ (p : Configuration). IsPossible searched line (numbered_of searched p) found) asked.place_is first.possible
 
       -- the key that was found is one that the frame has still to try
       pub untried_old : IsUntried searched old level found
@@ -179,14 +179,14 @@ module _ (searched : SearchedLexicon) (line : Line) (choices : List Choice) (cha
         turned : HasTurned searched line choices level old new
         turned = record {
           frame = at.frame;
-          same_place = at.same_place;
+          same_configuration = at.same_configuration;
           possible = subst (IsPossible searched line (here_of searched old level)) (sym at.is_at) possible_old;
           untried = subst (IsUntried searched old level) (sym at.is_at) untried_old;
           first = λ key begins untried.
               let is_living = living key begins untried in
               subst (λ (k : Key). IsFrom k key) (sym at.is_at) (first.first key is_living.possible is_living.after is_living.further);
           left = λ key possible untried.
-              let there = subst (λ (p : Place). IsPossible searched line (standing_of searched p) key) (sym at.same_place) possible in
+              let there = subst (λ (p : Configuration). IsPossible searched line (numbered_of searched p) key) (sym at.same_configuration) possible in
               let later = subst (λ (k : Key). compare_keys k key ≡ Less) at.is_at ((at.later key there).0 untried) in
               (to_try.exact key possible).1 (after_later last found key first.after later);
           later = at.later;
@@ -197,14 +197,14 @@ module _ (searched : SearchedLexicon) (line : Line) (choices : List Choice) (cha
         by_turn ToEnd same = (
           turned,
           subst (Ends searched line choices (here_of searched old level)) (sym at.is_at)
-              (subst (λ (p : Place). Ends searched line choices (standing_of searched p) found) asked.place_is
-              (subst (IsTestUnder searched line choices chart.table (standing_of searched place) found) same first.test)),
+              (subst (λ (p : Configuration). Ends searched line choices (numbered_of searched p) found) asked.place_is
+              (subst (IsTestUnder searched line choices chart.table (numbered_of searched place) found) same first.test)),
         )
         by_turn (ToPlace to) same = (
           turned,
           subst (λ (k : Key). LeadsTo searched line choices (here_of searched old level) k to) (sym at.is_at)
-              (subst (λ (p : Place). LeadsTo searched line choices (standing_of searched p) found to) asked.place_is
-              (subst (IsTestUnder searched line choices chart.table (standing_of searched place) found) same first.test)),
+              (subst (λ (p : Configuration). LeadsTo searched line choices (numbered_of searched p) found to) asked.place_is
+              (subst (IsTestUnder searched line choices chart.table (numbered_of searched place) found) same first.test)),
         )
 
         -- and the turn says what the key does

@@ -7,9 +7,9 @@ use Rattle.segmentation_definitions.specs.Items.{Item, Choice}
 use Rattle.segmentation_definitions.specs.Listings.{Key, compare_items}
 use Rattle.derivation.specs.declared.entrance.Entrance.{Entrance}
 use Rattle.annotated_trie.specs.Searched.{SearchedLexicon}
-use Rattle.search_frames.specs.declared.place.Place.{Place}
+use Rattle.search_frames.specs.declared.configuration.Configuration.{Configuration}
 use Rattle.search_frames.specs.declared.ways.Way.{Way}
-use Rattle.search_frames.specs.Frames.{standing_of}
+use Rattle.search_frames.specs.Frames.{numbered_of}
 use Rattle.search_frames.specs.WaysFrom.{AreWaysFrom, key_of_way}
 use Rattle.summary_chart.specs.declared.state_set.StateSet.{StateSet}
 use Rattle.summary_chart.specs.declared.table.Table.{Table}
@@ -54,11 +54,11 @@ module _ (searched : SearchedLexicon) (line : Line) (choices : List Choice) (tab
 -- ---- one way after another
 
 -- the item of one of the first so many ways by which some state goes further
-abbrev pub IsItemAmongFirst : SearchedLexicon → Line → List Choice → Table → Place → StateSet → List Way → ℕ → Item → Type 0
+abbrev pub IsItemAmongFirst : SearchedLexicon → Line → List Choice → Table → Configuration → StateSet → List Way → ℕ → Item → Type 0
 IsItemAmongFirst searched line choices table place set ways count item =
     (key : Key) × IsAmongFirst count ways key × IsItemBy searched line choices table place.at place.entrance set key item
 
-module _ (searched : SearchedLexicon) (line : Line) (choices : List Choice) (table : Table) (place : Place) (set : StateSet) (ways : List Way) where
+module _ (searched : SearchedLexicon) (line : Line) (choices : List Choice) (table : Table) (place : Configuration) (set : StateSet) (ways : List Way) where
   -- at first there is none
   pub items_at_first : (items : List Item) → IsStrictlySortedBy compare_items items
       → AddsItems (IsItemAmongFirst searched line choices table place set ways 0) items items
@@ -87,7 +87,7 @@ module _ (searched : SearchedLexicon) (line : Line) (choices : List Choice) (tab
   }
 
   -- at the end every item is there
-  pub items_at_last : (count : ℕ) → length ways ≤ count → AreWaysFrom searched line choices (standing_of searched place) ways → (old items : List Item)
+  pub items_at_last : (count : ℕ) → length ways ≤ count → AreWaysFrom searched line choices (numbered_of searched place) ways → (old items : List Item)
       → AddsItems (IsItemAmongFirst searched line choices table place set ways count) old items
       → AddsItems (IsItemFrom searched line choices table place.at place.entrance set) old items
   items_at_last count enough are old items so_far = record {

@@ -8,12 +8,12 @@ use Rattle.segmentation_definitions.specs.Listings.{Key}
 use Rattle.phase_automaton.specs.Automata.{IsStateIn}
 use Rattle.derivation.specs.declared.entrance.Entrance.{Entrance}
 use Rattle.annotated_trie.specs.Searched.{SearchedLexicon}
-use Rattle.search_frames.specs.declared.place.Place.{Place}
-use Rattle.search_frames.specs.Standings.{Ends, IsPossible}
-use Rattle.search_frames.specs.Frames.{IsPlaceIn, standing_of}
+use Rattle.search_frames.specs.declared.configuration.Configuration.{Configuration}
+use Rattle.search_frames.specs.Configurations.{Ends, IsPossible}
+use Rattle.search_frames.specs.Frames.{IsConfigurationIn, numbered_of}
 use Rattle.search_frames.specs.Tests.{LeadsTo}
 use Rattle.search_frames.specs.LetterTests.{MayLeadOn, MayEndLine, MayNeither, MayLeadTo}
-use Rattle.search_frames.proofs.StandingRanks.{possible_if_leads, possible_if_ends, may_if_leads, may_if_ends, not_both_ways}
+use Rattle.search_frames.proofs.ConfigurationRanks.{possible_if_leads, possible_if_ends, may_if_leads, may_if_ends, not_both_ways}
 use Rattle.summary_chart.specs.declared.state_set.StateSet.{StateSet}
 use Rattle.summary_chart.specs.declared.table.Table.{Table}
 use Rattle.summary_chart.specs.StateSets.{HasState, IsStateOf, LeadsInto}
@@ -23,7 +23,7 @@ use Rattle.summary_chart.proofs.TableStates.{numbered_in}
 use Rattle.summary_chart.proofs.TablePlaces.{in_with}
 use Rattle.summary_chart.proofs.SpreadKeys.{led_place, leads_to_place}
 
-module _ (searched : SearchedLexicon) (line : Line) (choices : List Choice) (table : Table) (place : Place) (set : StateSet) where
+module _ (searched : SearchedLexicon) (line : Line) (choices : List Choice) (table : Table) (place : Configuration) (set : StateSet) where
   -- from no state of the set does a key that is told go further, so none does
   pub further_nothing : (IsTold : Key → Type 0) (result : StateSet) → ((number : ℕ) → HasState result number → ⊥)
       → ((key : Key) (number : ℕ) → IsTold key → GoesFurtherBy searched line choices table (standing_with searched place.at place.entrance number) key → ⊥)
@@ -64,7 +64,7 @@ module _ (searched : SearchedLexicon) (line : Line) (choices : List Choice) (tab
   -- a key by which a state goes further is possible at the place, whatever its state
   pub possible_if_further : (key : Key) (number : ℕ)
       → GoesFurtherBy searched line choices table (standing_with searched place.at place.entrance number) key
-      → IsPossible searched line (standing_of searched place) key
+      → IsPossible searched line (numbered_of searched place) key
   possible_if_further key number (inl ends) =
       let possible = possible_if_ends searched line choices (standing_with searched place.at place.entrance number) key ends in
       record { number = possible.number; within = possible.within; form = possible.form }
@@ -73,14 +73,14 @@ module _ (searched : SearchedLexicon) (line : Line) (choices : List Choice) (tab
       record { number = possible.number; within = possible.within; form = possible.form }
 
   -- what a state does it may do as the letters tell, whatever the place's state
-  may_lead : (key : Key) (number : ℕ) (next : Place) → LeadsTo searched line choices (standing_with searched place.at place.entrance number) key next
-      → MayLeadOn searched line choices (standing_of searched place) key
+  may_lead : (key : Key) (number : ℕ) (next : Configuration) → LeadsTo searched line choices (standing_with searched place.at place.entrance number) key next
+      → MayLeadOn searched line choices (numbered_of searched place) key
   may_lead key number next leads =
       let may = may_if_leads searched line choices (standing_with searched place.at place.entrance number) key leads.leads_on in
       record { stands = may.stands; inner = may.inner; left = may.left }
 
   may_end : (key : Key) (number : ℕ) → Ends searched line choices (standing_with searched place.at place.entrance number) key
-      → MayEndLine searched line choices (standing_of searched place) key
+      → MayEndLine searched line choices (numbered_of searched place) key
   may_end key number ends =
       let may = may_if_ends searched line choices (standing_with searched place.at place.entrance number) key ends in
       record { stands = may.stands; final_rule = may.final_rule; all = may.all; blanks_before = may.blanks_before }
@@ -88,7 +88,7 @@ module _ (searched : SearchedLexicon) (line : Line) (choices : List Choice) (tab
   -- so a key by which a state goes further is not one that may do neither
   pub not_neither : (key : Key) (number : ℕ)
       → GoesFurtherBy searched line choices table (standing_with searched place.at place.entrance number) key
-      → MayNeither searched line choices (standing_of searched place) key → ⊥
+      → MayNeither searched line choices (numbered_of searched place) key → ⊥
   not_neither key number (inl ends) neither = neither.ends (may_end key number ends)
   not_neither key number (inr (next, leads, is)) neither = neither.leads_on (may_lead key number next leads)
 
@@ -104,7 +104,7 @@ module _ (searched : SearchedLexicon) (line : Line) (choices : List Choice) (tab
 
   -- where a key leads on to as the letters tell, the states go further that its phase leads to one of those there
   pub further_on : (key : Key) (at : ℕ) (entrance : Entrance) (targets result : StateSet)
-      → MayLeadTo searched line choices (standing_of searched place) key at entrance
+      → MayLeadTo searched line choices (numbered_of searched place) key at entrance
       → IsEntrance entrance → targets ≡ set_at table at entrance
       → ((number : ℕ) → HasState result number ↔ LeadsInto searched.machine set key.phase targets number)
       → AreGoingFurther searched line choices table place.at place.entrance set (OnlyKey key) result
@@ -112,13 +112,13 @@ module _ (searched : SearchedLexicon) (line : Line) (choices : List Choice) (tab
     λ has.
         let into = (are number).0 has in
         let to = into.1.0 in
-        let next : Place = record { at = at; entrance = entrance; state = Some to } in
-        let within : IsPlaceIn searched line next = record { letters = may.within; over = may.over; state_in = into.1.2.0 } in
+        let next : Configuration = record { at = at; entrance = entrance; state = Some to } in
+        let within : IsConfigurationIn searched line next = record { letters = may.within; over = may.over; state_in = into.1.2.0 } in
         let leads = leads_to_place searched line choices place set key at entrance may number to next within refl refl refl into.1.1 in
         let there = subst (λ (s : StateSet). HasState s to) same_targets into.1.2.1 in
         (into.0, inr (next, leads, in_with table next at to entrance refl refl refl proper there)),
     λ goes. elim goes.1 [
-      | inl ends ↦ absurd (not_both_ways searched line choices (standing_of searched place) key (may_end key number ends) may.may)
+      | inl ends ↦ absurd (not_both_ways searched line choices (numbered_of searched place) key (may_end key number ends) may.may)
       | inr (next, leads, is) ↦
           let there = led_place searched line choices place set key at entrance may number next leads in
           let to = there.2.0 in

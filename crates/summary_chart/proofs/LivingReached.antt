@@ -13,13 +13,13 @@ use Rattle.answer_paths.proofs.AnswerPaths.{adds_step, answer_after}
 use Rattle.answer_paths.proofs.AnswerFronts.{front_of_answer}
 use Rattle.phase_automaton.specs.Automata.{state_after}
 use Rattle.annotated_trie.specs.Searched.{SearchedLexicon, IsSearchedLexicon}
-use Rattle.search_frames.specs.declared.place.Place.{Place}
-use Rattle.search_frames.specs.Standings.{Standing, rules_in, after}
-use Rattle.search_frames.specs.Frames.{IsPlaceIn, standing_of}
+use Rattle.search_frames.specs.declared.configuration.Configuration.{Configuration}
+use Rattle.search_frames.specs.Configurations.{NumberedConfiguration, rules_in, after}
+use Rattle.search_frames.specs.Frames.{IsConfigurationIn, numbered_of}
 use Rattle.search_frames.specs.Tests.{LeadsTo}
 use Rattle.search_frames.specs.Reached.{IsReached}
-use Rattle.search_frames.proofs.ReachedStandings.{leads_on_if_leads, reached_at}
-use Rattle.search_frames.proofs.StandingPaths.{path_above_is_path}
+use Rattle.search_frames.proofs.ReachedConfigurations.{leads_on_if_leads, reached_at}
+use Rattle.search_frames.proofs.ConfigurationPaths.{path_above_is_path}
 use Rattle.summary_chart.specs.declared.table.Table.{Table}
 use Rattle.summary_chart.specs.Tables.{IsIn}
 use Rattle.summary_chart.specs.Charts.{IsReachedBefore, HasReached, IsAlive, set_count}
@@ -28,7 +28,7 @@ use Rattle.summary_chart.proofs.TableStates.{index_within}
 use Rattle.list_laws.proofs.Elements.{some_by_first}
 
 -- where a search stands after a front
-abbrev pub standing_after : SearchedLexicon → List Step → Standing
+abbrev pub standing_after : SearchedLexicon → List Step → NumberedConfiguration
 standing_after searched front = record {
   at = covered_from (rules_in searched) 0 [] front;
   entrance = entrance_after (rules_in searched) Start front;
@@ -51,9 +51,9 @@ module _ (searched : SearchedLexicon) (line : Line) (choices : List Choice) (is 
   reached_front : IsReached searched line choices (standing_after searched front)
   reached_front = record { front = front; led = led; at = refl; entrance = refl; state = refl }
 
-  leads_there : (place other : Place) → standing_of searched place ≡ standing_after searched front → IsPlaceIn searched line other
-      → standing_of searched other ≡ standing_after searched (front ++ step ∷ [])
-      → LeadsTo searched line choices (standing_of searched place) (key_at (rules_in searched) (lead_after (rules_in searched) [] front) step) other
+  leads_there : (place other : Configuration) → numbered_of searched place ≡ standing_after searched front → IsConfigurationIn searched line other
+      → numbered_of searched other ≡ standing_after searched (front ++ step ∷ [])
+      → LeadsTo searched line choices (numbered_of searched place) (key_at (rules_in searched) (lead_after (rules_in searched) [] front) step) other
   unfolding reached_at reached_front
   leads_there place other here within there =
       let key = key_at (rules_in searched) (lead_after (rules_in searched) [] front) step in
@@ -64,14 +64,14 @@ module _ (searched : SearchedLexicon) (line : Line) (choices : List Choice) (is 
       let reached = reached_at searched line choices from key is reached_front longer leads in
       let ends : after searched line from key ≡ standing_after searched longer =
       λ i. record { at = reached.at i; entrance = reached.entrance i; state = reached.state i } in
-      subst (λ (h : Standing). LeadsTo searched line choices h key other) (sym here)
+      subst (λ (h : NumberedConfiguration). LeadsTo searched line choices h key other) (sym here)
       (record { leads_on = on; is = there ∙ sym ends; within = within })
 
 module _ (searched : SearchedLexicon) (line : Line) (choices : List Choice) (table : Table) (is : IsSearchedLexicon searched)
     (closed : IsReachedBefore searched line choices (set_count searched line) table) where
   -- the table has every place where the front ends
   abbrev HasEnd : List Step → Type 0
-  HasEnd front = (place : Place) → IsPlaceIn searched line place → standing_of searched place ≡ standing_after searched front → IsIn table place
+  HasEnd front = (place : Configuration) → IsConfigurationIn searched line place → numbered_of searched place ≡ standing_after searched front → IsIn table place
 
   one_more : (front : List Step) (step : Step) → IsLedTo searched.lexicon line choices front → MayGoOn searched.lexicon line choices (front ++ step ∷ [])
       → HasEnd front → HasEnd (front ++ step ∷ [])
@@ -92,12 +92,12 @@ module _ (searched : SearchedLexicon) (line : Line) (choices : List Choice) (tab
       let goes = goes_on searched line choices longer (rest ++ more) is (some_after rest more some) answer' in
       subst HasEnd (append_assoc front (step ∷ []) rest) (along rest longer more some answer' (one_more front step led goes has))
 
-  pub living_in : IsLine line → (place : Place) → IsPlaceIn searched line place → IsAlive searched line choices place → IsIn table place
+  pub living_in : IsLine line → (place : Configuration) → IsConfigurationIn searched line place → IsAlive searched line choices place → IsIn table place
   living_in line_is place within alive =
       let reached = alive.reached in
       let (keys, path) = alive.path in
       let added = answer_after searched.lexicon line choices keys reached.front
-      ((path_above_is_path searched line choices (standing_of searched place) is line_is reached keys).0 path) in
+      ((path_above_is_path searched line choices (numbered_of searched place) is line_is reached keys).0 path) in
       along reached.front [] added.rest added.some added.answer closed.begun place within
       (λ i. record { at = reached.at i; entrance = reached.entrance i; state = reached.state i })
 

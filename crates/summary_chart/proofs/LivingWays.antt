@@ -14,17 +14,17 @@ use Rattle.search_frames.specs.declared.guiding.Turn.{Turn}
 use Rattle.search_frames.specs.declared.guiding.Turn.TheVariants.{Nothing}
 use Rattle.search_frames.specs.declared.letter_testing.LetterTest.TheVariants.{Refused}
 use Rattle.search_frames.specs.declared.ways.Way.{Way}
-use Rattle.search_frames.specs.Standings.{Standing, IsPossible}
+use Rattle.search_frames.specs.Configurations.{NumberedConfiguration, IsPossible}
 use Rattle.search_frames.specs.LetterTests.{MayNeither}
 use Rattle.search_frames.specs.WaysFrom.{AreWaysFrom, IsWayFrom, key_of_way}
-use Rattle.search_frames.proofs.StandingRanks.{may_if_leads, may_if_ends}
+use Rattle.search_frames.proofs.ConfigurationRanks.{may_if_leads, may_if_ends}
 use Rattle.summary_chart.specs.declared.table.Table.{Table}
 use Rattle.summary_chart.specs.Spreading.{GoesFurtherBy}
 use Rattle.summary_chart.specs.Turning.{IsAfter, IsTestUnder, IsFirstLiving, HasNoLiving}
 
 -- ---- one way after another
 
-module _ (searched : SearchedLexicon) (line : Line) (choices : List Choice) (table : Table) (here : Standing) (last : Option ProgramKey) (ways : List Way) where
+module _ (searched : SearchedLexicon) (line : Line) (choices : List Choice) (table : Table) (here : NumberedConfiguration) (last : Option ProgramKey) (ways : List Way) where
   -- none of the ways before the index is after the last key and goes further
   pub record HasNoneBefore (index : ℕ) : Type 0 where
     pub none : (place : ℕ) (default : Way) → place < index → IsAfter last (key_of_way (get_or ways place default))
@@ -73,7 +73,7 @@ module _ (searched : SearchedLexicon) (line : Line) (choices : List Choice) (tab
       → HasNoLiving searched line choices table here last
   none_at_last are index all none key possible after further =
       let there = stands_at are key possible further in
-      let default : Way = record { phase = 0; taken = 0; rule = 0; test = Refused } in
+      let default : Way = record { key = record { phase = 0; taken = 0; rule = 0 }; test = Refused } in
       let same = sym (there.is default) in
       none.none there.index default (omega (arith, there.within)) (subst (IsAfter last) same after)
       (subst (GoesFurtherBy searched line choices table here) same further)

@@ -9,9 +9,9 @@ use Rattle.derivation.specs.Guides.{entrance_of}
 use Rattle.derivation.specs.declared.entrance.Entrance.{Entrance}
 use Rattle.derivation.specs.declared.entrance.Entrance.TheVariants.{Start, Plain, Lead as ByLead}
 use Rattle.annotated_trie.specs.Searched.{SearchedLexicon}
-use Rattle.search_frames.specs.declared.place.Place.{Place}
-use Rattle.search_frames.specs.Standings.{Standing, opening}
-use Rattle.search_frames.specs.Frames.{IsPlaceIn, standing_of}
+use Rattle.search_frames.specs.declared.configuration.Configuration.{Configuration}
+use Rattle.search_frames.specs.Configurations.{NumberedConfiguration, opening}
+use Rattle.search_frames.specs.Frames.{IsConfigurationIn, numbered_of}
 use Rattle.summary_chart.specs.declared.state_set.StateSet.{StateSet}
 use Rattle.summary_chart.specs.declared.table.Table.{Table}
 use Rattle.summary_chart.specs.StateSets.{HasState}
@@ -19,7 +19,7 @@ use Rattle.summary_chart.specs.Tables.{IsTable, AreEntrances, IsIn, ChangesAt, H
 use Rattle.summary_chart.specs.Spreading.{leads_in, place_with}
 use Rattle.summary_chart.specs.Charts.{IsOpenTable, index_of_place}
 use Rattle.summary_chart.proofs.TableOrder.{same_index}
-use Rattle.summary_chart.proofs.TableStates.{numbered_in, numbered_at, same_place}
+use Rattle.summary_chart.proofs.TableStates.{numbered_in, numbered_at, same_configuration}
 
 -- only the start stands for the start
 only_start : (leads : List Lead) (entrance : Entrance) → entrance_of leads entrance ≡ defined.Start → entrance ≡ Start
@@ -27,9 +27,9 @@ only_start leads Start e = refl
 only_start leads (Plain letter) e = cc
 only_start leads (ByLead place) e = cc
 
-opening_place : (searched : SearchedLexicon) (place : Place) → standing_of searched place ≡ opening → place ≡ place_with 0 Start 0
+opening_place : (searched : SearchedLexicon) (place : Configuration) → numbered_of searched place ≡ opening → place ≡ place_with 0 Start 0
 opening_place searched place e =
-    let entrance = only_start (leads_in searched) place.entrance (ap (λ (s : Standing). s.entrance) e) in
+    let entrance = only_start (leads_in searched) place.entrance (ap (λ (s : NumberedConfiguration). s.entrance) e) in
     λ i. record { at = (e i).at; entrance = entrance i; state = (e i).state }
 
 -- the state of the opening is added to an empty table
@@ -47,22 +47,22 @@ module _ (searched : SearchedLexicon) (line : Line) (old new : Table) (begun : I
   }
 
   start_index : index_in old 0 Start ≡ index_of (length (leads_in searched)) 0 Start
-  start_index = same_place (leads_in searched) (length line.letters) 0 Start old begun.lawful
+  start_index = same_configuration (leads_in searched) (length line.letters) 0 Start old begun.lawful
 
   -- nothing stands elsewhere
-  none_elsewhere : (place : Place) → IsIn new place → index_of_place searched place ≢ index_of (length (leads_in searched)) 0 Start → ⊥
+  none_elsewhere : (place : Configuration) → IsIn new place → index_of_place searched place ≢ index_of (length (leads_in searched)) 0 Start → ⊥
   none_elsewhere place inside other =
       let here = numbered_at searched line (index_of_place searched place) new place lawful_new inside refl in
       begun.empty (index_of_place searched place) here.number
       (subst (λ (s : StateSet). HasState s here.number) (begun.changes.others (index_of_place searched place) (λ e. other (e ∙ start_index))) here.has)
 
-  at_start : (place : Place) → IsPlaceIn searched line place → IsIn new place → index_of_place searched place ≡ index_of (length (leads_in searched)) 0 Start
-      → standing_of searched place ≡ opening
+  at_start : (place : Configuration) → IsConfigurationIn searched line place → IsIn new place → index_of_place searched place ≡ index_of (length (leads_in searched)) 0 Start
+      → numbered_of searched place ≡ opening
   at_start place within inside same =
       let here = same_index (leads_in searched) place.at 0 place.entrance Start inside.entrance tt within.over tt same in
       let set_same : set_at new place.at place.entrance ≡ set_at new 0 Start =
-      ap (set_of new) (same_place (leads_in searched) (length line.letters) place.at place.entrance new lawful_new ∙ same
-      ∙ sym (same_place (leads_in searched) (length line.letters) 0 Start new lawful_new)) in
+      ap (set_of new) (same_configuration (leads_in searched) (length line.letters) place.at place.entrance new lawful_new ∙ same
+      ∙ sym (same_configuration (leads_in searched) (length line.letters) 0 Start new lawful_new)) in
       let told = numbered_in (set_at new 0 Start) place.state (subst (λ (s : StateSet). HasThisState s place.state) set_same inside.state) in
       let zero_is = (begun.added told.number).0 told.has in
       λ i. record {

@@ -16,9 +16,9 @@ use Rattle.segmentation_definitions.specs.Items.{Choice}
 use Rattle.derivation.specs.declared.entrance.Entrance.{Entrance}
 use Rattle.derivation.specs.Guides.{entrance_of}
 use Rattle.annotated_trie.specs.Searched.{SearchedLexicon}
-use Rattle.search_frames.specs.declared.place.Place.{Place}
+use Rattle.search_frames.specs.declared.configuration.Configuration.{Configuration}
 use Rattle.search_frames.specs.declared.ways.Way.{Way}
-use Rattle.search_frames.specs.Frames.{IsPlaceIn, standing_of}
+use Rattle.search_frames.specs.Frames.{IsConfigurationIn, numbered_of}
 use Rattle.search_frames.specs.WaysFrom.{AreWaysFrom}
 use Rattle.summary_chart.specs.declared.place_ways.Stop.{Stop}
 use Rattle.summary_chart.specs.declared.table.Table.{Table}
@@ -57,7 +57,7 @@ no_ways searched line choices table = record {
 module _ (searched : SearchedLexicon) (line : Line) (choices : List Choice) where
   -- a table with fewer places
   pub fewer_places : (index : ℕ) (old new : Table) (stops : List Stop) (ways : List Way)
-      → ((place : Place) → IsPlaceIn searched line place → IsIn new place → IsIn old place)
+      → ((place : Configuration) → IsConfigurationIn searched line place → IsIn new place → IsIn old place)
       → HasWaysBefore searched line choices index old stops ways → HasWaysBefore searched line choices index new stops ways
   fewer_places index old new stops ways fewer has = record {
     are = has.are;
@@ -84,11 +84,11 @@ module _ (searched : SearchedLexicon) (line : Line) (choices : List Choice) wher
   }
 
   module _ (index at : ℕ) (entrance : Entrance) (indexed : IsIndexed (leads_in searched) (length line.letters) index at entrance)
-      (place : Place) (at_is : place.at ≡ at) (entrance_is : place.entrance ≡ entrance) where
+      (place : Configuration) (at_is : place.at ≡ at) (entrance_is : place.entrance ≡ entrance) where
     -- each place at the index has the same ways
-    ways_there : (ways : List Way) → AreWaysFrom searched line choices (standing_of searched place) ways → (other : Place)
-        → IsPlaceIn searched line other → IsEntrance other.entrance → index_of_place searched other ≡ index
-        → AreWaysFrom searched line choices (standing_of searched other) ways
+    ways_there : (ways : List Way) → AreWaysFrom searched line choices (numbered_of searched place) ways → (other : Configuration)
+        → IsConfigurationIn searched line other → IsEntrance other.entrance → index_of_place searched other ≡ index
+        → AreWaysFrom searched line choices (numbered_of searched other) ways
     ways_there ways are other within proper same =
         let cell = same_index (leads_in searched) other.at at other.entrance entrance proper indexed.proper within.over indexed.over (same ∙ sym indexed.is) in
         subst (λ (n : ℕ). AreWaysFrom searched line choices (record { at = n; entrance = entrance_of (leads_in searched) other.entrance; state = other.state }) ways)
@@ -100,8 +100,8 @@ module _ (searched : SearchedLexicon) (line : Line) (choices : List Choice) wher
     -- one stop more
     pub one_stop_more : (old new : Table) (stops : List Stop) (ways more : List Way)
         → HasWaysBefore searched line choices index old stops ways
-        → AreWaysFrom searched line choices (standing_of searched place) more
-        → ((other : Place) → IsPlaceIn searched line other → index_of_place searched other < index + 1 → IsIn new other → IsIn old other)
+        → AreWaysFrom searched line choices (numbered_of searched place) more
+        → ((other : Configuration) → IsConfigurationIn searched line other → index_of_place searched other < index + 1 → IsIn new other → IsIn old other)
         → HasWaysBefore searched line choices (index + 1) new
         (stops ++ record { index = index; first = length ways; end = length (ways ++ more) } ∷ []) (ways ++ more)
     unfolding IsStrictlySortedBy
@@ -128,10 +128,10 @@ module _ (searched : SearchedLexicon) (line : Line) (choices : List Choice) wher
           ]);
           each = All-from_Contains (HasAllWays searched line choices (ways ++ more)) (stops ++ last ∷ []) (λ stop there. elim (Contains-push_cases stops last stop there) [
             | inl earlier ↦ λ other within proper same.
-                subst (AreWaysFrom searched line choices (standing_of searched other)) (sym (still_ways ways more stop (within_before stop earlier)))
+                subst (AreWaysFrom searched line choices (numbered_of searched other)) (sym (still_ways ways more stop (within_before stop earlier)))
                 (All-contains (HasAllWays searched line choices ways) stops stop has.each earlier other within proper same)
             | inr same ↦ subst (HasAllWays searched line choices (ways ++ more)) same (λ other within proper same_index.
-                subst (AreWaysFrom searched line choices (standing_of searched other)) (sym (last_ways ways more index))
+                subst (AreWaysFrom searched line choices (numbered_of searched other)) (sym (last_ways ways more index))
                 (ways_there more are other within proper same_index))
           ]);
           there = λ other within low inside.
@@ -145,10 +145,10 @@ module _ (searched : SearchedLexicon) (line : Line) (choices : List Choice) wher
         }
 
 -- what is found at an index are all ways from each place there
-pub ways_found : (searched : SearchedLexicon) (line : Line) (choices : List Choice) (limit index : ℕ) (table : Table) (stops : List Stop) (ways found : List Way) (place : Place)
+pub ways_found : (searched : SearchedLexicon) (line : Line) (choices : List Choice) (limit index : ℕ) (table : Table) (stops : List Stop) (ways found : List Way) (place : Configuration)
     → HasWaysBefore searched line choices limit table stops ways → AreWaysAt stops ways index found
-    → IsPlaceIn searched line place → IsEntrance place.entrance → index_of_place searched place ≡ index
-    → AreWaysFrom searched line choices (standing_of searched place) found
+    → IsConfigurationIn searched line place → IsEntrance place.entrance → index_of_place searched place ≡ index
+    → AreWaysFrom searched line choices (numbered_of searched place) found
 ways_found searched line choices limit index table stops ways found place has (stop, there, stop_is, found_is) within proper same =
-    subst (AreWaysFrom searched line choices (standing_of searched place)) (sym found_is)
+    subst (AreWaysFrom searched line choices (numbered_of searched place)) (sym found_is)
     (All-contains (HasAllWays searched line choices ways) stops stop has.each there place within proper (same ∙ sym stop_is))

@@ -20,9 +20,9 @@ use Rattle.derivation.specs.Guides.{IsEntranceOver, entrance_of}
 use Rattle.derivation.specs.declared.entrance.Entrance.{Entrance as ProgramEntrance}
 use Rattle.derivation.specs.declared.entrance.Entrance.TheVariants as program
 use Rattle.annotated_trie.specs.Searched.{SearchedLexicon, IsSearchedLexicon}
-use Rattle.search_frames.specs.declared.place.Place.{Place}
-use Rattle.search_frames.specs.Standings.{Standing, rules_in}
-use Rattle.search_frames.specs.Frames.{IsPlaceIn, standing_of}
+use Rattle.search_frames.specs.declared.configuration.Configuration.{Configuration}
+use Rattle.search_frames.specs.Configurations.{NumberedConfiguration, rules_in}
+use Rattle.search_frames.specs.Frames.{IsConfigurationIn, numbered_of}
 use Rattle.search_frames.specs.Reached.{IsReached}
 
 -- an entrance of the program that stands for this one
@@ -66,12 +66,12 @@ after_front rules [] goes = record { told = program.Start; over = tt; is = refl 
 after_front rules (step ∷ steps) goes = after_some rules step steps defined.Start goes
 
 -- a place of the program at which a search stands so
-pub record HasPlace (searched : SearchedLexicon) (line : Line) (here : Standing) : Type 0 where
-  pub place : Place
-  pub within : IsPlaceIn searched line place
-  pub is : standing_of searched place ≡ here
+pub record HasPlace (searched : SearchedLexicon) (line : Line) (here : NumberedConfiguration) : Type 0 where
+  pub place : Configuration
+  pub within : IsConfigurationIn searched line place
+  pub is : numbered_of searched place ≡ here
 
-pub place_of_reached : (searched : SearchedLexicon) (line : Line) (choices : List Choice) (here : Standing) → IsSearchedLexicon searched
+pub place_of_reached : (searched : SearchedLexicon) (line : Line) (choices : List Choice) (here : NumberedConfiguration) → IsSearchedLexicon searched
     → IsReached searched line choices here → HasPlace searched line here
 place_of_reached searched line choices here is reached =
     let rules = rules_in searched in

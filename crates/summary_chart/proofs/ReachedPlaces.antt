@@ -8,12 +8,12 @@ use Rattle.segmentation_definitions.specs.Items.{Choice}
 use Rattle.segmentation_definitions.specs.Listings.{Key}
 use Rattle.derivation.specs.declared.entrance.Entrance.{Entrance}
 use Rattle.annotated_trie.specs.Searched.{SearchedLexicon, IsSearchedLexicon}
-use Rattle.search_frames.specs.declared.place.Place.{Place}
-use Rattle.search_frames.specs.Frames.{IsPlaceIn, standing_of}
+use Rattle.search_frames.specs.declared.configuration.Configuration.{Configuration}
+use Rattle.search_frames.specs.Frames.{IsConfigurationIn, numbered_of}
 use Rattle.search_frames.specs.Tests.{LeadsTo}
 use Rattle.search_frames.specs.Reached.{IsReached}
 use Rattle.search_frames.proofs.LeadingTo.{leads_from}
-use Rattle.search_frames.proofs.ReachedStandings.{opening_reached}
+use Rattle.search_frames.proofs.ReachedConfigurations.{opening_reached}
 use Rattle.summary_chart.specs.declared.table.Table.{Table}
 use Rattle.summary_chart.specs.Tables.{IsTable, IsIn, IsIndexed, AreEmptyBetween, set_of}
 use Rattle.summary_chart.specs.Spreading.{Spreads, EveryKey, IsLedOnTo, leads_in, place_with}
@@ -22,23 +22,23 @@ use Rattle.summary_chart.proofs.TableOrder.{later_place}
 use Rattle.summary_chart.proofs.TableStates.{numbered_at, stands_in, with_within, at_index}
 
 -- a place to which a key leads from a place of the table: it is reached, and stands later
-pub record IsLater (searched : SearchedLexicon) (line : Line) (choices : List Choice) (index : ℕ) (place : Place) : Type 0 where
-  pub reached : IsReached searched line choices (standing_of searched place)
+pub record IsLater (searched : SearchedLexicon) (line : Line) (choices : List Choice) (index : ℕ) (place : Configuration) : Type 0 where
+  pub reached : IsReached searched line choices (numbered_of searched place)
   pub later : index < index_of_place searched place
 
-pub later_if_led : (searched : SearchedLexicon) (line : Line) (choices : List Choice) (place next : Place) (key : Key) (table : Table) → IsSearchedLexicon searched
-    → IsPlaceIn searched line place → IsIn table place → IsReached searched line choices (standing_of searched place)
-    → LeadsTo searched line choices (standing_of searched place) key next
+pub later_if_led : (searched : SearchedLexicon) (line : Line) (choices : List Choice) (place next : Configuration) (key : Key) (table : Table) → IsSearchedLexicon searched
+    → IsConfigurationIn searched line place → IsIn table place → IsReached searched line choices (numbered_of searched place)
+    → LeadsTo searched line choices (numbered_of searched place) key next
     → IsLater searched line choices (index_of_place searched place) next
 later_if_led searched line choices place next key table is within inside reached leads =
-    let led = leads_from searched line choices (standing_of searched place) key next leads is reached in
+    let led = leads_from searched line choices (numbered_of searched place) key next leads is reached in
     record { reached = led.reached; later = later_place searched line place next inside.entrance within led.place led.rises }
 
 module _ (searched : SearchedLexicon) (line : Line) (choices : List Choice) (index at : ℕ) (entrance : Entrance) (old : Table)
     (is : IsSearchedLexicon searched) (before : IsReachedBefore searched line choices index old)
     (indexed : IsIndexed (leads_in searched) (length line.letters) index at entrance) where
   -- where the states at the index lead to is reached, and stands later
-  led_later : (key : Key) (next : Place) → IsLedOnTo searched line choices at entrance (set_of old index) key next
+  led_later : (key : Key) (next : Configuration) → IsLedOnTo searched line choices at entrance (set_of old index) key next
       → IsLater searched line choices index next
   led_later key next (number, state, leads) =
       let place = place_with at entrance number in
@@ -50,20 +50,20 @@ module _ (searched : SearchedLexicon) (line : Line) (choices : List Choice) (ind
   module _ (new : Table) (lawful : IsTable (leads_in searched) (length line.letters) new)
       (spreads : Spreads searched line choices at entrance (set_of old index) EveryKey old new) where
     -- up to the index nothing new stands in the table
-    pub old_before : (place : Place) → IsPlaceIn searched line place → index_of_place searched place < index + 1 → IsIn new place → IsIn old place
+    pub old_before : (place : Configuration) → IsConfigurationIn searched line place → index_of_place searched place < index + 1 → IsIn new place → IsIn old place
     old_before place within low inside = elim (spreads.only place within inside) [
       | inl was ↦ was
       | inr led ↦ (let later = (led_later led.0 place led.2).later in absurd (omega (arith, low, later)))
     ]
 
-    closed_at : (place next : Place) (key : Key) → IsPlaceIn searched line place → IsIn old place → index_of_place searched place ≡ index
-        → LeadsTo searched line choices (standing_of searched place) key next → IsIn new next
+    closed_at : (place next : Configuration) (key : Key) → IsConfigurationIn searched line place → IsIn old place → index_of_place searched place ≡ index
+        → LeadsTo searched line choices (numbered_of searched place) key next → IsIn new next
     closed_at place next key within inside same leads =
         let here = at_index searched line index at entrance old before.lawful indexed place within inside same in
         spreads.adds key next tt (
           here.number,
           here.state,
-          subst (λ (p : Place). LeadsTo searched line choices (standing_of searched p) key next) here.is leads,
+          subst (λ (p : Configuration). LeadsTo searched line choices (numbered_of searched p) key next) here.is leads,
         )
 
     pub spread_on : IsReachedBefore searched line choices (index + 1) new

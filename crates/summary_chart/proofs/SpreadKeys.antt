@@ -10,22 +10,22 @@ use Rattle.phase_automaton.specs.Automata.{next_state}
 use Rattle.derivation.specs.Guides.{entrance_of}
 use Rattle.derivation.specs.declared.entrance.Entrance.{Entrance}
 use Rattle.annotated_trie.specs.Searched.{SearchedLexicon}
-use Rattle.search_frames.specs.declared.place.Place.{Place}
-use Rattle.search_frames.specs.Standings.{Standing, rules_in, IsPossible}
-use Rattle.search_frames.specs.Frames.{IsPlaceIn, standing_of}
+use Rattle.search_frames.specs.declared.configuration.Configuration.{Configuration}
+use Rattle.search_frames.specs.Configurations.{NumberedConfiguration, rules_in, IsPossible}
+use Rattle.search_frames.specs.Frames.{IsConfigurationIn, numbered_of}
 use Rattle.search_frames.specs.Tests.{LeadsTo}
 use Rattle.search_frames.specs.LetterTests.{MayLeadOn, MayLeadTo}
-use Rattle.search_frames.proofs.StandingRanks.{possible_if_leads, may_if_leads}
+use Rattle.search_frames.proofs.ConfigurationRanks.{possible_if_leads, may_if_leads}
 use Rattle.summary_chart.specs.declared.state_set.StateSet.{StateSet}
 use Rattle.summary_chart.specs.declared.table.Table.{Table}
 use Rattle.summary_chart.specs.StateSets.{HasState, IsLedTo}
 use Rattle.summary_chart.specs.Tables.{IsTable, IsEntrance, IsIn, index_in, set_of, set_at}
 use Rattle.summary_chart.specs.Spreading.{Spreads, IsLedOnTo, OnlyKey, leads_in, standing_with}
 use Rattle.summary_chart.proofs.TableOrder.{same_index}
-use Rattle.summary_chart.proofs.TableStates.{IsNumbered, numbered_in, same_place}
+use Rattle.summary_chart.proofs.TableStates.{IsNumbered, numbered_in, same_configuration}
 use Rattle.summary_chart.proofs.TablePlaces.{IsGrown, same_entrance, same_index_in, had_or_added, still_in, in_with}
 
-module _ (searched : SearchedLexicon) (line : Line) (choices : List Choice) (place : Place) (set : StateSet) where
+module _ (searched : SearchedLexicon) (line : Line) (choices : List Choice) (place : Configuration) (set : StateSet) where
   -- some keys and then others spread what all of them do
   pub spreads_both : (IsFirst IsSecond : Key → Type 0) (old mid new : Table)
       → Spreads searched line choices place.at place.entrance set IsFirst old mid
@@ -48,7 +48,7 @@ module _ (searched : SearchedLexicon) (line : Line) (choices : List Choice) (pla
 
   -- keys that are told in two ways
   pub spreads_same : (IsFirst IsSecond : Key → Type 0) (old new : Table)
-      → ((key : Key) (next : Place) → IsSecond key → IsLedOnTo searched line choices place.at place.entrance set key next → IsFirst key)
+      → ((key : Key) (next : Configuration) → IsSecond key → IsLedOnTo searched line choices place.at place.entrance set key next → IsFirst key)
       → ((key : Key) → IsFirst key → IsSecond key)
       → Spreads searched line choices place.at place.entrance set IsFirst old new
       → Spreads searched line choices place.at place.entrance set IsSecond old new
@@ -62,41 +62,41 @@ module _ (searched : SearchedLexicon) (line : Line) (choices : List Choice) (pla
   }
 
   -- a key that leads on from a state is possible at the place, whatever its state
-  pub possible_if_led : (key : Key) (next : Place) → IsLedOnTo searched line choices place.at place.entrance set key next
-      → IsPossible searched line (standing_of searched place) key
+  pub possible_if_led : (key : Key) (next : Configuration) → IsLedOnTo searched line choices place.at place.entrance set key next
+      → IsPossible searched line (numbered_of searched place) key
   possible_if_led key next (number, has, leads) =
       let possible = possible_if_leads searched line choices (standing_with searched place.at place.entrance number) key leads.leads_on in
       record { number = possible.number; within = possible.within; form = possible.form }
 
   -- what leads on from a state may lead on as the letters tell
-  pub may_if_led : (key : Key) (next : Place) → IsLedOnTo searched line choices place.at place.entrance set key next
-      → MayLeadOn searched line choices (standing_of searched place) key
+  pub may_if_led : (key : Key) (next : Configuration) → IsLedOnTo searched line choices place.at place.entrance set key next
+      → MayLeadOn searched line choices (numbered_of searched place) key
   may_if_led key next (number, has, leads) =
       let may = may_if_leads searched line choices (standing_with searched place.at place.entrance number) key leads.leads_on in
       record { stands = may.stands; inner = may.inner; left = may.left }
 
   -- where a key leads on to as the letters tell
-  module _ (key : Key) (at : ℕ) (entrance : Entrance) (may : MayLeadTo searched line choices (standing_of searched place) key at entrance) where
+  module _ (key : Key) (at : ℕ) (entrance : Entrance) (may : MayLeadTo searched line choices (numbered_of searched place) key at entrance) where
     -- the state of a place to which it leads on from a state
-    led_state : (number : ℕ) (next : Place) → LeadsTo searched line choices (standing_with searched place.at place.entrance number) key next
+    led_state : (number : ℕ) (next : Configuration) → LeadsTo searched line choices (standing_with searched place.at place.entrance number) key next
         → (known : Option ℕ) → next_state searched.machine (Some number) key.phase ≡ known
         → (to : ℕ) × (next_state searched.machine (Some number) key.phase ≡ Some to) × (next.state ≡ Some to)
     led_state number next leads None same = let live : IsSome {T = ℕ} None = subst IsSome same leads.leads_on.live in absurd (cc (live))
-    led_state number next leads (Some to) same = (to, same, ap (λ (s : Standing). s.state) leads.is ∙ same)
+    led_state number next leads (Some to) same = (to, same, ap (λ (s : NumberedConfiguration). s.state) leads.is ∙ same)
 
     -- a place to which it leads on from a state is this one, with the state to which that one leads
-    pub led_place : (number : ℕ) (next : Place) → LeadsTo searched line choices (standing_with searched place.at place.entrance number) key next
+    pub led_place : (number : ℕ) (next : Configuration) → LeadsTo searched line choices (standing_with searched place.at place.entrance number) key next
         → (next.at ≡ at) × (next.entrance ≡ entrance)
         × ((to : ℕ) × (next_state searched.machine (Some number) key.phase ≡ Some to) × (next.state ≡ Some to))
     led_place number next leads = (
-      ap (λ (s : Standing). s.at) leads.is ∙ sym may.at_is,
+      ap (λ (s : NumberedConfiguration). s.at) leads.is ∙ sym may.at_is,
       same_entrance (leads_of (rules_in searched).rules) next.entrance entrance (leads_rise (rules_in searched).rules) leads.within.over may.over
-          (ap (λ (s : Standing). s.entrance) leads.is ∙ sym may.entrance_is),
+          (ap (λ (s : NumberedConfiguration). s.entrance) leads.is ∙ sym may.entrance_is),
       led_state number next leads (next_state searched.machine (Some number) key.phase) refl,
     )
 
     -- it leads to a place that is this one from a state that leads to the place's
-    pub leads_to_place : (number to : ℕ) (next : Place) → IsPlaceIn searched line next → next.at ≡ at → next.entrance ≡ entrance → next.state ≡ Some to
+    pub leads_to_place : (number to : ℕ) (next : Configuration) → IsConfigurationIn searched line next → next.at ≡ at → next.entrance ≡ entrance → next.state ≡ Some to
         → next_state searched.machine (Some number) key.phase ≡ Some to
         → LeadsTo searched line choices (standing_with searched place.at place.entrance number) key next
     leads_to_place number to next within same_at same_entrance_there same_state leads = record {
@@ -122,7 +122,7 @@ module _ (searched : SearchedLexicon) (line : Line) (choices : List Choice) (pla
           only = λ other within in_new. there other within in_new (numbered_in (set_at new other.at other.entrance) other.state in_new.state);
         }
       where
-        put_in : (next : Place) → IsLedOnTo searched line choices place.at place.entrance set key next → IsIn new next
+        put_in : (next : Configuration) → IsLedOnTo searched line choices place.at place.entrance set key next → IsIn new next
         put_in next (number, has, leads) =
             let there = led_place number next leads in
             let to = there.2.0 in
@@ -131,7 +131,7 @@ module _ (searched : SearchedLexicon) (line : Line) (choices : List Choice) (pla
             (subst (λ (i : ℕ). HasState (set_of new i) to) (sym (same_index_in (index_in old at entrance) at entrance old new grown.changes))
             ((grown.grown to).1 (inr put)))
 
-        there : (other : Place) → IsPlaceIn searched line other → IsIn new other
+        there : (other : Configuration) → IsConfigurationIn searched line other → IsIn new other
             → IsNumbered (set_at new other.at other.entrance) other.state
             → IsIn old other ⊎ ((k : Key) × OnlyKey key k × IsLedOnTo searched line choices place.at place.entrance set k other)
         there other within in_new told =
@@ -142,8 +142,8 @@ module _ (searched : SearchedLexicon) (line : Line) (choices : List Choice) (pla
               | inl had ↦ inl (in_with old other other.at number other.entrance refl refl told.is in_new.entrance had)
               | inr (same, put) ↦
                   let leads = leads_in searched in
-                  let left = same_place leads (length line.letters) other.at other.entrance old is in
-                  let right = same_place leads (length line.letters) at entrance old is in
+                  let left = same_configuration leads (length line.letters) other.at other.entrance old is in
+                  let right = same_configuration leads (length line.letters) at entrance old is in
                   let cut = same_index leads other.at at other.entrance entrance in_new.entrance proper within.over may.over (sym left ∙ same ∙ right) in
                   let from = (led number).0 put in
                   inr (key, refl, (from.0, from.1, leads_to_place from.0 number other within cut.at_is cut.entrance_is told.is from.2))

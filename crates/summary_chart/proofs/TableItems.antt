@@ -9,9 +9,9 @@ use Rattle.segmentation_definitions.specs.Items.{Item, Choice}
 use Rattle.segmentation_definitions.specs.Listings.{Key, IsSummary}
 use Rattle.derivation.specs.declared.entrance.Entrance.{Entrance}
 use Rattle.annotated_trie.specs.Searched.{SearchedLexicon, IsSearchedLexicon}
-use Rattle.search_frames.specs.declared.place.Place.{Place}
-use Rattle.search_frames.specs.Standings.{Standing}
-use Rattle.search_frames.specs.Frames.{IsPlaceIn, standing_of}
+use Rattle.search_frames.specs.declared.configuration.Configuration.{Configuration}
+use Rattle.search_frames.specs.Configurations.{NumberedConfiguration}
+use Rattle.search_frames.specs.Frames.{IsConfigurationIn, numbered_of}
 use Rattle.summary_chart.specs.declared.state_set.StateSet.{StateSet}
 use Rattle.summary_chart.specs.declared.table.Table.{Table}
 use Rattle.summary_chart.specs.Tables.{IsTable, IsIn, IsIndexed, set_of}
@@ -31,7 +31,7 @@ read_set table index set low is = get_or_default table.sets.items index (record 
 module _ (searched : SearchedLexicon) (line : Line) (choices : List Choice) (table : Table) (is : IsTable (leads_in searched) (length line.letters) table) where
   module _ (index at : ℕ) (entrance : Entrance) (indexed : IsIndexed (leads_in searched) (length line.letters) index at entrance) where
     -- a place at the index has these letters and this entrance
-    item_of_states : (place : Place) (item : Item) → index_of_place searched place ≡ index → IsItemAt searched line choices table place item
+    item_of_states : (place : Configuration) (item : Item) → index_of_place searched place ≡ index → IsItemAt searched line choices table place item
         → IsItemFrom searched line choices table at entrance (set_of table index) item
     item_of_states place item same here =
         let there = at_index searched line index at entrance table is indexed place here.within here.there same in (
@@ -39,8 +39,8 @@ module _ (searched : SearchedLexicon) (line : Line) (choices : List Choice) (tab
           record {
             number = there.number;
             state = there.state;
-            further = subst (λ (p : Place). GoesFurtherBy searched line choices table (standing_of searched p) here.key) there.is here.further;
-            is = here.is ∙ ap (λ (p : Place). item_with searched line p.at p.entrance here.key) there.is;
+            further = subst (λ (p : Configuration). GoesFurtherBy searched line choices table (numbered_of searched p) here.key) there.is here.further;
+            is = here.is ∙ ap (λ (p : Configuration). item_with searched line p.at p.entrance here.key) there.is;
           },
         )
 
@@ -66,7 +66,7 @@ module _ (searched : SearchedLexicon) (line : Line) (choices : List Choice) (tab
   weaker index item (place, before, here) = (place, omega (arith, before), here)
 
   -- what stands before the next index stands before this one or at it
-  before_or_at : (index : ℕ) (place : Place) → index_of_place searched place < index + 1
+  before_or_at : (index : ℕ) (place : Configuration) → index_of_place searched place < index + 1
       → (index_of_place searched place < index) ⊎ (index_of_place searched place ≡ index)
   before_or_at index place before = elim (cases_lt (index_of_place searched place) index) [
     | inl low ↦ inl low
@@ -92,7 +92,7 @@ module _ (searched : SearchedLexicon) (line : Line) (choices : List Choice) (tab
 
   -- where no place stands between two indices, nothing is to be added
   pub items_on : (low high : ℕ) (items : List Item) → low ≤ high
-      → ((place : Place) → IsPlaceIn searched line place → IsIn table place → low ≤ index_of_place searched place → index_of_place searched place < high → ⊥)
+      → ((place : Configuration) → IsConfigurationIn searched line place → IsIn table place → low ≤ index_of_place searched place → index_of_place searched place < high → ⊥)
       → HasItemsBefore searched line choices table low items → HasItemsBefore searched line choices table high items
   items_on low high items more none so_far = record {
     rising = so_far.rising;
@@ -116,16 +116,16 @@ module _ (searched : SearchedLexicon) (line : Line) (choices : List Choice) (tab
   })
 
   -- in a chart a key goes on to a place of the table exactly where it goes on to a living one
-  alive_if_further : (here : Standing) (key : Key) → GoesFurtherBy searched line choices table here key → GoesOnAlive searched line choices here key
+  alive_if_further : (here : NumberedConfiguration) (key : Key) → GoesFurtherBy searched line choices table here key → GoesOnAlive searched line choices here key
   alive_if_further here key (inl ends) = inl ends
   alive_if_further here key (inr (next, leads, inside)) = inr (next, leads, (chart.exact next leads.within).0 inside)
 
-  further_if_alive : (here : Standing) (key : Key) → GoesOnAlive searched line choices here key → GoesFurtherBy searched line choices table here key
+  further_if_alive : (here : NumberedConfiguration) (key : Key) → GoesOnAlive searched line choices here key → GoesFurtherBy searched line choices table here key
   further_if_alive here key (inl ends) = inl ends
   further_if_alive here key (inr (next, leads, alive)) = inr (next, leads, (chart.exact next leads.within).1 alive)
 
   -- a living place stands before the end of the table
-  before_end : (place : Place) → IsPlaceIn searched line place → IsIn table place → index_of_place searched place < length table.sets.items
+  before_end : (place : Configuration) → IsConfigurationIn searched line place → IsIn table place → index_of_place searched place < length table.sets.items
   before_end place within there =
       let low = index_within searched line place there.entrance within in
       let count = chart.lawful.count in
@@ -144,7 +144,7 @@ module _ (searched : SearchedLexicon) (line : Line) (choices : List Choice) (tab
             within = here.within;
             alive = (chart.exact place here.within).0 here.there;
             key = here.key;
-            further = alive_if_further (standing_of searched place) here.key here.further;
+            further = alive_if_further (numbered_of searched place) here.key here.further;
             is = here.is;
           }),
       λ answer.
@@ -157,7 +157,7 @@ module _ (searched : SearchedLexicon) (line : Line) (choices : List Choice) (tab
               within = living.within;
               there = there;
               key = living.key;
-              further = further_if_alive (standing_of searched living.place) living.key living.further;
+              further = further_if_alive (numbered_of searched living.place) living.key living.further;
               is = living.is;
             },
           ),

@@ -16,9 +16,9 @@ use Rattle.derivation.specs.declared.entrance.Entrance.{Entrance}
 use Rattle.derivation.specs.declared.entrance.Entrance.TheVariants.{Start, Plain, Lead as ByLead}
 use Rattle.answer_paths.specs.Fronts.{supplied}
 use Rattle.annotated_trie.specs.Searched.{SearchedLexicon}
-use Rattle.search_frames.specs.declared.place.Place.{Place}
-use Rattle.search_frames.specs.Standings.{rules_in}
-use Rattle.search_frames.specs.Frames.{IsPlaceIn, standing_of}
+use Rattle.search_frames.specs.declared.configuration.Configuration.{Configuration}
+use Rattle.search_frames.specs.Configurations.{rules_in}
+use Rattle.search_frames.specs.Frames.{IsConfigurationIn, numbered_of}
 use Rattle.search_frames.specs.Reached.{rank}
 use Rattle.summary_chart.specs.Tables.{IsEntrance, width_over, column_of, index_of}
 use Rattle.summary_chart.specs.Spreading.{leads_in}
@@ -112,8 +112,8 @@ column_cases rules (ByLead place) over =
     )
 
 -- a place of higher rank stands later
-pub later_place : (searched : SearchedLexicon) (line : Line) (place other : Place) → IsEntrance place.entrance → IsPlaceIn searched line place
-    → IsPlaceIn searched line other → rank (standing_of searched place) < rank (standing_of searched other)
+pub later_place : (searched : SearchedLexicon) (line : Line) (place other : Configuration) → IsEntrance place.entrance → IsConfigurationIn searched line place
+    → IsConfigurationIn searched line other → rank (numbered_of searched place) < rank (numbered_of searched other)
     → index_of_place searched place < index_of_place searched other
 later_place searched line place other proper within other_within higher =
     let rules = (rules_in searched).rules in

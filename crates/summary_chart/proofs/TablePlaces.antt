@@ -14,13 +14,13 @@ use Rattle.lexicon_definitions.proofs.LeadLaws.{same_lead, compare_leads_total}
 use Rattle.derivation.specs.Guides.{IsEntranceOver, entrance_of, lead_at}
 use Rattle.derivation.specs.declared.entrance.Entrance.{Entrance}
 use Rattle.derivation.specs.declared.entrance.Entrance.TheVariants.{Start, Plain, Lead as ByLead}
-use Rattle.search_frames.specs.declared.place.Place.{Place}
+use Rattle.search_frames.specs.declared.configuration.Configuration.{Configuration}
 use Rattle.summary_chart.specs.declared.state_set.StateSet.{StateSet}
 use Rattle.summary_chart.specs.declared.table.Table.{Table}
 use Rattle.summary_chart.specs.StateSets.{HasState}
 use Rattle.summary_chart.specs.Tables.{IsTable, AreEntrances, IsEntrance, HasSet, HasThisState, IsIn, ChangesAt, width_over, column_of, index_of, index_in, set_of, set_at}
 use Rattle.summary_chart.proofs.TableOrder.{column_within}
-use Rattle.summary_chart.proofs.TableStates.{same_place}
+use Rattle.summary_chart.proofs.TableStates.{same_configuration}
 
 -- ---- entrances
 
@@ -77,7 +77,7 @@ has_set leads letters table at entrance is within over =
     record {
       wide = omega (arith, width);
       there = λ proper.
-          let index = same_place leads letters at entrance table is in
+          let index = same_configuration leads letters at entrance table is in
           let below : at * width_over (length leads) + column_of (length leads) entrance < width_over (length leads) * (letters + 1) =
           mul-add-lt at (width_over (length leads)) (column_of (length leads) entrance) (letters + 1) (omega arith) (column_within leads entrance proper over) in
           let turned : length table.sets.items ≡ width_over (length leads) * (letters + 1) = count ∙ mul_comm (letters + 1) (width_over (length leads)) in
@@ -139,7 +139,7 @@ grown_at at entrance added old new changes grown = record {
 }
 
 -- what was in a table still is where a set has grown
-pub still_in : (index : ℕ) (added : StateSet) (old new : Table) (place : Place) → IsGrown index added old new → IsIn old place → IsIn new place
+pub still_in : (index : ℕ) (added : StateSet) (old new : Table) (place : Configuration) → IsGrown index added old new → IsIn old place → IsIn new place
 still_in index added old new place is was = record {
   entrance = was.entrance;
   state = more_states (set_at old place.at place.entrance) (set_at new place.at place.entrance) place.state
@@ -149,7 +149,7 @@ still_in index added old new place is was = record {
 }
 
 -- a place whose state has this number is in a table where the set there has it
-pub in_with : (table : Table) (place : Place) (at number : ℕ) (entrance : Entrance) → place.at ≡ at → place.entrance ≡ entrance → place.state ≡ Some number
+pub in_with : (table : Table) (place : Configuration) (at number : ℕ) (entrance : Entrance) → place.at ≡ at → place.entrance ≡ entrance → place.state ≡ Some number
     → IsEntrance entrance → HasState (set_at table at entrance) number → IsIn table place
 in_with table place at number entrance same_at same_entrance_there same_state proper has = record {
   entrance = subst IsEntrance (sym same_entrance_there) proper;

@@ -5,8 +5,8 @@ use Rattle.lexicon_definitions.specs.Leads.{Lead}
 use Rattle.phase_automaton.specs.Automata.{IsStateIn}
 use Rattle.derivation.specs.declared.entrance.Entrance.{Entrance}
 use Rattle.annotated_trie.specs.Searched.{SearchedLexicon}
-use Rattle.search_frames.specs.declared.place.Place.{Place}
-use Rattle.search_frames.specs.Frames.{IsPlaceIn}
+use Rattle.search_frames.specs.declared.configuration.Configuration.{Configuration}
+use Rattle.search_frames.specs.Frames.{IsConfigurationIn}
 use Rattle.summary_chart.specs.declared.state_set.StateSet.{StateSet}
 use Rattle.summary_chart.specs.declared.table.Table.{Table}
 use Rattle.summary_chart.specs.StateSets.{HasState, IsStateOf}
@@ -19,9 +19,9 @@ use Rattle.summary_chart.proofs.TableOrder.{same_index, column_within, row_after
 pub same_leads : (leads : List Lead) (letters : ℕ) (table : Table) → IsTable leads letters table → leads_of_table table ≡ length leads
 same_leads leads letters table is = omega (arith, is.entrances.width)
 
-pub same_place : (leads : List Lead) (letters at : ℕ) (entrance : Entrance) (table : Table) → IsTable leads letters table
+pub same_configuration : (leads : List Lead) (letters at : ℕ) (entrance : Entrance) (table : Table) → IsTable leads letters table
     → index_in table at entrance ≡ index_of (length leads) at entrance
-same_place leads letters at entrance table is = ap (λ (n : ℕ). index_of n at entrance) (same_leads leads letters table is)
+same_configuration leads letters at entrance table is = ap (λ (n : ℕ). index_of n at entrance) (same_leads leads letters table is)
 
 -- a state that is in a set is a number
 pub record IsNumbered (set : StateSet) (state : Option ℕ) : Type 0 where
@@ -34,15 +34,15 @@ numbered_in set None has = absurd has
 numbered_in set (Some number) has = record { number = number; is = refl; has = has }
 
 -- the state of a place in the table is in the set at its index
-pub numbered_at : (searched : SearchedLexicon) (line : Line) (index : ℕ) (table : Table) (place : Place) → IsTable (leads_in searched) (length line.letters) table
+pub numbered_at : (searched : SearchedLexicon) (line : Line) (index : ℕ) (table : Table) (place : Configuration) → IsTable (leads_in searched) (length line.letters) table
     → IsIn table place → index_of_place searched place ≡ index → IsNumbered (set_of table index) place.state
 numbered_at searched line index table place is inside same =
     let set_same : set_at table place.at place.entrance ≡ set_of table index =
-    ap (set_of table) (same_place (leads_in searched) (length line.letters) place.at place.entrance table is ∙ same) in
+    ap (set_of table) (same_configuration (leads_in searched) (length line.letters) place.at place.entrance table is ∙ same) in
     numbered_in (set_of table index) place.state (subst (λ (set : StateSet). HasThisState set place.state) set_same inside.state)
 
 -- the place is that of the index, with a state of the set there
-pub record IsAtIndex (searched : SearchedLexicon) (at : ℕ) (entrance : Entrance) (set : StateSet) (place : Place) : Type 0 where
+pub record IsAtIndex (searched : SearchedLexicon) (at : ℕ) (entrance : Entrance) (set : StateSet) (place : Configuration) : Type 0 where
   pub number : ℕ
   pub is : place ≡ place_with at entrance number
   pub state : IsStateOf searched.machine set number
@@ -51,17 +51,17 @@ module _ (searched : SearchedLexicon) (line : Line) (index at : ℕ) (entrance :
     (is : IsTable (leads_in searched) (length line.letters) table) (indexed : IsIndexed (leads_in searched) (length line.letters) index at entrance) where
   -- the set at the index is that of its place
   pub set_is : set_at table at entrance ≡ set_of table index
-  set_is = ap (set_of table) (same_place (leads_in searched) (length line.letters) at entrance table is ∙ indexed.is)
+  set_is = ap (set_of table) (same_configuration (leads_in searched) (length line.letters) at entrance table is ∙ indexed.is)
 
   -- with each state of the set there stands a place in the table
   pub stands_in : (number : ℕ) → HasState (set_of table index) number → IsIn table (place_with at entrance number)
   stands_in number has = record { entrance = indexed.proper; state = subst (λ (set : StateSet). HasState set number) (sym set_is) has }
 
-  pub with_within : (number : ℕ) → IsStateOf searched.machine (set_of table index) number → IsPlaceIn searched line (place_with at entrance number)
+  pub with_within : (number : ℕ) → IsStateOf searched.machine (set_of table index) number → IsConfigurationIn searched line (place_with at entrance number)
   with_within number state = record { letters = indexed.within; over = indexed.over; state_in = state.0 }
 
   -- and each place in the table with this index is such a one
-  pub at_index : (place : Place) → IsPlaceIn searched line place → IsIn table place → index_of_place searched place ≡ index
+  pub at_index : (place : Configuration) → IsConfigurationIn searched line place → IsIn table place → index_of_place searched place ≡ index
       → IsAtIndex searched at entrance (set_of table index) place
   at_index place within inside same =
       let cell = same_index (leads_in searched) place.at at place.entrance entrance inside.entrance indexed.proper within.over indexed.over (same ∙ sym indexed.is) in
@@ -73,7 +73,7 @@ module _ (searched : SearchedLexicon) (line : Line) (index at : ℕ) (entrance :
       }
 
 -- a place with one of the program's entrances stands in the table
-pub index_within : (searched : SearchedLexicon) (line : Line) (place : Place) → IsEntrance place.entrance → IsPlaceIn searched line place
+pub index_within : (searched : SearchedLexicon) (line : Line) (place : Configuration) → IsEntrance place.entrance → IsConfigurationIn searched line place
     → index_of_place searched place < set_count searched line
 index_within searched line place proper within =
     let width = width_over (length (leads_in searched)) in

@@ -10,11 +10,11 @@ use Rattle.segmentation_definitions.specs.Listings.{Key}
 use Rattle.annotated_trie.specs.Searched.{SearchedLexicon}
 use Rattle.derivation.specs.declared.entrance.Entrance.{Entrance}
 use Rattle.search_frames.specs.declared.letter_testing.LetterTest.TheVariants.{LeadsOn}
-use Rattle.search_frames.specs.declared.place.Place.{Place}
+use Rattle.search_frames.specs.declared.configuration.Configuration.{Configuration}
 use Rattle.search_frames.specs.declared.ways.Way.{Way}
-use Rattle.search_frames.specs.Frames.{standing_of}
+use Rattle.search_frames.specs.Frames.{numbered_of}
 use Rattle.search_frames.specs.LetterTests.{MayLeadTo, IsLetterTestOf}
-use Rattle.search_frames.specs.Standings.{Standing}
+use Rattle.search_frames.specs.Configurations.{NumberedConfiguration}
 use Rattle.search_frames.specs.WaysFrom.{IsWayFrom, AreWaysFrom, key_of_way}
 use Rattle.summary_chart.specs.declared.state_set.StateSet.{StateSet}
 use Rattle.summary_chart.specs.declared.table.Table.{Table}
@@ -24,7 +24,7 @@ use Rattle.summary_chart.proofs.SpreadKeys.{spreads_both, spreads_same, possible
 use Rattle.summary_chart.proofs.FurtherKeys.{further_both, further_same, possible_if_further, not_neither}
 
 -- the key of a way that leads on may do so as the letters tell
-pub way_may_lead : (searched : SearchedLexicon) (line : Line) (choices : List Choice) (here : Standing) (way : Way) (at : ℕ) (entrance : Entrance)
+pub way_may_lead : (searched : SearchedLexicon) (line : Line) (choices : List Choice) (here : NumberedConfiguration) (way : Way) (at : ℕ) (entrance : Entrance)
     → IsWayFrom searched line choices here way → way.test ≡ LeadsOn at entrance → MayLeadTo searched line choices here (key_of_way way) at entrance
 way_may_lead searched line choices here way at entrance from is = subst (IsLetterTestOf searched line choices here (key_of_way way)) is from.test
 
@@ -60,7 +60,7 @@ module _ (ways : List Way) (count : ℕ) (way : Way) (way_at : IsWayAt ways coun
       (subst (λ k. Contains (map key_of_way (take count ways) ++ key_of_way way ∷ []) k) (sym same)
       (Contains-push (map key_of_way (take count ways)) (key_of_way way)))
 
-module _ (searched : SearchedLexicon) (line : Line) (choices : List Choice) (place : Place) (set : StateSet) (ways : List Way) (count : ℕ) where
+module _ (searched : SearchedLexicon) (line : Line) (choices : List Choice) (place : Configuration) (set : StateSet) (ways : List Way) (count : ℕ) where
   -- ---- one way more
 
   pub spread_more : (way : Way) → IsWayAt ways count way → (start before later : Table)
@@ -86,7 +86,7 @@ module _ (searched : SearchedLexicon) (line : Line) (choices : List Choice) (pla
 
   -- ---- all ways
 
-  module _ (enough : length ways ≤ count) (are : AreWaysFrom searched line choices (standing_of searched place) ways) where
+  module _ (enough : length ways ≤ count) (are : AreWaysFrom searched line choices (numbered_of searched place) ways) where
     among_all : (key : Key) → Contains (map key_of_way ways) key → IsAmongFirst count ways key
     among_all key among = subst (λ all. Contains (map key_of_way all) key) (sym (take_all count ways enough)) among
 

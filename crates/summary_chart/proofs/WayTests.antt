@@ -7,10 +7,10 @@ use Rattle.segmentation_definitions.specs.Items.{Choice}
 use Rattle.segmentation_definitions.specs.Listings.{Key}
 use Rattle.phase_automaton.specs.Automata.{StateMachine, IsStateMachine, IsStateIn, next_state}
 use Rattle.annotated_trie.specs.Searched.{SearchedLexicon}
-use Rattle.search_frames.specs.declared.place.Place.{Place}
-use Rattle.search_frames.specs.Standings.{Standing, rules_in}
+use Rattle.search_frames.specs.declared.configuration.Configuration.{Configuration}
+use Rattle.search_frames.specs.Configurations.{NumberedConfiguration, rules_in}
 use Rattle.search_frames.specs.LetterTests.{MayLeadTo}
-use Rattle.search_frames.proofs.StandingRanks.{may_if_ends, not_both_ways}
+use Rattle.search_frames.proofs.ConfigurationRanks.{may_if_ends, not_both_ways}
 use Rattle.summary_chart.specs.declared.table.Table.{Table}
 use Rattle.summary_chart.specs.Tables.{HasThisState, IsStateNumber, set_at}
 use Rattle.summary_chart.specs.Spreading.{GoesFurtherBy, leads_in}
@@ -22,16 +22,16 @@ number_in_set machine None is within = tt
 number_in_set machine (Some number) is within = omega (arith, within, is.few)
 
 -- a key that may lead on goes further only by the place to which it leads
-pub not_further_if_absent : (searched : SearchedLexicon) (line : Line) (choices : List Choice) (here : Standing) (table : Table) (key : Key) (next : Place)
+pub not_further_if_absent : (searched : SearchedLexicon) (line : Line) (choices : List Choice) (here : NumberedConfiguration) (table : Table) (key : Key) (next : Configuration)
     → MayLeadTo searched line choices here key next.at next.entrance → next.state ≡ next_state searched.machine here.state key.phase
     → (HasThisState (set_at table next.at next.entrance) next.state → ⊥)
     → GoesFurtherBy searched line choices table here key → ⊥
 not_further_if_absent searched line choices here table key next may state_is absent (inl ends) =
     not_both_ways searched line choices here key (may_if_ends searched line choices here key ends) may.may
 not_further_if_absent searched line choices here table key next may state_is absent (inr (other, leads, is)) =
-    let at : other.at ≡ next.at = ap (λ (s : Standing). s.at) leads.is ∙ sym may.at_is in
+    let at : other.at ≡ next.at = ap (λ (s : NumberedConfiguration). s.at) leads.is ∙ sym may.at_is in
     let entrance = same_entrance (leads_in searched) other.entrance next.entrance (leads_rise (rules_in searched).rules) leads.within.over may.over
-    (ap (λ (s : Standing). s.entrance) leads.is ∙ sym may.entrance_is) in
-    let state : other.state ≡ next.state = ap (λ (s : Standing). s.state) leads.is ∙ sym state_is in
+    (ap (λ (s : NumberedConfiguration). s.entrance) leads.is ∙ sym may.entrance_is) in
+    let state : other.state ≡ next.state = ap (λ (s : NumberedConfiguration). s.state) leads.is ∙ sym state_is in
     let same : other ≡ next = (λ i. record { at = at i; entrance = entrance i; state = state i }) in
-    absent (subst (λ (p : Place). HasThisState (set_at table p.at p.entrance) p.state) same is.state)
+    absent (subst (λ (p : Configuration). HasThisState (set_at table p.at p.entrance) p.state) same is.state)

@@ -10,12 +10,12 @@ use Rattle.annotated_trie.specs.Searched.{SearchedLexicon}
 use Rattle.search_frames.specs.declared.letter_testing.LetterTest.{LetterTest}
 use Rattle.search_frames.specs.declared.letter_testing.LetterTest.TheVariants.{Refused, Ends, LeadsOn}
 use Rattle.search_frames.specs.declared.ways.Way.{Way}
-use Rattle.search_frames.specs.Standings.{Standing, IsPossible}
+use Rattle.search_frames.specs.Configurations.{NumberedConfiguration, IsPossible}
 use Rattle.search_frames.specs.LetterTests.{MayLeadOn, MayEndLine, MayNeither, IsLetterTestOf}
 use Rattle.search_frames.specs.WaysFrom.{IsWayFrom, AreWaysFrom, key_of_way}
 
 -- where a search stands after so many letters, entered so, in the state
-abbrev pub standing_at : ℕ → Entrance → Option ℕ → Standing
+abbrev pub standing_at : ℕ → Entrance → Option ℕ → NumberedConfiguration
 standing_at at entrance state = record { at = at; entrance = entrance; state = state }
 
 module _ (searched : SearchedLexicon) (line : Line) (choices : List Choice) (at : ℕ) (entrance : Entrance) where

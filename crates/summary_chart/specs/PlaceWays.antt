@@ -6,9 +6,9 @@ use Rattle.std.specs.List.Sorted.{IsStrictlySortedBy}
 use Rattle.text_definitions.specs.Lines.{Line}
 use Rattle.segmentation_definitions.specs.Items.{Choice}
 use Rattle.annotated_trie.specs.Searched.{SearchedLexicon}
-use Rattle.search_frames.specs.declared.place.Place.{Place}
+use Rattle.search_frames.specs.declared.configuration.Configuration.{Configuration}
 use Rattle.search_frames.specs.declared.ways.Way.{Way}
-use Rattle.search_frames.specs.Frames.{IsPlaceIn, standing_of}
+use Rattle.search_frames.specs.Frames.{IsConfigurationIn, numbered_of}
 use Rattle.search_frames.specs.WaysFrom.{AreWaysFrom}
 use Rattle.summary_chart.specs.declared.place_ways.Stop.{Stop}
 use Rattle.summary_chart.specs.declared.table.Table.{Table}
@@ -35,8 +35,8 @@ pub record AreStops (stops : List Stop) (count : ℕ) : Type 0 where
 
 -- the stop has all ways from each place at its index
 abbrev pub HasAllWays : SearchedLexicon → Line → List Choice → List Way → Stop → Type 0
-HasAllWays searched line choices ways stop = (place : Place) → IsPlaceIn searched line place → IsEntrance place.entrance
-    → index_of_place searched place ≡ stop.index → AreWaysFrom searched line choices (standing_of searched place) (ways_of ways stop)
+HasAllWays searched line choices ways stop = (place : Configuration) → IsConfigurationIn searched line place → IsEntrance place.entrance
+    → index_of_place searched place ≡ stop.index → AreWaysFrom searched line choices (numbered_of searched place) (ways_of ways stop)
 
 -- there is a stop at the index
 abbrev pub HasStopAt : List Stop → ℕ → Type 0
@@ -48,7 +48,7 @@ pub record HasWaysBefore (searched : SearchedLexicon) (line : Line) (choices : L
   pub are : AreStops stops (length ways)
   pub before : All (λ stop. stop.index < index) stops
   pub each : All (HasAllWays searched line choices ways) stops
-  pub there : (place : Place) → IsPlaceIn searched line place → index_of_place searched place < index → IsIn table place
+  pub there : (place : Configuration) → IsConfigurationIn searched line place → index_of_place searched place < index → IsIn table place
       → HasStopAt stops (index_of_place searched place)
 
 -- these are the ways of a stop at the index

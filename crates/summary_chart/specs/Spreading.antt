@@ -6,9 +6,9 @@ use Rattle.segmentation_definitions.specs.Items.{Choice}
 use Rattle.segmentation_definitions.specs.Listings.{Key}
 use Rattle.derivation.specs.declared.entrance.Entrance.{Entrance}
 use Rattle.annotated_trie.specs.Searched.{SearchedLexicon}
-use Rattle.search_frames.specs.declared.place.Place.{Place}
-use Rattle.search_frames.specs.Standings.{Standing, Ends, rules_in}
-use Rattle.search_frames.specs.Frames.{IsPlaceIn, standing_of}
+use Rattle.search_frames.specs.declared.configuration.Configuration.{Configuration}
+use Rattle.search_frames.specs.Configurations.{NumberedConfiguration, Ends, rules_in}
+use Rattle.search_frames.specs.Frames.{IsConfigurationIn, numbered_of}
 use Rattle.search_frames.specs.Tests.{LeadsTo}
 use Rattle.summary_chart.specs.declared.state_set.StateSet.{StateSet}
 use Rattle.summary_chart.specs.declared.table.Table.{Table}
@@ -20,35 +20,35 @@ abbrev pub leads_in : SearchedLexicon → List Lead
 leads_in searched = leads_of (rules_in searched).rules
 
 -- the place after so many letters, entered so, with the state of this number
-abbrev pub place_with : ℕ → Entrance → ℕ → Place
+abbrev pub place_with : ℕ → Entrance → ℕ → Configuration
 place_with at entrance number = record { at = at; entrance = entrance; state = Some number }
 
 -- and where a search stands there
-abbrev pub standing_with : SearchedLexicon → ℕ → Entrance → ℕ → Standing
-standing_with searched at entrance number = standing_of searched (place_with at entrance number)
+abbrev pub standing_with : SearchedLexicon → ℕ → Entrance → ℕ → NumberedConfiguration
+standing_with searched at entrance number = numbered_of searched (place_with at entrance number)
 
 -- the key leads on to the place from one of the states
-abbrev pub IsLedOnTo : SearchedLexicon → Line → List Choice → ℕ → Entrance → StateSet → Key → Place → Type 0
+abbrev pub IsLedOnTo : SearchedLexicon → Line → List Choice → ℕ → Entrance → StateSet → Key → Configuration → Type 0
 IsLedOnTo searched line choices at entrance set key next =
     (number : ℕ) × IsStateOf searched.machine set number × LeadsTo searched line choices (standing_with searched at entrance number) key next
 
 -- the places to which a key leads on that is told by this were added to the table, and no others
 pub record Spreads (searched : SearchedLexicon) (line : Line) (choices : List Choice) (at : ℕ) (entrance : Entrance) (set : StateSet)
     (IsTold : Key → Type 0) (old new : Table) : Type 0 where
-  pub keeps : (place : Place) → IsIn old place → IsIn new place
-  pub adds : (key : Key) (next : Place) → IsTold key → IsLedOnTo searched line choices at entrance set key next
+  pub keeps : (place : Configuration) → IsIn old place → IsIn new place
+  pub adds : (key : Key) (next : Configuration) → IsTold key → IsLedOnTo searched line choices at entrance set key next
       → IsIn new next
-  pub only : (place : Place) → IsPlaceIn searched line place → IsIn new place
+  pub only : (place : Configuration) → IsConfigurationIn searched line place → IsIn new place
       → IsIn old place ⊎ ((key : Key) × IsTold key × IsLedOnTo searched line choices at entrance set key place)
 
 -- the key ends the line, or leads on to a place of the table
-abbrev pub GoesFurtherBy : SearchedLexicon → Line → List Choice → Table → Standing → Key → Type 0
+abbrev pub GoesFurtherBy : SearchedLexicon → Line → List Choice → Table → NumberedConfiguration → Key → Type 0
 GoesFurtherBy searched line choices table here key =
     Ends searched line choices here key
-    ⊎ ((next : Place) × LeadsTo searched line choices here key next × IsIn table next)
+    ⊎ ((next : Configuration) × LeadsTo searched line choices here key next × IsIn table next)
 
 -- some key that is told by this does so
-abbrev pub GoesFurther : SearchedLexicon → Line → List Choice → Table → Standing → (Key → Type 0) → Type 0
+abbrev pub GoesFurther : SearchedLexicon → Line → List Choice → Table → NumberedConfiguration → (Key → Type 0) → Type 0
 GoesFurther searched line choices table here IsTold = (key : Key) × IsTold key × GoesFurtherBy searched line choices table here key
 
 -- these are the states of the set from which such a key goes further

@@ -8,9 +8,9 @@ use Rattle.derivation.specs.Guides.{entrance_of}
 use Rattle.derivation.specs.declared.entrance.Entrance.{Entrance}
 use Rattle.answer_paths.specs.Following.{placed_at}
 use Rattle.annotated_trie.specs.Searched.{SearchedLexicon}
-use Rattle.search_frames.specs.declared.place.Place.{Place}
-use Rattle.search_frames.specs.Standings.{rules_in}
-use Rattle.search_frames.specs.Frames.{IsPlaceIn, standing_of}
+use Rattle.search_frames.specs.declared.configuration.Configuration.{Configuration}
+use Rattle.search_frames.specs.Configurations.{rules_in}
+use Rattle.search_frames.specs.Frames.{IsConfigurationIn, numbered_of}
 use Rattle.summary_chart.specs.declared.state_set.StateSet.{StateSet}
 use Rattle.summary_chart.specs.declared.table.Table.{Table}
 use Rattle.summary_chart.specs.StateSets.{IsStateOf}
@@ -42,17 +42,17 @@ pub record AddsItems (IsTold : Item → Type 0) (old new : List Item) : Type 0 w
   pub only : (item : Item) → Contains new item → Contains old item ⊎ IsTold item
 
 -- the place is in the table, and goes further by a step with this item
-pub record IsItemAt (searched : SearchedLexicon) (line : Line) (choices : List Choice) (table : Table) (place : Place) (item : Item) : Type 0 where
-  pub within : IsPlaceIn searched line place
+pub record IsItemAt (searched : SearchedLexicon) (line : Line) (choices : List Choice) (table : Table) (place : Configuration) (item : Item) : Type 0 where
+  pub within : IsConfigurationIn searched line place
   pub there : IsIn table place
   pub key : Key
-  pub further : GoesFurtherBy searched line choices table (standing_of searched place) key
+  pub further : GoesFurtherBy searched line choices table (numbered_of searched place) key
   pub is : item ≡ item_with searched line place.at place.entrance key
 
 -- some place of the table before the index goes further by a step with this item
 abbrev pub IsItemBefore : SearchedLexicon → Line → List Choice → Table → ℕ → Item → Type 0
 IsItemBefore searched line choices table index item =
-    (place : Place) × (index_of_place searched place < index) × IsItemAt searched line choices table place item
+    (place : Configuration) × (index_of_place searched place < index) × IsItemAt searched line choices table place item
 
 -- the rising list has just the items of the places of the table before the index
 pub record HasItemsBefore (searched : SearchedLexicon) (line : Line) (choices : List Choice) (table : Table) (index : ℕ) (items : List Item) : Type 0 where

@@ -5,7 +5,7 @@ use Rattle.lexicon_definitions.specs.Leads.{Lead}
 use Rattle.derivation.specs.Guides.{IsEntranceOver}
 use Rattle.derivation.specs.declared.entrance.Entrance.{Entrance}
 use Rattle.derivation.specs.declared.entrance.Entrance.TheVariants.{Start, Plain, Lead as ByLead}
-use Rattle.search_frames.specs.declared.place.Place.{Place}
+use Rattle.search_frames.specs.declared.configuration.Configuration.{Configuration}
 use Rattle.summary_chart.specs.declared.state_set.StateSet.{StateSet}
 use Rattle.summary_chart.specs.declared.table.Table.{Table}
 use Rattle.summary_chart.specs.StateSets.{HasState}
@@ -62,7 +62,7 @@ IsStateNumber None = Unit {0}
 IsStateNumber (Some number) = number < 32
 
 -- the place is in the table: its entrance is one of the program's, and its state is in the set there
-pub record IsIn (table : Table) (place : Place) : Type 0 where
+pub record IsIn (table : Table) (place : Configuration) : Type 0 where
   pub entrance : IsEntrance place.entrance
   pub state : HasThisState (set_at table place.at place.entrance) place.state
 

@@ -18,7 +18,7 @@ use outside::Steps;
 use phase_automaton::State;
 use phoneme::{Line, Memory};
 use reader_choices::Choices;
-use search_frames::{Place, Way, new_stack};
+use search_frames::{Configuration, Way, new_stack};
 use std::alloc::Global;
 use std::marker::Model;
 
@@ -95,7 +95,7 @@ impl Chart {
 
 impl Chart {
     /// The ways from the place. None where the chart does not have it, so that no answer goes on from there.
-    pub(crate) fn ways_from(&self, place: &Place) -> Option<&[Way]>
+    pub(crate) fn ways_from(&self, place: &Configuration) -> Option<&[Way]>
         requires stops { AreStops self.now.stops (length self.now.ways) }
         requires covers { CoversPlace self.now.table place.now.at place.now.entrance place.now.state }
         ensures found { MatchOption result (IsIn self.now.table place.now → HasStopAt self.now.stops (index_in self.now.table place.now.at place.now.entrance) → ⊥)

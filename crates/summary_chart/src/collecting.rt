@@ -2,7 +2,7 @@ ghost use Rattle.std.specs.Prelude.{length, OnOk};
 ghost use Rattle.std.specs.List.Sorted.{IsStrictlySortedBy};
 ghost use Rattle.segmentation_definitions.specs.Listings.{compare_items};
 ghost use Rattle.annotated_trie.specs.Searched.{IsSearchedLexicon};
-ghost use Rattle.search_frames.specs.Frames.{IsPlaceIn, standing_of};
+ghost use Rattle.search_frames.specs.Frames.{IsConfigurationIn, numbered_of};
 ghost use Rattle.search_frames.specs.WaysFrom.{AreWaysFrom, IsWayFrom, key_of_way};
 ghost use Rattle.summary_chart.specs.Tables.{IsTable};
 ghost use Rattle.summary_chart.specs.Spreading.{leads_in};
@@ -16,7 +16,7 @@ use annotated_trie::Lexicon;
 use derivation::{Item, Step};
 use phoneme::{Line, Memory};
 use reader_choices::Choices;
-use search_frames::{Place, Way, supplied_letters};
+use search_frames::{Configuration, Way, supplied_letters};
 use std::alloc::Global;
 
 /// Puts the item of the way into the list where some state of the set goes further by it: then its step stands in an answer. The
@@ -26,15 +26,15 @@ fn collect_way(
     lexicon: &Lexicon,
     line: &Line,
     choices: &Choices,
-    place: &Place,
+    place: &Configuration,
     states: StateSet,
     way: &Way,
     table: &Table,
     items: &mut Vec<Item>,
 ) -> Result<(), Memory>
     requires searched { IsSearchedLexicon lexicon.now }
-    requires place { IsPlaceIn lexicon.now line.now place.now }
-    requires way { IsWayFrom lexicon.now line.now choices.now (standing_of lexicon.now place.now) way.now }
+    requires place { IsConfigurationIn lexicon.now line.now place.now }
+    requires way { IsWayFrom lexicon.now line.now choices.now (numbered_of lexicon.now place.now) way.now }
     requires table { IsTable (leads_in lexicon.now) (length line.now.letters) table.now }
     requires rising { IsStrictlySortedBy compare_items items.old.items }
     ensures ok { OnOk result (AddsItems (IsItemBy lexicon.now line.now choices.now table.now place.now.at place.now.entrance states (key_of_way way.now)) items.old.items items.new.items) }
@@ -45,11 +45,11 @@ fn collect_way(
     }
     let rules = lexicon.rules();
     let step = Step {
-        phase: way.phase,
-        rule: way.rule,
+        phase: way.key.phase,
+        rule: way.key.rule,
         at: place.at,
         lead: supplied_letters(rules, place.entrance).len() as u32,
-        taken: way.taken,
+        taken: way.key.taken,
     };
     let item = item_of_step(alloc, rules, line, place.entrance, &step)?;
     put_item(items, item)
@@ -62,15 +62,15 @@ pub(crate) fn collect(
     lexicon: &Lexicon,
     line: &Line,
     choices: &Choices,
-    place: Place,
+    place: Configuration,
     states: StateSet,
     ways: &[Way],
     table: &Table,
     items: &mut Vec<Item>,
 ) -> Result<(), Memory>
     requires searched { IsSearchedLexicon lexicon.now }
-    requires place { IsPlaceIn lexicon.now line.now place }
-    requires ways { AreWaysFrom lexicon.now line.now choices.now (standing_of lexicon.now place) ways.now }
+    requires place { IsConfigurationIn lexicon.now line.now place }
+    requires ways { AreWaysFrom lexicon.now line.now choices.now (numbered_of lexicon.now place) ways.now }
     requires table { IsTable (leads_in lexicon.now) (length line.now.letters) table.now }
     requires rising { IsStrictlySortedBy compare_items items.old.items }
     ensures ok { OnOk result (AddsItems (IsItemFrom lexicon.now line.now choices.now table.now place.at place.entrance states) items.old.items items.new.items) }

@@ -1,6 +1,6 @@
 ghost use Rattle.std.specs.Prelude.{length};
 ghost use Rattle.annotated_trie.specs.Searched.{IsSearchedLexicon};
-ghost use Rattle.search_frames.specs.Frames.{IsPlaceIn, standing_of};
+ghost use Rattle.search_frames.specs.Frames.{IsConfigurationIn, numbered_of};
 ghost use Rattle.search_frames.specs.WaysFrom.{AreWaysFrom, IsWayFrom, key_of_way};
 ghost use Rattle.summary_chart.specs.Tables.{IsTable};
 ghost use Rattle.summary_chart.specs.Spreading.{AreGoingFurther, EveryKey, OnlyKey, leads_in};
@@ -11,7 +11,7 @@ use super::table::Table;
 use annotated_trie::Lexicon;
 use phoneme::Line;
 use reader_choices::Choices;
-use search_frames::{LetterTest, Place, Way};
+use search_frames::{LetterTest, Configuration, Way};
 
 /// The states of the set from which the way ends the line or leads on to a place of the table. The place's own state is not looked
 /// at.
@@ -19,23 +19,23 @@ pub(crate) fn states_going_further(
     lexicon: &Lexicon,
     line: &Line,
     choices: &Choices,
-    place: &Place,
+    place: &Configuration,
     states: StateSet,
     way: &Way,
     table: &Table,
 ) -> StateSet
     requires searched { IsSearchedLexicon lexicon.now }
-    requires place { IsPlaceIn lexicon.now line.now place.now }
-    requires way { IsWayFrom lexicon.now line.now choices.now (standing_of lexicon.now place.now) way.now }
+    requires place { IsConfigurationIn lexicon.now line.now place.now }
+    requires way { IsWayFrom lexicon.now line.now choices.now (numbered_of lexicon.now place.now) way.now }
     requires table { IsTable (leads_in lexicon.now) (length line.now.letters) table.now }
     ensures { AreGoingFurther lexicon.now line.now choices.now table.now place.now.at place.now.entrance states (OnlyKey (key_of_way way.now)) result }
 {
     let automaton = lexicon.automaton();
     match way.test {
         LetterTest::Refused => StateSet::empty(),
-        LetterTest::Ends => accepted_states(automaton, states, way.phase),
+        LetterTest::Ends => accepted_states(automaton, states, way.key.phase),
         LetterTest::LeadsOn { at, entrance } => {
-            states_into(automaton, states, way.phase, table.get(at, entrance))
+            states_into(automaton, states, way.key.phase, table.get(at, entrance))
         }
     }
 }
@@ -46,14 +46,14 @@ pub(crate) fn gather(
     lexicon: &Lexicon,
     line: &Line,
     choices: &Choices,
-    place: Place,
+    place: Configuration,
     states: StateSet,
     ways: &[Way],
     table: &Table,
 ) -> StateSet
     requires searched { IsSearchedLexicon lexicon.now }
-    requires place { IsPlaceIn lexicon.now line.now place }
-    requires ways { AreWaysFrom lexicon.now line.now choices.now (standing_of lexicon.now place) ways.now }
+    requires place { IsConfigurationIn lexicon.now line.now place }
+    requires ways { AreWaysFrom lexicon.now line.now choices.now (numbered_of lexicon.now place) ways.now }
     requires table { IsTable (leads_in lexicon.now) (length line.now.letters) table.now }
     ensures gathers { AreGoingFurther lexicon.now line.now choices.now table.now place.at place.entrance states EveryKey result }
 {

@@ -1,7 +1,7 @@
 ghost use Rattle.std.specs.Prelude.{◌≡◌, ◌<◌, ◌+◌, ◌≤◌, ℕ, [], length, OnOk};
 ghost use Rattle.text_definitions.specs.Lines.{IsLine};
 ghost use Rattle.annotated_trie.specs.Searched.{IsSearchedLexicon};
-ghost use Rattle.search_frames.specs.Frames.{IsStack};
+ghost use Rattle.search_frames.specs.Stacks.{IsStack, room_of};
 ghost use Rattle.search_frames.specs.Costs.{HasAtMostChoices};
 ghost use Rattle.summary_chart.specs.Charts.{HasReached, IsChartTable, IsOpenTable, steps_of_pass};
 ghost use Rattle.summary_chart.specs.PlaceWays.{HasWaysBefore};
@@ -14,7 +14,7 @@ use annotated_trie::Lexicon;
 use outside::Steps;
 use phoneme::{Line, Memory};
 use reader_choices::Choices;
-use search_frames::{Place, Resumption, Way, push_ways};
+use search_frames::{Configuration, Resumption, Way, push_ways};
 
 /// Puts into the table, which has the opening alone, every place that a search comes to: from each place in the order of the table,
 /// wherever a way leads on to. A way leads only to places that stand later in the table. The ways are kept. Refused only for want of
@@ -32,7 +32,7 @@ pub(crate) fn reach<L>(
     requires searched { IsSearchedLexicon lexicon.now }
     requires line { IsLine line.now }
     requires walker { IsStack walker.old }
-    requires room { 0 < length walker.old.frames.items }
+    requires room { 0 < room_of walker.old }
     requires opening { IsOpenTable lexicon.now line.now table.old }
     requires stops { stops.old.items ≡ [] }
     requires ways { ways.old.items ≡ [] }
@@ -45,7 +45,7 @@ pub(crate) fn reach<L>(
     while index < table.sets.len() {
         let states = table.sets[index];
         let (at, entrance) = table.place(index);
-        let place = Place {
+        let place = Configuration {
             at,
             entrance,
             state,
@@ -81,7 +81,7 @@ pub(crate) fn keep_living(
     for number in (0..ways.stops.len()).rev() {
         let stop = ways.stops[number];
         let (at, entrance) = table.place(stop.index);
-        let place = Place {
+        let place = Configuration {
             at,
             entrance,
             state,

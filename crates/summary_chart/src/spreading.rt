@@ -1,7 +1,7 @@
 ghost use Rattle.std.specs.Prelude.{length};
 ghost use Rattle.text_definitions.specs.Lines.{IsLine};
 ghost use Rattle.annotated_trie.specs.Searched.{IsSearchedLexicon};
-ghost use Rattle.search_frames.specs.Frames.{IsPlaceIn, standing_of};
+ghost use Rattle.search_frames.specs.Frames.{IsConfigurationIn, numbered_of};
 ghost use Rattle.search_frames.specs.WaysFrom.{AreWaysFrom, IsWayFrom, key_of_way};
 ghost use Rattle.summary_chart.specs.Tables.{IsTable};
 ghost use Rattle.summary_chart.specs.Spreading.{Spreads, EveryKey, OnlyKey, leads_in};
@@ -12,21 +12,21 @@ use super::table::Table;
 use annotated_trie::Lexicon;
 use phoneme::Line;
 use reader_choices::Choices;
-use search_frames::{LetterTest, Place, Way};
+use search_frames::{LetterTest, Configuration, Way};
 
 /// Puts into the table where the way leads on to from the states of the set at the place. The place's own state is not looked at.
 fn spread_way(
     lexicon: &Lexicon,
     line: &Line,
     choices: &Choices,
-    place: &Place,
+    place: &Configuration,
     states: StateSet,
     way: &Way,
     table: &mut Table,
 )
     requires searched { IsSearchedLexicon lexicon.now }
-    requires place { IsPlaceIn lexicon.now line.now place.now }
-    requires way { IsWayFrom lexicon.now line.now choices.now (standing_of lexicon.now place.now) way.now }
+    requires place { IsConfigurationIn lexicon.now line.now place.now }
+    requires way { IsWayFrom lexicon.now line.now choices.now (numbered_of lexicon.now place.now) way.now }
     requires table { IsTable (leads_in lexicon.now) (length line.now.letters) table.old }
     ensures table { IsTable (leads_in lexicon.now) (length line.now.letters) table.new }
     ensures spreads { Spreads lexicon.now line.now choices.now place.now.at place.now.entrance states (OnlyKey (key_of_way way.now)) table.old table.new }
@@ -35,7 +35,7 @@ fn spread_way(
         table.add(
             at,
             entrance,
-            states_after(lexicon.automaton(), states, way.phase),
+            states_after(lexicon.automaton(), states, way.key.phase),
         );
     }
 }
@@ -46,14 +46,14 @@ pub(crate) fn spread(
     lexicon: &Lexicon,
     line: &Line,
     choices: &Choices,
-    place: &Place,
+    place: &Configuration,
     states: StateSet,
     ways: &[Way],
     table: &mut Table,
 )
     requires searched { IsSearchedLexicon lexicon.now }
-    requires place { IsPlaceIn lexicon.now line.now place.now }
-    requires ways { AreWaysFrom lexicon.now line.now choices.now (standing_of lexicon.now place.now) ways.now }
+    requires place { IsConfigurationIn lexicon.now line.now place.now }
+    requires ways { AreWaysFrom lexicon.now line.now choices.now (numbered_of lexicon.now place.now) ways.now }
     requires table { IsTable (leads_in lexicon.now) (length line.now.letters) table.old }
     ensures table { IsTable (leads_in lexicon.now) (length line.now.letters) table.new }
     ensures spreads { Spreads lexicon.now line.now choices.now place.now.at place.now.entrance states EveryKey table.old table.new }

@@ -17,7 +17,7 @@ use derivation::Item;
 use outside::Steps;
 use phoneme::{Line, Memory};
 use reader_choices::Choices;
-use search_frames::Place;
+use search_frames::Configuration;
 use std::alloc::Global;
 
 /// The items of the ways by which places of the table go further, in their order: from each place in the order of the table, so
@@ -41,7 +41,7 @@ fn items_of_table(
     for number in 0..ways.stops.len() {
         let stop = ways.stops[number];
         let (at, entrance) = table.place(stop.index);
-        let place = Place {
+        let place = Configuration {
             at,
             entrance,
             state,

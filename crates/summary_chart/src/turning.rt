@@ -1,11 +1,11 @@
 ghost use Rattle.std.specs.Prelude.{◌≡◌, ◌↔◌, IsTrue, length, MatchOption};
-ghost use Rattle.segmentation_definitions.specs.Listings.{compare_keys};
+ghost use Rattle.derivation.specs.Steps.{key_meant};
 ghost use Rattle.annotated_trie.specs.Searched.{IsSearchedLexicon};
-ghost use Rattle.search_frames.specs.Frames.{IsPlaceIn, standing_of};
+ghost use Rattle.search_frames.specs.Frames.{IsConfigurationIn, numbered_of};
 ghost use Rattle.search_frames.specs.WaysFrom.{AreWaysFrom, IsWayFrom, key_of_way};
 ghost use Rattle.summary_chart.specs.Tables.{IsTable};
 ghost use Rattle.summary_chart.specs.Spreading.{leads_in};
-ghost use Rattle.summary_chart.specs.Turning.{IsAfter, IsTestUnder, IsFirstLiving, HasNoLiving, key_for, last_tried};
+ghost use Rattle.summary_chart.specs.Turning.{IsAfter, IsTestUnder, IsFirstLiving, HasNoLiving, last_tried};
 
 use super::Chart;
 use super::table::Table;
@@ -15,26 +15,16 @@ use outside::Steps;
 use phase_automaton::State;
 use phoneme::Line;
 use reader_choices::Choices;
-use search_frames::{LetterTest, Place, Resumption, SearchGuide, ToTry, Turn, Way, go_to};
+use search_frames::{LetterTest, Configuration, Resumption, SearchGuide, ToTry, Turn, Way, go_to};
 use std::cmp::Ordering;
-
-/// The order of keys: by phase, then the longer form first, then by rule (own).
-fn compare(left: Key, right: Key) -> Ordering
-    ensures { result ≡ compare_keys (key_for left) (key_for right) }
-{
-    left.phase
-        .cmp(&right.phase)
-        .then(right.taken.cmp(&left.taken))
-        .then(left.rule.cmp(&right.rule))
-}
 
 /// Whether the key comes after the last one, which any key does where there is none.
 fn is_after(last: Option<Key>, key: Key) -> bool
-    ensures { IsTrue result ↔ IsAfter last (key_for key) }
+    ensures { IsTrue result ↔ IsAfter last (key_meant key) }
 {
     match last {
         None => true,
-        Some(last) => compare(last, key) == Ordering::Less,
+        Some(last) => last.compare(&key) == Ordering::Less,
     }
 }
 
@@ -53,20 +43,20 @@ fn test_way(
     lexicon: &Lexicon,
     line: &Line,
     choices: &Choices,
-    place: &Place,
+    place: &Configuration,
     way: &Way,
     table: &Table,
 ) -> Turn
     requires searched { IsSearchedLexicon lexicon.now }
-    requires place { IsPlaceIn lexicon.now line.now place.now }
-    requires way { IsWayFrom lexicon.now line.now choices.now (standing_of lexicon.now place.now) way.now }
+    requires place { IsConfigurationIn lexicon.now line.now place.now }
+    requires way { IsWayFrom lexicon.now line.now choices.now (numbered_of lexicon.now place.now) way.now }
     requires table { IsTable (leads_in lexicon.now) (length line.now.letters) table.now }
-    ensures { IsTestUnder lexicon.now line.now choices.now table.now (standing_of lexicon.now place.now) (key_of_way way.now) result }
+    ensures { IsTestUnder lexicon.now line.now choices.now table.now (numbered_of lexicon.now place.now) (key_of_way way.now) result }
 {
     let automaton = lexicon.automaton();
     // Its contract says that there are not too many states.
     automaton.states();
-    let state = automaton.step(place.state, way.phase);
+    let state = automaton.step(place.state, way.key.phase);
     match way.test {
         LetterTest::Refused => Turn::Nothing,
         LetterTest::Ends => {
@@ -77,7 +67,7 @@ fn test_way(
             }
         }
         LetterTest::LeadsOn { at, entrance } => {
-            let next = Place {
+            let next = Configuration {
                 at,
                 entrance,
                 state,
@@ -96,20 +86,20 @@ fn find_living(
     lexicon: &Lexicon,
     line: &Line,
     choices: &Choices,
-    place: &Place,
+    place: &Configuration,
     ways: &[Way],
     last: Option<Key>,
     table: &Table,
 ) -> Option<(Key, Turn)>
     requires searched { IsSearchedLexicon lexicon.now }
-    requires place { IsPlaceIn lexicon.now line.now place.now }
-    requires ways { AreWaysFrom lexicon.now line.now choices.now (standing_of lexicon.now place.now) ways.now }
+    requires place { IsConfigurationIn lexicon.now line.now place.now }
+    requires ways { AreWaysFrom lexicon.now line.now choices.now (numbered_of lexicon.now place.now) ways.now }
     requires table { IsTable (leads_in lexicon.now) (length line.now.letters) table.now }
-    ensures { MatchOption result (HasNoLiving lexicon.now line.now choices.now table.now (standing_of lexicon.now place.now) last)
-        (λ found. IsFirstLiving lexicon.now line.now choices.now table.now (standing_of lexicon.now place.now) last (key_for found.0) found.1) }
+    ensures { MatchOption result (HasNoLiving lexicon.now line.now choices.now table.now (numbered_of lexicon.now place.now) last)
+        (λ found. IsFirstLiving lexicon.now line.now choices.now table.now (numbered_of lexicon.now place.now) last (key_meant found.0) found.1) }
 {
     for way in ways {
-        let key = way.key();
+        let key = way.key;
         if !is_after(last, key) {
             continue;
         }
@@ -139,11 +129,11 @@ impl SearchGuide for Chart {
     ) -> Turn {
         // Its contract says that there are not too many states.
         lexicon.automaton().states();
-        let place = Place::of_frame(stack, level);
+        let place = Configuration::of_frame(stack, level);
         let Some(ways) = self.ways_from(&place) else {
             return Turn::Nothing;
         };
-        let last = last_tried(&stack.steps[level], to_try);
+        let last = last_tried(&stack.step(level), to_try);
         let Some((key, turn)) = find_living(lexicon, line, choices, &place, ways, last, &self.table)
         else {
             return Turn::Nothing;

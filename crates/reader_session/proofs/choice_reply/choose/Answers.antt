@@ -1,7 +1,5 @@
 -- One choice more, or a refusal.
-use Rattle.std.proofs.Common.{◌≤◌, List, ◌∷◌, [], length, Err, ap, subst}
-use Rattle.segmentation_definitions.specs.declared.limits.TheConstants.{MOST_CHOICES}
-use Rattle.segmentation_definitions.specs.Items.{Choice}
+use Rattle.std.proofs.Common.{Err, ap}
 use Rattle.reader_session.proofs.ChosenItems.{more_within, room_before, chosen, too_many}
 use Rattle.reader_session.proofs.choice_reply.choose.Goals as goal
 
@@ -13,8 +11,8 @@ new-requires c =
 pub returns-in_ok-push_ok-in-Ok : goal.returns-in_ok-push_ok-in-Ok
 returns-in_ok-push_ok-in-Ok c = record {
   ok = chosen c.args.lexicon.now c.args.reading c.args.kept c.args.item c.add_choice.new.choices c.args.output.now.items c.push_ok.new.output.items
-      c.new.result (room_before c.args.reading.choices c.add_choice.new.choices (record { kept = c.args.kept; item = c.args.item })
-      c.in-Ok.ensures.ok (subst (λ (choices : List Choice). length choices ≤ MOST_CHOICES) c.choices.view_is c.choices.invariant)) c.in-Ok.ensures.ok c.in_ok-push_ok-in-Ok.ensures c.new.ensures.reading c.new.ensures.state;
+      c.new.result (room_before c.args.reading.choices c.requires.reading.few (λ full. absurd (cc (c.in-Ok.ensures.full.1 full))))
+      c.in-Ok.ensures.ok c.in_ok-push_ok-in-Ok.ensures c.new.ensures.reading c.new.ensures.state;
 }
 
 pub returns-in_ok-push_refusal-in-Err-Full : goal.returns-in_ok-push_refusal-in-Err-Full

@@ -9,7 +9,7 @@ use Rattle.reader_session.proofs.choice_reply.reply_to_choice.Goals as goal
 
 pub choose-requires-clause-item : goal.choose-requires-clause-item
 choose-requires-clause-item c =
-    numbered_within c.args.lexicon.now c.in-Some-old.reading c.in-Some.number c.in-Ok.item c.rules-rules.ensures.searched
+    numbered_within c.args.lexicon.now c.in-Some-old.reading c.in-Some.number c.in-Ok.item c.requires.lexicon
     (subst (IsReadingOver c.args.lexicon.now) c.in-Some-old.is c.requires.reading) c.in-Ok.ensures.ok
 
 pub returns-in-Err-NoSummary : goal.returns-in-Err-NoSummary

@@ -1,4 +1,4 @@
--- The search finds the analysis, or the place where it goes.
+-- The search finds the analysis, or the index where it goes.
 use Rattle.std.proofs.Common.{◌∙◌, map, ap, rules}
 use Rattle.std.proofs.lemmas.Fn.{always_returns_same}
 use Rattle.lexicon_definitions.specs.Analyses.{compare_analyses}
@@ -11,7 +11,7 @@ returns-in_ok-insert c =
     let found = c.in-Err.ensures.position (λ other. compare_analyses (text_analysis other) (text_analysis c.args.analysis)) (always_returns_same _ _ _ (λ a r f' k. search rules)) in
     record {
       ok = ap (map text_analysis) c.in_ok-insert.ensures.items
-          ∙ put_at c.deref.result.now c.args.analyses.now.items c.args.analysis c.deref.ensures.value c.requires.rising c.in-Err.place c.in-Err.ensures.bound found;
+          ∙ put_at c.deref.result.now c.args.analyses.now.items c.args.analysis c.deref.ensures.value c.requires.rising c.in-Err.index c.in-Err.ensures.bound found;
     }
 
 pub returns-in_default : goal.returns-in_default

@@ -13,5 +13,5 @@ returns c =
     record {
       ok = replies_with_page c.args.lexicon.now reading c.requires.reading c.push_answers.new.search c.min-first.result c.args.count c.in_ok-answers.answers
           c.min.result c.args.output.now.items c.push_answers.new.output.items c.push_rest.new.output.items c.push_answers.new.last c.in_ok-push_rest.field-0
-          printed c.in_ok-push_rest.ensures.stand c.in_ok-push_rest.ensures.rest (omega arith) (omega arith);
+          printed c.in_ok-push_rest.ensures.resumption c.in_ok-push_rest.ensures.rest (omega arith) (omega arith);
     }

@@ -11,7 +11,7 @@ returns c =
       line = c.args.line;
       choices = c.args.choices;
       chart = c.in_ok-chart.chart;
-      stand = c.into_resumption-stand.result;
+      resumption = c.into_resumption-resumption.result;
       printed = c.args.printed;
       last = c.in_ok-last.last;
       summary = None;
@@ -19,5 +19,5 @@ returns c =
     record {
       ok = resumed c.args.lexicon.now reading (keys_of c.args.keys.now) refl c.in-Ok.search c.requires.mark c.requires.phases
           c.in_ok-chart.ensures.chart c.in_ok-chart.ensures.guide c.in_ok-chart.ensures.exact c.in-Ok.ensures.over c.in-Ok.ensures.at
-          c.in_ok-last.ensures.ok c.into_resumption-stand.ensures;
+          c.in_ok-last.ensures.ok c.into_resumption-resumption.ensures;
     }

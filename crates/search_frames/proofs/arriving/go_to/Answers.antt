@@ -5,9 +5,9 @@ use Rattle.std.specs.List.{Contains}
 use Rattle.segmentation_definitions.specs.Listings.{Key}
 use Rattle.search_frames.specs.declared.frame.TheConstants.{NODES_OF_FRAME}
 use Rattle.search_frames.specs.declared.frame.Frame.{Frame}
-use Rattle.search_frames.specs.declared.place.Place.{Place}
-use Rattle.search_frames.specs.Standings.{IsPossible}
-use Rattle.search_frames.specs.Frames.{IsUntried, frame_of, node_of, here_of, standing_of, changes_at}
+use Rattle.search_frames.specs.declared.configuration.Configuration.{Configuration}
+use Rattle.search_frames.specs.Configurations.{IsPossible}
+use Rattle.search_frames.specs.Frames.{IsUntried, frame_of, node_of, here_of, numbered_of, changes_at}
 use Rattle.search_frames.specs.Changes.{MayBeMade, IsPlaceAfter}
 use Rattle.search_frames.specs.Arrivals.{IsNextAt}
 use Rattle.search_frames.proofs.StepFrames.{frame_read, node_read, node_there, made_at}
@@ -22,8 +22,8 @@ key_of_call g c = record { phase = c.args.key.phase; taken = c.args.key.taken; r
 
 -- where its phase is begun the key is possible and still to try
 possible : (g : given.Over) (c : After-index g) → IsPossible c.args.lexicon.now c.args.line.now (here_of c.args.lexicon.now c.come_to_phase.new.stack c.args.level) (key_of_call g c)
-possible g c = subst (λ (place : Place). IsPossible c.args.lexicon.now c.args.line.now (standing_of c.args.lexicon.now place) (key_of_call g c))
-    (sym c.come_to_phase.ensures.come.same_place) c.requires.possible
+possible g c = subst (λ (place : Configuration). IsPossible c.args.lexicon.now c.args.line.now (numbered_of c.args.lexicon.now place) (key_of_call g c))
+    (sym c.come_to_phase.ensures.come.same_configuration) c.requires.possible
 
 untried : (g : given.Over) (c : After-index g) → IsUntried c.args.lexicon.now c.come_to_phase.new.stack c.args.level (key_of_call g c)
 untried g c = c.come_to_phase.ensures.come.left (key_of_call g c) c.requires.possible refl c.requires.untried
@@ -88,7 +88,7 @@ returns-clause-at g c =
     let come = c.come_to_phase.ensures.come in
     let after = subst (λ (node : ℕ). IsPlaceAfter c.args.lexicon.now.tries node c.args.key.rule c.pass_change-next.result) (node_is g n (low g b)) c.pass_change-next.ensures.after in
     at_key c.args.lexicon.now c.rules.ensures.searched c.args.line.now c.args.level c.args.stack.now c.come_to_phase.new.stack c.set_key.new.stack
-    (key_of_call g b) c.pass_change-next.result come.frame come.same_place come.begun (low g b) after c.set_key.ensures
+    (key_of_call g b) c.pass_change-next.result come.frame come.same_configuration come.begun (low g b) after c.set_key.ensures
 
 pub returns-clause-steps : goal.returns-clause-steps
 returns-clause-steps g c most few =

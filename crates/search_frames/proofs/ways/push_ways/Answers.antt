@@ -1,11 +1,11 @@
 -- The way of each key that the frame goes on to is appended, unless it is refused, and then it is tried; at the end all possible keys are.
 use Rattle.std.proofs.Common.{◌∙◌, arith, ap, sym, subst}
-use Rattle.derivation.specs.Steps.{key_of}
+use Rattle.derivation.specs.Steps.{key_of, key_meant}
 use Rattle.derivation.specs.declared.step.Step.{Step}
 use Rattle.search_frames.specs.declared.ways.Way.{Way}
-use Rattle.search_frames.specs.Standings.{IsPossible}
-use Rattle.search_frames.specs.Frames.{standing_of}
-use Rattle.search_frames.specs.LetterTests.{MayNeither}
+use Rattle.search_frames.specs.Configurations.{IsPossible}
+use Rattle.search_frames.specs.Frames.{numbered_of}
+use Rattle.search_frames.specs.LetterTests.{MayNeither, IsLetterTestOf}
 use Rattle.search_frames.specs.WaysFrom.{IsWayFrom}
 use Rattle.search_frames.proofs.StepFrames.{step_read}
 use Rattle.search_frames.proofs.TriedKeys.{possible_at}
@@ -32,11 +32,11 @@ loop-place-preserved-in-Refused g c =
     let went = c.loop-place-test.ensures.went_on in
     let mid = c.go_on.new.stack in
     let step_is = step_read mid 0 c.index.result.now went.frame.placed.is_stack went.frame.placed.there c.index.ensures in
-    let refused = subst (λ (step : Step). MayNeither searched line choices (standing_of searched place) (key_of step)) step_is c.in-Refused.ensures.exact in
+    let refused = subst (λ (step : Step). MayNeither searched line choices (numbered_of searched place) (key_of step)) step_is c.in-Refused.ensures.exact in
     let skipped = c.skip_unwritten.ensures.skipped in
     record {
       frame = skipped.frame;
-      here = skipped.same_place ∙ went.same_place ∙ before.here;
+      here = skipped.same_configuration ∙ went.same_configuration ∙ before.here;
       room = c.skip_unwritten.ensures.changes.room ∙ c.go_on.ensures.changes.room ∙ before.room;
       appends = none_appended searched line choices place c.loop-place.walker mid before.here went c.skip_unwritten.new.stack skipped refused
           c.args.ways.now.items c.loop-place.ways.items before.appends;
@@ -58,16 +58,17 @@ loop-place-preserved g c =
     let mid = c.go_on.new.stack in
     let step_is = step_read mid 0 c.index.result.now went.frame.placed.is_stack went.frame.placed.there c.index.ensures in
     let step : Step = c.index.result.now in
-    let way : Way = record { phase = step.phase; taken = step.taken; rule = step.rule; test = c.test_letters.result } in
-    let key_is = ap key_of step_is in
-    let is : IsWayFrom searched line choices (standing_of searched place) way = record {
-      possible = subst (λ (s : Step). IsPossible searched line (standing_of searched place) (key_of s)) (sym step_is) (possible_at searched line place c.loop-place.walker mid before.here went);
-      test = c.test_letters.ensures.exact;
+    let way : Way = record { key = c.key.result; test = c.test_letters.result } in
+    let key_now = ap key_meant c.key.ensures in
+    let key_is = key_now ∙ ap key_of step_is in
+    let is : IsWayFrom searched line choices (numbered_of searched place) way = record {
+      possible = subst (IsPossible searched line (numbered_of searched place)) (sym key_is) (possible_at searched line place c.loop-place.walker mid before.here went);
+      test = subst (λ key. IsLetterTestOf searched line choices (numbered_of searched place) key c.test_letters.result) (sym key_now) c.test_letters.ensures.exact;
       goes = c.in_default.not-Refused;
     } in
     record {
       frame = went.frame;
-      here = went.same_place ∙ before.here;
+      here = went.same_configuration ∙ before.here;
       room = c.go_on.ensures.changes.room ∙ before.room;
       appends = way_appended searched line choices place c.loop-place.walker mid before.here went way
           c.args.ways.now.items c.loop-place.ways.items c.push.new.self.items key_is is c.in_ok-push-in_default.ensures.items before.appends;

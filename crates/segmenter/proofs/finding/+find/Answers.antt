@@ -1,11 +1,12 @@
 -- A key that ends the line is the first path; one that leads on begins the first path where one is found after it.
 use Rattle.std.proofs.Common.{◌≡◌, ◌+◌, ◌*◌, ◌<◌, length, arith, refl, sym, ap, ◌∙◌, subst}
-use Rattle.search_frames.specs.Frames.{standing_of, here_of, still_to_try}
+use Rattle.search_frames.specs.Frames.{numbered_of, here_of, still_to_try}
 use Rattle.search_frames.specs.Reached.{rank}
 use Rattle.search_frames.specs.Costs.{steps_left, steps_of_frame}
-use Rattle.search_frames.proofs.StandingPaths.{guide_says, path_if_exact}
-use Rattle.segmenter.specs.Chains.{HasFound, HasNone, Every}
-use Rattle.segmenter.proofs.KeptFrames.{frame_kept, later_kept, keeps_then, keeps_less, other_depth}
+use Rattle.search_frames.proofs.ConfigurationPaths.{guide_says, path_if_exact}
+use Rattle.search_frames.specs.Stacks.{KeepsBefore, with_depth}
+use Rattle.segmenter.specs.Chains.{HasFound, HasNone, Every, BeginsUntried}
+use Rattle.segmenter.proofs.KeptFrames.{frame_kept, later_kept, keeps_then, keeps_less, other_depth, other_depth_keeps}
 use Rattle.segmenter.proofs.PathsFound.{found_first, none_at_all, on_true, on_false, still_reached, led_deeper, found_end, found_deeper, under_way_deeper, none_left, keeps_mid}
 use Rattle.segmenter.proofs.LevelCosts.{left_kept, tries_kept, found_below}
 use Rattle.segmenter.proofs.finding.+find.Goals as goal
@@ -16,7 +17,7 @@ find_first-live-requires g t c =
 
 pub find_first-returns-clause-found : goal.find_first-returns-clause-found
 find_first-returns-clause-found g t c =
-    let here = ap (standing_of c.args.lexicon.now) c.open_frame.ensures.place in
+    let here = ap (numbered_of c.args.lexicon.now) c.open_frame.ensures.place in
     on_true c.find_next.result
     (λ found. subst (HasFound c.args.lexicon.now c.args.line.now c.args.choices.now Every c.find_next.new.stack c.args.level) here
     (found_first c.args.lexicon.now c.args.line.now c.args.choices.now c.args.level c.open_frame.new.stack c.open_frame.ensures.all c.find_next.new.stack found))
@@ -24,7 +25,7 @@ find_first-returns-clause-found g t c =
 
 pub find_first-returns-clause-none : goal.find_first-returns-clause-none
 find_first-returns-clause-none g t c =
-    let here = ap (standing_of c.args.lexicon.now) c.open_frame.ensures.place in
+    let here = ap (numbered_of c.args.lexicon.now) c.open_frame.ensures.place in
     on_false c.find_next.result
     (λ none. subst (HasNone c.args.lexicon.now c.args.line.now c.args.choices.now Every) here
     (none_at_all c.args.lexicon.now c.args.line.now c.args.choices.now c.args.level c.open_frame.new.stack c.open_frame.ensures.all none))
@@ -54,11 +55,21 @@ find_next-returns-in-Nothing-clause-none g t c =
 pub find_next-returns-in-Ends-clause-found : goal.find_next-returns-in-Ends-clause-found
 find_next-returns-in-Ends-clause-found g t c =
     let went = c.in-Ends.ensures.turn.0 in
-    found_end c.args.lexicon.now c.args.line.now c.args.choices.now c.args.level c.args.stack.now c.loop-stack.stack c.turn.new.stack
-    c.loop-stack.invariant.under went c.turn.ensures.changes
-    (record { stand = c.turn.new.stack.stand; depth = c.args.level + 1; steps = c.turn.new.stack.steps; frames = c.turn.new.stack.frames; nodes = c.turn.new.stack.nodes })
-    (other_depth c.args.lexicon.now c.args.line.now c.turn.new.stack c.args.level (c.args.level + 1) went.frame)
-    went.later refl refl refl c.in-Ends.ensures.turn.1
+    let searched = c.args.lexicon.now in
+    let level = c.args.level in
+    subst (λ stack. HasFound searched c.args.line.now c.args.choices.now (BeginsUntried searched c.args.stack.now level) stack level (here_of searched c.args.stack.now level))
+    (sym c.use_frames.ensures)
+    (found_end searched c.args.line.now c.args.choices.now level c.args.stack.now c.loop-stack.stack c.turn.new.stack
+    c.loop-stack.invariant.under went c.turn.ensures.changes (with_depth c.turn.new.stack (level + 1))
+    (other_depth searched c.args.line.now c.turn.new.stack level (level + 1) went.frame)
+    went.later refl refl refl c.in-Ends.ensures.turn.1)
+
+pub find_next-returns-in-Ends-clause-changes : goal.find_next-returns-in-Ends-clause-changes
+find_next-returns-in-Ends-clause-changes g t c =
+    subst (KeepsBefore c.args.level c.args.stack.now) (sym c.use_frames.ensures)
+    (other_depth_keeps c.args.level c.args.stack.now c.turn.new.stack (c.args.level + 1)
+    (keeps_mid c.args.lexicon.now c.args.line.now c.args.choices.now c.args.level c.args.stack.now c.loop-stack.stack c.turn.new.stack
+    c.loop-stack.invariant.under c.in-Ends.ensures.turn.0 c.turn.ensures.changes))
 
 pub find_next-find_first-requires : goal.find_next-find_first-requires
 find_next-find_first-requires g t c κs bounds =
@@ -145,7 +156,7 @@ find_first-returns-clause-steps_end g t c exact most few =
     let yes = c.if-not-live.false in
     let path = path_if_exact c.args.lexicon.now c.args.line.now c.args.choices.now (g.D.Guide.covers c.args.guide.now) (g.D.Guide.says c.args.guide.now)
     c.args.place c.requires.searched c.requires.guide c.requires.place exact c.requires.line c.requires.reached (cc (ok, yes)) in
-    let here = ap (standing_of c.args.lexicon.now) c.open_frame.ensures.place in
+    let here = ap (numbered_of c.args.lexicon.now) c.open_frame.ensures.place in
     on_false c.find_next.result
     (λ none. absurd (subst (HasNone c.args.lexicon.now c.args.line.now c.args.choices.now Every) here
     (none_at_all c.args.lexicon.now c.args.line.now c.args.choices.now c.args.level c.open_frame.new.stack c.open_frame.ensures.all none) path.0 path.1 tt))
@@ -163,7 +174,7 @@ find_next-returns-then-find_first-clause-steps_on g t c exact most few =
     let leads = led_deeper c.args.lexicon.now c.args.line.now c.args.choices.now c.args.level c.args.stack.now c.loop-stack.stack c.turn.new.stack
     c.loop-stack.invariant.under turn.0 c.turn.ensures.changes c.in-LeadsOn.next turn.1 c.requires.searched c.requires.reached in
     found_below (steps_of_frame c.args.lexicon.now most) (2 * length c.args.line.now.letters) (rank (here_of c.args.lexicon.now c.args.stack.now c.args.level))
-    (rank (standing_of c.args.lexicon.now c.in-LeadsOn.next)) c.args.steps.now c.loop-stack.steps c.turn.new.steps c.find_first.new.steps
+    (rank (numbered_of c.args.lexicon.now c.in-LeadsOn.next)) c.args.steps.now c.loop-stack.steps c.turn.new.steps c.find_first.new.steps
     (steps_left c.args.lexicon.now most c.args.stack.now c.args.level) (steps_left c.args.lexicon.now most c.loop-stack.stack c.args.level)
     (steps_left c.args.lexicon.now most c.turn.new.stack c.args.level) leads.rises
     (c.loop-stack.invariant.spent exact most few) (c.in-LeadsOn.ensures.steps most few) (c.if-find_first.ensures.steps_on exact most few)

@@ -1,7 +1,7 @@
 -- A search goes deeper to places of higher rank, and at one place from key to key, and spends no more than what a frame has no
 -- longer left.
 use Rattle.std.proofs.Common.{ℕ, ◌+◌, ◌-◌, ◌*◌, ◌≤◌, length}
-use Rattle.search_frames.specs.Frames.{standing_of, here_of, still_to_try}
+use Rattle.search_frames.specs.Frames.{numbered_of, here_of, still_to_try}
 use Rattle.search_frames.specs.Guided.{IsExactOf}
 use Rattle.search_frames.specs.Costs.{HasAtMostChoices, steps_left}
 use Rattle.search_frames.specs.Reached.{rank}
@@ -10,7 +10,7 @@ use Rattle.segmenter.proofs.PathsFound.{IsUnderWay}
 use Rattle.segmenter.proofs.finding.+find.Given as goal
 
 abbrev pub decreases-find_first : goal.decreases-find_first
-decreases-find_first g l = 2 * (2 * length l.line.now.letters + 2 - rank (standing_of l.lexicon.now l.place)) + 1
+decreases-find_first g l = 2 * (2 * length l.line.now.letters + 2 - rank (numbered_of l.lexicon.now l.place)) + 1
 
 abbrev pub decreases-find_next : goal.decreases-find_next
 decreases-find_next g l = 2 * (2 * length l.line.now.letters + 2 - rank (here_of l.lexicon.now l.stack.now l.level))

@@ -1,5 +1,5 @@
 -- What comes after the keys of the frames in use shares their first key, or begins with a later one.
-use Rattle.std.proofs.Common.{◌+◌, ◌-◌, ◌≤◌, arith, subst}
+use Rattle.std.proofs.Common.{◌+◌, ◌-◌, ◌<◌, ◌≤◌, arith, subst}
 use Rattle.search_frames.specs.Frames.{here_of}
 use Rattle.segmenter.proofs.KeptFrames.{frame_kept, here_kept, is_frame_kept, later_kept, keeps_less}
 use Rattle.segmenter.proofs.FramesAlong.{on_false_too, first_frame, first_later, deeper, deeper_found, deeper_none, last_none, later_found, later_none}
@@ -12,7 +12,7 @@ use Rattle.segmenter.proofs.finding.+later.Goals as goal
 
 pub find_deeper-find_later-requires : goal.find_deeper-find_later-requires
 find_deeper-find_later-requires g t c κs bounds =
-    let more = c.if-level-stack.true in
+    let more = subst (λ depth. c.args.level + 1 < depth) c.depth.ensures c.if-level-depth.true in
     let there = deeper c.args.lexicon.now c.args.line.now c.args.choices.now c.args.stack.now c.args.level (here_of c.args.lexicon.now c.args.stack.now c.args.level)
     c.requires.frames.0 c.requires.searched c.requires.frames.1 c.requires.frames.2 more c.requires.reached c.requires.room in (
       omega (arith, more, c.decreases),
@@ -46,24 +46,24 @@ find_deeper-find_later-requires g t c κs bounds =
       ),
     )
 
-pub find_deeper-returns-then-level-stack-clause-found : goal.find_deeper-returns-then-level-stack-clause-found
-find_deeper-returns-then-level-stack-clause-found g t c keys frames along =
+pub find_deeper-returns-then-level-depth-clause-found : goal.find_deeper-returns-then-level-depth-clause-found
+find_deeper-returns-then-level-depth-clause-found g t c keys frames along =
     deeper_found c.args.lexicon.now c.args.line.now c.args.choices.now c.args.stack.now c.args.level (here_of c.args.lexicon.now c.args.stack.now c.args.level)
-    c.find_later.new.stack c.find_later.result keys frames along c.if-level-stack.true c.find_later.ensures.changes c.find_later.ensures.found
+    c.find_later.new.stack c.find_later.result keys frames along (subst (λ depth. c.args.level + 1 < depth) c.depth.ensures c.if-level-depth.true) c.find_later.ensures.changes c.find_later.ensures.found
 
-pub find_deeper-returns-then-level-stack-clause-none : goal.find_deeper-returns-then-level-stack-clause-none
-find_deeper-returns-then-level-stack-clause-none g t c key rest frames along =
+pub find_deeper-returns-then-level-depth-clause-none : goal.find_deeper-returns-then-level-depth-clause-none
+find_deeper-returns-then-level-depth-clause-none g t c key rest frames along =
     deeper_none c.args.lexicon.now c.args.line.now c.args.choices.now c.args.stack.now c.args.level (here_of c.args.lexicon.now c.args.stack.now c.args.level)
-    c.find_later.new.stack c.find_later.result key rest frames along c.if-level-stack.true c.find_later.ensures.none
+    c.find_later.new.stack c.find_later.result key rest frames along (subst (λ depth. c.args.level + 1 < depth) c.depth.ensures c.if-level-depth.true) c.find_later.ensures.none
 
-pub find_deeper-returns-then-level-stack-clause-changes : goal.find_deeper-returns-then-level-stack-clause-changes
-find_deeper-returns-then-level-stack-clause-changes g t c =
+pub find_deeper-returns-then-level-depth-clause-changes : goal.find_deeper-returns-then-level-depth-clause-changes
+find_deeper-returns-then-level-depth-clause-changes g t c =
     keeps_less c.args.level c.args.stack.now c.find_later.new.stack c.find_later.ensures.changes
 
-pub find_deeper-returns-else-level-stack-clause-none : goal.find_deeper-returns-else-level-stack-clause-none
-find_deeper-returns-else-level-stack-clause-none g t c key rest frames along =
+pub find_deeper-returns-else-level-depth-clause-none : goal.find_deeper-returns-else-level-depth-clause-none
+find_deeper-returns-else-level-depth-clause-none g t c key rest frames along =
     on_false_too _ (last_none c.args.lexicon.now c.args.line.now c.args.choices.now c.args.stack.now c.args.level
-    (here_of c.args.lexicon.now c.args.stack.now c.args.level) key rest frames (λ more. let less = c.if-level-stack.false in omega (arith, less, more)))
+    (here_of c.args.lexicon.now c.args.stack.now c.args.level) key rest frames (λ more. let less = c.if-level-depth.false in let in_use = c.depth.ensures in omega (arith, less, in_use, more)))
 
 pub find_later-find_next-requires-clause-frame : goal.find_later-find_next-requires-clause-frame
 find_later-find_next-requires-clause-frame g t c =
@@ -94,13 +94,13 @@ find_later-returns-clause-none g t c keys frames along =
     c.find_deeper.new.stack c.find_next.new.stack c.find_next.result c.if-find_deeper.ensures.kept c.if-find_deeper.ensures.none keys frames along
     c.find_next.ensures.none
 
-pub find_deeper-returns-then-level-stack-clause-steps_on : goal.find_deeper-returns-then-level-stack-clause-steps_on
-find_deeper-returns-then-level-stack-clause-steps_on g t c exact most few =
+pub find_deeper-returns-then-level-depth-clause-steps_on : goal.find_deeper-returns-then-level-depth-clause-steps_on
+find_deeper-returns-then-level-depth-clause-steps_on g t c exact most few =
     let searched = c.args.lexicon.now in
     let stack = c.args.stack.now in
     let level = c.args.level in
     let here = here_of searched stack level in
-    let more = c.if-level-stack.true in
+    let more = subst (λ depth. c.args.level + 1 < depth) c.depth.ensures c.if-level-depth.true in
     let rises = deeper_rises searched c.args.line.now c.args.choices.now c.requires.searched stack level here c.requires.frames.0 c.requires.frames.1 c.requires.frames.2 more in
     let fewer = more_levels (steps_of_frame searched most)
     (stack.depth - (level + 1) + levels_after c.args.line.now (here_of searched stack (level + 1))) (stack.depth - level + levels_after c.args.line.now here)

@@ -4,7 +4,7 @@ use Rattle.std.proofs.lemmas.List.{get_or_read_under, length-drop}
 use Rattle.std.proofs.Math.Seq.{drop-append_seam, take-length}
 use Rattle.search_frames.specs.declared.ways.Way.{Way}
 use Rattle.search_frames.specs.Costs.{steps_of_frame}
-use Rattle.search_frames.specs.Frames.{standing_of}
+use Rattle.search_frames.specs.Frames.{numbered_of}
 use Rattle.search_frames.specs.WaysFrom.{AreWaysFrom}
 use Rattle.summary_chart.specs.declared.place_ways.Stop.{Stop}
 use Rattle.summary_chart.specs.declared.state_set.StateSet.{StateSet}
@@ -108,7 +108,7 @@ spread-requires-clause-ways g c =
     let appends = c.in_ok-push_ways.ensures.ok in
     let first_is : c.len-first.result ≡ length c.loop-index.ways.items = omega (arith, c.len-first.ensures, c.loop-index.ways.ok) in
     subst (AreWaysFrom c.args.lexicon.now c.args.line.now c.args.choices.now
-    (standing_of c.args.lexicon.now (record { at = c.place-at.result.0; entrance = c.place-at.result.1; state = c.start-state.result })))
+    (numbered_of c.args.lexicon.now (record { at = c.place-at.result.0; entrance = c.place-at.result.1; state = c.start-state.result })))
     (sym (appended_from c.loop-index.ways.items c.as_slice.result.now appends.ways c.len-first.result first_is (c.as_slice.ensures.value ∙ appends.appended)))
     appends.are
 

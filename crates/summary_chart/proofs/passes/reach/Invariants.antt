@@ -1,6 +1,6 @@
 -- Before each index the table is closed, and the ways from its places are kept; a frame for each index has been spent.
 use Rattle.std.proofs.Common.{◌<◌, ◌+◌, ◌*◌, ◌≤◌, ◌-◌, ℕ, length}
-use Rattle.search_frames.specs.Frames.{IsStack}
+use Rattle.search_frames.specs.Stacks.{IsStack}
 use Rattle.search_frames.specs.Costs.{HasAtMostChoices, steps_of_frame}
 use Rattle.summary_chart.specs.Charts.{IsReachedBefore}
 use Rattle.summary_chart.specs.PlaceWays.{HasWaysBefore}

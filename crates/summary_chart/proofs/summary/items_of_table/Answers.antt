@@ -4,9 +4,9 @@ use Rattle.phase_automaton.specs.Automata.{StateMachine, IsStateIn}
 use Rattle.text_definitions.specs.Lines.{Line}
 use Rattle.segmentation_definitions.specs.Items.{Choice}
 use Rattle.annotated_trie.specs.Searched.{SearchedLexicon}
-use Rattle.search_frames.specs.declared.place.Place.{Place}
+use Rattle.search_frames.specs.declared.configuration.Configuration.{Configuration}
 use Rattle.search_frames.specs.declared.ways.Way.{Way}
-use Rattle.search_frames.specs.Frames.{IsPlaceIn}
+use Rattle.search_frames.specs.Frames.{IsConfigurationIn}
 use Rattle.summary_chart.specs.declared.place_ways.Stop.{Stop}
 use Rattle.summary_chart.specs.declared.state_set.StateSet.{StateSet}
 use Rattle.summary_chart.specs.declared.table.Table.{Table}
@@ -23,7 +23,7 @@ use Rattle.summary_chart.proofs.summary.items_of_table.Goals as goal
 
 -- a place of the table has a stop
 has_stop : (searched : SearchedLexicon) (line : Line) (choices : List Choice) (table : Table) (stops : List Stop) (ways : List Way) → IsTable (leads_in searched) (length line.letters) table
-    → HasWaysBefore searched line choices (length table.sets.items) table stops ways → (place : Place) → IsPlaceIn searched line place → IsIn table place
+    → HasWaysBefore searched line choices (length table.sets.items) table stops ways → (place : Configuration) → IsConfigurationIn searched line place → IsIn table place
     → HasStopAt stops (index_of_place searched place)
 has_stop searched line choices table stops ways is has place within inside =
     let in_table = index_within searched line place inside.entrance within in

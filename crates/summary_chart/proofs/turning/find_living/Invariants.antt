@@ -1,8 +1,8 @@
 -- None of the ways so far comes after the last key and goes further.
-use Rattle.search_frames.specs.Frames.{standing_of}
+use Rattle.search_frames.specs.Frames.{numbered_of}
 use Rattle.summary_chart.proofs.LivingWays.{HasNoneBefore}
 use Rattle.summary_chart.proofs.turning.find_living.Given as goal
 
 abbrev pub invariant-loop-way : goal.invariant-loop-way
 invariant-loop-way l =
-    HasNoneBefore l.lexicon l.line l.choices l.table (standing_of l.lexicon l.place) l.last l.ways l.way-index
+    HasNoneBefore l.lexicon l.line l.choices l.table (numbered_of l.lexicon l.place) l.last l.ways l.way-index

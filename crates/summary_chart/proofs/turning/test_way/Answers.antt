@@ -2,7 +2,7 @@
 use Rattle.std.proofs.Common.{subst, sym, ap, ◌∙◌}
 use Rattle.std.proofs.lemmas.Bool.{false≢true}
 use Rattle.phase_automaton.specs.Automata.{StateMachine, next_state}
-use Rattle.search_frames.specs.Frames.{standing_of}
+use Rattle.search_frames.specs.Frames.{numbered_of}
 use Rattle.search_frames.specs.WaysFrom.{key_of_way}
 use Rattle.search_frames.specs.LetterTests.{IsLetterTestOf}
 use Rattle.summary_chart.proofs.WayTests.{number_in_set, not_further_if_absent}
@@ -17,7 +17,7 @@ returns-else-has c =
     let searched = c.args.lexicon.now in
     let line = c.args.line.now in
     let choices = c.args.choices.now in
-    let here = standing_of searched c.args.place.now in
+    let here = numbered_of searched c.args.place.now in
     let key = key_of_way c.args.way.now in
     let may = subst (λ test. IsLetterTestOf searched line choices here key test) c.in-LeadsOn.is c.requires.way.test in
     let state = c.step-state.ensures.next ∙ ap (λ (machine : StateMachine). next_state machine here.state key.phase) c.automaton-automaton.ensures.value in

@@ -1,7 +1,7 @@
 -- A key that leads on or ends is the turn; one that is refused is passed with those that are left out after it (`PassedKeys`).
 use Rattle.std.proofs.Common.{◌≡◌, arith, subst}
 use Rattle.search_frames.specs.declared.testing.Test.TheVariants.{Refused, Ends, LeadsOn}
-use Rattle.search_frames.specs.Standings.{Standing, Ends as EndsLine}
+use Rattle.search_frames.specs.Configurations.{NumberedConfiguration, Ends as EndsLine}
 use Rattle.search_frames.specs.Frames.{key_at, step_of}
 use Rattle.search_frames.specs.Tests.{LeadsTo}
 use Rattle.search_frames.proofs.StepFrames.{step_read}
@@ -45,7 +45,7 @@ returns-in-Ends-clause-turn g c =
     c.of_frame-place.ensures (step_is g (goal.at.returns-in-Ends-clause-turn g c).After-index) c.in-Ends.ensures.exact in
     let here = here_mid searched line choices c.args.level c.args.stack.now c.loop-stack.stack mid passing went c.go_on.ensures.changes in (
       turned searched line choices c.args.level c.args.stack.now c.loop-stack.stack mid passing went c.go_on.ensures.changes,
-      subst (λ (h : Standing). EndsLine searched line choices h (key_at mid c.args.level)) here ends,
+      subst (λ (h : NumberedConfiguration). EndsLine searched line choices h (key_at mid c.args.level)) here ends,
     )
 
 pub returns-in-LeadsOn-clause-turn : goal.returns-in-LeadsOn-clause-turn
@@ -60,7 +60,7 @@ returns-in-LeadsOn-clause-turn g c =
     c.of_frame-place.ensures (step_is g (goal.at.returns-in-LeadsOn-clause-turn g c).After-index) c.in-LeadsOn.ensures.exact in
     let here = here_mid searched line choices c.args.level c.args.stack.now c.loop-stack.stack mid passing went c.go_on.ensures.changes in (
       turned searched line choices c.args.level c.args.stack.now c.loop-stack.stack mid passing went c.go_on.ensures.changes,
-      subst (λ (h : Standing). LeadsTo searched line choices h (key_at mid c.args.level) c.in-LeadsOn.next) here leads,
+      subst (λ (h : NumberedConfiguration). LeadsTo searched line choices h (key_at mid c.args.level) c.in-LeadsOn.next) here leads,
     )
 
 pub returns-clause-turn : goal.returns-clause-turn

@@ -1,22 +1,25 @@
 -- The frames of an answer are within the room, and their steps are those of the answer.
-use Rattle.std.proofs.Common.{◌≤◌, Some, length, take, sym, subst}
-use Rattle.std.proofs.lemmas.List.{length-take-le}
+use Rattle.std.proofs.Common.{◌≤◌, ◌∙◌, Some, refl, sym, subst}
+use Rattle.search_frames.specs.Stacks.{depth_of, steps_in}
 use Rattle.segmenter.specs.Searches.{IsCurrent}
 use Rattle.segmenter.proofs.SearchMoves.{current_at}
 use Rattle.segmenter.proofs.SearchStacks.{depth_within}
 use Rattle.segmenter.proofs.search.Search.current.Goals as goal
 
-pub slice_bounds-result-end : goal.slice_bounds-result-end
-slice_bounds-result-end g c =
+pub steps-requires-clause-stack : goal.steps-requires-clause-stack
+steps-requires-clause-stack g c = c.self.invariant.2.is_stack
+
+pub steps-requires-clause-within : goal.steps-requires-clause-within
+steps-requires-clause-within g c =
     let s = c.self.inside in
-    let within = depth_within s.lexicon.now s.line.now s.choices.now s.stack (c.self.invariant.2.answer c.in-At.is) in
-    sym (length-take-le s.stack.depth c.deref.result.now
-    (subst (λ items. s.stack.depth ≤ length items) (sym c.deref.ensures.value) within))
+    subst (λ room. depth_of s.stack ≤ room) c.self.invariant.2.is_stack.steps
+    (depth_within s.lexicon.now s.line.now s.choices.now s.stack (c.self.invariant.2.answer (sym c.position.ensures ∙ c.in-At.is)))
 
 pub returns-in-At : goal.returns-in-At
 returns-in-At g c =
     let s = c.self.inside in
     record {
-      answer = subst (λ search. IsCurrent search (Some (take s.stack.depth c.deref.result.now))) c.self.view_is
-          (current_at s.lexicon.now s.line.now s.choices.now s.stack c.self.invariant.0 c.self.invariant.2 c.in-At.is c.deref.result.now c.deref.ensures.value);
+      answer = subst (λ steps. IsCurrent c.args.self.now (Some steps)) (sym c.steps.ensures)
+          (subst (λ search. IsCurrent search (Some (steps_in s.stack))) c.self.view_is
+          (current_at s.lexicon.now s.line.now s.choices.now s.stack c.self.invariant.0 c.self.invariant.2 (sym c.position.ensures ∙ c.in-At.is) s.stack.steps.items refl));
     }

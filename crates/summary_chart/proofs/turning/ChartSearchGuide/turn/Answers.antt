@@ -1,10 +1,11 @@
 -- The frame's place is in the chart or not, and a way after the last key goes further or not.
 use Rattle.std.proofs.Common.{sym, ap, subst}
 use Rattle.phase_automaton.specs.Automata.{IsStateMachine}
-use Rattle.search_frames.specs.Frames.{standing_of}
+use Rattle.search_frames.specs.Frames.{numbered_of}
 use Rattle.summary_chart.specs.declared.table.Table.{Table}
 use Rattle.summary_chart.specs.PlaceWays.{ChartValue}
-use Rattle.summary_chart.specs.Turning.{key_for, IsFirstLiving, HasNoLiving}
+use Rattle.derivation.specs.Steps.{key_meant}
+use Rattle.summary_chart.specs.Turning.{IsFirstLiving, HasNoLiving}
 use Rattle.summary_chart.proofs.ChartTurns.{IsAsked, HasAfterToTry, after_to_try, covers_place, ways_there, place_within, no_ways, none_living, possible_old, untried_old, is_turn, has_paid}
 use Rattle.summary_chart.proofs.turning.ChartSearchGuide.turn.Given as given
 use Rattle.summary_chart.proofs.turning.ChartSearchGuide.turn.Goals as goal
@@ -25,14 +26,14 @@ asked g c = record {
 to_try : (g : given.Over) (c : After-last_tried-last g)
     → HasAfterToTry c.args.lexicon.now c.args.line.now c.args.level c.args.stack.now c.last_tried-last.result
 to_try g c = subst (HasAfterToTry c.args.lexicon.now c.args.line.now c.args.level c.args.stack.now) (sym c.last_tried-last.ensures)
-    (after_to_try c.args.lexicon.now c.args.line.now c.args.level c.args.stack.now c.index.result.now c.args.to_try c.requires.frame c.index.ensures c.requires.to_try)
+    (after_to_try c.args.lexicon.now c.args.line.now c.args.level c.args.stack.now c.step.result c.args.to_try c.requires.frame c.step.ensures c.requires.to_try)
 
 first : (g : given.Over) (c : In-Some-find_living g)
-    → IsFirstLiving c.args.lexicon.now c.args.line.now c.args.choices.now c.args.self.now.table (standing_of c.args.lexicon.now c.of_frame-place.result)
-    c.last_tried-last.result (key_for c.in-Some-find_living.key) c.in-Some-find_living.turn
+    → IsFirstLiving c.args.lexicon.now c.args.line.now c.args.choices.now c.args.self.now.table (numbered_of c.args.lexicon.now c.of_frame-place.result)
+    c.last_tried-last.result (key_meant c.in-Some-find_living.key) c.in-Some-find_living.turn
 first g c = subst
-    (λ (table : Table). IsFirstLiving c.args.lexicon.now c.args.line.now c.args.choices.now table (standing_of c.args.lexicon.now c.of_frame-place.result)
-    c.last_tried-last.result (key_for c.in-Some-find_living.key) c.in-Some-find_living.turn)
+    (λ (table : Table). IsFirstLiving c.args.lexicon.now c.args.line.now c.args.choices.now table (numbered_of c.args.lexicon.now c.of_frame-place.result)
+    c.last_tried-last.result (key_meant c.in-Some-find_living.key) c.in-Some-find_living.turn)
     (ap (λ (value : ChartValue). value.table) c.self.view_is) c.in-Some-find_living.ensures
 
 -- ---- the goals
@@ -60,7 +61,7 @@ pub returns-in_default-find_living-clause-turn : goal.returns-in_default-find_li
 returns-in_default-find_living-clause-turn g c =
     let is_asked = asked g (goal.at.returns-in_default-find_living-clause-turn g c).After-of_frame-place in
     let has_to_try = to_try g (goal.at.returns-in_default-find_living-clause-turn g c).After-last_tried-last in
-    let none = subst (λ (table : Table). HasNoLiving c.args.lexicon.now c.args.line.now c.args.choices.now table (standing_of c.args.lexicon.now c.of_frame-place.result) c.last_tried-last.result)
+    let none = subst (λ (table : Table). HasNoLiving c.args.lexicon.now c.args.line.now c.args.choices.now table (numbered_of c.args.lexicon.now c.of_frame-place.result) c.last_tried-last.result)
     (ap (λ (value : ChartValue). value.table) c.self.view_is) c.in_default-find_living.ensures in
     none_living c.args.lexicon.now c.args.line.now c.args.choices.now c.args.self.now c.args.level c.args.stack.now c.of_frame-place.result is_asked
     c.last_tried-last.result has_to_try none
@@ -71,7 +72,7 @@ go_to-requires-clause-possible g c =
     let has_to_try = to_try g (goal.at.go_to-requires-clause-possible g c).After-last_tried-last in
     let is_first = first g (goal.at.go_to-requires-clause-possible g c).In-Some-find_living in
     possible_old c.args.lexicon.now c.args.line.now c.args.choices.now c.args.self.now c.args.level c.args.stack.now c.of_frame-place.result is_asked
-    c.last_tried-last.result has_to_try (key_for c.in-Some-find_living.key) c.in-Some-find_living.turn is_first
+    c.last_tried-last.result has_to_try (key_meant c.in-Some-find_living.key) c.in-Some-find_living.turn is_first
 
 pub go_to-requires-clause-untried : goal.go_to-requires-clause-untried
 go_to-requires-clause-untried g c =
@@ -79,7 +80,7 @@ go_to-requires-clause-untried g c =
     let has_to_try = to_try g (goal.at.go_to-requires-clause-untried g c).After-last_tried-last in
     let is_first = first g (goal.at.go_to-requires-clause-untried g c).In-Some-find_living in
     untried_old c.args.lexicon.now c.args.line.now c.args.choices.now c.args.self.now c.args.level c.args.stack.now c.of_frame-place.result is_asked
-    c.last_tried-last.result has_to_try (key_for c.in-Some-find_living.key) c.in-Some-find_living.turn is_first
+    c.last_tried-last.result has_to_try (key_meant c.in-Some-find_living.key) c.in-Some-find_living.turn is_first
 
 pub returns-clause-turn : goal.returns-clause-turn
 returns-clause-turn g c =
@@ -87,7 +88,7 @@ returns-clause-turn g c =
     let has_to_try = to_try g (goal.at.returns-clause-turn g c).After-last_tried-last in
     let is_first = first g (goal.at.returns-clause-turn g c).In-Some-find_living in
     is_turn c.args.lexicon.now c.args.line.now c.args.choices.now c.args.self.now c.args.level c.args.stack.now c.of_frame-place.result is_asked
-    c.last_tried-last.result has_to_try (key_for c.in-Some-find_living.key) c.in-Some-find_living.turn is_first
+    c.last_tried-last.result has_to_try (key_meant c.in-Some-find_living.key) c.in-Some-find_living.turn is_first
     c.go_to.new.stack c.go_to.ensures.at
 
 pub returns-clause-steps : goal.returns-clause-steps

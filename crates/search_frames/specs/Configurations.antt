@@ -14,7 +14,7 @@ use Rattle.annotated_trie.specs.Searched.{SearchedLexicon}
 
 -- where a search stands between two forms: how many letters are derived, how the next form is entered, and the number of
 -- the grammar's state
-pub record Standing : Type 0 where
+pub record NumberedConfiguration : Type 0 where
   pub at : ℕ
   pub entrance : Entrance
   pub state : Option ℕ
@@ -25,20 +25,20 @@ rules_in searched = searched.lexicon.rules
 
 -- as far as forms tell, the step with this key may stand here: its rule is one, it takes letters that are there, and its form
 -- is one of its phase
-pub record IsPossible (searched : SearchedLexicon) (line : Line) (here : Standing) (key : Key) : Type 0 where
+pub record IsPossible (searched : SearchedLexicon) (line : Line) (here : NumberedConfiguration) (key : Key) : Type 0 where
   pub number : key.rule ≤ length (rules_in searched).rules
   pub within : here.at + key.taken ≤ length line.letters
   pub form : IsForm searched.lexicon key.phase (step_at (rules_in searched) line here.at here.entrance key).form
 
 -- the step may stand here, and another form can follow it
-pub record LeadsOn (searched : SearchedLexicon) (line : Line) (choices : List Choice) (here : Standing) (key : Key) : Type 0 where
+pub record LeadsOn (searched : SearchedLexicon) (line : Line) (choices : List Choice) (here : NumberedConfiguration) (key : Key) : Type 0 where
   pub stands : MayStand searched.lexicon line choices here.at here.entrance key
   pub inner : 0 < key.rule → IsInner (rule_of (rules_in searched) key.rule)
   pub left : key.rule ≡ 0 → here.at + key.taken < length line.letters
   pub live : IsSome (next_state searched.machine here.state key.phase)
 
 -- the step may stand here, and the line ends after it
-pub record Ends (searched : SearchedLexicon) (line : Line) (choices : List Choice) (here : Standing) (key : Key) : Type 0 where
+pub record Ends (searched : SearchedLexicon) (line : Line) (choices : List Choice) (here : NumberedConfiguration) (key : Key) : Type 0 where
   pub stands : MayStand searched.lexicon line choices here.at here.entrance key
   pub final_rule : 0 < key.rule → IsFinal (rule_of (rules_in searched) key.rule)
   pub all : here.at + key.taken + length (rule_of (rules_in searched) key.rule).w ≡ length line.letters
@@ -46,7 +46,7 @@ pub record Ends (searched : SearchedLexicon) (line : Line) (choices : List Choic
   pub accepted : IsTrue (is_accepting searched.machine (next_state searched.machine here.state key.phase))
 
 -- where the search stands after the step with this key
-abbrev pub after : SearchedLexicon → Line → Standing → Key → Standing
+abbrev pub after : SearchedLexicon → Line → NumberedConfiguration → Key → NumberedConfiguration
 after searched line here key = record {
   at = here.at + key.taken + length (rule_of (rules_in searched) key.rule).w;
   entrance = entrance_after_step (rules_in searched) (step_at (rules_in searched) line here.at here.entrance key);
@@ -54,12 +54,12 @@ after searched line here key = record {
 }
 
 -- where a search stands before all steps
-abbrev pub opening : Standing
+abbrev pub opening : NumberedConfiguration
 opening = record { at = 0; entrance = Start; state = start_state }
 
 -- the ways of the search: a key ends where the line may end after it, and leads to where the search stands after it where
 -- another form can follow
-abbrev pub ways_in : SearchedLexicon → Line → List Choice → Ways Standing Key
+abbrev pub ways_in : SearchedLexicon → Line → List Choice → Ways NumberedConfiguration Key
 ways_in searched line choices = record {
   compare = compare_keys;
   ends = λ here key. Ends searched line choices here key;

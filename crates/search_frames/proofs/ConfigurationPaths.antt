@@ -16,15 +16,15 @@ use Rattle.phase_automaton.specs.Automata.{state_at}
 use Rattle.derivation.specs.Guides.{configuration_of}
 use Rattle.derivation.specs.declared.entrance.Entrance.{Entrance as ProgramEntrance}
 use Rattle.annotated_trie.specs.Searched.{SearchedLexicon, IsSearchedLexicon}
-use Rattle.search_frames.specs.declared.place.Place.{Place}
-use Rattle.search_frames.specs.Standings.{Standing, after, opening, ways_in}
-use Rattle.search_frames.specs.Frames.{standing_of, IsPlaceIn}
+use Rattle.search_frames.specs.declared.configuration.Configuration.{Configuration}
+use Rattle.search_frames.specs.Configurations.{NumberedConfiguration, after, opening, ways_in}
+use Rattle.search_frames.specs.Frames.{numbered_of, IsConfigurationIn}
 use Rattle.search_frames.specs.Guided.{IsGuideOf, IsExactOf}
 use Rattle.search_frames.specs.Reached.{IsReached}
-use Rattle.search_frames.proofs.ReachedStandings.{ends_at_front, leads_from_front, leads_on_if_leads, reached_at, opening_reached}
+use Rattle.search_frames.proofs.ReachedConfigurations.{ends_at_front, leads_from_front, leads_on_if_leads, reached_at, opening_reached}
 
 module _ (searched : SearchedLexicon) (line : Line) (choices : List Choice) (is : IsSearchedLexicon searched) (line_is : IsLine line) where
-  path_at_front : (keys : List Key) (here : Standing) (reached : IsReached searched line choices here)
+  path_at_front : (keys : List Key) (here : NumberedConfiguration) (reached : IsReached searched line choices here)
       → IsPath (ways_in searched line choices) here keys → IsPath (ways_of searched.lexicon line choices) reached.front keys
   unfolding reached_at
   path_at_front [] here reached path = path
@@ -39,7 +39,7 @@ module _ (searched : SearchedLexicon) (line : Line) (choices : List Choice) (is 
             (subst (λ next. IsPath (ways_in searched line choices) next (later ∷ keys)) next_is path),
       )
 
-  path_of_front : (keys : List Key) (here : Standing) (reached : IsReached searched line choices here)
+  path_of_front : (keys : List Key) (here : NumberedConfiguration) (reached : IsReached searched line choices here)
       → IsPath (ways_of searched.lexicon line choices) reached.front keys → IsPath (ways_in searched line choices) here keys
   unfolding reached_at
   path_of_front [] here reached path = path
@@ -51,7 +51,7 @@ module _ (searched : SearchedLexicon) (line : Line) (choices : List Choice) (is 
   )
 
 -- the paths from where a search stands are those from the front that ends there
-pub path_above_is_path : (searched : SearchedLexicon) (line : Line) (choices : List Choice) (here : Standing) → IsSearchedLexicon searched → IsLine line
+pub path_above_is_path : (searched : SearchedLexicon) (line : Line) (choices : List Choice) (here : NumberedConfiguration) → IsSearchedLexicon searched → IsLine line
     → (reached : IsReached searched line choices here) → (keys : List Key)
     → IsPath (ways_in searched line choices) here keys ↔ IsPath (ways_of searched.lexicon line choices) reached.front keys
 path_above_is_path searched line choices here is line_is reached keys = (
@@ -69,14 +69,14 @@ path_from_opening searched line choices is line_is keys =
 -- ---- the guide
 
 module _ (searched : SearchedLexicon) (line : Line) (choices : List Choice) (covers : ℕ → ProgramEntrance → Option ℕ → Type 0)
-    (says : ℕ → ProgramEntrance → Option ℕ → Bool) (place : Place) (is : IsSearchedLexicon searched) (guide : IsGuideOf searched line choices covers says)
-    (within : IsPlaceIn searched line place) where
+    (says : ℕ → ProgramEntrance → Option ℕ → Bool) (place : Configuration) (is : IsSearchedLexicon searched) (guide : IsGuideOf searched line choices covers says)
+    (within : IsConfigurationIn searched line place) where
   -- the guide covers each place of the lexicon and the line
   pub guide_covers : covers place.at place.entrance place.state
   guide_covers = (guide is.recognizes).covers_all place.at place.entrance place.state within
 
   -- the front ends at the configuration that the program's place stands for
-  ends_at_place : (reached : IsReached searched line choices (standing_of searched place))
+  ends_at_place : (reached : IsReached searched line choices (numbered_of searched place))
       → EndsAt searched.lexicon.rules reached.front (configuration_of searched.lexicon is.recognizes.states place.at place.entrance place.state)
   ends_at_place reached = record {
     covered = reached.at;
@@ -86,19 +86,19 @@ module _ (searched : SearchedLexicon) (line : Line) (choices : List Choice) (cov
   }
 
   -- the guide says true of a place with a path
-  pub guide_says : IsLine line → IsReached searched line choices (standing_of searched place) → (keys : List Key)
-      → IsPath (ways_in searched line choices) (standing_of searched place) keys → says place.at place.entrance place.state ≡ true
+  pub guide_says : IsLine line → IsReached searched line choices (numbered_of searched place) → (keys : List Key)
+      → IsPath (ways_in searched line choices) (numbered_of searched place) keys → says place.at place.entrance place.state ≡ true
   guide_says line_is reached keys path =
       (guide is.recognizes).never_false place.at place.entrance place.state within
       (stands_if_path searched.lexicon line choices reached.front
       (configuration_of searched.lexicon is.recognizes.states place.at place.entrance place.state) (ends_at_place reached)
-      (keys, (path_above_is_path searched line choices (standing_of searched place) is line_is reached keys).0 path))
+      (keys, (path_above_is_path searched line choices (numbered_of searched place) is line_is reached keys).0 path))
 
   -- and where an exact one says true there is a path
-  pub path_if_exact : IsExactOf searched line choices says → IsLine line → IsReached searched line choices (standing_of searched place)
-      → says place.at place.entrance place.state ≡ true → (keys : List Key) × IsPath (ways_in searched line choices) (standing_of searched place) keys
+  pub path_if_exact : IsExactOf searched line choices says → IsLine line → IsReached searched line choices (numbered_of searched place)
+      → says place.at place.entrance place.state ≡ true → (keys : List Key) × IsPath (ways_in searched line choices) (numbered_of searched place) keys
   path_if_exact exact line_is reached true_here =
       let has = path_if_stands searched.lexicon line choices reached.front
       (configuration_of searched.lexicon is.recognizes.states place.at place.entrance place.state) is.lexicon line_is reached.led (ends_at_place reached)
       ((exact is.recognizes).never_true place.at place.entrance place.state within true_here) in
-      (has.0, (path_above_is_path searched line choices (standing_of searched place) is line_is reached has.0).1 has.1)
+      (has.0, (path_above_is_path searched line choices (numbered_of searched place) is line_is reached has.0).1 has.1)

@@ -1,7 +1,7 @@
 -- The bytes before `taken` are written, and each turn writes one at least.
 use Rattle.std.proofs.Common.{◌≤◌, ◌-◌, length, take}
 use Rattle.std.specs.Io.KnownBytes.{Appends}
-use Rattle.outside.proofs.disk_shelf.write_pieces.Given as goal
+use Rattle.outside.proofs.replacing.write_bytes.Given as goal
 
 abbrev pub invariant-loop-taken : goal.invariant-loop-taken
 invariant-loop-taken g l = record {

@@ -15,34 +15,34 @@ use Rattle.answer_paths.specs.Fronts.{supplied}
 use Rattle.answer_paths.specs.Following.{step_at, MayStand}
 use Rattle.answer_paths.proofs.FrontParts.{supplied_after}
 use Rattle.annotated_trie.specs.Searched.{SearchedLexicon, IsSearchedLexicon}
-use Rattle.search_frames.specs.Standings.{Standing, rules_in, IsPossible, LeadsOn, Ends, after}
+use Rattle.search_frames.specs.Configurations.{NumberedConfiguration, rules_in, IsPossible, LeadsOn, Ends, after}
 use Rattle.search_frames.specs.LetterTests.{MayLeadOn, MayEndLine}
 use Rattle.search_frames.specs.Reached.{rank}
 use Rattle.list_laws.proofs.Elements.{written_within}
 
 -- a key that leads on may stand there, and so may one that ends
-pub possible_if_leads : (searched : SearchedLexicon) (line : Line) (choices : List Choice) (here : Standing) (key : Key)
+pub possible_if_leads : (searched : SearchedLexicon) (line : Line) (choices : List Choice) (here : NumberedConfiguration) (key : Key)
     → LeadsOn searched line choices here key → IsPossible searched line here key
 possible_if_leads searched line choices here key leads =
     record { number = leads.stands.number; within = leads.stands.within; form = leads.stands.form }
 
-pub possible_if_ends : (searched : SearchedLexicon) (line : Line) (choices : List Choice) (here : Standing) (key : Key)
+pub possible_if_ends : (searched : SearchedLexicon) (line : Line) (choices : List Choice) (here : NumberedConfiguration) (key : Key)
     → Ends searched line choices here key → IsPossible searched line here key
 possible_if_ends searched line choices here key ends =
     record { number = ends.stands.number; within = ends.stands.within; form = ends.stands.form }
 
 -- what a key that leads on or ends may do as far as the letters tell
-pub may_if_leads : (searched : SearchedLexicon) (line : Line) (choices : List Choice) (here : Standing) (key : Key)
+pub may_if_leads : (searched : SearchedLexicon) (line : Line) (choices : List Choice) (here : NumberedConfiguration) (key : Key)
     → LeadsOn searched line choices here key → MayLeadOn searched line choices here key
 may_if_leads searched line choices here key leads = record { stands = leads.stands; inner = leads.inner; left = leads.left }
 
-pub may_if_ends : (searched : SearchedLexicon) (line : Line) (choices : List Choice) (here : Standing) (key : Key)
+pub may_if_ends : (searched : SearchedLexicon) (line : Line) (choices : List Choice) (here : NumberedConfiguration) (key : Key)
     → Ends searched line choices here key → MayEndLine searched line choices here key
 may_if_ends searched line choices here key ends =
     record { stands = ends.stands; final_rule = ends.final_rule; all = ends.all; blanks_before = ends.blanks_before }
 
 -- no key both leads on and ends: without a rule, letters are left or not; and a rule has a v or none
-pub not_both_ways : (searched : SearchedLexicon) (line : Line) (choices : List Choice) (here : Standing) (key : Key)
+pub not_both_ways : (searched : SearchedLexicon) (line : Line) (choices : List Choice) (here : NumberedConfiguration) (key : Key)
     → MayEndLine searched line choices here key → MayLeadOn searched line choices here key → ⊥
 not_both_ways searched line choices here key ends leads = elim (cases_lt 0 key.rule) [
   | inl above ↦ leads.inner above (ends.final_rule above)
@@ -52,7 +52,7 @@ not_both_ways searched line choices here key ends leads = elim (cases_lt 0 key.r
       omega (arith, ends.all, leads.left zero, empty.w_empty)
 ]
 
-pub not_both : (searched : SearchedLexicon) (line : Line) (choices : List Choice) (here : Standing) (key : Key)
+pub not_both : (searched : SearchedLexicon) (line : Line) (choices : List Choice) (here : NumberedConfiguration) (key : Key)
     → Ends searched line choices here key → LeadsOn searched line choices here key → ⊥
 not_both searched line choices here key ends leads =
     not_both_ways searched line choices here key (may_if_ends searched line choices here key ends) (may_if_leads searched line choices here key leads)
@@ -62,7 +62,7 @@ supplied_after_step : (rules : RuleSet) (step : Step) → length (supplied (entr
 supplied_after_step rules step = ap length (sym (supplied_after rules (step ∷ [])))
 
 -- the form of a step has the letters that are supplied, those that are taken, and those of its u
-form_letters : (searched : SearchedLexicon) (line : Line) (choices : List Choice) (here : Standing) (key : Key)
+form_letters : (searched : SearchedLexicon) (line : Line) (choices : List Choice) (here : NumberedConfiguration) (key : Key)
     → MayStand searched.lexicon line choices here.at here.entrance key
     → length (step_at (rules_in searched) line here.at here.entrance key).form
     ≡ length (supplied here.entrance) + key.taken + length (rule_of (rules_in searched) key.rule).u
@@ -76,7 +76,7 @@ form_letters searched line choices here key stands =
     omega (arith, taken, parts)
 
 -- each key that leads on leads to where more is derived, or a rule supplied letters before and supplies none after
-pub rank_rises : (searched : SearchedLexicon) (line : Line) (choices : List Choice) (here : Standing) (key : Key) → IsSearchedLexicon searched
+pub rank_rises : (searched : SearchedLexicon) (line : Line) (choices : List Choice) (here : NumberedConfiguration) (key : Key) → IsSearchedLexicon searched
     → LeadsOn searched line choices here key → rank here < rank (after searched line here key)
 rank_rises searched line choices here key is leads =
     let rules = rules_in searched in
@@ -97,7 +97,7 @@ rank_rises searched line choices here key is leads =
     ]
 
 -- a key that leads on leaves letters of the line, or letters that its rule supplies
-pub rank_within : (searched : SearchedLexicon) (line : Line) (choices : List Choice) (here : Standing) (key : Key)
+pub rank_within : (searched : SearchedLexicon) (line : Line) (choices : List Choice) (here : NumberedConfiguration) (key : Key)
     → LeadsOn searched line choices here key → rank (after searched line here key) ≤ 2 * length line.letters
 rank_within searched line choices here key leads =
     let rules = rules_in searched in

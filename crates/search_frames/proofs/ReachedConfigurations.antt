@@ -12,7 +12,7 @@ use Rattle.answer_paths.proofs.LocalKeys.{leads_locally, ends_locally}
 use Rattle.answer_paths.proofs.LeadingOn.{ends_after}
 use Rattle.phase_automaton.specs.Automata.{next_state, state_after, is_accepting}
 use Rattle.annotated_trie.specs.Searched.{SearchedLexicon, IsSearchedLexicon}
-use Rattle.search_frames.specs.Standings.{Standing, rules_in, LeadsOn, Ends, after, opening}
+use Rattle.search_frames.specs.Configurations.{NumberedConfiguration, rules_in, LeadsOn, Ends, after, opening}
 use Rattle.search_frames.specs.Reached.{IsReached}
 use Rattle.phase_automaton.proofs.NumberedStates.{state_after-push}
 
@@ -45,7 +45,7 @@ module _ (searched : SearchedLexicon) (is : IsSearchedLexicon searched) (phases 
 
 -- ---- what may follow or end after the front, told by the machine
 
-module _ (searched : SearchedLexicon) (line : Line) (choices : List Choice) (here : Standing) (key : Key) (is : IsSearchedLexicon searched)
+module _ (searched : SearchedLexicon) (line : Line) (choices : List Choice) (here : NumberedConfiguration) (key : Key) (is : IsSearchedLexicon searched)
     (reached : IsReached searched line choices here) where
   follows_if_leads_on : LeadsOn searched line choices here key → MayFollow searched.lexicon line choices here.at here.entrance (phases_of reached.front) key
   follows_if_leads_on leads = record {
@@ -120,7 +120,7 @@ unfoldable pub opening_reached : (searched : SearchedLexicon) (line : Line) (cho
 opening_reached searched line choices = record { front = []; led = inl refl; at = refl; entrance = refl; state = refl }
 
 -- a key that leads on leads to the end of a front
-pub reached_after : (searched : SearchedLexicon) (line : Line) (choices : List Choice) (here : Standing) (key : Key) → IsSearchedLexicon searched
+pub reached_after : (searched : SearchedLexicon) (line : Line) (choices : List Choice) (here : NumberedConfiguration) (key : Key) → IsSearchedLexicon searched
     → IsReached searched line choices here → LeadsOn searched line choices here key → IsReached searched line choices (after searched line here key)
 reached_after searched line choices here key is reached leads =
     reached_at searched line choices here key is reached _ (leads_from_front searched line choices here key is reached leads)

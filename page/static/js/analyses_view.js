@@ -1,0 +1,43 @@
+// Analyses in words: stem, tag, and where the lexicon's folder has them, root and gloss.
+
+import { make } from "./dom.js";
+import { hueOf, phaseInWords } from "./phases.js";
+import { showWord } from "./schemes.js";
+import { setting } from "./settings.js";
+import { state } from "./state.js";
+import { tagInShort, tagInWords } from "./tags.js";
+
+/** The analyses of segments as a table, a group of rows for each segment. */
+export function analysesTable(segments, { analyses, stems }) {
+  const groups = segments.map((segment, number) => segmentRows(segment, analyses[number], stems));
+  return make("table", { class: "analyses" },
+    make("caption", { class: "unseen" }, "Analyses"),
+    make("thead", { class: "unseen" }, make("tr", {}, ["Form", "Stem", "Analysis", "Abbreviated", "Meaning"].map((head) => make("th", { scope: "col" }, head)))),
+    groups);
+}
+
+function segmentRows(segment, analyses, stems) {
+  const output = setting("output");
+  const hue = hueOf(segment.phase, state.server.phases);
+  const head = make("th", { scope: "rowgroup", rowspan: Math.max(1, analyses.length), class: `hue-${hue}` },
+    make("span", { class: "form sanskrit" }, showWord(output, segment.form)), make("span", { class: "phase" }, segment.phase));
+  if (analyses.length === 0) return make("tbody", {}, make("tr", {}, head, make("td", { colspan: 4 }, "no analyses")));
+  const rows = analyses.map(([stem, tag], number) => {
+    return make("tr", {}, number === 0 ? head : null,
+      make("td", { class: "sanskrit stem" }, showWord(output, stem)),
+      make("td", {}, tagInWords(tag)),
+      make("td", { class: "short" }, tagInShort(tag)),
+      make("td", { class: "meaning" }, meaningOf(stems[stem], output)));
+  });
+  return make("tbody", { "aria-label": phaseInWords(segment.phase) }, rows);
+}
+
+/** Root and gloss of a stem. A root is told as `ROOT WHICH STEM`, and the root itself is in SLP1. */
+function meaningOf(stem, output) {
+  if (!stem) return "";
+  const roots = stem.roots.map((told) => {
+    const [root, ...which] = told.split(" ");
+    return `√${showWord(output, root)}${which.length > 0 ? ` (${which.join(" ")})` : ""}`;
+  });
+  return [...roots, ...stem.glosses].join("; ");
+}

@@ -1,0 +1,151 @@
+// A text: its lines in a list, the line that is read, finished lines, and their export.
+
+import { ask } from "./api.js";
+import { byId, fill, make, show } from "./dom.js";
+import { tsvOf } from "./export.js";
+import { lineInOutput, putLine } from "./line_view.js";
+import { setting } from "./settings.js";
+import { state } from "./state.js";
+import { askForStates, entriesOf, giveNotes, schemeOfText, stateInWords } from "./text_lines.js";
+
+const room = { name: null, scheme: null, entries: [] };
+
+export function prepareTextRoom(actions) {
+  const { texts, given } = state.server;
+  show(byId("text-room"), texts.length > 0);
+  document.querySelector(".rooms").classList.toggle("with-text", texts.length > 0);
+  fill(byId("text-name"), make("option", { value: "" }, "none"), texts.map((name) => make("option", { value: name }, name)));
+  byId("text-name").addEventListener("change", () => actions.openText(byId("text-name").value));
+  byId("export").addEventListener("click", exportFinished);
+  byId("finish").addEventListener("click", () => (hereEntry()?.note?.isFinished ? actions.nextLine() : actions.finish()));
+  return given;
+}
+
+/** Opens a text: its lines, their states, and its notes. */
+export async function openText(name) {
+  Object.assign(room, { name: null, entries: [] });
+  state.place = null;
+  byId("text-name").value = name;
+  drawTextRoom();
+  if (!name) return {};
+  const answer = await ask("open", { lexicon: state.twin, text: name });
+  if (answer.refused) return answer;
+  room.name = name;
+  room.scheme = schemeOfText(answer.lines, setting("scheme"));
+  room.entries = entriesOf(answer.lines, room.scheme);
+  drawTextRoom();
+  await askForStates(room.entries, room.scheme, state.twin, drawTextRoom);
+  giveNotes(room.entries, answer.notes);
+  drawTextRoom();
+  return {};
+}
+
+export function isOpen(name) {
+  return room.name === name;
+}
+
+export function entryAt({ line, part }) {
+  return room.entries.find((entry) => entry.line === line && entry.part === part);
+}
+
+function hereEntry() {
+  return state.place && entryAt(state.place);
+}
+
+/** The entry after the one that is read that is not finished, or the one after it. */
+export function nextEntry() {
+  const here = room.entries.indexOf(hereEntry());
+  const later = room.entries.slice(here + 1);
+  return later.find((entry) => !entry.note?.isFinished) ?? later[0];
+}
+
+/** Makes an entry the one that is read. */
+export function goToEntry(entry) {
+  state.place = { text: room.name, line: entry.line, part: entry.part };
+  putLine(entry.typed, room.scheme);
+  return { typed: entry.typed, scheme: room.scheme, bookmark: entry.bookmark };
+}
+
+/** Keeps how far the reader came with the line of a text. */
+export function rememberReading() {
+  const entry = hereEntry();
+  if (entry && state.reading) entry.bookmark = state.reading.bookmark;
+}
+
+/** Writes the note of the line that is read. */
+export async function finishLine() {
+  const { line, part } = state.place;
+  const answer = await ask("finish", { lexicon: state.twin, bookmark: state.reading.bookmark, text: room.name, line, part });
+  if (!answer.refused) Object.assign(hereEntry(), { note: answer.note, bookmark: answer.note.bookmark });
+  return answer;
+}
+
+/** Removes the note of the line that is read. */
+export async function reopenLine() {
+  const { line, part } = state.place;
+  const answer = await ask("reopen", { text: room.name, line, part });
+  if (!answer.refused) delete hereEntry().note;
+  return answer;
+}
+
+let actionsOfLines = null;
+
+export function useActions(actions) {
+  actionsOfLines = actions;
+}
+
+export function drawTextRoom() {
+  const finished = room.entries.filter((entry) => entry.note?.isFinished).length;
+  const { canFinish } = state.server;
+  byId("text-note").textContent = room.name ? noteOfRoom(finished, canFinish) : "";
+  show(byId("export"), finished > 0);
+  const cut = new Set(room.entries.filter((entry) => entry.part > 1).map((entry) => entry.line));
+  fill(byId("text-lines"), room.entries.map((entry) => entryElement(entry, cut.has(entry.line))));
+  markLine();
+}
+
+/** Marks the line that is read, and draws the control that finishes it. */
+export function markLine() {
+  const here = room.entries.indexOf(hereEntry());
+  byId("text-lines").querySelector("[aria-current]")?.removeAttribute("aria-current");
+  byId("text-lines").children[here]?.firstChild.setAttribute("aria-current", "true");
+  drawFinish();
+}
+
+function noteOfRoom(finished, canFinish) {
+  const count = room.entries.length;
+  const lines = count === 1 ? "1 line" : `${count} lines`;
+  return canFinish ? `${lines}, ${finished} finished` : lines;
+}
+
+function entryElement(entry, isCut) {
+  const told = stateInWords(entry);
+  const text = entry.lineText ? lineInOutput(entry.lineText) : entry.typed;
+  const attributes = {
+    type: "button", class: `text-line ${told.replaceAll(" ", "-")}`, on: { click: () => actionsOfLines.openEntry(entry) },
+  };
+  return make("li", {}, make("button", attributes,
+    make("span", { class: "number" }, isCut ? `${entry.line}.${entry.part}` : String(entry.line)),
+    make("span", { class: "text sanskrit" }, text), make("span", { class: "state" }, told)));
+}
+
+/** The control that finishes the line: it is there where the program can, and on where one answer is left. */
+function drawFinish() {
+  const button = byId("finish");
+  const entry = hereEntry();
+  const { reading } = state;
+  show(button, Boolean(entry && reading && state.server.canFinish));
+  if (!entry || !reading) return;
+  const isFinished = Boolean(entry.note?.isFinished && entry.note.bookmark === reading.bookmark);
+  if (entry.note?.isFinished && !isFinished) button.textContent = "Finish this line again";
+  else button.textContent = isFinished ? "Next line" : "Finish this line";
+  button.disabled = !isFinished && (reading.count !== 1 || reading.hasMore);
+}
+
+function exportFinished() {
+  const finished = room.entries.filter((entry) => entry.note?.isFinished);
+  const blob = new Blob([tsvOf(finished, setting("output"))], { type: "text/tab-separated-values" });
+  const link = make("a", { href: URL.createObjectURL(blob), download: `${room.name}.tsv` });
+  link.click();
+  URL.revokeObjectURL(link.href);
+}

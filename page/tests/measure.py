@@ -1,0 +1,137 @@
+#!/usr/bin/env python3
+"""Measures the page over the starter lexicon: clicks, the first line, the memory of the server.
+
+    page/tests/measure.py [--program PROGRAM] [--lexicon LEX]
+
+Lines with 150 to 250 answers are readings, and pairs of readings that are read as one line. On each line every box is
+rejected and kept once, each time on the line without choices; the time goes from the click to the end of the
+first frame in which the page is drawn anew. The first line is timed from the start of `sandhi-page`, and from the reader's Enter.
+"""
+
+import argparse
+import itertools
+import os
+import statistics
+import sys
+import time
+from pathlib import Path
+
+sys.dont_write_bytecode = True
+HERE = Path(__file__).resolve().parent
+sys.path[:0] = [str(HERE), str(HERE.parent)]
+
+LEAST, MOST, LINES = 150, 250, 12
+
+CLICK = """
+const done = arguments[arguments.length - 1];
+const [number, control] = arguments;
+const drawn = () => new Promise((end) => requestAnimationFrame(() => {
+  const { port1, port2 } = new MessageChannel();
+  port1.onmessage = end;
+  port2.postMessage(null);
+}));
+const button = document.querySelector(`#grid .box[data-number='${number}'] .${control}`);
+const grid = document.getElementById('grid');
+const begun = performance.now();
+const observer = new MutationObserver(async () => {
+  observer.disconnect();
+  await drawn();
+  done(performance.now() - begun);
+});
+observer.observe(grid, { childList: true });
+button.click();
+"""
+
+
+def lines_with_answers(session, rows):
+    """Texts with LEAST to MOST answers: single readings first, then pairs."""
+    counts = {}
+    for row in rows:
+        session.ask(f"text devanagari {row[2]}")
+        counts[row[2]] = len(session.ask("page 1000")) - 1
+    found = [text for text, count in counts.items() if LEAST <= count <= MOST]
+    pairs = ((one, other) for one, other in itertools.permutations(counts, 2) if LEAST <= counts[one] * counts[other] <= MOST)
+    for one, other in itertools.islice(pairs, 0, None, 97):
+        if len(found) == LINES:
+            break
+        session.ask(f"text devanagari {one} {other}")
+        if LEAST <= len(session.ask("page 1000")) - 1 <= MOST:
+            found.append(f"{one} {other}")
+    return found
+
+
+def memory_of(process):
+    """The most memory that a process has taken, and takes now, in MiB."""
+    lines = Path(f"/proc/{process}/status").read_text(encoding="ascii").splitlines()
+    told = {line.split(":")[0]: int(line.split()[1]) / 1024 for line in lines if line.startswith(("VmHWM", "VmRSS"))}
+    return told["VmHWM"], told["VmRSS"]
+
+
+def click_times(browser, page, text):
+    """The times of clicks on a line, in milliseconds. Boxes that ask which way is meant are rejected only."""
+    times = []
+    boxes = page.type(text)["boxes"]
+    ways = browser.run("return [...document.querySelectorAll('#grid .keep')].map((keep) => keep.ariaLabel.includes('ways'))")
+    for box in boxes:
+        for control in ("reject", "keep"):
+            if control == "keep" and ways[box["number"]]:
+                continue
+            times.append(browser.call("POST", "/execute/async", {"script": CLICK, "args": [box["number"], control]}))
+            page.click("#choices button[aria-label^='Take back']") if len(page.seen()["choices"]) == 1 else None
+    return times
+
+
+def first_line(start, browser, text):
+    """Seconds from the start of the server to the first line that is drawn, and from the reader's Enter."""
+    from test_browser import Page
+
+    begun = time.monotonic()
+    server = start()
+    try:
+        page = Page(browser, server.address).open()
+        entered = time.monotonic()
+        page.type(text)
+        browser.wait("return document.querySelectorAll('#grid .box').length > 0")
+        ended = time.monotonic()
+        return ended - begun, ended - entered
+    finally:
+        server.stop()
+
+
+def main():
+    parser = argparse.ArgumentParser(description=__doc__.splitlines()[0])
+    parser.add_argument("--program", default=str(HERE.parents[1] / "sandhi"))
+    parser.add_argument("--lexicon", default="-")
+    words = parser.parse_args()
+    os.environ["SANDHI_PROGRAM"] = str(Path(words.program).resolve())
+    os.environ["SANDHI_LEXICON"] = words.lexicon if words.lexicon == "-" else str(Path(words.lexicon).resolve())
+    from browser import Browser
+    from serving import PROGRAM, PageServer, readings
+    from session import Session
+    from test_browser import Page, starter_path
+
+    lexicon = starter_path()
+    session = Session(PROGRAM, lexicon, 2 * 1024**3)
+    texts = lines_with_answers(session, readings())
+    session.close()
+    browser = Browser()
+    try:
+        begun = [first_line(lambda: PageServer(lexicon), browser, texts[0]) for _ in range(5)]
+        server = PageServer(lexicon)
+        page = Page(browser, server.address).open()
+        times = sorted(ms for text in texts for ms in click_times(browser, page, text))
+        most, now = memory_of(server.process.pid)
+        server.stop()
+    finally:
+        browser.close()
+    at = lambda share: times[min(len(times) - 1, int(share * len(times)))]  # noqa: E731
+    print(f"load {os.getloadavg()[0]:.1f} on {os.cpu_count()} processors")
+    print(f"{len(texts)} lines with {LEAST} to {MOST} answers, {len(times)} clicks: median {statistics.median(times):.0f} ms, "
+          f"95th of 100 {at(0.95):.0f} ms, most {times[-1]:.0f} ms")
+    print(f"first line: {statistics.median(all_ for all_, _ in begun):.2f} s from the start of the server, "
+          f"{statistics.median(entered for _, entered in begun):.2f} s from Enter")
+    print(f"server: at most {most:.0f} MiB, at the end {now:.0f} MiB")
+
+
+if __name__ == "__main__":
+    main()
