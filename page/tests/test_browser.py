@@ -25,7 +25,7 @@ const text = (id) => document.getElementById(id).hidden ? '' : document.getEleme
 return {
   boxes, answers, count: text('reading') && text('count'), notice: text('notice'), stretch: text('stretch'),
   choices: [...document.querySelectorAll('#choices li')].map((choice) => choice.textContent),
-  address: location.hash, isBusy: document.getElementById('reading').hasAttribute('aria-busy'),
+  address: location.hash, isBusy: document.querySelector('[aria-busy]') !== null,
 };
 """
 COUNT = re.compile(r"([\d,]+) answers")
@@ -370,7 +370,7 @@ class Answers(WithPage):
     def test_compounds_have_hyphens(self):
         self.page.type("DarmakzetrekurukzetresamavetAyuyutsavaH".replace("ekuru", "e kuru").replace("esama", "e sama").replace("Ayuyu", "A yuyu"))
         words = self.browser.run("return document.querySelector('#answers .words').textContent")
-        self.assertTrue(re.sub(r" by .*? → \S+", "", words).startswith("Darma-kzetre kuru-kzetre "), words)
+        self.assertTrue(words.startswith("Darma-kzetre kuru-kzetre "), words)
 
 
 class Keys(WithPage):
