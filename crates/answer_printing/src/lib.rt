@@ -8,6 +8,8 @@
 mod answer_printer;
 mod printed_front;
 mod rule_texts;
+mod sharing;
 
 pub use answer_printer::AnswerPrinter;
 pub use rule_texts::RuleTexts;
+pub use sharing::rule_texts_are_shared;

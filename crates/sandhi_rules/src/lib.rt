@@ -12,8 +12,10 @@ mod lead;
 mod printing;
 mod rule;
 mod rule_set;
+mod sharing;
 
 pub use lead::Lead;
 pub use printing::print_rule;
 pub use rule::Rule;
 pub use rule_set::RuleSet;
+pub use sharing::rule_sets_are_shared;
