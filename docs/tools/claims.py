@@ -89,8 +89,8 @@ class File:
                 continue
             if line.startswith("--"):
                 comment.append(line)
-            elif line and not line[0].isspace():
-                name = HEAD.match(line)[1]
+            elif head := HEAD.match(line):
+                name = head[1]
                 if current is None or current.name != name:
                     current = self.defined.setdefault(name, Definition(name))
                     current.lines += comment
