@@ -29,11 +29,17 @@ BROWSERS_OF_THE_TERMINAL = {"www-browser", "links", "elinks", "lynx", "w3m"}
 
 def read_words(words):
     parser = argparse.ArgumentParser(prog="sandhi-page", description="Serves the reader's page in a browser.")
-    parser.add_argument("lexicon", nargs="?", default="-", help="a lexicon file; without it, or for -, the starter lexicon")
+    parser.add_argument(
+        "lexicon", nargs="?", default="-", help="a lexicon file; without it, or for -, the starter lexicon"
+    )
     parser.add_argument("text", nargs="?", help="a text file to read")
-    parser.add_argument("--port", type=int, default=None, help=f"the port; without it {PORT}, or the next that is free")
+    parser.add_argument(
+        "--port", type=int, default=None, help=f"the port; without it {PORT}, or the next that is free"
+    )
     parser.add_argument("--no-browser", action="store_true", help="open no browser")
-    parser.add_argument("--program", default=str(TOP / "sandhi"), help="the program; without it the one of this repository")
+    parser.add_argument(
+        "--program", default=str(TOP / "sandhi"), help="the program; without it the one of this repository"
+    )
     return parser.parse_args(words)
 
 
@@ -64,7 +70,10 @@ def make_questions(words):
     texts = Texts(Path.cwd(), words.text)
     if words.text:
         texts.lines(texts.given)
-    return Questions(program, lexicons, texts, can_finish=can_annotate(program), status_of_program=status), lexicons[0]
+    return (
+        Questions(program, lexicons, texts, can_finish=can_annotate(program), status_of_program=status),
+        lexicons[0],
+    )
 
 
 def make_server(port, questions):

@@ -15,7 +15,10 @@ import { askWhichWay } from "./which_way.js";
 
 const OUTPUTS = [["devanagari", "देव", "Devanagari"], ["iast", "IAST", "IAST"], ["slp1", "SLP1", "SLP1"]];
 const THEMES = [["auto", "auto", "Light or dark as the system"], ["light", "light", "Light"], ["dark", "dark", "Dark"]];
-const ORDERS = [["program", "program’s order", "In the program’s order"], ["words", "fewest words first", "With fewest words first"]];
+const ORDERS = [
+  ["program", "program’s order", "In the program’s order"],
+  ["words", "fewest words first", "With fewest words first"],
+];
 
 /** What a reader can do. Each is safe to call at any time. */
 const actions = {
