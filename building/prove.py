@@ -8,14 +8,19 @@ the program's. A crate is begun once all that it uses is built, and first the on
 counted in lines. There run as many as there are processors, and 3 GB of free memory for each. A crate beside which fewer
 wait than there are processors gets the processors that are left, at most four.
 
-Each crate is checked whole and built by the toolchain's command: `rt lib`, and `rt run` for the program. A line on standard
-error tells each crate that is begun; with the variable SANDHI_TIMES it tells at the end of each crate its seconds by the
-clock and of the processors. Where a crate is refused, what was said of it follows, and the status is 1.
+Each crate is checked whole, and from nothing, by `rattle build`, over the statements of the crates below it; the check takes
+nothing that earlier checks kept. Its last line must say that the crate is proved, and have no word of trust but those that the
+toolchain's gate takes. What was proved of a crate is kept in its folder out/proved, under a sum of all that it was made
+from, so that after a change only the crates that changed and those above them are proved again. A line on standard error
+tells each crate that is begun; with the variable SANDHI_TIMES it tells at the end of each crate its seconds by the clock
+and of the processors. Where a crate is refused, what was said of it follows, and the status is 1.
 """
 
+import hashlib
 import os
 import re
 import resource
+import shutil
 import signal
 import subprocess
 import sys
@@ -58,26 +63,99 @@ def count_lanes():
     return max(1, min(lanes, 1024 * int(free[1]) // MEMORY if free else lanes))
 
 
+# The last line of a check that proved a crate, as the toolchain's gate takes it.
+PROVED = re.compile(
+    r"^logic=proved( (functions|axioms|target|cpu|threads|main|sum)=\S+)+ native=nat,char,string"
+    r" logic-built=trusted libraries-built=trusted statements=trusted\n\Z",
+    re.M,
+)
+
+
 class Builder:
-    """The crates that are being built, each by a process group of its own."""
+    """The crates that are being built, each by process groups of its own."""
 
-    def __init__(self, program):
-        self.program, self.running, self.stopped = program, set(), False
+    def __init__(self, uses, of_kit, kit):
+        self.uses, self.of_kit, self.kit = uses, of_kit, kit
+        self.program, self.running, self.stopped = list(uses)[-1], set(), False
+        self.sums = {}
+        for crate in uses:
+            self.sums[crate] = self.sum_of(crate)
 
-    def build(self, crate, jobs, log):
-        """Whether the crate is built. The program tells that it was by its answer to a word that is no command."""
+    def sum_of(self, crate):
+        """A sum of all that the crate is made from: its files, the crates and libraries that it uses, and the toolchain."""
+        files = [it for part in ("src", "specs", "proofs") for it in (CRATES / crate / part).rglob("*") if it.is_file()]
+        made = hashlib.sha256(repr((crate, self.of_kit[crate], (self.kit / "WHAT").read_bytes())).encode())
+        for file in sorted(files):
+            made.update(repr((str(file.relative_to(CRATES)), file.read_bytes())).encode())
+        made.update(repr([self.sums[it] for it in self.uses[crate]]).encode())
+        return made.hexdigest()
+
+    def below(self, crate):
+        """The crates below this one, each after those that it uses."""
+        found = []
+        for it in self.uses[crate]:
+            found += [one for one in [*self.below(it), it] if one not in found]
+        return found
+
+    def room(self, crate):
+        return CRATES / crate / "out" / "proved"
+
+    def library(self, crate):
+        return self.room(crate) / f"{crate}.rlib"
+
+    def words(self, crate, jobs):
         is_program = crate == self.program
-        words = ["rt", "run", "--jobs", str(jobs), "--", "--"] if is_program else ["rt", "lib", "--jobs", str(jobs)]
-        answers = tempfile.TemporaryFile()
-        how = {"stdin": subprocess.DEVNULL, "stdout": answers if is_program else log, "stderr": log}
-        with subprocess.Popen(words, cwd=CRATES / crate, start_new_session=True, **how) as process:
+        words = ["--crate-name", crate, "src/main.rt" if is_program else "src/lib.rt"]
+        for name in ["std", *self.of_kit[crate]]:
+            words += ["--extern", f"{name}={self.kit}/rlibs/{name}.rlib"]
+        words += ["-L", f"dependency={self.kit}/rlibs"]
+        for name in self.uses[crate]:
+            words += ["--extern", f"{name}={self.library(name)}"]
+        for name in self.below(crate):
+            words += ["-L", f"dependency={self.room(name)}"]
+        words += ["--antt-project", f"{self.kit}/rattle/logic/antt-project.json", "--logic-built", f"{self.kit}/logic_built"]
+        words += ["--jobs", str(jobs), "--links", f"{crate}="]
+        if is_program:
+            return [*words, "--toolchain", f"{self.kit}/toolchain", "--backend", "llvm", "-o", f"{self.room(crate)}/program.o"]
+        return [*words, "--statements", "-o", str(self.library(crate))]
+
+    def run(self, words, crate, log):
+        """The status of a command in the crate's folder."""
+        with subprocess.Popen(
+            words, cwd=CRATES / crate, start_new_session=True, stdin=subprocess.DEVNULL, stdout=log, stderr=log
+        ) as process:
             self.running.add(process)
             try:
-                status = process.wait()
+                return process.wait()
             finally:
                 self.running.discard(process)
-        answers.seek(0)
-        return not self.stopped and (answers.read() == b"usage\n" if is_program else status == 0)
+
+    def build(self, crate, jobs, log):
+        """Whether the crate is proved and what it makes is built."""
+        kept = self.room(crate) / "sum"
+        made = CRATES / crate / "out" / crate if crate == self.program else self.library(crate)
+        if made.exists() and kept.is_file() and kept.read_text() == self.sums[crate]:
+            return True
+        shutil.rmtree(self.room(crate), ignore_errors=True)
+        self.room(crate).mkdir(parents=True)
+        if self.run([f"{self.kit}/bin/rattle", "build", *self.words(crate, jobs)], crate, log):
+            return False
+        log.seek(0)
+        said = log.read()
+        if crate == self.program:
+            linked = [f"{self.room(crate)}/program", f"{self.room(crate)}/program.o"]
+            c_code = [f"{self.kit}/c/libos_c.a", f"{self.kit}/c/liblibc_c.a"]
+            link = [f"{self.kit}/bin/rattle-link", "--target", "x86_64-unknown-linux-gnu", "--toolchain", f"{self.kit}/toolchain"]
+            if not PROVED.search(said) or self.run([*link, "-o", *linked, *c_code], crate, log):
+                return False
+            os.replace(linked[0], made)
+        elif not PROVED.search(said):
+            return False
+        # A file that was changed while it was proved changes the sum.
+        if self.stopped or self.sum_of(crate) != self.sums[crate]:
+            return False
+        kept.write_text(self.sums[crate])
+        return True
 
     def stop(self):
         self.stopped = True
@@ -92,10 +170,9 @@ def stop_at_signal(*_):
     raise KeyboardInterrupt
 
 
-def prove(uses):
+def prove(uses, builder):
     """Builds all crates, and returns whether each is. Where one is refused or this is broken off, the others are ended."""
-    program = list(uses)[-1]
-    above, lanes, builder = work_from(uses), count_lanes(), Builder(program)
+    above, lanes = work_from(uses), count_lanes()
     left, running, built, busy = sorted(uses, key=lambda it: -above[it]), {}, set(), 0
 
     def one(crate, jobs, log):
@@ -143,7 +220,10 @@ def main(words):
     began = time.time()
     pairs = [word.partition(":")[::2] for word in words]
     names = [name for name, _ in pairs]
-    if not prove({name: [it for it in used.split() if it in names] for name, used in pairs}):
+    uses = {name: [it for it in used.split() if it in names] for name, used in pairs}
+    of_kit = {name: [it for it in used.split() if it not in names] for name, used in pairs}
+    kit = Path(subprocess.run(["rt", "doc"], capture_output=True, text=True, check=True).stdout.strip()).parent
+    if not prove(uses, Builder(uses, of_kit, kit)):
         return 1
     # A source that was changed in the meantime is newer.
     os.utime(CRATES / names[-1] / "out" / names[-1], (began, began))
