@@ -118,7 +118,7 @@ HasLaterToTry searched line stack level = (key : Key) → IsPossible searched li
 
 -- nothing changes before the level, and the room stays
 pub record ChangesFrom (level : ℕ) (old new : Resumption) : Type 0 where
-  pub position : new.position ≡ old.position
+  pub cursor : new.cursor ≡ old.cursor
   pub depth : new.depth ≡ old.depth
   pub room : length new.frames.items ≡ length old.frames.items
   pub is_stack : IsStack new

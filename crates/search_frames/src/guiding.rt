@@ -3,7 +3,7 @@ ghost use Rattle.text_definitions.specs.Lines.{IsLine};
 ghost use Rattle.annotated_trie.specs.Searched.{IsSearchedLexicon};
 ghost use Rattle.search_frames.specs.Frames.{IsFrame, ChangesFrom, here_of};
 ghost use Rattle.search_frames.specs.Reached.{IsReached};
-ghost use Rattle.search_frames.specs.Costs.{HasAtMostChoices};
+ghost use Rattle.search_frames.specs.Costs.{HasAtMostRules};
 ghost use Rattle.search_frames.specs.Turns.{HasToTry, IsTurn, HasFallen, HasPaid};
 
 use super::Resumption;
@@ -63,7 +63,7 @@ pub trait SearchGuide: Guide {
         ensures turn { IsTurn lexicon.now line.now choices.now level stack.old stack.new result }
         ensures falls { HasFallen lexicon.now level stack.old stack.new result }
         ensures changes { ChangesFrom level stack.old stack.new }
-        ensures steps { (most : ℕ) → HasAtMostChoices lexicon.now.tries most → HasPaid lexicon.now most level stack.old stack.new steps.old steps.new result };
+        ensures steps { (most : ℕ) → HasAtMostRules lexicon.now.tries most → HasPaid lexicon.now most level stack.old stack.new steps.old steps.new result };
 }
 
 impl SearchGuide for OpenGuide {

@@ -16,6 +16,7 @@
 
 mod arriving;
 mod configuration;
+mod cursor;
 mod entering;
 mod frame;
 mod going_on;
@@ -23,7 +24,6 @@ mod guiding;
 mod letter_testing;
 mod line_tests;
 mod opening;
-mod position;
 mod resumption;
 mod rooms;
 mod seeking;
@@ -38,12 +38,12 @@ mod ways;
 
 pub use arriving::go_to;
 pub use configuration::Configuration;
+pub use cursor::Cursor;
 pub use frame::{Frame, NODES_OF_FRAME};
 pub use going_on::go_on;
 pub use guiding::{SearchGuide, ToTry, Turn};
 pub use letter_testing::{LetterTest, test_letters};
 pub use opening::open_frame;
-pub use position::Position;
 pub use resumption::Resumption;
 pub use rooms::new_stack;
 pub use seeking::seek;

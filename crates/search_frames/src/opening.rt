@@ -1,7 +1,7 @@
 ghost use Rattle.std.specs.Prelude.{◌≡◌, ◌+◌, ◌<◌, ◌≤◌, ℕ, length};
 ghost use Rattle.search_frames.specs.Stacks.{IsStack};
 ghost use Rattle.search_frames.specs.Frames.{IsFrame, IsConfigurationIn, HasAllToTry, ChangesFrom, configuration_at};
-ghost use Rattle.search_frames.specs.Costs.{HasAtMostChoices, steps_left, steps_of_frame};
+ghost use Rattle.search_frames.specs.Costs.{HasAtMostRules, steps_left, steps_of_frame};
 
 use super::walking::{supplied_letters, walk_phase};
 use super::{Configuration, Frame, Resumption};
@@ -26,7 +26,7 @@ pub fn open_frame<L>(
     ensures place { configuration_at stack.new level ≡ place }
     ensures all { HasAllToTry lexicon.now line.now stack.new level }
     ensures changes { ChangesFrom level stack.old stack.new }
-    ensures steps { (most : ℕ) → HasAtMostChoices lexicon.now.tries most → steps.new + steps_left lexicon.now most stack.new level ≤ steps.old + steps_of_frame lexicon.now most }
+    ensures steps { (most : ℕ) → HasAtMostRules lexicon.now.tries most → steps.new + steps_left lexicon.now most stack.new level ≤ steps.old + steps_of_frame lexicon.now most }
 {
     stack.steps[level] = Step {
         phase: 0,

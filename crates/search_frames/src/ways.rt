@@ -3,7 +3,7 @@ ghost use Rattle.text_definitions.specs.Lines.{IsLine};
 ghost use Rattle.annotated_trie.specs.Searched.{IsSearchedLexicon};
 ghost use Rattle.search_frames.specs.Stacks.{IsStack, room_of};
 ghost use Rattle.search_frames.specs.Frames.{IsConfigurationIn, numbered_of};
-ghost use Rattle.search_frames.specs.Costs.{HasAtMostChoices, steps_of_frame};
+ghost use Rattle.search_frames.specs.Costs.{HasAtMostRules, steps_of_frame};
 ghost use Rattle.search_frames.specs.WaysFrom.{AppendsWays};
 
 use super::Resumption;
@@ -44,7 +44,7 @@ pub fn push_ways<L>(
     ensures ok { OnOk result (AppendsWays lexicon.now line.now choices.now (numbered_of lexicon.now place) ways.old.items ways.new.items) }
     ensures walker { OnOk result (IsStack walker.new) }
     ensures room { OnOk result (room_of walker.new ≡ room_of walker.old) }
-    ensures steps { (most : ℕ) → HasAtMostChoices lexicon.now.tries most → steps.new ≤ steps.old + steps_of_frame lexicon.now most }
+    ensures steps { (most : ℕ) → HasAtMostRules lexicon.now.tries most → steps.new ≤ steps.old + steps_of_frame lexicon.now most }
 {
     open_frame(lexicon, line, walker, 0, place, steps);
     while go_on(lexicon, line, walker, 0, steps) {
