@@ -88,8 +88,12 @@ class Builder:
                 pass
 
 
+def stop_at_signal(*_):
+    raise KeyboardInterrupt
+
+
 def prove(uses):
-    """Builds all crates, and returns whether each is."""
+    """Builds all crates, and returns whether each is. Where one is refused or this is broken off, the others are ended."""
     program = list(uses)[-1]
     above, lanes, builder = work_from(uses), count_lanes(), Builder(program)
     left, running, built, busy = sorted(uses, key=lambda it: -above[it]), {}, set(), 0
@@ -98,7 +102,8 @@ def prove(uses):
         began = time.monotonic()
         return builder.build(crate, jobs, log), time.monotonic() - began
 
-    signal.signal(signal.SIGTERM, lambda *_: sys.exit(1))
+    for it in (signal.SIGTERM, signal.SIGHUP):
+        signal.signal(it, stop_at_signal)
     with ThreadPoolExecutor(lanes) as pool:
         try:
             while left or running:
@@ -135,10 +140,20 @@ def prove(uses):
 
 
 def main(words):
+    began = time.time()
     pairs = [word.partition(":")[::2] for word in words]
-    names = {name for name, _ in pairs}
-    return not prove({name: [it for it in used.split() if it in names] for name, used in pairs})
+    names = [name for name, _ in pairs]
+    if not prove({name: [it for it in used.split() if it in names] for name, used in pairs}):
+        return 1
+    # A source that was changed in the meantime is newer.
+    os.utime(CRATES / names[-1] / "out" / names[-1], (began, began))
+    say("the program is proved")
+    return 0
 
 
 if __name__ == "__main__":
-    sys.exit(main(sys.argv[1:]))
+    try:
+        sys.exit(main(sys.argv[1:]))
+    except KeyboardInterrupt:
+        say("broken off")
+        sys.exit(1)

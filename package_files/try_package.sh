@@ -52,7 +52,7 @@ if has_or_says man "the manual pages were not checked"; then
 fi
 
 # Each command that the program tells is in the manual page and in the completions.
-commands="$("$program" -- 2>&1 >/dev/null | sed -n 's/^  \([a-z]*\) .*/\1/p')"
+commands="$("$program" -- 2>&1 >/dev/null | sed -n 's/^  \([a-z][a-z-]*\) .*/\1/p')"
 [ -n "$commands" ] || fail "the program tells no commands"
 for command in $commands; do
     for file in sandhi.1 sandhi.bash _sandhi; do

@@ -60,6 +60,11 @@ class Browser:
         self._session = f"/session/{answer['sessionId']}"
 
     @property
+    def process(self):
+        """The number of the driver's process, which has those of the browser below it."""
+        return self._driver.pid
+
+    @property
     def downloads(self):
         return Path(self._folder.name)
 
@@ -76,7 +81,7 @@ class Browser:
         data = json.dumps(body if body is not None else {}).encode() if method == "POST" else None
         request = urllib.request.Request(f"http://127.0.0.1:{self._port}{path}", data, method=method)
         try:
-            with urllib.request.urlopen(request, timeout=120) as response:
+            with urllib.request.urlopen(request, timeout=900) as response:
                 return json.load(response)["value"]
         except urllib.error.HTTPError as fault:
             raise Fault(json.load(fault)["value"]["message"]) from None

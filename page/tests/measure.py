@@ -4,8 +4,10 @@
     page/tests/measure.py [--program PROGRAM] [--lexicon LEX]
 
 Lines with 150 to 250 answers are readings, and pairs of readings that are read as one line. On each line every box is
-rejected and kept once, each time on the line without choices; the time goes from the click to the end of the
-first frame in which the page is drawn anew. The first line is timed from the start of `sandhi-page`, and from the reader's Enter.
+rejected and kept once, each time on the line without choices, and the choice is taken back. The time goes from a click
+that chooses to the end of the first frame in which the page is drawn anew. The processor time is that of the browser with
+all its processes, the server and the program, for each click, those that take back counted too: it tells what a click
+costs where other work keeps the processors busy. The first line is timed from the start of `sandhi-page`, and from Enter.
 """
 
 import argparse
@@ -20,26 +22,40 @@ sys.dont_write_bytecode = True
 HERE = Path(__file__).resolve().parent
 sys.path[:0] = [str(HERE), str(HERE.parent)]
 
-LEAST, MOST, LINES = 150, 250, 12
+LEAST, MOST, LINES = 150, 250, 8
 
-CLICK = """
+CLICKS = """
 const done = arguments[arguments.length - 1];
-const [number, control] = arguments;
-const drawn = () => new Promise((end) => requestAnimationFrame(() => {
+const grid = document.getElementById('grid');
+const painted = () => new Promise((end) => requestAnimationFrame(() => {
   const { port1, port2 } = new MessageChannel();
   port1.onmessage = end;
   port2.postMessage(null);
 }));
-const button = document.querySelector(`#grid .box[data-number='${number}'] .${control}`);
-const grid = document.getElementById('grid');
-const begun = performance.now();
-const observer = new MutationObserver(async () => {
-  observer.disconnect();
-  await drawn();
-  done(performance.now() - begun);
+const drawnAfter = (button) => new Promise((end) => {
+  const begun = performance.now();
+  const observer = new MutationObserver(async () => {
+    observer.disconnect();
+    await painted();
+    end(performance.now() - begun);
+  });
+  observer.observe(grid, { childList: true });
+  button.click();
 });
-observer.observe(grid, { childList: true });
-button.click();
+(async () => {
+  const times = [];
+  const count = grid.querySelectorAll('.box').length;
+  for (let number = 0; number < count; number += 1) {
+    for (const control of ['reject', 'keep']) {
+      const button = grid.querySelector(`.box[data-number='${number}'] .${control}`);
+      if (control === 'keep' && button.ariaLabel.includes('ways')) continue;
+      times.push(await drawnAfter(button));
+      const takeBack = document.querySelectorAll('#choices .choices > button, #choices li button');
+      await drawnAfter(takeBack[takeBack.length - 1]);
+    }
+  }
+  done(times);
+})();
 """
 
 
@@ -67,18 +83,31 @@ def memory_of(process):
     return told["VmHWM"], told["VmRSS"]
 
 
-def click_times(browser, page, text):
-    """The times of clicks on a line, in milliseconds. Boxes that ask which way is meant are rejected only."""
-    times = []
-    boxes = page.type(text)["boxes"]
-    ways = browser.run("return [...document.querySelectorAll('#grid .keep')].map((keep) => keep.ariaLabel.includes('ways'))")
-    for box in boxes:
-        for control in ("reject", "keep"):
-            if control == "keep" and ways[box["number"]]:
-                continue
-            times.append(browser.call("POST", "/execute/async", {"script": CLICK, "args": [box["number"], control]}))
-            page.click("#choices button[aria-label^='Take back']") if len(page.seen()["choices"]) == 1 else None
-    return times
+def processor_time(roots):
+    """The seconds that processes and all below them have taken so far."""
+    times, parents = {}, {}
+    for path in Path("/proc").glob("[0-9]*/stat"):
+        try:
+            fields = path.read_text(encoding="utf-8", errors="replace").rsplit(") ", 1)[1].split()
+        except OSError:
+            continue
+        parents[int(path.parent.name)] = int(fields[1])
+        times[int(path.parent.name)] = (int(fields[11]) + int(fields[12])) / os.sysconf("SC_CLK_TCK")
+
+    def is_below(process):
+        while process not in roots and process in parents:
+            process = parents[process]
+        return process in roots
+
+    return sum(time for process, time in times.items() if is_below(process))
+
+
+def click_times(browser, page, text, roots):
+    """The milliseconds of clicks on a line, and the processor time of all of them, with those that take back."""
+    page.type(text)
+    before = processor_time(roots)
+    times = browser.call("POST", "/execute/async", {"script": CLICKS, "args": []})
+    return times, processor_time(roots) - before
 
 
 def first_line(start, browser, text):
@@ -119,7 +148,10 @@ def main():
         begun = [first_line(lambda: PageServer(lexicon), browser, texts[0]) for _ in range(5)]
         server = PageServer(lexicon)
         page = Page(browser, server.address).open()
-        times = sorted(ms for text in texts for ms in click_times(browser, page, text))
+        browser.call("POST", "/timeouts", {"script": 600_000})
+        lines = [click_times(browser, page, text, {browser.process, server.process.pid}) for text in texts]
+        times = sorted(ms for line, _ in lines for ms in line)
+        spent = sum(seconds for _, seconds in lines) / (2 * len(times))
         most, now = memory_of(server.process.pid)
         server.stop()
     finally:
@@ -128,6 +160,7 @@ def main():
     print(f"load {os.getloadavg()[0]:.1f} on {os.cpu_count()} processors")
     print(f"{len(texts)} lines with {LEAST} to {MOST} answers, {len(times)} clicks: median {statistics.median(times):.0f} ms, "
           f"95th of 100 {at(0.95):.0f} ms, most {times[-1]:.0f} ms")
+    print(f"processor time: {1000 * spent:.0f} ms for each click, with those that take a choice back")
     print(f"first line: {statistics.median(all_ for all_, _ in begun):.2f} s from the start of the server, "
           f"{statistics.median(entered for _, entered in begun):.2f} s from Enter")
     print(f"server: at most {most:.0f} MiB, at the end {now:.0f} MiB")

@@ -156,6 +156,11 @@ class Guess(WithPage):
                 right = self.later(GUESS, texts, last).count(scheme)
                 self.assertGreaterEqual(right / len(texts), 0.9, (scheme, last))
 
+    def test_schemes_that_are_likely_are_tried_in_their_order(self):
+        likely = self.later(GUESS.replace("guessScheme", "likelySchemes"), ["astyuttarasyAM diSi devatAtmA"], "hk")[0]
+        self.assertEqual(likely[0], "hk")
+        self.assertIn("slp1", likely)
+
     def test_where_several_fit_the_one_chosen_last_is_taken(self):
         for last in ("slp1", "hk", "iast"):
             self.assertEqual(self.later(GUESS, ["na", "na me"], last), [last, last])
@@ -176,6 +181,8 @@ class Cleaning(WithPage):
             ("wx", "saFjaya uvAca — rAmaH", ["saYjaya uvAca  rAmaH".replace("  ", " ")]),
             ("iast", "saṁgama r̥ṣi", ["saNgama fzi"]),
             ("devanagari", "तं च संवादं संस्कृतम्", ["taM ca saMvAdaM saMskftam"]),
+            ("iast", "rāmaḥ // BhG_1.1 // sītā (Rām. 2.3) 12ab", ["rAmaH", "sItA"]),
+            ("slp1", "rAmaH1 vanaM2 gacCati3", ["rAmaH vanaM gacCati"]),
             ("slp1", "", []),
             ("slp1", "|| 12 ||", []),
         ):

@@ -14,7 +14,7 @@ use Rattle.std.proofs.lemmas.List.Elements.{All-append, All-cons, All-nil, All-w
 use Rattle.std.proofs.lemmas.List.Kept.{Contains-dedup_nat, Contains-from_dedup, IsStrictlySortedBy-dedup}
 use Rattle.std.proofs.lemmas.List.Sorted.{Contains-permutation, IsPermutation-sym}
 use Rattle.annotated_trie.specs.Suffixes.{AreGroups, AreListsFrom, IsInGroups, IsListFrom}
-use Rattle.annotated_trie.specs.Views.{IsMostChoices, list_at}
+use Rattle.annotated_trie.specs.Views.{IsMostRules, list_at}
 use Rattle.annotated_trie.proofs.ListPlaces.{list_at-append, list_at-push, list_at-set_other, list_at-set_same}
 
 -- the number stands at the place, counted from 1
@@ -130,8 +130,8 @@ AreListsFrom-push groups sets lists numbers list are is =
     }
 
 -- one list more, and the longest of all
-pub IsMostChoices-push : (lists : List (List ℕ)) (list : List ℕ) (most : ℕ) → IsMostChoices lists most → IsMostChoices (lists ++ list ∷ []) (max most (length list))
-IsMostChoices-push lists list most is =
+pub IsMostRules-push : (lists : List (List ℕ)) (list : List ℕ) (most : ℕ) → IsMostRules lists most → IsMostRules (lists ++ list ∷ []) (max most (length list))
+IsMostRules-push lists list most is =
     let IsLow : ℕ → List ℕ → Type 0 = λ n xs. length xs ≤ n in
     let new = max most (length list) in
     record {

@@ -14,7 +14,7 @@ abbrev pub annotated_with : Trie → List (Vec ℕ) → List ℕ → AnnotatedTr
 annotated_with trie lists places = record { trie = trie; choices = map (list_at lists) places }
 
 -- the number is the greatest length of these lists, or 0 where there are none
-pub record IsMostChoices (choices : List (List ℕ)) (most : ℕ) : Type 0 where
+pub record IsMostRules (choices : List (List ℕ)) (most : ℕ) : Type 0 where
   pub above : All (λ (list : List ℕ). length list ≤ most) choices
   pub greatest : (most ≡ 0) ⊎ ((list : List ℕ) × Contains choices list × (length list ≡ most))
 
@@ -22,7 +22,7 @@ pub record IsMostChoices (choices : List (List ℕ)) (most : ℕ) : Type 0 where
 pub record ArePlaces (lists : List (Vec ℕ)) (nodes : ℕ) (places : List ℕ) (most : ℕ) : Type 0 where
   pub count : length places ≡ nodes
   pub within : All (λ (place : ℕ). place < length lists) places
-  pub is_most : IsMostChoices (map (list_at lists) places) most
+  pub is_most : IsMostRules (map (list_at lists) places) most
   pub few : most < 2 ^ 32
 
 -- each node has the place of a list, which has the node's choices

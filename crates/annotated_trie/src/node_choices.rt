@@ -1,6 +1,6 @@
 ghost use Rattle.std.specs.Prelude.{◌≡◌, ℕ, ◌+◌, ◌<◌, ◌≤◌, ◌^◌, ◌↔◌, [], length, map, All, Contains, IfOk};
 ghost use Rattle.annotated_trie.specs.Suffixes.{AreListsFrom, IsInGroups, IsListFrom};
-ghost use Rattle.annotated_trie.specs.Views.{list_at, IsMostChoices};
+ghost use Rattle.annotated_trie.specs.Views.{list_at, IsMostRules};
 
 use phoneme::Memory;
 use std::alloc::Global;
@@ -47,7 +47,7 @@ pub(crate) fn join_each(
 pub(crate) fn longest_at(lists: &[Vec<u32>], places: &[u32]) -> u32
     requires within { All (λ place. place < length lists.now) places.now }
     requires few { All (λ place. length (list_at lists.now place) < 2 ^ 32) places.now }
-    ensures { IsMostChoices (map (list_at lists.now) places.now) result }
+    ensures { IsMostRules (map (list_at lists.now) places.now) result }
 {
     let mut longest = 0;
     for place in places {

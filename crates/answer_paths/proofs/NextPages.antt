@@ -1,4 +1,4 @@
--- What is above the last of the first answers is what is above the position and comes after all of them; so the next answer
+-- What is above the last of the first answers is what is above the cursor and comes after all of them; so the next answer
 -- after it is the next of them.
 use Rattle.std.proofs.Common.{◌≡◌, ◌≢◌, ◌⊎◌, ◌↔◌, inl, inr, ℕ, ◌≤◌, Bool, false, IsTrue, List, [], ◌∷◌, ◌++◌, length, Contains, refl, subst, arith}
 use Rattle.std.specs.List.Sorted.{IsStrictlySortedBy}
@@ -12,14 +12,14 @@ use Rattle.lexicon_definitions.specs.Lexicons.{Lexicon, RuleSet}
 use Rattle.segmentation_definitions.specs.Derivations.{Step}
 use Rattle.segmentation_definitions.specs.Items.{Choice}
 use Rattle.segmentation_definitions.specs.Answers.{IsAnswer}
-use Rattle.segmentation_definitions.specs.Listings.{compare_answers, Position, AtAnswer, position_after, IsAbove, IsNext, ComesAfter, IsPage}
+use Rattle.segmentation_definitions.specs.Listings.{compare_answers, Cursor, AtAnswer, cursor_after, IsAbove, IsNext, ComesAfter, IsPage}
 use Rattle.segmentation_definitions.proofs.KeyLists.{compare_answers_total, compare_key_lists_exact, same_steps}
 use Rattle.segmentation_definitions.proofs.Listings.{above_last, from_above_last}
 use Rattle.answer_paths.specs.Pages.{AreFirstAnswers}
 
-pub position_after_last : (position : Position) (answers : List (List Step)) (next : List Step) → position_after position (answers ++ next ∷ []) ≡ AtAnswer next
-position_after_last position [] next = refl
-position_after_last position (first ∷ answers) next = position_after_last (AtAnswer first) answers next
+pub cursor_after_last : (cursor : Cursor) (answers : List (List Step)) (next : List Step) → cursor_after cursor (answers ++ next ∷ []) ≡ AtAnswer next
+cursor_after_last cursor [] next = refl
+cursor_after_last cursor (first ∷ answers) next = cursor_after_last (AtAnswer first) answers next
 
 one_sorted : (rules : RuleSet) (next : List Step) → IsStrictlySortedBy (compare_answers rules) (next ∷ [])
 unfolding IsStrictlySortedBy
@@ -37,8 +37,8 @@ not_greater_cases Greater not = absurd (not refl)
 in_one : {X : Type 0} (x y : X) → Contains (x ∷ []) y → x ≡ y
 in_one x y of = elim (Contains-cons_cases x [] y of) [ inl here ↦ here | inr later ↦ absurd (not_Contains-nil y later) ]
 
-module _ (lexicon : Lexicon) (line : Line) (choices : List Choice) (position : Position) where
-  pub first_of_none : AreFirstAnswers lexicon line choices position []
+module _ (lexicon : Lexicon) (line : Line) (choices : List Choice) (cursor : Cursor) where
+  pub first_of_none : AreFirstAnswers lexicon line choices cursor []
   first_of_none = record {
     rising = none_sorted lexicon.rules;
     only_answers = λ steps of. absurd (not_Contains-nil steps of);
@@ -46,11 +46,11 @@ module _ (lexicon : Lexicon) (line : Line) (choices : List Choice) (position : P
     others = λ steps answer above. inr (All-nil (λ before. compare_answers lexicon.rules before steps ≡ Less));
   }
 
-  module _ (answers : List (List Step)) (firsts : AreFirstAnswers lexicon line choices position answers) where
-    -- above the last of them: above the position and after them
-    apart : (steps : List Step) → IsAbove lexicon.rules (position_after position answers) steps
-        → IsAbove lexicon.rules position steps × ComesAfter lexicon.rules answers steps
-    apart steps above = from_above_last lexicon.rules answers position steps firsts.only_above firsts.rising above
+  module _ (answers : List (List Step)) (firsts : AreFirstAnswers lexicon line choices cursor answers) where
+    -- above the last of them: above the cursor and after them
+    apart : (steps : List Step) → IsAbove lexicon.rules (cursor_after cursor answers) steps
+        → IsAbove lexicon.rules cursor steps × ComesAfter lexicon.rules answers steps
+    apart steps above = from_above_last lexicon.rules answers cursor steps firsts.only_above firsts.rising above
 
     next_or_after : (next steps : List Step) → IsAnswer lexicon line choices next → IsAnswer lexicon line choices steps
         → compare_answers lexicon.rules next steps ≢ Greater → ComesAfter lexicon.rules answers steps
@@ -65,8 +65,8 @@ module _ (lexicon : Lexicon) (line : Line) (choices : List Choice) (position : P
           inl (Contains-append_right answers (next ∷ []) steps (subst (Contains (next ∷ [])) same (Contains-first next [])))
     ]
 
-    pub first_with_next : (next : List Step) → IsNext lexicon line choices (position_after position answers) next
-        → AreFirstAnswers lexicon line choices position (answers ++ next ∷ [])
+    pub first_with_next : (next : List Step) → IsNext lexicon line choices (cursor_after cursor answers) next
+        → AreFirstAnswers lexicon line choices cursor (answers ++ next ∷ [])
     first_with_next next is =
         let placed = apart next is.above in
         record {
@@ -78,18 +78,18 @@ module _ (lexicon : Lexicon) (line : Line) (choices : List Choice) (position : P
           ];
           only_above = λ steps of. elim (Contains-append_cases answers (next ∷ []) steps of) [
             | inl here ↦ firsts.only_above steps here
-            | inr last ↦ subst (IsAbove lexicon.rules position) (in_one next steps last) placed.0
+            | inr last ↦ subst (IsAbove lexicon.rules cursor) (in_one next steps last) placed.0
           ];
           others = λ steps answer above. elim (firsts.others steps answer above) [
             | inl here ↦ inl (Contains-append_left answers (next ∷ []) steps here)
             | inr later ↦ next_or_after next steps is.answer answer
-                (is.least steps answer (above_last lexicon.rules answers position steps above later)) later
+                (is.least steps answer (above_last lexicon.rules answers cursor steps above later)) later
           ];
         }
 
     pub page_if_full : (more : Bool)
-        → (IsTrue more ↔ ((steps : List Step) × IsAnswer lexicon line choices steps × IsAbove lexicon.rules (position_after position answers) steps))
-        → IsPage lexicon line choices position (length answers) answers more
+        → (IsTrue more ↔ ((steps : List Step) × IsAnswer lexicon line choices steps × IsAbove lexicon.rules (cursor_after cursor answers) steps))
+        → IsPage lexicon line choices cursor (length answers) answers more
     page_if_full more left = record {
       rising = firsts.rising;
       only_answers = firsts.only_answers;
@@ -98,13 +98,13 @@ module _ (lexicon : Lexicon) (line : Line) (choices : List Choice) (position : P
       first = λ steps answer above. elim (firsts.others steps answer above) [ inl here ↦ inl here | inr later ↦ inr (refl, later) ];
       left = (
         λ some. let found = left.0 some in let placed = apart found.0 found.2 in (found.0, found.1, placed.0, placed.1),
-        λ found. left.1 (found.0, found.1, above_last lexicon.rules answers position found.0 found.2 found.3),
+        λ found. left.1 (found.0, found.1, above_last lexicon.rules answers cursor found.0 found.2 found.3),
       );
     }
 
     pub page_if_ended : (count : ℕ) → length answers ≤ count
-        → ((steps : List Step) → IsAnswer lexicon line choices steps → IsAbove lexicon.rules (position_after position answers) steps → ⊥)
-        → IsPage lexicon line choices position count answers false
+        → ((steps : List Step) → IsAnswer lexicon line choices steps → IsAbove lexicon.rules (cursor_after cursor answers) steps → ⊥)
+        → IsPage lexicon line choices cursor count answers false
     page_if_ended count within none = record {
       rising = firsts.rising;
       only_answers = firsts.only_answers;
@@ -112,10 +112,10 @@ module _ (lexicon : Lexicon) (line : Line) (choices : List Choice) (position : P
       at_most = within;
       first = λ steps answer above. elim (firsts.others steps answer above) [
         | inl here ↦ inl here
-        | inr later ↦ absurd (none steps answer (above_last lexicon.rules answers position steps above later))
+        | inr later ↦ absurd (none steps answer (above_last lexicon.rules answers cursor steps above later))
       ];
       left = (
         λ some. absurd (false≢true some),
-        λ found. absurd (none found.0 found.1 (above_last lexicon.rules answers position found.0 found.2 found.3)),
+        λ found. absurd (none found.0 found.1 (above_last lexicon.rules answers cursor found.0 found.2 found.3)),
       );
     }

@@ -1,4 +1,4 @@
 pub mod Fronts
 pub mod Following
-pub mod Positions
+pub mod Cursors
 pub mod Pages

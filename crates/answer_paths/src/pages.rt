@@ -4,24 +4,24 @@ ghost use Rattle.lexicon_definitions.specs.Lexicons.{Lexicon};
 ghost use Rattle.segmentation_definitions.specs.Derivations.{Step};
 ghost use Rattle.segmentation_definitions.specs.Items.{Choice};
 ghost use Rattle.segmentation_definitions.specs.Answers.{IsAnswer};
-ghost use Rattle.segmentation_definitions.specs.Listings.{Position, position_after, IsAbove, IsNext, IsPage};
+ghost use Rattle.segmentation_definitions.specs.Listings.{Cursor, cursor_after, IsAbove, IsNext, IsPage};
 ghost use Rattle.answer_paths.specs.Pages.{AreFirstAnswers};
 
 /// A page is made of next answers: none is the first of no answers; the next answer after the first ones belongs to them;
 /// and they are a page once they are as many as it asks for, where more says whether one is left, or once none is left.
 pub fn pages_are_made_of_next_answers()
-    ensures none { (lexicon : Lexicon) (line : Line) (choices : List Choice) (position : Position)
-        → AreFirstAnswers lexicon line choices position [] }
-    ensures next { (lexicon : Lexicon) (line : Line) (choices : List Choice) (position : Position) (answers : List (List Step)) (next : List Step)
-        → AreFirstAnswers lexicon line choices position answers → IsNext lexicon line choices (position_after position answers) next
-        → AreFirstAnswers lexicon line choices position (answers ++ next ∷ [])
-        × (position_after position (answers ++ next ∷ []) ≡ position_after (position_after position answers) (next ∷ [])) }
-    ensures full { (lexicon : Lexicon) (line : Line) (choices : List Choice) (position : Position) (answers : List (List Step)) (more : Bool)
-        → AreFirstAnswers lexicon line choices position answers
-        → (IsTrue more ↔ ((steps : List Step) × IsAnswer lexicon line choices steps × IsAbove lexicon.rules (position_after position answers) steps))
-        → IsPage lexicon line choices position (length answers) answers more }
-    ensures ended { (lexicon : Lexicon) (line : Line) (choices : List Choice) (position : Position) (answers : List (List Step)) (count : ℕ)
-        → AreFirstAnswers lexicon line choices position answers → length answers ≤ count
-        → ((steps : List Step) → IsAnswer lexicon line choices steps → IsAbove lexicon.rules (position_after position answers) steps → ⊥)
-        → IsPage lexicon line choices position count answers false }
+    ensures none { (lexicon : Lexicon) (line : Line) (choices : List Choice) (cursor : Cursor)
+        → AreFirstAnswers lexicon line choices cursor [] }
+    ensures next { (lexicon : Lexicon) (line : Line) (choices : List Choice) (cursor : Cursor) (answers : List (List Step)) (next : List Step)
+        → AreFirstAnswers lexicon line choices cursor answers → IsNext lexicon line choices (cursor_after cursor answers) next
+        → AreFirstAnswers lexicon line choices cursor (answers ++ next ∷ [])
+        × (cursor_after cursor (answers ++ next ∷ []) ≡ cursor_after (cursor_after cursor answers) (next ∷ [])) }
+    ensures full { (lexicon : Lexicon) (line : Line) (choices : List Choice) (cursor : Cursor) (answers : List (List Step)) (more : Bool)
+        → AreFirstAnswers lexicon line choices cursor answers
+        → (IsTrue more ↔ ((steps : List Step) × IsAnswer lexicon line choices steps × IsAbove lexicon.rules (cursor_after cursor answers) steps))
+        → IsPage lexicon line choices cursor (length answers) answers more }
+    ensures ended { (lexicon : Lexicon) (line : Line) (choices : List Choice) (cursor : Cursor) (answers : List (List Step)) (count : ℕ)
+        → AreFirstAnswers lexicon line choices cursor answers → length answers ≤ count
+        → ((steps : List Step) → IsAnswer lexicon line choices steps → IsAbove lexicon.rules (cursor_after cursor answers) steps → ⊥)
+        → IsPage lexicon line choices cursor count answers false }
 {}

@@ -5,10 +5,10 @@ use Rattle.std.specs.Bool.{OnTrue, OnFalse}
 use Rattle.lexicon_definitions.specs.Lexicons.{RuleSet}
 use Rattle.segmentation_definitions.specs.declared.limits.TheConstants.{LAST_ANSWER_NUMBER}
 use Rattle.segmentation_definitions.specs.Derivations.{Step}
-use Rattle.segmentation_definitions.specs.Listings.{Position, AtAnswer, PastLast, position_after, IsNext}
+use Rattle.segmentation_definitions.specs.Listings.{Cursor, AtAnswer, PastLast, cursor_after, IsNext}
 use Rattle.segmentation_definitions.specs.PrintedAnswers.{printed_answer, printed_answers, printed_rest, output_line, next_number}
 use Rattle.answer_paths.specs.Pages.{AreFirstAnswers}
-use Rattle.answer_paths.proofs.NextPages.{first_of_none, first_with_next, position_after_last}
+use Rattle.answer_paths.proofs.NextPages.{first_of_none, first_with_next, cursor_after_last}
 use Rattle.derivation.specs.declared.step.Step.{Step as ProgramStep}
 use Rattle.segmenter.specs.Searches.{SearchValue, MovedOn, HasEnded, IsCurrent}
 use Rattle.answer_printing.specs.Pages.{standing_at, HasListed, KeepsLast, HasPrinted, HasPrintedPage}
@@ -36,8 +36,8 @@ printed_with_next rules number (answer ∷ answers) next =
 
 -- these answers were listed and printed, the search stands at the last of them, and the next one has this number
 pub record AreListed (old now : SearchValue) (first_number : ℕ) (before after : List ℕ) (number : ℕ) (answers : List (List Step)) : Type 0 where
-  pub first : AreFirstAnswers old.searched.lexicon old.line old.choices old.position answers
-  pub is : now ≡ standing_at old (position_after old.position answers)
+  pub first : AreFirstAnswers old.searched.lexicon old.line old.choices old.cursor answers
+  pub is : now ≡ standing_at old (cursor_after old.cursor answers)
   pub lines : after ≡ before ++ printed_answers old.searched.lexicon.rules first_number answers
   pub next : number ≡ number_after first_number answers
   pub within : number ≤ LAST_ANSWER_NUMBER
@@ -58,7 +58,7 @@ pub record IsKeeping (old now : SearchValue) (first_number count : ℕ) (before 
 
 pub listed_none : (search : SearchValue) (number : ℕ) (before : List ℕ) → number ≤ LAST_ANSWER_NUMBER → AreListed search search number before before number []
 listed_none search number before within = record {
-  first = first_of_none search.searched.lexicon search.line search.choices search.position;
+  first = first_of_none search.searched.lexicon search.line search.choices search.cursor;
   is = refl;
   lines = sym (append-nil before);
   next = refl;
@@ -77,12 +77,12 @@ listed_next : (old now new : SearchValue) (first_number : ℕ) (before after lat
 listed_next old now new first_number before after latest number answers so_far turn =
     let answer = turn.moved.answer in
     let rules = old.searched.lexicon.rules in
-    let is_next = subst (λ (search : SearchValue). IsNext search.searched.lexicon search.line search.choices search.position answer) so_far.is turn.moved.next in
+    let is_next = subst (λ (search : SearchValue). IsNext search.searched.lexicon search.line search.choices search.cursor answer) so_far.is turn.moved.next in
     let line_is = ap (λ (search : SearchValue). after ++ output_line (printed_answer search.searched.lexicon.rules number answer)) so_far.is in
     record {
-      first = first_with_next old.searched.lexicon old.line old.choices old.position answers so_far.first answer is_next;
+      first = first_with_next old.searched.lexicon old.line old.choices old.cursor answers so_far.first answer is_next;
       is = now_at old now new first_number before after number answers so_far turn.moved
-          ∙ ap (standing_at old) (sym (position_after_last old.position answers answer));
+          ∙ ap (standing_at old) (sym (cursor_after_last old.cursor answers answer));
       lines = turn.line ∙ line_is
           ∙ ap (λ front. front ++ output_line (printed_answer rules number answer)) so_far.lines
           ∙ append_assoc before (printed_answers rules first_number answers) (output_line (printed_answer rules number answer))
@@ -94,11 +94,11 @@ listed_next old now new first_number before after latest number answers so_far t
 
 -- the line of the answer to which the search has moved is the one of this turn
 pub printed_next : (now new : SearchValue) (rules : RuleSet) (number : ℕ) (before after : List ℕ) → now.searched.lexicon.rules ≡ rules → MovedOn now new
-    → ((answer : List Step) → new.position ≡ AtAnswer answer → after ≡ before ++ output_line (printed_answer rules number answer))
+    → ((answer : List Step) → new.cursor ≡ AtAnswer answer → after ≡ before ++ output_line (printed_answer rules number answer))
     → HasPrintedNext now new number before after
 printed_next now new rules number before after same moved appended = record {
   moved = moved;
-  line = appended moved.answer (ap (λ (search : SearchValue). search.position) moved.is)
+  line = appended moved.answer (ap (λ (search : SearchValue). search.cursor) moved.is)
       ∙ ap (λ (r : RuleSet). before ++ output_line (printed_answer r number moved.answer)) (sym same);
 }
 
@@ -109,7 +109,7 @@ last_with_next : (search : SearchValue) (answers : List (List Step)) (next : Lis
     → IsCurrent (standing_at search (AtAnswer next)) (Some after) → KeepsLast search (answers ++ next ∷ []) before after
 last_with_next search [] next before after current = current
 last_with_next search (answer ∷ answers) next before after current =
-    subst (λ position. IsCurrent (standing_at search position) (Some after)) (sym (position_after_last (AtAnswer answer) answers next)) current
+    subst (λ cursor. IsCurrent (standing_at search cursor) (Some after)) (sym (cursor_after_last (AtAnswer answer) answers next)) current
 
 -- ---- the search lists them
 
@@ -134,7 +134,7 @@ under_way_next old now new first_number count before after latest number next so
 
 pub keeping_next : (old now new : SearchValue) (first_number count : ℕ) (before after latest : List ℕ) (number next : ℕ)
     (last_before last_after last_latest : List ProgramStep) → IsKeeping old now first_number count before after number last_before last_after
-    → HasPrintedNext now new number after latest → ((answer : List Step) → new.position ≡ AtAnswer answer → IsCurrent new (Some last_latest))
+    → HasPrintedNext now new number after latest → ((answer : List Step) → new.cursor ≡ AtAnswer answer → IsCurrent new (Some last_latest))
     → next ≡ next_number number → IsKeeping old new first_number (count + 1) before latest next last_before last_latest
 keeping_next old now new first_number count before after latest number next last_before last_after last_latest so_far turn current next_is =
     let at = now_at old now new first_number before after number so_far.answers so_far.listed turn.moved in
@@ -145,18 +145,18 @@ keeping_next old now new first_number count before after latest number next last
           (listed_next old now new first_number before after latest number so_far.answers so_far.listed turn);
       last = last_with_next old so_far.answers turn.moved.answer last_before last_latest
           (subst (λ (search : SearchValue). IsCurrent search (Some last_latest)) at
-          (current turn.moved.answer (ap (λ (search : SearchValue). search.position) at)));
+          (current turn.moved.answer (ap (λ (search : SearchValue). search.cursor) at)));
     }
 
--- a search that stands at another position is still the same
-stays : (old new : SearchValue) (position : Position) → new ≡ standing_at old position → new ≡ standing_at old new.position
-stays old new position is = is ∙ ap (standing_at old) (sym (ap (λ (search : SearchValue). search.position) is))
+-- a search that stands at another cursor is still the same
+stays : (old new : SearchValue) (cursor : Cursor) → new ≡ standing_at old cursor → new ≡ standing_at old new.cursor
+stays old new cursor is = is ∙ ap (standing_at old) (sym (ap (λ (search : SearchValue). search.cursor) is))
 
 -- all that were asked for are listed
 pub listed_full : (old now : SearchValue) (first_number : ℕ) (before after : List ℕ) (number most : ℕ) (answers : List (List Step))
     → AreListed old now first_number before after number answers → length answers ≡ most → HasListed old now most answers
 listed_full old now first_number before after number most answers so_far full = record {
-  same = stays old now (position_after old.position answers) so_far.is;
+  same = stays old now (cursor_after old.cursor answers) so_far.is;
   first = so_far.first;
   at_most = omega arith;
   full = λ same. so_far.is;

@@ -11,7 +11,7 @@ use Rattle.answer_printing.specs.Pages.{HasListed}
 -- an answer comes after where the search stands
 abbrev pub HasLeft : SearchValue → Type 0
 HasLeft search = (answer : List Step) × IsAnswer search.searched.lexicon search.line search.choices answer
-    × IsAbove search.searched.lexicon.rules search.position answer
+    × IsAbove search.searched.lexicon.rules search.cursor answer
 
 -- the search tells by its next move whether one does
 pub left_if : (now new : SearchValue) (more : Bool) → OnTrue more (MovedOn now new) → OnFalse more (HasEnded now new) → IsTrue more ↔ HasLeft now
@@ -20,13 +20,13 @@ left_if now new false moved ended = (λ yes. absurd (cc (yes)), λ found. absurd
 
 module _ (old now : SearchValue) (count : ℕ) (answers : List (List Step)) (listed : HasListed old now count answers) where
   -- fewer answers than were asked for are a page after which none is left
-  pub page_ended : length answers < count → IsPage old.searched.lexicon old.line old.choices old.position count answers false
-  page_ended fewer = page_if_ended old.searched.lexicon old.line old.choices old.position answers listed.first count listed.at_most (listed.ended fewer).none
+  pub page_ended : length answers < count → IsPage old.searched.lexicon old.line old.choices old.cursor count answers false
+  page_ended fewer = page_if_ended old.searched.lexicon old.line old.choices old.cursor answers listed.first count listed.at_most (listed.ended fewer).none
 
   -- as many as were asked for are a page, and the search tells by its next move whether one is left
   pub page_full : length answers ≡ count → (new : SearchValue) (more : Bool) → OnTrue more (MovedOn now new) → OnFalse more (HasEnded now new)
-      → IsPage old.searched.lexicon old.line old.choices old.position count answers more
+      → IsPage old.searched.lexicon old.line old.choices old.cursor count answers more
   page_full full new more moved ended =
       let left = subst (λ (search : SearchValue). IsTrue more ↔ HasLeft search) (listed.full full) (left_if now new more moved ended) in
-      subst (λ (n : ℕ). IsPage old.searched.lexicon old.line old.choices old.position n answers more) full
-      (page_if_full old.searched.lexicon old.line old.choices old.position answers listed.first more left)
+      subst (λ (n : ℕ). IsPage old.searched.lexicon old.line old.choices old.cursor n answers more) full
+      (page_if_full old.searched.lexicon old.line old.choices old.cursor answers listed.first more left)

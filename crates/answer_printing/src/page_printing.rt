@@ -26,7 +26,7 @@ fn push_current<D: SearchGuide>(
     requires rules { search.now.searched.lexicon.rules ≡ printer.old.rules }
     requires line { search.now.line.letters ≡ printer.old.letters }
     ensures unchanged { printer.new ≡ printer.old }
-    ensures ok { OnOk result ((answer : List AnswerStep) → search.now.position ≡ AtAnswer answer
+    ensures ok { OnOk result ((answer : List AnswerStep) → search.now.cursor ≡ AtAnswer answer
         → output.new.items ≡ output.old.items ++ output_line (printed_answer printer.old.rules number answer)) }
 {
     match search.current() {
@@ -37,7 +37,7 @@ fn push_current<D: SearchGuide>(
 
 /// Keeps the steps of the answer at which the search stands.
 fn keep_current<D: SearchGuide>(search: &Search<D>, last: &mut Vec<Step>) -> Result<(), Memory>
-    ensures ok { OnOk result ((answer : List AnswerStep) → search.now.position ≡ AtAnswer answer
+    ensures ok { OnOk result ((answer : List AnswerStep) → search.now.cursor ≡ AtAnswer answer
         → IsCurrent search.now (Some last.new.items)) }
 {
     let Some(steps) = search.current() else {

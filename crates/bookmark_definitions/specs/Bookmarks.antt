@@ -1,4 +1,4 @@
--- A bookmark keeps a position in the listing of a line, so that a reader can go on from there another day (own).
+-- A bookmark keeps a cursor in the listing of a line, so that a reader can go on from there another day (own).
 use Rattle.std.specs.Prelude.{◌≡◌, ℕ, ◌*◌, ◌-◌, ◌<◌, ◌≤◌, ◌↔◌, List, [], length, All}
 use Rattle.text_definitions.specs.declared.limits.TheConstants.{MOST_LINE_LETTERS}
 use Rattle.text_definitions.specs.Words.{IsWord}

@@ -4,11 +4,11 @@ use Rattle.std.specs.Prelude.{codes, take, drop, option_and_then}
 use Rattle.std.specs.Str.{bytes_eq}
 use Rattle.std.proofs.lemmas.List.{take-append-drop}
 use Rattle.std.proofs.lemmas.Slice.Eq.{bytes_eq-Decides}
-use Rattle.run_definitions.specs.Arguments.{FileWord, Given, Turn, Any, Value, Argument, is_option, with_value, with_argument, with_word, given_with}
+use Rattle.run_definitions.specs.Arguments.{FileWord, Given, NextWord, Any, Value, Argument, is_option, with_value, with_argument, with_word, given_with}
 use Rattle.command_words.specs.Turns.{turn_after, is_argument, arguments_with}
 
 -- what a word that is taken does
-record IsTold (turn : Turn) (given : Given) (place : ℕ) (word : List ℕ) (next : Given × Turn) : Type 0 where
+record IsTold (turn : NextWord) (given : Given) (place : ℕ) (word : List ℕ) (next : Given × NextWord) : Type 0 where
   turns : next.1 ≡ turn_after turn word
   arguments : next.0.arguments ≡ arguments_with (is_argument turn word) given.arguments place word
 
@@ -21,7 +21,7 @@ value_is_option word e =
     let front : take 5 word ≡ codes "--in=" = (bytes_eq-Decides (take 5 word) (codes "--in=")).0 e in
     ap is_option (sym (take-append-drop 5 word) ∙ ap (λ t. t ++ drop 5 word) front)
 
-any_told : (given : Given) (place : ℕ) (word : List ℕ) (next : Given × Turn) (ends names gives option : Bool)
+any_told : (given : Given) (place : ℕ) (word : List ℕ) (next : Given × NextWord) (ends names gives option : Bool)
     → bytes_eq word (codes "--") ≡ ends → bytes_eq word (codes "--in") ≡ names → bytes_eq (take 5 word) (codes "--in=") ≡ gives
     → is_option word ≡ option
     → cond ends (Some (given, Argument)) (cond names (Some (given, Value)) (cond gives (Some (with_value given (drop 5 word), Any))
@@ -40,14 +40,14 @@ any_told given place word next false false false false e n v o is =
     let same : (with_argument given place word, Any) ≡ next = cc (is) in
     subst (IsTold Any given place word) same (record { turns = rw (e, n) refl; arguments = rw o refl })
 
-value_told : (given : Given) (place : ℕ) (word : List ℕ) (next : Given × Turn) (option : Bool)
+value_told : (given : Given) (place : ℕ) (word : List ℕ) (next : Given × NextWord) (option : Bool)
     → cond option None (Some (with_value given word, Any)) ≡ Some next → IsTold Value given place word next
 value_told given place word next true is = absurd (cc (is))
 value_told given place word next false is =
     let same : (with_value given word, Any) ≡ next = cc (is) in
     subst (IsTold Value given place word) same (record { turns = refl; arguments = refl })
 
-told : (turn : Turn) (given : Given) (place : ℕ) (word : List ℕ) (next : Given × Turn) → with_word turn given place word ≡ Some next
+told : (turn : NextWord) (given : Given) (place : ℕ) (word : List ℕ) (next : Given × NextWord) → with_word turn given place word ≡ Some next
     → IsTold turn given place word next
 told Any given place word next is = any_told given place word next _ _ _ _ refl refl refl refl is
 told Value given place word next is = value_told given place word next (is_option word) is
@@ -56,29 +56,29 @@ told Argument given place word next is =
     subst (IsTold Argument given place word) same (record { turns = refl; arguments = refl })
 
 -- the words from here on give this, with some values and these arguments so far
-abbrev pub GiveWith : List (List ℕ) → Turn → List FileWord → ℕ → Given → Type 0
+abbrev pub GiveWith : List (List ℕ) → NextWord → List FileWord → ℕ → Given → Type 0
 GiveWith words turn arguments place given =
     (values : List (List ℕ)) × (given_with words turn (record { values = values; arguments = arguments }) place ≡ Some given)
 
-pub one_more : (word : List ℕ) (words : List (List ℕ)) (turn : Turn) (arguments : List FileWord) (place : ℕ) (given : Given)
+pub one_more : (word : List ℕ) (words : List (List ℕ)) (turn : NextWord) (arguments : List FileWord) (place : ℕ) (given : Given)
     → GiveWith (word ∷ words) turn arguments place given
     → GiveWith words (turn_after turn word) (arguments_with (is_argument turn word) arguments place word) (place + 1) given
 one_more word words turn arguments place given (values, e) =
     let so_far : Given = record { values = values; arguments = arguments } in
     go so_far (with_word turn so_far place word) (told turn so_far place word) e
   where
-    go : (so_far : Given) (read : Option (Given × Turn)) → ((next : Given × Turn) → read ≡ Some next → IsTold turn so_far place word next)
+    go : (so_far : Given) (read : Option (Given × NextWord)) → ((next : Given × NextWord) → read ≡ Some next → IsTold turn so_far place word next)
         → option_and_then (λ next. given_with words next.1 next.0 (place + 1)) read ≡ Some given
         → GiveWith words (turn_after turn word) (arguments_with (is_argument turn word) so_far.arguments place word) (place + 1) given
     go so_far None tell f = absurd (cc (f))
     go so_far (Some next) tell f =
         let is = tell next refl in (
           next.0.values,
-          subst (λ (t : Turn). given_with words t (record { values = next.0.values; arguments = arguments_with (is_argument turn word) so_far.arguments place word }) (place + 1) ≡ Some given) is.turns
+          subst (λ (t : NextWord). given_with words t (record { values = next.0.values; arguments = arguments_with (is_argument turn word) so_far.arguments place word }) (place + 1) ≡ Some given) is.turns
               (subst (λ (xs : List FileWord). given_with words next.1 (record { values = next.0.values; arguments = xs }) (place + 1) ≡ Some given) is.arguments f),
         )
 
-pub at_end : (turn : Turn) (arguments : List FileWord) (place : ℕ) (given : Given) → GiveWith [] turn arguments place given → arguments ≡ given.arguments
+pub at_end : (turn : NextWord) (arguments : List FileWord) (place : ℕ) (given : Given) → GiveWith [] turn arguments place given → arguments ≡ given.arguments
 at_end Any arguments place given (values, e) =
     let so_far : Given = record { values = values; arguments = arguments } in
     let same : so_far ≡ given = cc (e) in ap (λ (g : Given). g.arguments) same

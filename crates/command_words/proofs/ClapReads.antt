@@ -13,7 +13,7 @@ use Rattle.clap.specs.Values.{kind_of}
 use Rattle.clap.specs.declared.error.Error.{Error}
 use Rattle.clap.specs.declared.error.kind.ErrorKind.TheVariants.{OutOfMemory}
 use Rattle.clap.specs.Faults.{turn_fault, walk_fault, settle_fault, default_fault, defaults_fault, check_fault, entered_fault, fault_of, is_simple_and_free}
-use Rattle.run_definitions.specs.Arguments.{Given, Turn, Any, Value, Argument, is_option, with_value, with_argument, with_word, given_with, nothing_given, given_by}
+use Rattle.run_definitions.specs.Arguments.{Given, NextWord, Any, Value, Argument, is_option, with_value, with_argument, with_word, given_with, nothing_given, given_by}
 use Rattle.command_words.specs.ClapLine.{line_app, value_rule, values_of_id}
 use Rattle.command_words.proofs.ClapRows.{found_own, found_other}
 use Rattle.command_words.proofs.ClapSteps.{line_is_simple, Pending, Nothing, OfValue, OfArgument, line_shape, line_rules, any_at, wanted_at, arguments_at, waits, rows_after, IsRefused, settles, end_passes, end_walked, name_passes, name_walked, with_equals, value_passes, value_walked, plain_passes, plain_walked, wanted_passes, wanted_walked, argument_passes, argument_walked, wanting_refused, wanted_end_passes, wanted_end_walked, argument_refused, long_refused, short_refused, wanted_short_refused, unnamed, wanted_long_refused, plain_word, other_name}
@@ -49,13 +49,13 @@ record StandsArgument (given : Given) (w : Walk) : Type 0 where
   at : w ≡ arguments_at rows pending waiting
   found : values_found (rows_after pending rows) ≡ given.values
 
-abbrev Stands : Turn → Given → Walk → Type 0
+abbrev Stands : NextWord → Given → Walk → Type 0
 Stands Any given w = StandsAny given w
 Stands Value given w = StandsValue given w
 Stands Argument given w = StandsArgument given w
 
 -- a word takes both on, or is refused by both, at once or since a value stays wanting
-abbrev Goes : Walk → Text → Option (Given × Turn) → Type 0
+abbrev Goes : Walk → Text → Option (Given × NextWord) → Type 0
 Goes w word (Some next) = (turn_fault line_shape [] w word ≡ []) × Stands next.1 next.0 (walked line_rules [] w word)
 Goes w word None = IsRefused (turn_fault line_shape [] w word)
     ⊎ ((turn_fault line_shape [] w word ≡ []) × ((rows : List Row) × (walked line_rules [] w word ≡ wanted_at rows true)))
@@ -176,7 +176,7 @@ value_goes given rows found word text false o =
       },
     )
 
-goes : (turn : Turn) (given : Given) (place : ℕ) (w : Walk) → Stands turn given w → (word : Text) → IsUtf8 word
+goes : (turn : NextWord) (given : Given) (place : ℕ) (w : Walk) → Stands turn given w → (word : Text) → IsUtf8 word
     → Goes w word (with_word turn given place word)
 goes Any given place w stands word text =
     subst (λ x. Goes x word (with_word Any given place word)) (sym stands.at)
@@ -221,11 +221,11 @@ doomed [] rows e = wanting_refused rows (sym (faults_at_end (wanted_at rows true
 doomed (word ∷ words) rows e = faults_first word words (wanted_at rows true) (argument_refused rows word) e
 
 -- both take the words and find the same values, or both refuse them
-pub record Reads (words : List Text) (turn : Turn) (given : Given) (place : ℕ) (w : Walk) : Type 0 where
+pub record Reads (words : List Text) (turn : NextWord) (given : Given) (place : ℕ) (w : Walk) : Type 0 where
   pub taken : (end : Given) → given_with words turn given place ≡ Some end → (faults words w ≡ []) × (values_of_id (codes "in") (rows_left words w) ≡ end.values)
   pub refused : given_with words turn given place ≡ None → IsRefused (faults words w)
 
-reads_end : (turn : Turn) (given : Given) (place : ℕ) (w : Walk) → Stands turn given w → Reads [] turn given place w
+reads_end : (turn : NextWord) (given : Given) (place : ℕ) (w : Walk) → Stands turn given w → Reads [] turn given place w
 reads_end Any given place w stands =
     subst (λ x. Reads [] Any given place x) (sym stands.at) (record {
       taken = λ end e. let same : given ≡ end = cc (e) in
@@ -244,9 +244,9 @@ reads_end Argument given place w stands =
       refused = λ e. absurd (cc (e));
     })
 
-reads_more : (word : Text) (words : List Text) (turn : Turn) (given : Given) (place : ℕ) (w : Walk) (read : Option (Given × Turn))
+reads_more : (word : Text) (words : List Text) (turn : NextWord) (given : Given) (place : ℕ) (w : Walk) (read : Option (Given × NextWord))
     → with_word turn given place word ≡ read → Goes w word read
-    → ((next : Given × Turn) → Stands next.1 next.0 (walked line_rules [] w word) → Reads words next.1 next.0 (place + 1) (walked line_rules [] w word))
+    → ((next : Given × NextWord) → Stands next.1 next.0 (walked line_rules [] w word) → Reads words next.1 next.0 (place + 1) (walked line_rules [] w word))
     → Reads (word ∷ words) turn given place w
 reads_more word words turn given place w None is (inl refused) more = record {
   taken = λ end e. let bad = rw is at e in absurd (cc (bad));
@@ -259,14 +259,14 @@ reads_more word words turn given place w None is (inr (passes, (rows, at))) more
 reads_more word words turn given place w (Some next) is (passes, stands) more =
     let rest = more next stands in record {
       taken = λ end e.
-          let both = rest.taken end (sym (ap (option_and_then (λ (n : Given × Turn). given_with words n.1 n.0 (place + 1))) is) ∙ e) in
+          let both = rest.taken end (sym (ap (option_and_then (λ (n : Given × NextWord). given_with words n.1 n.0 (place + 1))) is) ∙ e) in
           (faults_past word words w passes ∙ both.0, both.1);
       refused = λ e f.
-          rest.refused (sym (ap (option_and_then (λ (n : Given × Turn). given_with words n.1 n.0 (place + 1))) is) ∙ e)
+          rest.refused (sym (ap (option_and_then (λ (n : Given × NextWord). given_with words n.1 n.0 (place + 1))) is) ∙ e)
           (sym (faults_past word words w passes) ∙ f);
     }
 
-reads : (words : List Text) → All IsUtf8 words → (turn : Turn) (given : Given) (place : ℕ) (w : Walk) → Stands turn given w
+reads : (words : List Text) → All IsUtf8 words → (turn : NextWord) (given : Given) (place : ℕ) (w : Walk) → Stands turn given w
     → Reads words turn given place w
 reads [] texts turn given place w stands = reads_end turn given place w stands
 reads (word ∷ words) texts turn given place w stands =

@@ -7,8 +7,8 @@ use Rattle.command_words.specs.declared.placed_word.PlacedWord.{PlacedWord}
 use Rattle.command_words.specs.declared.command.Command.{Command}
 use Rattle.command_words.specs.declared.command.Command.TheVariants.{Segment, Check, Build, Read, Batch, Demo}
 use Rattle.command_words.specs.declared.given.Given.{Given}
-use Rattle.command_words.specs.declared.arguments.Turn.{Turn}
-use Rattle.command_words.specs.declared.arguments.Turn.TheVariants.{Any, Value, Argument}
+use Rattle.command_words.specs.declared.arguments.NextWord.{NextWord}
+use Rattle.command_words.specs.declared.arguments.NextWord.TheVariants.{Any, Value, Argument}
 
 -- a word with its place
 abbrev pub word_meant : PlacedWord → arguments.FileWord
@@ -25,7 +25,7 @@ command_meant (Demo number) = defined.Demo number
 command_meant (Batch words) = defined.Batch (word_meant words.lex) (scheme_of words.scheme) (word_meant words.file) words.count
 
 -- what a next word may be
-abbrev pub turn_meant : Turn → arguments.Turn
+abbrev pub turn_meant : NextWord → arguments.NextWord
 turn_meant Any = arguments.Any
 turn_meant Value = arguments.Value
 turn_meant Argument = arguments.Argument

@@ -1,17 +1,17 @@
 -- Which of the words that are taken are arguments, told one after another.
 use Rattle.std.specs.Prelude.{ℕ, Bool, true, false, not, if◌then◌else◌, List, [], ◌∷◌, ◌++◌, codes}
 use Rattle.std.specs.Str.{bytes_eq}
-use Rattle.run_definitions.specs.Arguments.{FileWord, Turn, Any, Value, Argument, is_option}
+use Rattle.run_definitions.specs.Arguments.{FileWord, NextWord, Any, Value, Argument, is_option}
 
 -- what the next word may be after a word that is taken
-abbrev pub turn_after : Turn → List ℕ → Turn
+abbrev pub turn_after : NextWord → List ℕ → NextWord
 turn_after Any word =
     if bytes_eq word (codes "--") then Argument else (if bytes_eq word (codes "--in") then Value else Any)
 turn_after Value word = Any
 turn_after Argument word = Argument
 
 -- the word, which is taken, is an argument
-abbrev pub is_argument : Turn → List ℕ → Bool
+abbrev pub is_argument : NextWord → List ℕ → Bool
 is_argument Any word = not (is_option word)
 is_argument Value word = false
 is_argument Argument word = true

@@ -11,7 +11,7 @@ use std::alloc::Global;
 
 /// What a next word may be: any, the value of the `--in` before it, or an argument whatever it is, since `--` came.
 #[derive(Clone, Copy, Debug)]
-pub(crate) enum Turn {
+pub(crate) enum NextWord {
     Any,
     Value,
     Argument,
@@ -35,32 +35,32 @@ fn is_option(word: &str) -> bool
 }
 
 /// What the next word may be.
-fn turn_after(turn: Turn, word: &str) -> Turn
+fn turn_after(turn: NextWord, word: &str) -> NextWord
     ensures { turn_meant result ≡ turn_told (turn_meant turn) word.now }
 {
     match turn {
-        Turn::Any => {
+        NextWord::Any => {
             if is_word(word, "--") {
-                Turn::Argument
+                NextWord::Argument
             } else if is_word(word, "--in") {
-                Turn::Value
+                NextWord::Value
             } else {
-                Turn::Any
+                NextWord::Any
             }
         }
-        Turn::Value => Turn::Any,
-        Turn::Argument => Turn::Argument,
+        NextWord::Value => NextWord::Any,
+        NextWord::Argument => NextWord::Argument,
     }
 }
 
 /// Whether the word is an argument.
-fn is_argument(turn: Turn, word: &str) -> bool
+fn is_argument(turn: NextWord, word: &str) -> bool
     ensures { result ≡ is_argument_told (turn_meant turn) word.now }
 {
     match turn {
-        Turn::Any => !is_option(word),
-        Turn::Value => false,
-        Turn::Argument => true,
+        NextWord::Any => !is_option(word),
+        NextWord::Value => false,
+        NextWord::Argument => true,
     }
 }
 
@@ -88,7 +88,7 @@ pub(crate) fn arguments_of(alloc: Global, words: &[String]) -> Result<Vec<Placed
         → map word_meant arguments.items ≡ given.arguments) }
 {
     let mut arguments = Vec::new(alloc);
-    let mut turn = Turn::Any;
+    let mut turn = NextWord::Any;
     let mut place = 1u32;
     for word in words {
         let text = word.as_str();

@@ -3,9 +3,9 @@ use Rattle.std.proofs.Common.{◌≡◌, ℕ, ◌+◌, ◌<◌, ◌≤◌, Bool,
 use Rattle.std.proofs.lemmas.List.{length-append}
 use Rattle.std.specs.Bool.{OnTrue, OnFalse}
 use Rattle.segmentation_definitions.specs.Derivations.{Step}
-use Rattle.segmentation_definitions.specs.Listings.{Position, AtAnswer, PastLast, position_after, IsNext}
+use Rattle.segmentation_definitions.specs.Listings.{Cursor, AtAnswer, PastLast, cursor_after, IsNext}
 use Rattle.answer_paths.specs.Pages.{AreFirstAnswers}
-use Rattle.answer_paths.proofs.NextPages.{first_of_none, first_with_next, position_after_last}
+use Rattle.answer_paths.proofs.NextPages.{first_of_none, first_with_next, cursor_after_last}
 use Rattle.segmenter.specs.Searches.{SearchValue, MovedOn, HasEnded}
 use Rattle.answer_printing.specs.Pages.{standing_at}
 use Rattle.answer_printing.proofs.PrintedPages.{page_ended, page_full}
@@ -15,30 +15,30 @@ use Rattle.demo_counts.specs.Pages.{HasPassed, IsCounted}
 pub record IsUnderWay (old now : SearchValue) (count : ℕ) : Type 0 where
   pub answers : List (List Step)
   pub many : length answers ≡ count
-  pub first : AreFirstAnswers old.searched.lexicon old.line old.choices old.position answers
-  pub is : now ≡ standing_at old (position_after old.position answers)
+  pub first : AreFirstAnswers old.searched.lexicon old.line old.choices old.cursor answers
+  pub is : now ≡ standing_at old (cursor_after old.cursor answers)
 
 pub at_first : (search : SearchValue) → IsUnderWay search search 0
 at_first search =
-    record { answers = []; many = refl; first = first_of_none search.searched.lexicon search.line search.choices search.position; is = refl }
+    record { answers = []; many = refl; first = first_of_none search.searched.lexicon search.line search.choices search.cursor; is = refl }
 
 -- one answer more
 pub one_more : (old now new : SearchValue) (count : ℕ) → IsUnderWay old now count → MovedOn now new → IsUnderWay old new (count + 1)
 one_more old now new count so_far moved =
     let answer = moved.answer in
     let many = so_far.many in
-    let next = subst (λ (search : SearchValue). IsNext search.searched.lexicon search.line search.choices search.position answer) so_far.is moved.next in
+    let next = subst (λ (search : SearchValue). IsNext search.searched.lexicon search.line search.choices search.cursor answer) so_far.is moved.next in
     record {
       answers = so_far.answers ++ answer ∷ [];
       many = omega (arith, length-append so_far.answers (answer ∷ []));
-      first = first_with_next old.searched.lexicon old.line old.choices old.position so_far.answers so_far.first answer next;
+      first = first_with_next old.searched.lexicon old.line old.choices old.cursor so_far.answers so_far.first answer next;
       is = moved.is ∙ ap (λ (search : SearchValue). standing_at search (AtAnswer answer)) so_far.is
-          ∙ ap (standing_at old) (sym (position_after_last old.position so_far.answers answer));
+          ∙ ap (standing_at old) (sym (cursor_after_last old.cursor so_far.answers answer));
     }
 
--- a search that stands at another position is still the same
-stays : (old new : SearchValue) (position : Position) → new ≡ standing_at old position → new ≡ standing_at old new.position
-stays old new position is = is ∙ ap (standing_at old) (sym (ap (λ (search : SearchValue). search.position) is))
+-- a search that stands at another cursor is still the same
+stays : (old new : SearchValue) (cursor : Cursor) → new ≡ standing_at old cursor → new ≡ standing_at old new.cursor
+stays old new cursor is = is ∙ ap (standing_at old) (sym (ap (λ (search : SearchValue). search.cursor) is))
 
 -- all that were asked for are passed
 pub passed_all : (old now : SearchValue) (count : ℕ) → IsUnderWay old now count → HasPassed old now count count
@@ -48,7 +48,7 @@ passed_all old now count so_far =
       answers = so_far.answers;
       many = many;
       listed = record {
-        same = stays old now (position_after old.position so_far.answers) so_far.is;
+        same = stays old now (cursor_after old.cursor so_far.answers) so_far.is;
         first = so_far.first;
         at_most = omega arith;
         full = λ same. so_far.is;

@@ -19,7 +19,7 @@ pub record HasPassed (old new : SearchValue) (count passed : ℕ) : Type 0 where
 pub record IsCounted (old : SearchValue) (count : ℕ) (page : PageCount) : Type 0 where
   pub answers : List (List Step)
   pub many : length answers ≡ page.answers
-  pub is_page : IsPage old.searched.lexicon old.line old.choices old.position count answers page.more
+  pub is_page : IsPage old.searched.lexicon old.line old.choices old.cursor count answers page.more
 
 -- and on that of the line before the first answer
 pub record IsPageCount (lexicon : Lexicon) (line : Line) (page : PageCount) : Type 0 where

@@ -5,15 +5,15 @@ use Rattle.lexicon_text_definitions.specs.FileContents.{Told}
 use Rattle.lexicon_text_definitions.specs.FileSteps.{Taken, take_end}
 use Rattle.lexicon_text_definitions.proofs.LineSteps.{with_end, takes_end}
 use Rattle.lexicon_file.specs.declared.error.FileWhy.{FileWhy}
-use Rattle.lexicon_file.specs.declared.line_error.LineError.{LineError}
-use Rattle.lexicon_file.specs.declared.line_error.LineError.TheVariants.{Why}
+use Rattle.lexicon_file.specs.declared.take_error.TakeError.{TakeError}
+use Rattle.lexicon_file.specs.declared.take_error.TakeError.TheVariants.{Why}
 use Rattle.lexicon_file.specs.Fields.{text_of_rest}
 use Rattle.lexicon_file.specs.Faults.{why_of}
 use Rattle.lexicon_file.specs.Told.{IsAnswer}
 
 -- refused for this reason
-pub refused_for : (A : Type 0) (taken : Taken) (error : LineError) (why : FileWhy) (after : Told) → error ≡ Why why → taken ≡ Err (why_of why) → IsAnswer {A = A} taken (Err error) after
-refused_for A taken error why after e t = subst (λ (err : LineError). IsAnswer {A = A} taken (Err err) after) (sym e) t
+pub refused_for : (A : Type 0) (taken : Taken) (error : TakeError) (why : FileWhy) (after : Told) → error ≡ Why why → taken ≡ Err (why_of why) → IsAnswer {A = A} taken (Err error) after
+refused_for A taken error why after e t = subst (λ (err : TakeError). IsAnswer {A = A} taken (Err err) after) (sym e) t
 
 pub no_rest : (rest : Option (Bor (List ℕ))) → is_some rest ≡ false → text_of_rest rest ≡ None
 no_rest None h = refl

@@ -26,8 +26,8 @@ use Rattle.lexicon_text_definitions.proofs.RisingLines.{lines_total, sorted_with
 use Rattle.lexicon_text_definitions.proofs.FormLines.{lines_with, at_zero}
 use Rattle.lexicon_text_definitions.proofs.FormPhases.{IsLawfulForm, AreLawful, lines_rise, entry_placed, all_left, all_right, line_itself}
 use Rattle.lexicon_text_definitions.proofs.WholeTexts.{counted}
-use Rattle.lexicon_file.specs.declared.line_error.LineError.{LineError}
-use Rattle.lexicon_file.specs.declared.line_error.LineError.TheVariants.{Why, Memory}
+use Rattle.lexicon_file.specs.declared.take_error.TakeError.{TakeError}
+use Rattle.lexicon_file.specs.declared.take_error.TakeError.TheVariants.{Why, Memory}
 use Rattle.lexicon_file.specs.Told.{IsLastPhase, IsBody, IsAnswer}
 use Rattle.lexicon_file.proofs.FormLemmas.{empty_after}
 use Rattle.list_laws.proofs.Booleans.{when_true, when_false}
@@ -152,11 +152,11 @@ pub above_last : (kept told : Told) (entry : Entry) (order : Ordering) → kept 
 above_last kept told entry order view o r = ap (λ (told : Told). compare_last compare_entries told.forms entry) view ∙ sym o ∙ less_by order told (r told)
 
 -- a refusal does not speak of what is told afterwards
-pub refusal_moved : (A B : Type 0) (taken other : Taken) (error : LineError) (before after : Told) → other ≡ taken → IsAnswer {A = A} taken (Err error) before → IsAnswer {A = B} other (Err error) after
+pub refusal_moved : (A B : Type 0) (taken other : Taken) (error : TakeError) (before after : Told) → other ≡ taken → IsAnswer {A = A} taken (Err error) before → IsAnswer {A = B} other (Err error) after
 refusal_moved A B taken other (Why why) before after e h = e ∙ h
 refusal_moved A B taken other Memory before after e h = tt
 
-pub not_above : (A B : Type 0) (told : Told) (entry : Entry) (test : Bool) (order : Ordering) (error : LineError) (after : Told) → test ≡ passes_form_limits told entry → test ≡ false
+pub not_above : (A B : Type 0) (told : Told) (entry : Entry) (test : Bool) (order : Ordering) (error : TakeError) (after : Told) → test ≡ passes_form_limits told entry → test ≡ false
     → order ≡ compare_last compare_entries told.forms entry → ((t : Told) → IsAnswer {A = A} (if_rising order t) (Err error) t) → IsAnswer {A = B} (take_form_line told entry) (Err error) after
 not_above A B told entry test order error after t e o r =
     refusal_moved A B (if_rising order (with_line told entry)) (take_form_line told entry) error (with_line told entry) after

@@ -5,14 +5,14 @@ use Rattle.lexicon_text_definitions.specs.FileContents.{Told}
 use Rattle.lexicon_text_definitions.specs.FileSteps.{take_line}
 use Rattle.lexicon_text_definitions.specs.FileReadings.{IsReadAs}
 use Rattle.lexicon_file.specs.declared.error.FileError.{FileError}
-use Rattle.lexicon_file.specs.declared.line_error.LineError.{LineError}
-use Rattle.lexicon_file.specs.declared.line_error.LineError.TheVariants.{Why, Memory}
+use Rattle.lexicon_file.specs.declared.take_error.TakeError.{TakeError}
+use Rattle.lexicon_file.specs.declared.take_error.TakeError.TheVariants.{Why, Memory}
 use Rattle.lexicon_file.specs.Contents.{IfFault, error_of}
 use Rattle.lexicon_file.specs.Faults.{why_of}
 use Rattle.lexicon_file.specs.Told.{IsLineAnswer}
 use Rattle.lexicon_file.proofs.ReadLemmas.{Reads, refused}
 
-pub line_fault : (A : Type 0) (bytes : List ℕ) (told after : Told) (number : ℕ) (rest following : List ℕ) (line : Line) (error : LineError) (fault : FileError)
+pub line_fault : (A : Type 0) (bytes : List ℕ) (told after : Told) (number : ℕ) (rest following : List ℕ) (line : Line) (error : TakeError) (fault : FileError)
     → Reads bytes told number rest → lines_of_bytes rest ≡ line ∷ lines_of_bytes following → IsLineAnswer {A = A} (take_line told line) (Err error) after
     → fault ≡ error_of number error → IfFault fault (λ fault. IsReadAs bytes (Err fault))
 line_fault A bytes told after number rest following line (Why why) fault h cut taken e =

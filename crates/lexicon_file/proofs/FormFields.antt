@@ -13,7 +13,7 @@ use Rattle.lexicon_text_definitions.specs.FileLines.{fields_of}
 use Rattle.lexicon_text_definitions.specs.FileContents.{Told, is_tag_text}
 use Rattle.lexicon_text_definitions.specs.FileSteps.{Taken, some_word, take_form_line, take_analysis, take_entry, take_form}
 use Rattle.lexicon_text_definitions.proofs.TagTests.{tag_from_test, test_from_tag}
-use Rattle.lexicon_file.specs.declared.line_error.LineError.{LineError}
+use Rattle.lexicon_file.specs.declared.take_error.TakeError.{TakeError}
 use Rattle.lexicon_file.specs.Fields.{four_of}
 use Rattle.lexicon_file.specs.Told.{IsAnswer}
 use Rattle.list_laws.proofs.Booleans.{when_true, when_false}
@@ -78,5 +78,5 @@ some_letter (Ok (letter ∷ letters)) word h =
     let same : letter ∷ letters ≡ word = cc in subst (λ word. 0 < length word) same (omega arith)
 some_letter (Err fault) word h = absurd (cc)
 
-pub answer_moved : (A : Type 0) (taken other : Taken) (result : Result A LineError) (after : Told) → other ≡ taken → IsAnswer taken result after → IsAnswer other result after
+pub answer_moved : (A : Type 0) (taken other : Taken) (result : Result A TakeError) (after : Told) → other ≡ taken → IsAnswer taken result after → IsAnswer other result after
 answer_moved A taken other result after e h = subst (λ (taken : Taken). IsAnswer taken result after) (sym e) h

@@ -16,8 +16,8 @@ use Rattle.lexicon_text_definitions.specs.FileSteps.{take_grammar}
 use Rattle.lexicon_text_definitions.proofs.FormLines.{no_lines_at_first}
 use Rattle.lexicon_text_definitions.proofs.LineSteps.{with_grammar, takes_grammar}
 use Rattle.lexicon_file.specs.declared.error.FileWhy.TheVariants.{Grammar}
-use Rattle.lexicon_file.specs.declared.line_error.LineError.{LineError}
-use Rattle.lexicon_file.specs.declared.line_error.LineError.TheVariants.{Why}
+use Rattle.lexicon_file.specs.declared.take_error.TakeError.{TakeError}
+use Rattle.lexicon_file.specs.declared.take_error.TakeError.TheVariants.{Why}
 use Rattle.lexicon_file.specs.Told.{IsLastPhase, IsBody, IsStage, IsLineAnswer}
 
 -- so many phases without forms
@@ -52,10 +52,10 @@ grammar_told told old text grammar forms e g f =
     ∙ (λ i. Ok (record { last = lines.Grammar; names = (sym e i).names; grammar = sym g i; plain = (sym e i).plain; rules = (sym e i).rules; forms = (ap (λ (t : Told). t.forms) (sym e) ∙ f) i }))
 
 -- the line's text has a fault
-pub grammar_fault : (A : Type 0) (told after : Told) (names : List (List ℕ)) (text : List ℕ) (fault : GrammarFault) (error : LineError) → error ≡ Why (Grammar fault) → names ≡ told.names
+pub grammar_fault : (A : Type 0) (told after : Told) (names : List (List ℕ)) (text : List ℕ) (fault : GrammarFault) (error : TakeError) → error ≡ Why (Grammar fault) → names ≡ told.names
     → IsFirstFault names text (fault_of fault) → IsLineAnswer {A = A} (take_grammar told (Some text)) (Err error) after
 grammar_fault A told after names text fault error e n f =
-    subst (λ (err : LineError). IsLineAnswer {A = A} (take_grammar told (Some text)) (Err err) after) (sym e)
+    subst (λ (err : TakeError). IsLineAnswer {A = A} (take_grammar told (Some text)) (Err err) after) (sym e)
     (inr (record {
       told = with_grammar told text;
       taken_so = takes_grammar told text;

@@ -13,8 +13,8 @@ use Rattle.lexicon_text_definitions.specs.FileSteps.{Taken, take_phase, take_gra
 use Rattle.lexicon_text_definitions.proofs.LineSteps.{took_phase, took_plain, took_rule, took_form, took_end}
 use Rattle.lexicon_file.specs.declared.kind.Kind.{Kind}
 use Rattle.lexicon_file.specs.declared.kind.Kind.TheVariants.{Opening, Head, Phase, Grammar, Plain, Rule, Form, End}
-use Rattle.lexicon_file.specs.declared.line_error.LineError.{LineError}
-use Rattle.lexicon_file.specs.declared.line_error.LineError.TheVariants.{Why, Memory}
+use Rattle.lexicon_file.specs.declared.take_error.TakeError.{TakeError}
+use Rattle.lexicon_file.specs.declared.take_error.TakeError.TheVariants.{Why, Memory}
 use Rattle.lexicon_file.specs.declared.error.FileWhy.{FileWhy}
 use Rattle.lexicon_file.specs.Faults.{why_of}
 use Rattle.lexicon_file.specs.Fields.{text_of_rest}
@@ -26,23 +26,23 @@ use Rattle.list_laws.proofs.Booleans.{if_passed, when_true, when_false}
 -- ---- answers
 
 -- refused for this reason
-pub line_refused : (A : Type 0) (taken : Taken) (error : LineError) (why : FileWhy) (after : Told) → error ≡ Why why → taken ≡ Err (why_of why) → IsLineAnswer {A = A} taken (Err error) after
-line_refused A taken error why after e t = subst (λ (err : LineError). IsLineAnswer {A = A} taken (Err err) after) (sym e) (inl t)
+pub line_refused : (A : Type 0) (taken : Taken) (error : TakeError) (why : FileWhy) (after : Told) → error ≡ Why why → taken ≡ Err (why_of why) → IsLineAnswer {A = A} taken (Err error) after
+line_refused A taken error why after e t = subst (λ (err : TakeError). IsLineAnswer {A = A} taken (Err err) after) (sym e) (inl t)
 
 -- the answer to a line after which the last is no grammar's
-answer_line : (A : Type 0) (taken : Taken) (result : Result A LineError) (after : Told) → (taken ≡ Ok after → after.last ≢ lines.Grammar) → IsAnswer {A = A} taken result after
+answer_line : (A : Type 0) (taken : Taken) (result : Result A TakeError) (after : Told) → (taken ≡ Ok after → after.last ≢ lines.Grammar) → IsAnswer {A = A} taken result after
     → IsLineAnswer {A = A} taken result after
 answer_line A taken (Ok done) after n h = (h, λ g. absurd (n h g))
 answer_line A taken (Err (Why why)) after n h = inl h
 answer_line A taken (Err Memory) after n h = tt
 
 -- the answer to a line that is taken as another one
-pub answer_as : (A : Type 0) (taken other : Taken) (result : Result A LineError) (after : Told) → taken ≡ other → IsLineAnswer {A = A} other result after → IsLineAnswer {A = A} taken result after
+pub answer_as : (A : Type 0) (taken other : Taken) (result : Result A TakeError) (after : Told) → taken ≡ other → IsLineAnswer {A = A} other result after → IsLineAnswer {A = A} taken result after
 answer_as A taken other result after e h = subst (λ (t : Taken). IsLineAnswer {A = A} t result after) (sym e) h
 
 -- ---- a line of each kind
 
-module _ (A : Type 0) (told after : Told) (result : Result A LineError) where
+module _ (A : Type 0) (told after : Told) (result : Result A TakeError) where
   of_kind : (kind : Kind) (is_kind : Kind) (rest : Option (Bor (List ℕ))) (text : Bor (List ℕ)) → kind ≡ is_kind → rest ≡ Some text
       → IsLineAnswer {A = A} (take_kind told (kind_of is_kind) (Some text.now)) result after → IsLineAnswer {A = A} (take_kind told (kind_of kind) (text_of_rest rest)) result after
   of_kind kind is_kind rest text k r h =

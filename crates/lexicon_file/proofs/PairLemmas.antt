@@ -11,8 +11,8 @@ use Rattle.lexicon_text_definitions.specs.FileLines.{fields_of, Plain}
 use Rattle.lexicon_text_definitions.specs.FileContents.{Told, compare_last}
 use Rattle.lexicon_text_definitions.specs.FileSteps.{Taken, if_rising, one_letter, take_letters, take_plain}
 use Rattle.lexicon_text_definitions.proofs.LineSteps.{with_pair}
-use Rattle.lexicon_file.specs.declared.line_error.LineError.{LineError}
-use Rattle.lexicon_file.specs.declared.line_error.LineError.TheVariants.{Why, Memory}
+use Rattle.lexicon_file.specs.declared.take_error.TakeError.{TakeError}
+use Rattle.lexicon_file.specs.declared.take_error.TakeError.TheVariants.{Why, Memory}
 use Rattle.lexicon_file.specs.Fields.{two_of}
 use Rattle.lexicon_file.specs.Faults.{why_of}
 use Rattle.lexicon_file.specs.Words.{IsRead}
@@ -39,7 +39,7 @@ last_decides compare (x ∷ y ∷ xs) new other some =
 -- ---- answers
 
 -- where a reader refuses, the line is refused for the spelling, or memory is wanting
-pub not_spelled : {A : Type 0} (B : Type 0) (spelled : Option A) (error : LineError) (taken : Taken) (after : Told) → IsRead {A = A} spelled (Err error) → (spelled ≡ None → taken ≡ Err faults.Spelling)
+pub not_spelled : {A : Type 0} (B : Type 0) (spelled : Option A) (error : TakeError) (taken : Taken) (after : Told) → IsRead {A = A} spelled (Err error) → (spelled ≡ None → taken ≡ Err faults.Spelling)
     → IsAnswer {A = B} taken (Err error) after
 not_spelled B spelled Memory taken after r h = tt
 not_spelled B spelled (Why why) taken after r h = h r.1 ∙ ap (λ why. Err (why_of why)) (sym r.0)
@@ -75,7 +75,7 @@ pub both_read : (told : Told) (fields : List (List ℕ)) (left right : List ℕ)
 both_read told fields left right x y e a b = ap (take_plain told) e ∙ pair_taken told left right ∙ (λ i. take_letters told (a i) (b i))
 
 -- where the pair does not rise
-pub not_risen : (A B : Type 0) (taken : Taken) (order : Ordering) (more after : Told) (error : LineError) → taken ≡ if_rising order more → IsAnswer {A = A} (if_rising order more) (Err error) more
+pub not_risen : (A B : Type 0) (taken : Taken) (order : Ordering) (more after : Told) (error : TakeError) → taken ≡ if_rising order more → IsAnswer {A = A} (if_rising order more) (Err error) more
     → IsAnswer {A = B} taken (Err error) after
 not_risen A B taken order more after Memory e h = tt
 not_risen A B taken order more after (Why why) e h = e ∙ h

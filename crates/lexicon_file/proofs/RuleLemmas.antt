@@ -10,8 +10,8 @@ use Rattle.lexicon_text_definitions.specs.FileLines.{fields_of, Shape, shape_of}
 use Rattle.lexicon_text_definitions.specs.FileContents.{Told}
 use Rattle.lexicon_text_definitions.specs.FileSteps.{Taken, take_triple, take_words, take_shape, take_rule}
 use Rattle.lexicon_text_definitions.proofs.LineCuts.{field_from_shape}
-use Rattle.lexicon_file.specs.declared.line_error.LineError.{LineError}
-use Rattle.lexicon_file.specs.declared.line_error.LineError.TheVariants.{Why, Memory}
+use Rattle.lexicon_file.specs.declared.take_error.TakeError.{TakeError}
+use Rattle.lexicon_file.specs.declared.take_error.TakeError.TheVariants.{Why, Memory}
 use Rattle.lexicon_file.specs.Fields.{one_of}
 use Rattle.lexicon_file.specs.Faults.{why_of}
 use Rattle.lexicon_file.specs.Words.{IsSpelled, word_of}
@@ -76,24 +76,24 @@ words_by told (Ok u) (Ok v) (Ok w) a b c d e f =
     λ i. take_triple told (first i) (second i) (third i)
 
 -- where a reader refuses, the line is refused for the spelling, or memory is wanting
-refused_by : (A : Type 0) (reading : Reading) (error : LineError) (taken : Taken) (after : Told) → IsSpelled reading (Err error) → (word_of reading ≡ None → taken ≡ Err faults.Spelling)
+refused_by : (A : Type 0) (reading : Reading) (error : TakeError) (taken : Taken) (after : Told) → IsSpelled reading (Err error) → (word_of reading ≡ None → taken ≡ Err faults.Spelling)
     → IsAnswer {A = A} taken (Err error) after
 refused_by A reading Memory taken after r h = tt
 refused_by A reading (Why why) taken after r h = h r.1 ∙ ap (λ why. Err (why_of why)) (sym r.0)
 
-pub u_refused : (A : Type 0) (told after : Told) (fields : List (List ℕ)) (field u v w : List ℕ) (error : LineError) → fields ≡ field ∷ []
+pub u_refused : (A : Type 0) (told after : Told) (fields : List (List ℕ)) (field u v w : List ℕ) (error : TakeError) → fields ≡ field ∷ []
     → shape_of field ≡ Some (record { u = u; v = v; w = w }) → IsSpelled (word_of_slp1 u) (Err error) → IsAnswer {A = A} (take_rule told fields) (Err error) after
 u_refused A told after fields field u v w error e h r =
     refused_by A (word_of_slp1 u) error (take_rule told fields) after r
     (λ n. shape_taken told fields field u v w e h ∙ no_u told (word_of_slp1 u) (word_of_slp1 v) (word_of_slp1 w) n)
 
-pub v_refused : (A : Type 0) (told after : Told) (fields : List (List ℕ)) (field u v w : List ℕ) (error : LineError) → fields ≡ field ∷ []
+pub v_refused : (A : Type 0) (told after : Told) (fields : List (List ℕ)) (field u v w : List ℕ) (error : TakeError) → fields ≡ field ∷ []
     → shape_of field ≡ Some (record { u = u; v = v; w = w }) → IsSpelled (word_of_slp1 v) (Err error) → IsAnswer {A = A} (take_rule told fields) (Err error) after
 v_refused A told after fields field u v w error e h r =
     refused_by A (word_of_slp1 v) error (take_rule told fields) after r
     (λ n. shape_taken told fields field u v w e h ∙ no_v told (word_of_slp1 u) (word_of_slp1 v) (word_of_slp1 w) n)
 
-pub w_refused : (A : Type 0) (told after : Told) (fields : List (List ℕ)) (field u v w : List ℕ) (error : LineError) → fields ≡ field ∷ []
+pub w_refused : (A : Type 0) (told after : Told) (fields : List (List ℕ)) (field u v w : List ℕ) (error : TakeError) → fields ≡ field ∷ []
     → shape_of field ≡ Some (record { u = u; v = v; w = w }) → IsSpelled (word_of_slp1 w) (Err error) → IsAnswer {A = A} (take_rule told fields) (Err error) after
 w_refused A told after fields field u v w error e h r =
     refused_by A (word_of_slp1 w) error (take_rule told fields) after r

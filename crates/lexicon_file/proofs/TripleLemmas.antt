@@ -6,8 +6,8 @@ use Rattle.lexicon_definitions.specs.Rules.{Rule, is_twin}
 use Rattle.lexicon_text_definitions.specs.FileContents.{has_triple}
 use Rattle.sandhi_rules.specs.contracts.triple.TriplePartialEq.TheImpl.{eq-value as triple_eq}
 use Rattle.lexicon_file.specs.declared.error.FileWhy.TheVariants.{Twice}
-use Rattle.lexicon_file.specs.declared.line_error.LineError.{LineError}
-use Rattle.lexicon_file.specs.declared.line_error.LineError.TheVariants.{Why}
+use Rattle.lexicon_file.specs.declared.take_error.TakeError.{TakeError}
+use Rattle.lexicon_file.specs.declared.take_error.TakeError.TheVariants.{Why}
 use Rattle.sandhi_rules.specs.declared.triple.Triple.{Triple}
 use Rattle.lexicon_file.specs.Added.{IsAdded, has_twin}
 use Rattle.sandhi_rules.specs.Triples.{triple_of}
@@ -37,6 +37,6 @@ twin_told old before rule triples triple is_new same alike is added =
     sym (same_tests rule old) ∙ twin_by_test old before rule triples triple is_new same alike is added
 
 -- where it was there the rules stay
-pub refused : (old now : List Rule) (rule : Rule) (error : LineError) → error ≡ Why Twice → has_twin old rule ≡ true → now ≡ old
+pub refused : (old now : List Rule) (rule : Rule) (error : TakeError) → error ≡ Why Twice → has_twin old rule ≡ true → now ≡ old
     → IsAdded {A = Unit {0}} old rule (Err error) now
-refused old now rule error why twin same = subst (λ (e : LineError). IsAdded {A = Unit {0}} old rule (Err e) now) (sym why) (refl, twin, same)
+refused old now rule error why twin same = subst (λ (e : TakeError). IsAdded {A = Unit {0}} old rule (Err e) now) (sym why) (refl, twin, same)

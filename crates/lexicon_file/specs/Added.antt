@@ -4,8 +4,8 @@ use Rattle.std.specs.List.{list_any}
 use Rattle.lexicon_definitions.specs.Rules.{Rule}
 use Rattle.lexicon_text_definitions.specs.FileContents.{has_triple, different_v}
 use Rattle.lexicon_file.specs.declared.error.FileWhy.TheVariants.{Twice}
-use Rattle.lexicon_file.specs.declared.line_error.LineError.{LineError}
-use Rattle.lexicon_file.specs.declared.line_error.LineError.TheVariants.{Why, Memory}
+use Rattle.lexicon_file.specs.declared.take_error.TakeError.{TakeError}
+use Rattle.lexicon_file.specs.declared.take_error.TakeError.TheVariants.{Why, Memory}
 use Rattle.sandhi_rules.specs.declared.triple.Triple.{Triple}
 use Rattle.sandhi_rules.specs.Triples.{triple_of}
 
@@ -20,7 +20,7 @@ has_twin rules new = list_any (has_triple new.u new.v new.w) rules
 
 -- the rule is appended where none has its triple, and it is a twin where one has; memory may be wanting; a refusal leaves all as
 -- it was
-abbrev pub IsAdded : {A : Type 0} → List Rule → Rule → Result A LineError → List Rule → Type 0
+abbrev pub IsAdded : {A : Type 0} → List Rule → Rule → Result A TakeError → List Rule → Type 0
 IsAdded old rule (Ok done) new = (has_twin old rule ≡ false) × (new ≡ old ++ rule ∷ [])
 IsAdded old rule (Err (Why why)) new = (why ≡ Twice) × (has_twin old rule ≡ true) × (new ≡ old)
 IsAdded old rule (Err Memory) new = new ≡ old

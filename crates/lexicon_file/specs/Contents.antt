@@ -6,8 +6,8 @@ use Rattle.lexicon_file.specs.declared.contents.Contents.{Contents}
 use Rattle.lexicon_file.specs.declared.error.FileFault.{FileFault}
 use Rattle.lexicon_file.specs.declared.error.FileError.{FileError}
 use Rattle.lexicon_file.specs.declared.error.FileError.TheVariants.{Fault, Memory}
-use Rattle.lexicon_file.specs.declared.line_error.LineError.{LineError}
-use Rattle.lexicon_file.specs.declared.line_error.LineError.TheVariants.{Why, Memory as WantOfMemory}
+use Rattle.lexicon_file.specs.declared.take_error.TakeError.{TakeError}
+use Rattle.lexicon_file.specs.declared.take_error.TakeError.TheVariants.{Why, Memory as WantOfMemory}
 use Rattle.lexicon_file.specs.Faults.{why_of}
 
 -- the rule set, and the forms of each phase
@@ -24,6 +24,6 @@ IfFault (Fault fault) P = P (fault_of fault)
 IfFault Memory P = Unit {0}
 
 -- the error of the line with this number
-abbrev pub error_of : ℕ → LineError → FileError
+abbrev pub error_of : ℕ → TakeError → FileError
 error_of line (Why why) = Fault (record { line = line; why = why })
 error_of line WantOfMemory = Memory

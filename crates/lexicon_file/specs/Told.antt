@@ -9,8 +9,8 @@ use Rattle.lexicon_text_definitions.specs.FileFaults as faults
 use Rattle.lexicon_text_definitions.specs.FileLines as lines
 use Rattle.lexicon_text_definitions.specs.FileContents.{Told, entries_from}
 use Rattle.lexicon_text_definitions.specs.FileSteps.{Taken}
-use Rattle.lexicon_file.specs.declared.line_error.LineError.{LineError}
-use Rattle.lexicon_file.specs.declared.line_error.LineError.TheVariants.{Why, Memory}
+use Rattle.lexicon_file.specs.declared.take_error.TakeError.{TakeError}
+use Rattle.lexicon_file.specs.declared.take_error.TakeError.TheVariants.{Why, Memory}
 use Rattle.lexicon_file.specs.declared.error.FileWhy.TheVariants.{NoEnd}
 use Rattle.lexicon_file.specs.Faults.{why_of}
 
@@ -41,7 +41,7 @@ pub record IsKept (told : Told) (automaton : Option StateMachine) (lists : List 
   pub stage : IsStage told.last told automaton lists last
 
 -- the answer to a line but a grammar's that is taken so: what is told after it, or why it is refused
-abbrev pub IsAnswer : {A : Type 0} → Taken → Result A LineError → Told → Type 0
+abbrev pub IsAnswer : {A : Type 0} → Taken → Result A TakeError → Told → Type 0
 IsAnswer taken (Ok done) after = taken ≡ Ok after
 IsAnswer taken (Err (Why why)) after = taken ≡ Err (why_of why)
 IsAnswer taken (Err Memory) after = Unit {0}
@@ -56,12 +56,12 @@ pub record IsGrammarFault (taken : Taken) (why : faults.Why) : Type 0 where
   pub is : why ≡ faults.Grammar fault
 
 -- the answer to any line: after a grammar line its text is one within the limits
-abbrev pub IsLineAnswer : {A : Type 0} → Taken → Result A LineError → Told → Type 0
+abbrev pub IsLineAnswer : {A : Type 0} → Taken → Result A TakeError → Told → Type 0
 IsLineAnswer taken (Ok done) after = (taken ≡ Ok after) × (after.last ≡ lines.Grammar → IsGrammarTextWithinLimits after.names after.grammar)
 IsLineAnswer taken (Err (Why why)) after = (taken ≡ Err (why_of why)) ⊎ IsGrammarFault taken (why_of why)
 IsLineAnswer taken (Err Memory) after = Unit {0}
 
 -- the only reason is that the end is missing, and then it is; memory may be wanting
-abbrev pub IsNoEnd : LineError → Type 0 → Type 0
+abbrev pub IsNoEnd : TakeError → Type 0 → Type 0
 IsNoEnd (Why why) Ended = (why ≡ NoEnd) × (Ended → ⊥)
 IsNoEnd Memory Ended = Unit {0}

@@ -10,9 +10,9 @@ mod contents;
 mod cutting;
 mod error;
 mod kind;
-mod line_error;
 mod reading;
 mod rules_so_far;
+mod take_error;
 #[cfg(test)]
 mod tests;
 mod told;

@@ -5,19 +5,19 @@ ghost use Rattle.lexicon_text_definitions.specs.FileReadings.{IsReadAs};
 ghost use Rattle.lexicon_file.specs.Contents.{lexicon_of, error_of, IfFault};
 
 use crate::cutting::first_line;
-use crate::line_error::LineError;
+use crate::take_error::TakeError;
 use crate::told::Told;
 use crate::{Contents, FileError, FileFault};
 use lexicon_text_definitions::MOST_FILE_BYTES;
 use std::alloc::Global;
 
 /// The error of the line with this number.
-fn error_at(line: u32, error: LineError) -> FileError
+fn error_at(line: u32, error: TakeError) -> FileError
     ensures { result ≡ error_of line error }
 {
     match error {
-        LineError::Why(why) => FileFault { line, why }.into(),
-        LineError::Memory => FileError::Memory,
+        TakeError::Why(why) => FileFault { line, why }.into(),
+        TakeError::Memory => FileError::Memory,
     }
 }
 

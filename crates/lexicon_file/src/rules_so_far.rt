@@ -4,7 +4,7 @@ ghost use Rattle.lexicon_file.specs.Added.{IsAdded};
 ghost use Rattle.indexmap.specs.IndexSet.{spare};
 
 use crate::FileWhy;
-use crate::line_error::LineError;
+use crate::take_error::TakeError;
 use indexmap::IndexSet;
 use lexicon_definitions::{MOST_LEADS, MOST_RULES};
 use phoneme::{Memory, Word};
@@ -85,7 +85,7 @@ impl RulesSoFar {
     }
 
     /// Appends the rule. `Twice` where one of the same triple is there. A refusal leaves the rules as they were.
-    pub(crate) fn add(&mut self, rule: Rule) -> Result<(), LineError>
+    pub(crate) fn add(&mut self, rule: Rule) -> Result<(), TakeError>
         requires { length self.old < MOST_RULES }
         ensures { IsAdded self.old rule result self.new }
     {

@@ -16,8 +16,8 @@ ghost use Rattle.lexicon_file.specs.Kinds.{kind_of};
 
 use crate::cutting::{four_fields, kind_and_rest, one_field, rule_parts, two_fields};
 use crate::kind::Kind;
-use crate::line_error::LineError;
 use crate::rules_so_far::RulesSoFar;
+use crate::take_error::TakeError;
 use crate::words::{read_letter, read_some_word, read_word};
 use crate::{Contents, FileWhy};
 use form_lists::FormLists;
@@ -58,7 +58,7 @@ impl Model for Told {
 }
 
 /// The reason that comes from how a new one compares with the last before it.
-fn rising(order: Ordering) -> Result<(), LineError>
+fn rising(order: Ordering) -> Result<(), TakeError>
     ensures { (told : ToldValue) → IsAnswer (if_rising order told) result told }
 {
     match order {
@@ -103,7 +103,7 @@ impl Told {
         })
     }
 
-    fn take_head(&mut self, line: &[u8]) -> Result<(), LineError>
+    fn take_head(&mut self, line: &[u8]) -> Result<(), TakeError>
         requires { self.old.last ≡ Opening }
         ensures { IsAnswer (take_head_of self.old line.now) result self.new }
     {
@@ -122,7 +122,7 @@ impl Told {
         phase_named(self.names.as_slice(), name)
     }
 
-    fn take_phase(&mut self, alloc: Global, text: &[u8]) -> Result<(), LineError>
+    fn take_phase(&mut self, alloc: Global, text: &[u8]) -> Result<(), TakeError>
         requires follows { may_follow self.old.last Phase ≡ true }
         requires fits { length text.now < 2 ^ 32 }
         ensures { IsAnswer (take_phase_of self.old (fields_of (Some text.now))) result self.new }
@@ -147,7 +147,7 @@ impl Told {
         Ok(())
     }
 
-    fn take_grammar(&mut self, alloc: Global, text: &[u8]) -> Result<(), LineError>
+    fn take_grammar(&mut self, alloc: Global, text: &[u8]) -> Result<(), TakeError>
         requires follows { may_follow self.old.last Grammar ≡ true }
         requires fits { length text.now < 2 ^ 32 }
         ensures { IsLineAnswer (take_grammar_of self.old (Some text.now)) result self.new }
@@ -155,7 +155,7 @@ impl Told {
         let automaton = match read_grammar(alloc, text, self.names.as_slice()) {
             Ok(automaton) => automaton,
             Err(GrammarError::Fault(fault)) => return Err(FileWhy::Grammar(fault).into()),
-            Err(GrammarError::Memory) => return Err(LineError::Memory),
+            Err(GrammarError::Memory) => return Err(TakeError::Memory),
         };
         self.grammar = Vec::from_slice(alloc, text)?;
         self.lists = FormLists::new(alloc, self.names.len() as u32)?;
@@ -165,7 +165,7 @@ impl Told {
         Ok(())
     }
 
-    fn take_plain(&mut self, alloc: Global, text: &[u8]) -> Result<(), LineError>
+    fn take_plain(&mut self, alloc: Global, text: &[u8]) -> Result<(), TakeError>
         requires follows { may_follow self.old.last Plain ≡ true }
         requires fits { length text.now < 2 ^ 32 }
         ensures { IsAnswer (take_plain_of self.old (fields_of (Some text.now))) result self.new }
@@ -192,7 +192,7 @@ impl Told {
             || w.len() > MOST_RULE_LETTERS
     }
 
-    fn take_triple(&mut self, u: Word, v: Word, w: Word) -> Result<(), LineError>
+    fn take_triple(&mut self, u: Word, v: Word, w: Word) -> Result<(), TakeError>
         requires { may_follow self.old.last RuleLine ≡ true }
         ensures { IsAnswer (take_triple_of self.old u v w) result self.new }
     {
@@ -208,7 +208,7 @@ impl Told {
         Ok(())
     }
 
-    fn take_rule(&mut self, alloc: Global, text: &[u8]) -> Result<(), LineError>
+    fn take_rule(&mut self, alloc: Global, text: &[u8]) -> Result<(), TakeError>
         requires follows { may_follow self.old.last RuleLine ≡ true }
         requires fits { length text.now < 2 ^ 32 }
         ensures { IsAnswer (take_rule_of self.old (fields_of (Some text.now))) result self.new }
@@ -242,7 +242,7 @@ impl Told {
         self.last_phase.cmp(&entry.phase).then(within_phase)
     }
 
-    fn take_entry(&mut self, entry: Entry) -> Result<(), LineError>
+    fn take_entry(&mut self, entry: Entry) -> Result<(), TakeError>
         requires follows { may_follow self.old.last Form ≡ true }
         requires phase { entry.phase < length self.old.names }
         requires form { 0 < length entry.form }
@@ -260,7 +260,7 @@ impl Told {
         Ok(())
     }
 
-    fn take_form(&mut self, alloc: Global, text: &[u8]) -> Result<(), LineError>
+    fn take_form(&mut self, alloc: Global, text: &[u8]) -> Result<(), TakeError>
         requires follows { may_follow self.old.last Form ≡ true }
         requires fits { length text.now < 2 ^ 32 }
         ensures { IsAnswer (take_form_of self.old (fields_of (Some text.now))) result self.new }
@@ -283,7 +283,7 @@ impl Told {
         })
     }
 
-    fn take_end(&mut self, rest: Option<&[u8]>) -> Result<(), LineError>
+    fn take_end(&mut self, rest: Option<&[u8]>) -> Result<(), TakeError>
         requires { may_follow self.old.last End ≡ true }
         ensures { IsAnswer (take_end_of self.old (text_of_rest rest.entry)) result self.new }
     {
@@ -295,7 +295,7 @@ impl Told {
     }
 
     /// Takes a line of a kind that may come next, with what comes after its blank.
-    fn take_kind(&mut self, alloc: Global, kind: Kind, rest: Option<&[u8]>) -> Result<(), LineError>
+    fn take_kind(&mut self, alloc: Global, kind: Kind, rest: Option<&[u8]>) -> Result<(), TakeError>
         requires follows { may_follow self.old.last (kind_of kind) ≡ true }
         requires fits { IfSome rest (λ text. length text.now < 2 ^ 32) }
         ensures { IsLineAnswer (take_kind_of self.old (kind_of kind) (text_of_rest rest.entry)) result self.new }
@@ -317,7 +317,7 @@ impl Told {
     }
 
     /// Takes a line after the first.
-    fn take_parts(&mut self, alloc: Global, line: &[u8]) -> Result<(), LineError>
+    fn take_parts(&mut self, alloc: Global, line: &[u8]) -> Result<(), TakeError>
         requires { length line.now < 2 ^ 32 }
         ensures { IsLineAnswer (take_parts_of self.old (parts_of line.now)) result self.new }
     {
@@ -337,7 +337,7 @@ impl Told {
         alloc: Global,
         line: &[u8],
         ended: bool,
-    ) -> Result<(), LineError>
+    ) -> Result<(), TakeError>
         requires { length line.now < 2 ^ 32 }
         ensures { IsLineAnswer (take_line_of self.old (record { bytes = line.now; ended = ended })) result self.new }
     {
@@ -357,7 +357,7 @@ impl Told {
     }
 
     /// The contents of the file, where the last line was its end.
-    pub(crate) fn finish(self, alloc: Global) -> Result<Contents, LineError>
+    pub(crate) fn finish(self, alloc: Global) -> Result<Contents, TakeError>
         requires set { self.last ≡ End → IsRuleSet (rules_told self) }
         requires limits { self.last ≡ End → IsRuleSetWithinLimits (rules_told self) }
         ensures ok { IfOk result (λ contents. (self.last ≡ End) × (lexicon_of contents ≡ lexicon_told self)) }

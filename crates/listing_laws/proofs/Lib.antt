@@ -1,7 +1,7 @@
 pub mod Paths
 pub mod ToCome
 pub mod Standing
-pub mod AtPositions
+pub mod AtCursors
 pub mod Skips
 pub mod Depths
 pub mod Visits

@@ -47,7 +47,7 @@ module _ (base : ℕ) where
   later_digits [] later are = are
   later_digits (digit ∷ front) later are = later_digits front later (All-tail IsDigit digit (front ++ later) are)
 
-  -- the measure falls where the next choice is taken, and a first one comes next
+  -- the measure falls where the next branch is taken, and a first one comes next
   pub falls_at_entering : (places : ℕ) (taken : List ℕ) (next first : ℕ) → 0 < base → AreDigits base (taken ++ next ∷ []) → 0 < first
       → length taken + 1 < places
       → far_from_end base places ((taken ++ next ∷ []) ++ first ∷ []) < far_from_end base places (taken ++ next ∷ [])

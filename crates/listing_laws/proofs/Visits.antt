@@ -6,8 +6,8 @@ use Rattle.listing_laws.specs.Stacks.{Frame, LeadTo, Every, HasPathLeft}
 use Rattle.listing_laws.specs.Visits.{Visit, Leave, Enter, AreVisits, visits_left}
 
 -- the frames are no more than the ranks from the start to the top
-pub frames_ranked : {Configuration Choice : Type 0} {ways : Ways Configuration Choice} {rank : Configuration → ℕ} {bound : ℕ}
-    → AreRanked ways rank bound → (start : Configuration) (frames : List (Frame Configuration Choice)) (top : Configuration)
+pub frames_ranked : {Configuration Branch : Type 0} {ways : Ways Configuration Branch} {rank : Configuration → ℕ} {bound : ℕ}
+    → AreRanked ways rank bound → (start : Configuration) (frames : List (Frame Configuration Branch)) (top : Configuration)
     → LeadTo ways start frames top → length frames + rank start ≤ rank top
 frames_ranked {rank = rank} ranked start [] top same = let e = ap rank same in omega arith
 frames_ranked {rank = rank} ranked start (frame ∷ frames) top (same, next, leads, later) =
@@ -17,8 +17,8 @@ frames_ranked {rank = rank} ranked start (frame ∷ frames) top (same, next, lea
     omega arith
 
 -- nor more than the bound
-pub frames_bounded : {Configuration Choice : Type 0} {ways : Ways Configuration Choice} {rank : Configuration → ℕ} {bound : ℕ}
-    → AreRanked ways rank bound → (start : Configuration) (frames : List (Frame Configuration Choice)) (top : Configuration)
+pub frames_bounded : {Configuration Branch : Type 0} {ways : Ways Configuration Branch} {rank : Configuration → ℕ} {bound : ℕ}
+    → AreRanked ways rank bound → (start : Configuration) (frames : List (Frame Configuration Branch)) (top : Configuration)
     → rank start ≤ bound → LeadTo ways start frames top → (rank top ≤ bound) × (length frames + rank start ≤ bound)
 frames_bounded {rank = rank} ranked start [] top within same = let e = ap rank same in (omega arith, omega arith)
 frames_bounded {rank = rank} ranked start (frame ∷ frames) top within (same, next, leads, later) =
@@ -27,12 +27,12 @@ frames_bounded {rank = rank} ranked start (frame ∷ frames) top within (same, n
     let rest = frames_bounded ranked next frames top (ranked.within frame.at frame.taken next leads) later in
     (rest.0, omega (arith, rest.1))
 
--- where a configuration has a path, one of its choices ends or leads to a configuration that has a path
-pub choice_with_path : {Configuration Choice : Type 0} (ways : Ways Configuration Choice) (at : Configuration) → HasPath ways at
-    → (choice : Choice) × (ways.ends at choice ⊎ ((next : Configuration) × ways.leads at choice next × HasPath ways next))
-choice_with_path ways at ([], is) = absurd is
-choice_with_path ways at (choice ∷ [], ends) = (choice, inl ends)
-choice_with_path ways at (choice ∷ later ∷ path, (next, leads, is)) = (choice, inr (next, leads, (later ∷ path, is)))
+-- where a configuration has a path, one of its branches ends or leads to a configuration that has a path
+pub branch_with_path : {Configuration Branch : Type 0} (ways : Ways Configuration Branch) (at : Configuration) → HasPath ways at
+    → (branch : Branch) × (ways.ends at branch ⊎ ((next : Configuration) × ways.leads at branch next × HasPath ways next))
+branch_with_path ways at ([], is) = absurd is
+branch_with_path ways at (branch ∷ [], ends) = (branch, inl ends)
+branch_with_path ways at (branch ∷ later ∷ path, (next, leads, is)) = (branch, inr (next, leads, (later ∷ path, is)))
 
 -- after one visit at least one fewer is left: a frame was left
 pub fewer_after_leaving : (bound frames : ℕ) → 0 < frames → visits_left bound false (frames - 1) + 1 ≤ visits_left bound false frames
@@ -52,16 +52,16 @@ spent_within cost left left_then spent spent_then most fewer more within =
     omega arith
 
 -- what is entered has a path that is left
-pub path_left_where_entered : {Configuration Choice : Type 0} (ways : Ways Configuration Choice) (at : Configuration) → HasPath ways at
+pub path_left_where_entered : {Configuration Branch : Type 0} (ways : Ways Configuration Branch) (at : Configuration) → HasPath ways at
     → HasPathLeft ways at Every
 path_left_where_entered ways at ([], is) = absurd is
-path_left_where_entered ways at (choice ∷ rest, is) = (choice, rest, is, tt)
+path_left_where_entered ways at (branch ∷ rest, is) = (branch, rest, is, tt)
 
--- to pass over choices that begin no path leaves it so
-pub path_left_passed_over : {Configuration Choice : Type 0} (ways : Ways Configuration Choice) (top : Configuration) (IsLeft Others : Choice → Type 0)
-    → ((choice : Choice) (rest : List Choice) → IsPath ways top (choice ∷ rest) → IsLeft choice ↔ Others choice)
+-- to pass over branches that begin no path leaves it so
+pub path_left_passed_over : {Configuration Branch : Type 0} (ways : Ways Configuration Branch) (top : Configuration) (IsLeft Others : Branch → Type 0)
+    → ((branch : Branch) (rest : List Branch) → IsPath ways top (branch ∷ rest) → IsLeft branch ↔ Others branch)
     → HasPathLeft ways top IsLeft → HasPathLeft ways top Others
-path_left_passed_over ways top IsLeft Others same (choice, rest, is, left) = (choice, rest, is, (same choice rest is).0 left)
+path_left_passed_over ways top IsLeft Others same (branch, rest, is, left) = (branch, rest, is, (same branch rest is).0 left)
 
 -- a move makes no more visits than are left
 pub visits_bounded : (bound : ℕ) (has_entered : Bool) (frames : ℕ) (visits : List Visit) → frames ≤ bound

@@ -1,4 +1,4 @@
--- The depth-first listing, where the choices of each configuration are written out.
+-- The depth-first listing, where the branches of each configuration are written out.
 use Rattle.std.specs.Prelude.{◌↔◌, ℕ, zero, suc, List, [], ◌∷◌, map, Option, Some, None, MatchOption, Contains}
 use Rattle.std.specs.List.{flat_map}
 use Rattle.std.specs.List.Sorted.{IsStrictlySortedBy}
@@ -6,26 +6,26 @@ use Rattle.std.specs.Option.{option_map}
 use Rattle.std.specs.Ordering.{on}
 use Rattle.listing_laws.specs.Ways.{Ways}
 
--- a choice, and where it leads; None where it ends
-pub record Turn (Configuration Choice : Type 0) : Type 0 where
-  pub choice : Choice
+-- a branch, and where it leads; None where it ends
+pub record Edge (Configuration Branch : Type 0) : Type 0 where
+  pub branch : Branch
   pub next : Option Configuration
 
--- the turn may be made at the configuration
-abbrev pub IsTurn : {Configuration Choice : Type 0} → Ways Configuration Choice → Configuration → Turn Configuration Choice → Type 0
-IsTurn ways at turn = MatchOption turn.next (ways.ends at turn.choice) (λ next. ways.leads at turn.choice next)
+-- the edge may be made at the configuration
+abbrev pub IsEdge : {Configuration Branch : Type 0} → Ways Configuration Branch → Configuration → Edge Configuration Branch → Type 0
+IsEdge ways at edge = MatchOption edge.next (ways.ends at edge.branch) (λ next. ways.leads at edge.branch next)
 
--- the turns of each configuration, with their choices rising
-pub record AreTurns {Configuration Choice : Type 0} (ways : Ways Configuration Choice) (turns : Configuration → List (Turn Configuration Choice)) : Type 0 where
-  pub rising : (at : Configuration) → IsStrictlySortedBy (on (λ turn. turn.choice) ways.compare) (turns at)
-  pub members : (at : Configuration) (turn : Turn Configuration Choice) → Contains (turns at) turn ↔ IsTurn ways at turn
+-- the edges of each configuration, with their branches rising
+pub record AreEdges {Configuration Branch : Type 0} (ways : Ways Configuration Branch) (edges : Configuration → List (Edge Configuration Branch)) : Type 0 where
+  pub rising : (at : Configuration) → IsStrictlySortedBy (on (λ edge. edge.branch) ways.compare) (edges at)
+  pub members : (at : Configuration) (edge : Edge Configuration Branch) → Contains (edges at) edge ↔ IsEdge ways at edge
 
--- the paths that begin with a choice: it alone where it ends, else it before each path from where it leads
-abbrev pub paths_with : {Choice : Type 0} → Choice → Option (List (List Choice)) → List (List Choice)
-paths_with choice None = (choice ∷ []) ∷ []
-paths_with choice (Some paths) = map (λ path. choice ∷ path) paths
+-- the paths that begin with a branch: it alone where it ends, else it before each path from where it leads
+abbrev pub paths_with : {Branch : Type 0} → Branch → Option (List (List Branch)) → List (List Branch)
+paths_with branch None = (branch ∷ []) ∷ []
+paths_with branch (Some paths) = map (λ path. branch ∷ path) paths
 
--- the listing from a configuration, this many choices deep: turn by turn, the paths that begin with it
-abbrev pub listing : {Configuration Choice : Type 0} → (Configuration → List (Turn Configuration Choice)) → ℕ → Configuration → List (List Choice)
-listing turns zero at = []
-listing turns (suc deep) at = flat_map (λ turn. paths_with turn.choice (option_map (listing turns deep) turn.next)) (turns at)
+-- the listing from a configuration, this many branches deep: edge by edge, the paths that begin with it
+abbrev pub listing : {Configuration Branch : Type 0} → (Configuration → List (Edge Configuration Branch)) → ℕ → Configuration → List (List Branch)
+listing edges zero at = []
+listing edges (suc deep) at = flat_map (λ edge. paths_with edge.branch (option_map (listing edges deep) edge.next)) (edges at)

@@ -1,4 +1,4 @@
--- A measure by which a search comes to an end: the choices taken and the next one, as a number.
+-- A measure by which a search comes to an end: the branches taken and the next one, as a number.
 use Rattle.std.specs.Prelude.{ℕ, zero, suc, ◌+◌, ◌*◌, ◌-◌, ◌^◌, ◌<◌, List, [], ◌∷◌, All}
 
 -- the number with this many places that has these digits, the first one the highest, and 0 where no digit is left

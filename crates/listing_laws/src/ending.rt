@@ -1,9 +1,9 @@
 ghost use Rattle.std.specs.Prelude.{ℕ, ◌+◌, ◌<◌, List, [], ◌∷◌, ◌++◌, length};
 ghost use Rattle.listing_laws.specs.Measures.{AreDigits, far_from_end};
 
-/// A search comes to an end, whether what it enters has a path or not: where its choices are numbered as they rise, from 1
+/// A search comes to an end, whether what it enters has a path or not: where its branches are numbered as they rise, from 1
 /// and below a base, and its frames are fewer than some number of places, the measure falls at each step. The digits are
-/// those of the choices taken and of the next one.
+/// those of the branches taken and of the next one.
 pub fn a_search_comes_to_an_end()
     ensures entering { (base places : ℕ) (taken : List ℕ) (next first : ℕ) → 0 < base → AreDigits base (taken ++ next ∷ []) → 0 < first
         → length taken + 1 < places

@@ -1,21 +1,21 @@
 ghost use Rattle.std.specs.Prelude.{ℕ, List};
 ghost use Rattle.listing_laws.specs.Ways.{Ways};
-ghost use Rattle.listing_laws.specs.Listings.{Turn};
+ghost use Rattle.listing_laws.specs.Listings.{Edge};
 
-/// A search as the laws of this crate see it: its configurations, its choices, and its ways. The other members stand for
+/// A search as the laws of this crate see it: its configurations, its branches, and its ways. The other members stand for
 /// whatever a law speaks of, so that each law is proved of all such properties.
 pub trait Searched {
     type Configuration;
 
-    type Choice;
+    type Branch;
 
-    ghost ways: { Ways Self.Configuration Self.Choice };
+    ghost ways: { Ways Self.Configuration Self.Branch };
 
-    ghost IsWanted: { List Self.Choice → Type 0 };
+    ghost IsWanted: { List Self.Branch → Type 0 };
 
-    ghost IsLeft: { Self.Choice → Type 0 };
+    ghost IsLeft: { Self.Branch → Type 0 };
 
-    ghost IsLeftThen: { Self.Choice → Type 0 };
+    ghost IsLeftThen: { Self.Branch → Type 0 };
 
-    ghost IsKept: { Self.Configuration → Self.Choice → Type 0 };
+    ghost IsKept: { Self.Configuration → Self.Branch → Type 0 };
 }

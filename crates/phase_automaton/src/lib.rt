@@ -9,7 +9,7 @@
 //! (`numbers_stand_for_states`); lists are read phase by phase (`phases_are_read_one_by_one`); from each numbered state some
 //! list leads on to a word (`numbered_states_lead_on`), and from the dead one none does (`the_dead_state_stays_dead`); a text
 //! has no syntax fault exactly where it is written as some tree is, with names that phases may have
-//! (`grammar_text_spells_its_tree`, `spelled_texts_have_no_fault`).
+//! (`grammar_text_spells_its_tree`, `spelled_texts_have_no_fault`); an automaton may be shared among threads (`automata_are_shared`).
 //!
 //! The automaton is built after Glushkov (1961) and McNaughton and Yamada (1960): each name of the text is a position, and a
 //! state is the set of positions at which the last phase can have been read.
@@ -26,6 +26,7 @@ mod position;
 mod position_set;
 mod read;
 mod reader;
+mod sharing;
 mod state;
 mod state_laws;
 mod subsets;
@@ -37,6 +38,7 @@ pub use automaton::Automaton;
 pub use fault::{GrammarError, GrammarFault};
 pub use laws::{grammar_text_spells_its_tree, spelled_texts_have_no_fault};
 pub use read::read_grammar;
+pub use sharing::automata_are_shared;
 pub use state::State;
 pub use state_laws::{
     numbered_states_lead_on, numbers_stand_for_states, phases_are_read_one_by_one,

@@ -5,7 +5,7 @@ pub mod ItemLines
 pub mod LineReplies
 pub mod MarkedReadings
 pub mod OpenReplies
-pub mod PagePositions
+pub mod PageCursors
 pub mod PageReadings
 pub mod PhaseAnalyses
 pub mod PutAnalyses

@@ -15,7 +15,7 @@ use Rattle.session_definitions.specs.States.{keys_at, bookmark_at}
 use Rattle.session_definitions.specs.Requests.{Mark}
 use Rattle.session_definitions.specs.Replies.{reply_to_mark, IsReplyTo}
 use Rattle.reader_session.specs.declared.reading.Reading.{Reading}
-use Rattle.reader_session.specs.Readings.{IsReading, IsReadingOver, GoesOn, position_at_last, state_with, state_of}
+use Rattle.reader_session.specs.Readings.{IsReading, IsReadingOver, GoesOn, cursor_at_last, state_with, state_of}
 use Rattle.reader_session.specs.Marked.{mark_of}
 use Rattle.reader_session.proofs.AnswerBounds.{keys_of_answer_within, few_keys_of_answer}
 
@@ -44,7 +44,7 @@ module _ (searched : SearchedLexicon) (reading : Reading) (is : IsReading search
   some_last step steps e = omega (arith, ap length e)
 
   keys_by_steps : (steps : List ProgramStep) → reading.last.items ≡ steps
-      → step_keys steps ≡ keys_at searched.lexicon.rules (position_at_last searched.lexicon.rules reading.line.letters steps)
+      → step_keys steps ≡ keys_at searched.lexicon.rules (cursor_at_last searched.lexicon.rules reading.line.letters steps)
   keys_by_steps [] e = refl
   keys_by_steps (step ∷ steps) e =
       same_keys searched.lexicon.rules reading.line.letters (step ∷ steps)
@@ -58,7 +58,7 @@ module _ (searched : SearchedLexicon) (reading : Reading) (is : IsReading search
 
   marked_keys : IsSearchedLexicon searched → (steps : List ProgramStep) → reading.last.items ≡ steps
       → AreMarkedKeys (length reading.line.letters) (length steps)
-      (keys_at searched.lexicon.rules (position_at_last searched.lexicon.rules reading.line.letters steps))
+      (keys_at searched.lexicon.rules (cursor_at_last searched.lexicon.rules reading.line.letters steps))
   marked_keys lexicon [] e = record { few = omega arith; within = All-nil IsKeyWithinBounds; none = (λ _. refl, λ _. refl) }
   marked_keys lexicon (step ∷ steps) e =
       let taken = steps_of searched.lexicon.rules reading.line.letters (step ∷ steps) in

@@ -8,7 +8,7 @@ use Rattle.segmentation_definitions.specs.declared.limits.TheConstants.{LAST_ANS
 use Rattle.segmentation_definitions.specs.Derivations.{Step}
 use Rattle.segmentation_definitions.specs.Items.{Choice}
 use Rattle.segmentation_definitions.specs.Answers.{IsAnswer}
-use Rattle.segmentation_definitions.specs.Listings.{Position, position_after, IsPage}
+use Rattle.segmentation_definitions.specs.Listings.{Cursor, cursor_after, IsPage}
 use Rattle.segmentation_definitions.specs.PrintedAnswers.{printed_answers, printed_rest, printed_page, next_number}
 use Rattle.derivation.specs.Steps.{steps_of, StandIn}
 use Rattle.derivation.specs.declared.step.Step.{Step as ProgramStep}
@@ -21,9 +21,9 @@ use Rattle.answer_printing.specs.Pages.{HasPrinted, KeepsLast, standing_at}
 use Rattle.session_definitions.specs.States.{after_answers}
 use Rattle.session_definitions.specs.Replies.{Open, IsPageReply, reply_in}
 use Rattle.reader_session.specs.declared.reading.Reading.{Reading}
-use Rattle.reader_session.specs.Readings.{IsReading, AreAnswerSteps, GoesOnWith, state_with, position_in, position_at_last}
+use Rattle.reader_session.specs.Readings.{IsReading, AreAnswerSteps, GoesOnWith, state_with, cursor_in, cursor_at_last}
 use Rattle.reader_session.specs.PageEnds.{HasLeft, HasToldRest}
-use Rattle.reader_session.proofs.PagePositions.{last_is_among, HaveSameAbove, same_then, same_after, page_there, stands_after, past_if_fewer}
+use Rattle.reader_session.proofs.PageCursors.{last_is_among, HaveSameAbove, same_then, same_after, page_there, stands_after, past_if_fewer}
 
 -- the search that goes on from where a reading stands, as it is seen
 abbrev pub search_in : SearchedLexicon → Reading → SearchValue
@@ -36,12 +36,12 @@ paged reading resumption printed last = record reading { resumption = resumption
 -- ---- the steps that are kept
 
 -- they are at the last answer that was printed
-position_kept : (search : SearchValue) (answers : List (List Step)) (before after : List ProgramStep) → KeepsLast search answers before after
-    → position_at_last search.searched.lexicon.rules search.line.letters after
-    ≡ position_after (position_at_last search.searched.lexicon.rules search.line.letters before) answers
-position_kept search [] before after kept = ap (position_at_last search.searched.lexicon.rules search.line.letters) kept
-position_kept search (first ∷ answers) before [] kept = absurd (omega (arith, kept.2))
-position_kept search (first ∷ answers) before (step ∷ after) kept = sym kept.0
+cursor_kept : (search : SearchValue) (answers : List (List Step)) (before after : List ProgramStep) → KeepsLast search answers before after
+    → cursor_at_last search.searched.lexicon.rules search.line.letters after
+    ≡ cursor_after (cursor_at_last search.searched.lexicon.rules search.line.letters before) answers
+cursor_kept search [] before after kept = ap (cursor_at_last search.searched.lexicon.rules search.line.letters) kept
+cursor_kept search (first ∷ answers) before [] kept = absurd (omega (arith, kept.2))
+cursor_kept search (first ∷ answers) before (step ∷ after) kept = sym kept.0
 
 -- the steps are those of an answer
 abbrev AreStepsOf : SearchedLexicon → Line → List Choice → List ProgramStep → Type 0
@@ -50,7 +50,7 @@ AreStepsOf searched line choices steps =
 
 -- they are those of an answer
 steps_kept : (search : SearchValue) (answers : List (List Step)) (before after : List ProgramStep) → KeepsLast search answers before after
-    → AreFirstAnswers search.searched.lexicon search.line search.choices search.position answers
+    → AreFirstAnswers search.searched.lexicon search.line search.choices search.cursor answers
     → (0 < length before → AreStepsOf search.searched search.line search.choices before)
     → 0 < length after → AreStepsOf search.searched search.line search.choices after
 steps_kept search [] before after kept firsts old some =
@@ -75,25 +75,25 @@ module _ (searched : SearchedLexicon) (reading : Reading) (is : IsReading search
     (printed : HasPrinted (search_in searched reading) new number count before after reading.last.items last.items many)
     (stands : StandsWhere new resumption) (told : HasToldRest new after end)
     (total_is : total ≡ min (reading.printed + many) LAST_ANSWER_NUMBER) where
-  stays : new ≡ standing_at (search_in searched reading) new.position
+  stays : new ≡ standing_at (search_in searched reading) new.cursor
   stays = printed.listed.same
 
   -- just the answers after the last one printed come after where the search stands
-  same_above : HaveSameAbove searched.lexicon reading.line reading.choices new.position
-      (position_after (position_in searched.lexicon.rules reading) printed.answers)
+  same_above : HaveSameAbove searched.lexicon reading.line reading.choices new.cursor
+      (cursor_after (cursor_in searched.lexicon.rules reading) printed.answers)
   same_above =
-      same_then searched.lexicon reading.line reading.choices new.position (position_after (search_in searched reading).position printed.answers)
-      (position_after (position_in searched.lexicon.rules reading) printed.answers)
+      same_then searched.lexicon reading.line reading.choices new.cursor (cursor_after (search_in searched reading).cursor printed.answers)
+      (cursor_after (cursor_in searched.lexicon.rules reading) printed.answers)
       (stands_after (search_in searched reading) new count printed.answers printed.listed)
-      (same_after searched.lexicon reading.line reading.choices (search_in searched reading).position (position_in searched.lexicon.rules reading)
+      (same_after searched.lexicon reading.line reading.choices (search_in searched reading).cursor (cursor_in searched.lexicon.rules reading)
       printed.answers is.above)
 
-  position_is : position_in searched.lexicon.rules (paged reading resumption total last)
-      ≡ position_after (position_in searched.lexicon.rules reading) printed.answers
-  position_is = position_kept (search_in searched reading) printed.answers reading.last.items last.items printed.last
+  cursor_is : cursor_in searched.lexicon.rules (paged reading resumption total last)
+      ≡ cursor_after (cursor_in searched.lexicon.rules reading) printed.answers
+  cursor_is = cursor_kept (search_in searched reading) printed.answers reading.last.items last.items printed.last
 
   -- the saved resumption is where the search was
-  saved : StandsWhere (standing_at (search_in searched reading) new.position) resumption
+  saved : StandsWhere (standing_at (search_in searched reading) new.cursor) resumption
   saved = subst (λ (search : SearchValue). StandsWhere search resumption) stays stands
 
   total_after : total ≡ min (reading.printed + length printed.answers) LAST_ANSWER_NUMBER
@@ -115,9 +115,9 @@ module _ (searched : SearchedLexicon) (reading : Reading) (is : IsReading search
     guide = is.guide;
     exact = is.exact;
     stack = saved.is_stack;
-    above = subst (λ position. HaveSameAbove searched.lexicon reading.line reading.choices position (position_in searched.lexicon.rules (paged reading resumption total last)))
-        (sym saved.position)
-        (subst (λ position. HaveSameAbove searched.lexicon reading.line reading.choices new.position position) (sym position_is) same_above);
+    above = subst (λ cursor. HaveSameAbove searched.lexicon reading.line reading.choices cursor (cursor_in searched.lexicon.rules (paged reading resumption total last)))
+        (sym saved.cursor)
+        (subst (λ cursor. HaveSameAbove searched.lexicon reading.line reading.choices new.cursor cursor) (sym cursor_is) same_above);
     last = new_steps;
     some_printed = number_kept (search_in searched reading) printed.answers reading.last.items last.items printed.last reading.printed total is.some_printed
         is.printed total_after;
@@ -127,11 +127,11 @@ module _ (searched : SearchedLexicon) (reading : Reading) (is : IsReading search
   }
 
   -- the page is printed where the last answer printed was
-  page : IsPage searched.lexicon reading.line reading.choices (position_in searched.lexicon.rules reading) count printed.answers told.more
+  page : IsPage searched.lexicon reading.line reading.choices (cursor_in searched.lexicon.rules reading) count printed.answers told.more
   page =
-      page_there searched.lexicon reading.line reading.choices (search_in searched reading).position (position_in searched.lexicon.rules reading) new.position
+      page_there searched.lexicon reading.line reading.choices (search_in searched reading).cursor (cursor_in searched.lexicon.rules reading) new.cursor
       printed.answers count told.more is.above printed.listed.first printed.listed.at_most same_above
-      (λ fewer. ap (λ (search : SearchValue). search.position) (past_if_fewer (search_in searched reading) new count printed.answers printed.listed fewer))
+      (λ fewer. ap (λ (search : SearchValue). search.cursor) (past_if_fewer (search_in searched reading) new count printed.answers printed.listed fewer))
       (subst (λ (search : SearchValue). IsTrue told.more ↔ HasLeft search) stays told.left)
 
   lines : number ≡ next_number reading.printed
@@ -152,6 +152,6 @@ module _ (searched : SearchedLexicon) (reading : Reading) (is : IsReading search
         is_it = record { answers = printed.answers; more = told.more; page = page; is = refl };
         bytes = lines number_is;
         is_reading = reading_after_page;
-        stands = ap (λ (p : ℕ × Position). Open (record state { printed = p.0; position = p.1 }))
-            (λ i. (sym total_after i, sym position_is i));
+        stands = ap (λ (p : ℕ × Cursor). Open (record state { printed = p.0; cursor = p.1 }))
+            (λ i. (sym total_after i, sym cursor_is i));
       }

@@ -6,7 +6,7 @@ use Rattle.bookmarks.specs.declared.bookmark.Bookmark.{Bookmark as ProgramBookma
 use Rattle.bookmarks.specs.Values.{bookmark_of}
 use Rattle.session_definitions.specs.States.{after_resume}
 use Rattle.session_definitions.specs.Requests.{Resume}
-use Rattle.session_definitions.specs.Replies.{Reply, Open, agreed, OfPosition, OfNoPosition, IsReplyTo}
+use Rattle.session_definitions.specs.Replies.{Reply, Open, agreed, OfCursor, OfNoCursor, IsReplyTo}
 use Rattle.reader_session.specs.declared.reading.Reading.{Reading}
 use Rattle.reader_session.specs.Readings.{IsReadingOver, GoesOn, state_of}
 use Rattle.reader_session.specs.Resumed.{IsResumed, value_of_mark}
@@ -22,7 +22,7 @@ goes_on_resumed : (searched : SearchedLexicon) (old : Option Reading) (mark : Pr
     → GoesOn searched (IsReplyToResume searched old (Some mark)) before now (Some reading)
 goes_on_resumed searched old mark before now reading resumed e = record {
   reply = agreed (after_resume (bookmark_of mark) resumed.0);
-  is_it = OfPosition resumed.0 resumed.1.is_position refl;
+  is_it = OfCursor resumed.0 resumed.1.is_cursor refl;
   bytes = e;
   is_reading = resumed.1.is_reading;
   stands = ap Open (sym resumed.1.state);
@@ -46,7 +46,7 @@ pub reply_not_resumed : {E : Type 0} (searched : SearchedLexicon) (old : Option 
 reply_not_resumed searched old read mark outcome before now result e none is resumed bytes same =
     subst (λ read. IfOk result (GoesOn searched (IsReplyToResume searched old read) before now)) (sym e)
     (if_refused searched old (IsReplyToResume searched old (Some mark)) (codes "bookmark") before now result is
-    (OfNoPosition (subst (IsResumed searched (bookmark_of mark)) none resumed) refl) bytes same)
+    (OfNoCursor (subst (IsResumed searched (bookmark_of mark)) none resumed) refl) bytes same)
 
 -- and so is what is no bookmark
 pub reply_not_read : {E : Type 0} (searched : SearchedLexicon) (old : Option Reading) (read : Option ProgramBookmark)

@@ -7,7 +7,7 @@ use Rattle.text_definitions.specs.Lines.{Line}
 use Rattle.segmentation_definitions.specs.Items.{Item, Choice}
 use Rattle.segmentation_definitions.specs.Derivations.{Step}
 use Rattle.segmentation_definitions.specs.Answers.{IsAnswer}
-use Rattle.segmentation_definitions.specs.Listings.{Key, Position, IsAbove}
+use Rattle.segmentation_definitions.specs.Listings.{Key, Cursor, IsAbove}
 use Rattle.derivation.specs.declared.item.Item.{Item as ProgramItem}
 use Rattle.derivation.specs.declared.step.Step.{Step as ProgramStep}
 use Rattle.derivation.specs.declared.step.Key.{Key as ProgramKey}
@@ -15,25 +15,25 @@ use Rattle.derivation.specs.Steps.{StandIn, steps_of}
 use Rattle.annotated_trie.specs.Searched.{SearchedLexicon}
 use Rattle.bookmark_definitions.specs.Bookmarks.{Bookmark, IsBookmark}
 use Rattle.bookmarks.specs.Values.{keys_of}
-use Rattle.session_definitions.specs.Replies.{IsPositionOfKeys}
+use Rattle.session_definitions.specs.Replies.{IsCursorOfKeys}
 use Rattle.search_frames.specs.Guided.{IsGuideOf, IsExactOf}
 use Rattle.derivation.specs.Steps.{keys_meant}
-use Rattle.segmenter.specs.Searches.{SearchValue, AreNoKeys, StandsAtKeys, StandsWhere, position_of}
+use Rattle.segmenter.specs.Searches.{SearchValue, AreNoKeys, StandsAtKeys, StandsWhere, cursor_of}
 use Rattle.summary_chart.specs.Charts.{CoversPlace, says_of}
 use Rattle.summary_chart.specs.PlaceWays.{IsChartOf}
 use Rattle.reader_session.specs.declared.reading.Reading.{Reading}
-use Rattle.reader_session.specs.Readings.{position_at_last, position_in}
+use Rattle.reader_session.specs.Readings.{cursor_at_last, cursor_in}
 use Rattle.reader_session.specs.Resumed.{HasPhases, IsLastOf, IsResumed, IsResumedAt}
 
 -- ---- where a search stands at keys
 
 -- the last steps tell where the search stands
-position_by_last : (search : SearchValue) (keys : List Key) (last : List ProgramStep) → StandsAtKeys search keys → IsLastOf search last
-    → search.position ≡ position_at_last search.searched.lexicon.rules search.line.letters last
-position_by_last search [] [] at is_last = at
-position_by_last search [] (step ∷ steps) at is_last = is_last.0
-position_by_last search (key ∷ keys) [] at is_last = absurd (is_last at.0 at.1)
-position_by_last search (key ∷ keys) (step ∷ steps) at is_last = is_last.0
+cursor_by_last : (search : SearchValue) (keys : List Key) (last : List ProgramStep) → StandsAtKeys search keys → IsLastOf search last
+    → search.cursor ≡ cursor_at_last search.searched.lexicon.rules search.line.letters last
+cursor_by_last search [] [] at is_last = at
+cursor_by_last search [] (step ∷ steps) at is_last = is_last.0
+cursor_by_last search (key ∷ keys) [] at is_last = absurd (is_last at.0 at.1)
+cursor_by_last search (key ∷ keys) (step ∷ steps) at is_last = is_last.0
 
 -- they are those of an answer
 record AreOfAnswer (search : SearchValue) (last : List ProgramStep) : Type 0 where
@@ -65,26 +65,26 @@ last_if_printed search (key ∷ keys) [] printed at is_last no_keys = absurd (is
 last_if_printed search (key ∷ keys) (step ∷ steps) printed at is_last no_keys =
     (λ some. not_none printed (λ none. absurd (cc (no_keys.1 none))), λ some. omega arith)
 
--- ---- positions of bookmarks
+-- ---- cursors of bookmarks
 
-position_of_keys : (search : SearchValue) (keys : List Key) → StandsAtKeys search keys
-    → IsPositionOfKeys search.searched.lexicon search.line search.choices keys search.position
-position_of_keys search [] at = at
-position_of_keys search (key ∷ keys) at = (at.0, at.2, at.3, at.1)
+cursor_of_keys : (search : SearchValue) (keys : List Key) → StandsAtKeys search keys
+    → IsCursorOfKeys search.searched.lexicon search.line search.choices keys search.cursor
+cursor_of_keys search [] at = at
+cursor_of_keys search (key ∷ keys) at = (at.0, at.2, at.3, at.1)
 
--- keys of no answer have no position
-no_position : (searched : SearchedLexicon) (line : Line) (choices : List Choice) (keys : List ProgramKey) (position : Position)
+-- keys of no answer have no cursor
+no_cursor : (searched : SearchedLexicon) (line : Line) (choices : List Choice) (keys : List ProgramKey) (cursor : Cursor)
     → keys ≢ [] → AreNoKeys searched line choices (keys_meant keys)
-    → IsPositionOfKeys searched.lexicon line choices (keys_of keys) position → ⊥
-no_position searched line choices [] position some none is = absurd (some refl)
-no_position searched line choices (key ∷ keys) position some none is = none is.0 is.1 is.2
+    → IsCursorOfKeys searched.lexicon line choices (keys_of keys) cursor → ⊥
+no_cursor searched line choices [] cursor some none is = absurd (some refl)
+no_cursor searched line choices (key ∷ keys) cursor some none is = none is.0 is.1 is.2
 
 -- a bookmark with keys of no answer is none over the lexicon
 pub none_resumed : (searched : SearchedLexicon) (line : Line) (choices : List Choice) (printed : ℕ) (keys : List ProgramKey)
     → keys ≢ [] → AreNoKeys searched line choices (keys_meant keys)
     → IsResumed searched (record { line = line; choices = choices; printed = printed; keys = keys_of keys }) None
 none_resumed searched line choices printed keys some none =
-    λ position is. no_position searched line choices keys position some none is.keys
+    λ cursor is. no_cursor searched line choices keys cursor some none is.keys
 
 -- ---- what is read on
 
@@ -98,28 +98,28 @@ module _ (searched : SearchedLexicon) (reading : Reading) (keys : List Key) (sum
   abbrev pub mark_of : Bookmark
   mark_of = record { line = reading.line; choices = reading.choices; printed = reading.printed; keys = keys }
 
-  -- a search over what is read, at this position
-  abbrev pub search_at : Position → SearchValue
-  search_at position = record { searched = searched; line = reading.line; choices = reading.choices; position = position }
+  -- a search over what is read, at this cursor
+  abbrev pub search_at : Cursor → SearchValue
+  search_at cursor = record { searched = searched; line = reading.line; choices = reading.choices; cursor = cursor }
 
-  same_above : (position : Position) (answer : List Step) → position_of searched reading.line reading.resumption ≡ position
-      → position ≡ position_in searched.lexicon.rules reading
-      → IsAbove searched.lexicon.rules (position_of searched reading.line reading.resumption) answer
-      ↔ IsAbove searched.lexicon.rules (position_in searched.lexicon.rules reading) answer
-  same_above position answer stands is =
+  same_above : (cursor : Cursor) (answer : List Step) → cursor_of searched reading.line reading.resumption ≡ cursor
+      → cursor ≡ cursor_in searched.lexicon.rules reading
+      → IsAbove searched.lexicon.rules (cursor_of searched reading.line reading.resumption) answer
+      ↔ IsAbove searched.lexicon.rules (cursor_in searched.lexicon.rules reading) answer
+  same_above cursor answer stands is =
       let same = stands ∙ is in (
-        λ above. subst (λ position. IsAbove searched.lexicon.rules position answer) same above,
-        λ above. subst (λ position. IsAbove searched.lexicon.rules position answer) (sym same) above,
+        λ above. subst (λ cursor. IsAbove searched.lexicon.rules cursor answer) same above,
+        λ above. subst (λ cursor. IsAbove searched.lexicon.rules cursor answer) (sym same) above,
       )
 
-  resumed_at : (position : Position) → IsBookmark mark_of → HasPhases searched.lexicon reading.choices
+  resumed_at : (cursor : Cursor) → IsBookmark mark_of → HasPhases searched.lexicon reading.choices
       → IsChartOf searched reading.line reading.choices reading.chart
       → IsGuideOf searched reading.line reading.choices (CoversPlace reading.chart.table) (says_of reading.chart.table)
       → IsExactOf searched reading.line reading.choices (says_of reading.chart.table)
-      → StandsAtKeys (search_at position) keys → IsLastOf (search_at position) reading.last.items
-      → StandsWhere (search_at position) reading.resumption → IsResumedAt searched mark_of reading position
-  resumed_at position mark phases chart guide exact at is_last stands =
-      let is : position ≡ position_in searched.lexicon.rules reading = position_by_last (search_at position) keys reading.last.items at is_last in
+      → StandsAtKeys (search_at cursor) keys → IsLastOf (search_at cursor) reading.last.items
+      → StandsWhere (search_at cursor) reading.resumption → IsResumedAt searched mark_of reading cursor
+  resumed_at cursor mark phases chart guide exact at is_last stands =
+      let is : cursor ≡ cursor_in searched.lexicon.rules reading = cursor_by_last (search_at cursor) keys reading.last.items at is_last in
       record {
         is_reading = record {
           line = mark.line;
@@ -128,21 +128,21 @@ module _ (searched : SearchedLexicon) (reading : Reading) (keys : List Key) (sum
           guide = guide;
           exact = exact;
           stack = stands.is_stack;
-          above = λ answer is_answer. same_above position answer stands.position is;
+          above = λ answer is_answer. same_above cursor answer stands.cursor is;
           last = λ some.
-              let of = of_answer (search_at position) keys reading.last.items at is_last some in
+              let of = of_answer (search_at cursor) keys reading.last.items at is_last some in
               record { stand_in = of.stand_in; answer = of.answer };
-          some_printed = last_if_printed (search_at position) keys reading.last.items reading.printed at is_last mark.no_keys;
+          some_printed = last_if_printed (search_at cursor) keys reading.last.items reading.printed at is_last mark.no_keys;
           printed = mark.printed;
           items = mark.items;
           summary = λ items some. absurd (no_summary reading.summary items summary some);
         };
-        is_position = record { phases = phases; keys = position_of_keys (search_at position) keys at };
+        is_cursor = record { phases = phases; keys = cursor_of_keys (search_at cursor) keys at };
         state = λ i. record {
           line = Some reading.line;
           choices = reading.choices;
           printed = reading.printed;
-          position = sym is i;
+          cursor = sym is i;
           summary = option_map (λ items. items.items) (summary i);
         };
       }
@@ -152,10 +152,10 @@ module _ (searched : SearchedLexicon) (reading : Reading) (keys : List Key) (sum
       → IsChartOf searched reading.line reading.choices reading.chart
       → IsGuideOf searched reading.line reading.choices (CoversPlace reading.chart.table) (says_of reading.chart.table)
       → IsExactOf searched reading.line reading.choices (says_of reading.chart.table)
-      → search ≡ search_at search.position → StandsAtKeys search keys → IsLastOf search reading.last.items
+      → search ≡ search_at search.cursor → StandsAtKeys search keys → IsLastOf search reading.last.items
       → StandsWhere search reading.resumption → IsResumed searched mark_of (Some reading)
   resumed search mark phases chart guide exact over at is_last stands = (
-    search.position,
-    resumed_at search.position mark phases chart guide exact (subst (λ search. StandsAtKeys search keys) over at)
+    search.cursor,
+    resumed_at search.cursor mark phases chart guide exact (subst (λ search. StandsAtKeys search keys) over at)
         (subst (λ search. IsLastOf search reading.last.items) over is_last) (subst (λ search. StandsWhere search reading.resumption) over stands),
   )

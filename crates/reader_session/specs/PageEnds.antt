@@ -9,7 +9,7 @@ use Rattle.segmenter.specs.Searches.{SearchValue}
 -- an answer comes after where the search stands
 abbrev pub HasLeft : SearchValue → Type 0
 HasLeft search = (answer : List Step) × IsAnswer search.searched.lexicon search.line search.choices answer
-    × IsAbove search.searched.lexicon.rules search.position answer
+    × IsAbove search.searched.lexicon.rules search.cursor answer
 
 -- the line was appended that says whether an answer is left
 pub record HasToldRest (search : SearchValue) (before after : List ℕ) : Type 0 where

@@ -7,7 +7,7 @@ use Rattle.segmentation_definitions.specs.declared.limits.TheConstants.{MOST_CHO
 use Rattle.segmentation_definitions.specs.Derivations.{Step}
 use Rattle.segmentation_definitions.specs.Items.{Item}
 use Rattle.segmentation_definitions.specs.Answers.{IsAnswer}
-use Rattle.segmentation_definitions.specs.Listings.{Position, BeforeFirst, AtAnswer, IsAbove, IsSummary}
+use Rattle.segmentation_definitions.specs.Listings.{Cursor, BeforeFirst, AtAnswer, IsAbove, IsSummary}
 use Rattle.bookmark_definitions.specs.Bookmarks.{IsItemWithinBounds}
 use Rattle.session_definitions.specs.States.{State, opening}
 use Rattle.session_definitions.specs.Replies.{Reply, Open}
@@ -15,19 +15,19 @@ use Rattle.derivation.specs.Steps.{steps_of, StandIn}
 use Rattle.derivation.specs.declared.step.Step.{Step as ProgramStep}
 use Rattle.annotated_trie.specs.Searched.{SearchedLexicon}
 use Rattle.search_frames.specs.Guided.{IsGuideOf, IsExactOf}
-use Rattle.segmenter.specs.Searches.{IsStackOf, position_of}
+use Rattle.segmenter.specs.Searches.{IsStackOf, cursor_of}
 use Rattle.summary_chart.specs.Charts.{CoversPlace, says_of}
 use Rattle.summary_chart.specs.PlaceWays.{IsChartOf}
 use Rattle.reader_session.specs.declared.reading.Reading.{Reading}
 
--- the position of the answer with these steps, and that before the first where there are none
-abbrev pub position_at_last : RuleSet → List ℕ → List ProgramStep → Position
-position_at_last rules letters [] = BeforeFirst
-position_at_last rules letters (step ∷ steps) = AtAnswer (steps_of rules letters (step ∷ steps))
+-- the cursor of the answer with these steps, and that before the first where there are none
+abbrev pub cursor_at_last : RuleSet → List ℕ → List ProgramStep → Cursor
+cursor_at_last rules letters [] = BeforeFirst
+cursor_at_last rules letters (step ∷ steps) = AtAnswer (steps_of rules letters (step ∷ steps))
 
 -- where the listing of the line was left, by the last answer printed
-abbrev pub position_in : RuleSet → Reading → Position
-position_in rules reading = position_at_last rules reading.line.letters reading.last.items
+abbrev pub cursor_in : RuleSet → Reading → Cursor
+cursor_in rules reading = cursor_at_last rules reading.line.letters reading.last.items
 
 -- the state of a session that reads this line
 abbrev pub state_with : RuleSet → Reading → State
@@ -36,7 +36,7 @@ state_with rules reading =
       line = Some reading.line;
       choices = reading.choices;
       printed = reading.printed;
-      position = position_in rules reading;
+      cursor = cursor_in rules reading;
       summary = option_map (λ items. items.items) reading.summary;
     }
 
@@ -60,8 +60,8 @@ pub record IsReading (searched : SearchedLexicon) (reading : Reading) : Type 0 w
   pub exact : IsExactOf searched reading.line reading.choices (says_of reading.chart.table)
   pub stack : IsStackOf searched reading.line reading.choices reading.resumption
   pub above : (answer : List Step) → IsAnswer searched.lexicon reading.line reading.choices answer
-      → IsAbove searched.lexicon.rules (position_of searched reading.line reading.resumption) answer
-      ↔ IsAbove searched.lexicon.rules (position_in searched.lexicon.rules reading) answer
+      → IsAbove searched.lexicon.rules (cursor_of searched reading.line reading.resumption) answer
+      ↔ IsAbove searched.lexicon.rules (cursor_in searched.lexicon.rules reading) answer
   pub last : 0 < length reading.last.items → AreAnswerSteps searched reading
   pub some_printed : (0 < length reading.last.items) ↔ (0 < reading.printed)
   pub printed : reading.printed ≤ LAST_ANSWER_NUMBER

@@ -4,7 +4,7 @@ use Rattle.std.specs.Option.{option_map}
 use Rattle.text_definitions.specs.Lines.{Line}
 use Rattle.lexicon_definitions.specs.Lexicons.{Lexicon}
 use Rattle.segmentation_definitions.specs.Items.{Choice}
-use Rattle.segmentation_definitions.specs.Listings.{Position}
+use Rattle.segmentation_definitions.specs.Listings.{Cursor}
 use Rattle.derivation.specs.declared.step.Step.{Step as ProgramStep}
 use Rattle.derivation.specs.declared.step.Key.{Key as ProgramKey}
 use Rattle.annotated_trie.specs.Searched.{SearchedLexicon}
@@ -13,7 +13,7 @@ use Rattle.bookmarks.specs.declared.bookmark.Bookmark.{Bookmark as ProgramBookma
 use Rattle.bookmarks.specs.Values.{keys_of, bookmark_of}
 use Rattle.segmenter.specs.Searches.{SearchValue, IsCurrent}
 use Rattle.session_definitions.specs.States.{after_resume}
-use Rattle.session_definitions.specs.Replies.{IsPositionOfBookmark}
+use Rattle.session_definitions.specs.Replies.{IsCursorOfBookmark}
 use Rattle.reader_session.specs.declared.reading.Reading.{Reading}
 use Rattle.reader_session.specs.Readings.{IsReading, state_with}
 
@@ -21,16 +21,16 @@ use Rattle.reader_session.specs.Readings.{IsReading, state_with}
 abbrev pub HasPhases : Lexicon → List Choice → Type 0
 HasPhases lexicon choices = All (λ choice. choice.item.phase < length lexicon.phases) choices
 
--- the bookmark is one over the lexicon at this position, and the line is read on from there
-pub record IsResumedAt (searched : SearchedLexicon) (mark : Bookmark) (reading : Reading) (position : Position) : Type 0 where
+-- the bookmark is one over the lexicon at this cursor, and the line is read on from there
+pub record IsResumedAt (searched : SearchedLexicon) (mark : Bookmark) (reading : Reading) (cursor : Cursor) : Type 0 where
   pub is_reading : IsReading searched reading
-  pub is_position : IsPositionOfBookmark searched.lexicon mark position
-  pub state : state_with searched.lexicon.rules reading ≡ after_resume mark position
+  pub is_cursor : IsCursorOfBookmark searched.lexicon mark cursor
+  pub state : state_with searched.lexicon.rules reading ≡ after_resume mark cursor
 
 -- the line is read on from the bookmark; or none is, and the bookmark is not one over the lexicon
 abbrev pub IsResumed : SearchedLexicon → Bookmark → Option Reading → Type 0
-IsResumed searched mark None = (position : Position) → IsPositionOfBookmark searched.lexicon mark position → ⊥
-IsResumed searched mark (Some reading) = (position : Position) × IsResumedAt searched mark reading position
+IsResumed searched mark None = (cursor : Cursor) → IsCursorOfBookmark searched.lexicon mark cursor → ⊥
+IsResumed searched mark (Some reading) = (cursor : Cursor) × IsResumedAt searched mark reading cursor
 
 -- these are the program's steps of the answer at which the search stands, none where it stands at none
 abbrev pub IsLastOf : SearchValue → List ProgramStep → Type 0

@@ -5,6 +5,7 @@ use Rattle.std.proofs.lemmas.Bool.{or_parts, and_from}
 use Rattle.std.proofs.lemmas.List.Elements.{All-from_recursion}
 use Rattle.std.proofs.lemmas.Slice.Eq.{bytes_eq-Decides}
 use Rattle.lexicon_definitions.specs.Rules.{Rule, IsSameTriple, is_twin}
+
 -- ---- triples
 
 pub test_from_triple : (left right : Rule) → IsSameTriple left right → is_twin right left ≡ true

@@ -21,10 +21,10 @@ pub record Given : Type 0 where
   pub arguments : List FileWord
 
 -- what a next word may be: any, the value of the `--in` before it, or an argument whatever it is, since `--` came
-pub data Turn : Type 0 where
-  Any : Turn
-  Value : Turn
-  Argument : Turn
+pub data NextWord : Type 0 where
+  Any : NextWord
+  Value : NextWord
+  Argument : NextWord
 
 -- with one value of `--in` more
 abbrev pub with_value : Given → List ℕ → Given
@@ -36,7 +36,7 @@ with_argument given place word = record given { arguments = given.arguments ++ r
 
 -- what is given with a word more where any may stand: the first `--` is no argument, `--in` wants its value, which may also
 -- follow it after `=`, and no other option may stand
-abbrev pub with_any_word : Given → ℕ → List ℕ → Option (Given × Turn)
+abbrev pub with_any_word : Given → ℕ → List ℕ → Option (Given × NextWord)
 with_any_word given place word =
     if bytes_eq word (codes "--") then Some (given, Argument)
     else (if bytes_eq word (codes "--in") then Some (given, Value)
@@ -45,19 +45,19 @@ with_any_word given place word =
     else Some (with_argument given place word, Any))))
 
 -- what is given with a word more at this place, and what the next may be; None where the word may not stand there
-abbrev pub with_word : Turn → Given → ℕ → List ℕ → Option (Given × Turn)
+abbrev pub with_word : NextWord → Given → ℕ → List ℕ → Option (Given × NextWord)
 with_word Any given place word = with_any_word given place word
 with_word Value given place word = if is_option word then None else Some (with_value given word, Any)
 with_word Argument given place word = Some (with_argument given place word, Argument)
 
 -- what is given at the end of the words; None where a value is still wanting
-abbrev pub given_at_end : Turn → Given → Option Given
+abbrev pub given_at_end : NextWord → Given → Option Given
 given_at_end Any given = Some given
 given_at_end Value given = None
 given_at_end Argument given = Some given
 
 -- what is given with these words more, from this place on; None where one of them may not stand there
-abbrev pub given_with : List (List ℕ) → Turn → Given → ℕ → Option Given
+abbrev pub given_with : List (List ℕ) → NextWord → Given → ℕ → Option Given
 given_with [] turn given place = given_at_end turn given
 given_with (word ∷ words) turn given place =
     option_and_then (λ next. given_with words next.1 next.0 (place + 1)) (with_word turn given place word)

@@ -15,6 +15,7 @@ mod names;
 mod printing;
 mod rule;
 mod rule_set;
+mod sharing;
 mod triple;
 
 pub use lead::{Lead, add_lead};
@@ -22,4 +23,5 @@ pub use names::{is_phase_name, is_small_letter, phase_named};
 pub use printing::print_rule;
 pub use rule::Rule;
 pub use rule_set::RuleSet;
+pub use sharing::rule_sets_are_shared;
 pub use triple::Triple;

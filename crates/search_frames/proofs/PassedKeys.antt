@@ -66,7 +66,7 @@ module _ (searched : SearchedLexicon) (line : Line) (choices : List Choice) wher
     passing_at_first frame = record {
       frame = frame;
       same_configuration = refl;
-      changes = record { position = refl; depth = refl; room = refl; is_stack = frame.placed.is_stack; steps = refl; frames = refl; nodes = refl };
+      changes = record { cursor = refl; depth = refl; room = refl; is_stack = frame.placed.is_stack; steps = refl; frames = refl; nodes = refl };
       left = λ key begins untried. untried;
       only = λ key possible untried. untried;
       no_more = omega arith;

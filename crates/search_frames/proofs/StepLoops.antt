@@ -20,7 +20,7 @@ pub record HasSameToTry (searched : SearchedLexicon) (line : Line) (level : ℕ)
 -- what changes from the level on, twice, changes from there on
 pub changes_twice : (level : ℕ) (old mid new : Resumption) → ChangesFrom level old mid → ChangesFrom level mid new → ChangesFrom level old new
 changes_twice level old mid new first second = record {
-  position = second.position ∙ first.position;
+  cursor = second.cursor ∙ first.cursor;
   depth = second.depth ∙ first.depth;
   room = second.room ∙ first.room;
   is_stack = second.is_stack;
@@ -37,7 +37,7 @@ module _ (searched : SearchedLexicon) (line : Line) (level : ℕ) where
     same_configuration = refl;
     same = λ key possible. (λ untried. untried, λ untried. untried);
     no_more = omega arith;
-    changes = record { position = refl; depth = refl; room = refl; is_stack = frame.placed.is_stack; steps = refl; frames = refl; nodes = refl };
+    changes = record { cursor = refl; depth = refl; room = refl; is_stack = frame.placed.is_stack; steps = refl; frames = refl; nodes = refl };
   }
 
   -- a possible key is possible where the frame stands now

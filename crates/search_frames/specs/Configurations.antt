@@ -1,4 +1,4 @@
--- Where a search stands between two forms, and which keys lead on or end there, told by the program's machine (own; after
+-- The configurations of a search between two forms, and which keys lead on or end there, told by the program's machine (own; after
 -- the backtracking search of Huet 2005).
 use Rattle.std.specs.Prelude.{◌≡◌, ℕ, ◌+◌, ◌<◌, ◌≤◌, IsTrue, IsSome, Option, List, length, All}
 use Rattle.text_definitions.specs.Lines.{Line}
@@ -12,8 +12,8 @@ use Rattle.answer_paths.specs.Following.{step_at, MayStand}
 use Rattle.phase_automaton.specs.Automata.{start_state, next_state, is_accepting}
 use Rattle.annotated_trie.specs.Searched.{SearchedLexicon}
 
--- where a search stands between two forms: how many letters are derived, how the next form is entered, and the number of
--- the grammar's state
+-- a configuration of a search between two forms: how many letters are derived, how the next form is entered, and the number of
+-- the grammar's state, which a `Configuration` of the definitions tells by the cursors of the grammar
 pub record NumberedConfiguration : Type 0 where
   pub at : ℕ
   pub entrance : Entrance
@@ -45,7 +45,7 @@ pub record Ends (searched : SearchedLexicon) (line : Line) (choices : List Choic
   pub blanks_before : All (λ blank. blank ≤ here.at) line.blanks
   pub accepted : IsTrue (is_accepting searched.machine (next_state searched.machine here.state key.phase))
 
--- where the search stands after the step with this key
+-- the configuration after the step with this key
 abbrev pub after : SearchedLexicon → Line → NumberedConfiguration → Key → NumberedConfiguration
 after searched line here key = record {
   at = here.at + key.taken + length (rule_of (rules_in searched) key.rule).w;
@@ -53,7 +53,7 @@ after searched line here key = record {
   state = next_state searched.machine here.state key.phase;
 }
 
--- where a search stands before all steps
+-- the configuration before all steps
 abbrev pub opening : NumberedConfiguration
 opening = record { at = 0; entrance = Start; state = start_state }
 

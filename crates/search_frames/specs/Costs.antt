@@ -9,8 +9,8 @@ use Rattle.search_frames.specs.Configurations.{rules_in}
 use Rattle.search_frames.specs.Frames.{step_of, frame_of}
 
 -- no node has more choices than this
-abbrev pub HasAtMostChoices : AnnotatedTrie → ℕ → Type 0
-HasAtMostChoices tries most = (node : ℕ) → node < length tries.trie.rows → length (choices_of tries node) ≤ most
+abbrev pub HasAtMostRules : AnnotatedTrie → ℕ → Type 0
+HasAtMostRules tries most = (node : ℕ) → node < length tries.trie.rows → length (choices_of tries node) ≤ most
 
 -- the most steps at a node: a look for each choice and one that finds none left, and one for each key
 abbrev pub steps_of_node : ℕ → ℕ

@@ -20,7 +20,7 @@ use Rattle.annotated_trie.specs.Searched.{SearchedLexicon}
 use Rattle.search_frames.specs.Stacks.{IsStack}
 use Rattle.search_frames.specs.Configurations.{NumberedConfiguration, IsPossible, rules_in}
 
--- where a search stands that is at the program's place
+-- the program's configuration, with the entrance of the definitions
 abbrev pub numbered_of : SearchedLexicon → Configuration → NumberedConfiguration
 numbered_of searched place = record {
   at = place.at;
@@ -35,7 +35,7 @@ step_of stack level = slice_index_or stack.steps.items level (record { phase = 0
 abbrev pub frame_of : Resumption → ℕ → Frame
 frame_of stack level = slice_index_or stack.frames.items level (record { entrance = program.Start; state = Some 0; walked = 0; next = 0 })
 
--- the place of the frame at a level
+-- the configuration of the frame at a level
 abbrev pub configuration_at : Resumption → ℕ → Configuration
 configuration_at stack level = record {
   at = (step_of stack level).at;
@@ -43,7 +43,7 @@ configuration_at stack level = record {
   state = (frame_of stack level).state;
 }
 
--- where the frame at a level stands
+-- the same with the entrance of the definitions
 abbrev pub here_of : SearchedLexicon → Resumption → ℕ → NumberedConfiguration
 here_of searched stack level = numbered_of searched (configuration_at stack level)
 
@@ -69,11 +69,11 @@ IsUntried searched stack level key =
     ⊎ ((key.taken + 1 ≡ (frame_of stack level).walked)
     × Contains (drop (frame_of stack level).next (changes_at searched.tries (node_of stack level key.taken))) key.rule)))
 
--- the program's place is one of the lexicon and the line
+-- the program's configuration is one of the lexicon and the line
 abbrev pub IsConfigurationIn : SearchedLexicon → Line → Configuration → Type 0
 IsConfigurationIn searched line place = IsWithin searched.lexicon searched.machine line place.at place.entrance place.state
 
--- the frame at a level stands at a place of the lexicon and the line, and its step tells how many letters are supplied there
+-- the frame at a level stands at a configuration of the lexicon and the line, and its step tells how many letters are supplied there
 pub record IsPlaced (searched : SearchedLexicon) (line : Line) (stack : Resumption) (level : ℕ) : Type 0 where
   pub is_stack : IsStack stack
   pub there : level < length stack.frames.items
@@ -118,7 +118,7 @@ HasLaterToTry searched line stack level = (key : Key) → IsPossible searched li
 
 -- nothing changes before the level, and the room stays
 pub record ChangesFrom (level : ℕ) (old new : Resumption) : Type 0 where
-  pub position : new.position ≡ old.position
+  pub cursor : new.cursor ≡ old.cursor
   pub depth : new.depth ≡ old.depth
   pub room : length new.frames.items ≡ length old.frames.items
   pub is_stack : IsStack new

@@ -1,4 +1,4 @@
--- Where a search comes to: where the front of an answer ends; and the rank of such a place, which rises (own).
+-- Where a search comes to: where the front of an answer ends; and the rank of such a configuration, which rises (own).
 use Rattle.std.specs.Prelude.{◌≡◌, ℕ, ◌+◌, ◌*◌, List, [], length}
 use Rattle.text_definitions.specs.Lines.{Line}
 use Rattle.segmentation_definitions.specs.Items.{Choice, covered_from, after_lead}

@@ -2,12 +2,12 @@
 use Rattle.std.specs.Prelude.{◌≡◌, ℕ, ◌*◌, List, length, take}
 use Rattle.derivation.specs.declared.step.Step.{Step}
 use Rattle.search_frames.specs.declared.frame.TheConstants.{NODES_OF_FRAME}
-use Rattle.search_frames.specs.declared.position.Position.{Position}
+use Rattle.search_frames.specs.declared.cursor.Cursor.{Cursor}
 use Rattle.search_frames.specs.declared.resumption.Resumption.{Resumption}
 
 -- where the search stands among its answers
-abbrev pub position_in : Resumption → Position
-position_in stack = stack.position
+abbrev pub cursor_in : Resumption → Cursor
+cursor_in stack = stack.cursor
 
 -- how many frames are in use
 abbrev pub depth_of : Resumption → ℕ
@@ -21,22 +21,22 @@ room_of stack = length stack.frames.items
 abbrev pub steps_in : Resumption → List Step
 steps_in stack = take stack.depth stack.steps.items
 
--- the same at another position
-abbrev pub with_position : Resumption → Position → Resumption
-with_position stack position = record { position = position; depth = stack.depth; steps = stack.steps; frames = stack.frames; nodes = stack.nodes }
+-- the same at another cursor
+abbrev pub with_cursor : Resumption → Cursor → Resumption
+with_cursor stack cursor = record { cursor = cursor; depth = stack.depth; steps = stack.steps; frames = stack.frames; nodes = stack.nodes }
 
 -- the same with so many frames in use
 abbrev pub with_depth : Resumption → ℕ → Resumption
-with_depth stack depth = record { position = stack.position; depth = depth; steps = stack.steps; frames = stack.frames; nodes = stack.nodes }
+with_depth stack depth = record { cursor = stack.cursor; depth = depth; steps = stack.steps; frames = stack.frames; nodes = stack.nodes }
 
--- there is a step for each frame, and a frame's places for nodes
+-- there are a step and a frame's nodes for each frame
 pub record IsStack (stack : Resumption) : Type 0 where
   pub steps : length stack.steps.items ≡ length stack.frames.items
   pub nodes : length stack.nodes.items ≡ length stack.frames.items * NODES_OF_FRAME
 
--- nothing changes before the level, and the room and the position stay
+-- nothing changes before the level, and the room and the cursor stay
 pub record KeepsBefore (level : ℕ) (old new : Resumption) : Type 0 where
-  pub position : new.position ≡ old.position
+  pub cursor : new.cursor ≡ old.cursor
   pub room : length new.frames.items ≡ length old.frames.items
   pub is_stack : IsStack new
   pub steps : take level new.steps.items ≡ take level old.steps.items

@@ -15,7 +15,7 @@ pub record IsRefused (searched : SearchedLexicon) (line : Line) (choices : List 
   pub leads_on : LeadsOn searched line choices here key → ⊥
   pub ends : Ends searched line choices here key → ⊥
 
--- the key leads on to this place
+-- the key leads on to this configuration
 pub record LeadsTo (searched : SearchedLexicon) (line : Line) (choices : List Choice) (here : NumberedConfiguration) (key : Key) (next : Configuration) : Type 0 where
   pub leads_on : LeadsOn searched line choices here key
   pub is : numbered_of searched next ≡ after searched line here key

@@ -1,4 +1,4 @@
--- The keys that lead on from a place or end the line there, whatever the grammar says (own).
+-- The keys that lead on from a configuration or end the line there, whatever the grammar says (own).
 use Rattle.std.specs.Prelude.{◌≡◌, ◌≢◌, List, ◌++◌, All, Contains, map}
 use Rattle.std.specs.List.Sorted.{IsStrictlySortedBy}
 use Rattle.text_definitions.specs.Lines.{Line}

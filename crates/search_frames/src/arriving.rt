@@ -4,12 +4,12 @@ ghost use Rattle.annotated_trie.specs.Searched.{IsSearchedLexicon};
 ghost use Rattle.search_frames.specs.Frames.{IsFrame, ChangesFrom, IsAtKey, IsUntried, changes_at, here_of, step_of, still_to_try};
 ghost use Rattle.search_frames.specs.Configurations.{IsPossible};
 ghost use Rattle.search_frames.specs.Changes.{MayBeMade, IsPlaceAfter};
-ghost use Rattle.search_frames.specs.Costs.{HasAtMostChoices, steps_from_change, steps_left};
+ghost use Rattle.search_frames.specs.Costs.{HasAtMostRules, steps_from_change, steps_left};
 ghost use Rattle.search_frames.specs.Arrivals.{IsInPhase, IsNextAt};
 
-use super::{Frame, NODES_OF_FRAME, Resumption};
 use super::stepping::{change_from, set_key};
 use super::walking::walk_phase;
+use super::{Frame, NODES_OF_FRAME, Resumption};
 use annotated_trie::Lexicon;
 use derivation::Key;
 use outside::Steps;
@@ -59,7 +59,7 @@ fn pass_change<L>(lexicon: &Lexicon, node: Node, next: u32, rule: u32, steps: &m
     ensures after { IsPlaceAfter lexicon.now.tries node rule result }
     ensures rises { next < result }
     ensures few { result ≤ MOST_RULES + 2 }
-    ensures steps { (most : ℕ) → HasAtMostChoices lexicon.now.tries most → steps.new + 1 + steps_from_change most result ≤ steps.old + steps_from_change most next }
+    ensures steps { (most : ℕ) → HasAtMostRules lexicon.now.tries most → steps.new + 1 + steps_from_change most result ≤ steps.old + steps_from_change most next }
 {
     let mut place = next;
     while let Some(change) = change_from(lexicon, node, place, steps) {
@@ -86,7 +86,7 @@ pub fn go_to<L>(
     ensures at { IsAtKey lexicon.now line.now level (record { phase = key.phase; taken = key.taken; rule = key.rule }) stack.old stack.new }
     ensures falls { still_to_try lexicon.now stack.new level < still_to_try lexicon.now stack.old level }
     ensures changes { ChangesFrom level stack.old stack.new }
-    ensures steps { (most : ℕ) → HasAtMostChoices lexicon.now.tries most → steps.new + 1 + steps_left lexicon.now most stack.new level ≤ steps.old + steps_left lexicon.now most stack.old level }
+    ensures steps { (most : ℕ) → HasAtMostRules lexicon.now.tries most → steps.new + 1 + steps_left lexicon.now most stack.new level ≤ steps.old + steps_left lexicon.now most stack.old level }
 {
     // Its contract says that the lexicon can be searched.
     lexicon.rules();

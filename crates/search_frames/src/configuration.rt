@@ -6,7 +6,7 @@ use super::Resumption;
 use derivation::Entrance;
 use phase_automaton::State;
 
-/// Where a search stands between two forms: how many letters of the line are derived, how the next form is entered, and the
+/// How far a search has come between two forms: how many letters of the line are derived, how the next form is entered, and the
 /// state of the grammar after the phases so far.
 #[derive(Clone, Copy, Debug, PartialEq, Eq)]
 pub struct Configuration {
@@ -16,7 +16,7 @@ pub struct Configuration {
 }
 
 impl Configuration {
-    /// Where the frame at the level, counted from 0, stands.
+    /// The configuration of the frame at the level, counted from 0.
     pub fn of_frame(stack: &Resumption, level: usize) -> Configuration
         requires stack { IsStack stack.now }
         requires there { level < length stack.now.frames.items }

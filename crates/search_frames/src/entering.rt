@@ -43,7 +43,7 @@ pub(crate) fn is_first(entrance: Entrance) -> bool
     matches!(entrance, Entrance::Start)
 }
 
-/// Whether the step's form may be entered at the place: after a letter with which its first letter is a plain pair, or after a
+/// Whether the step's form may be entered at the configuration: after a letter with which its first letter is a plain pair, or after a
 /// rule that may precede its phase.
 pub(crate) fn may_enter(rules: &RuleSet, line: &Line, place: &Configuration, step: &Step) -> bool
     requires rule { step.now.rule ≤ length rules.now.rules }
@@ -64,7 +64,12 @@ pub(crate) fn may_enter(rules: &RuleSet, line: &Line, place: &Configuration, ste
 
 /// How the form after the step is entered, whose rule is inner or none: unchanged after the last letter of the step's form, or
 /// with the lead of the rule.
-pub(crate) fn entrance_after(rules: &RuleSet, line: &Line, place: &Configuration, step: &Step) -> Entrance
+pub(crate) fn entrance_after(
+    rules: &RuleSet,
+    line: &Line,
+    place: &Configuration,
+    step: &Step,
+) -> Entrance
     requires rule { step.now.rule ≤ length rules.now.rules }
     requires within { place.now.at + step.now.taken ≤ length line.now.letters }
     requires over { IsEntranceOver (leads_of rules.now.rules) place.now.entrance }

@@ -2,10 +2,10 @@ use derivation::Entrance;
 use lexicon_definitions::MOST_FORM_LETTERS;
 use phase_automaton::State;
 
-/// A frame has this many places for nodes: one for each letter of a form, and one for the root of the phase.
+/// A frame has room for this many nodes: one for each letter of a form, and one for the root of the phase.
 pub const NODES_OF_FRAME: usize = MOST_FORM_LETTERS + 1;
 
-/// A place of a search with what is still to try there (Huet 2005): how the next form is entered and the state of the grammar,
+/// A configuration of a search with what is still to try there (Huet 2005): how the next form is entered and the state of the grammar,
 /// how many nodes of its present phase it has walked, and the next change to try, counted from 0.
 #[derive(Clone, Copy, Debug, PartialEq, Eq)]
 pub struct Frame {

@@ -1,7 +1,7 @@
 ghost use Rattle.std.specs.Prelude.{◌+◌, ◌<◌, ◌≤◌, ℕ};
 ghost use Rattle.std.specs.Bool.{OnTrue, OnFalse};
 ghost use Rattle.search_frames.specs.Frames.{IsFrame, ChangesFrom, WentOn, HasNothingToTry, still_to_try};
-ghost use Rattle.search_frames.specs.Costs.{HasAtMostChoices, steps_left};
+ghost use Rattle.search_frames.specs.Costs.{HasAtMostRules, steps_left};
 
 use super::Resumption;
 use super::stepping::{leave_node, next_change};
@@ -23,8 +23,8 @@ pub fn go_on<L>(
     ensures nothing { OnFalse result (HasNothingToTry lexicon.now line.now stack.old level) }
     ensures falls { OnTrue result (still_to_try lexicon.now stack.new level < still_to_try lexicon.now stack.old level) }
     ensures changes { ChangesFrom level stack.old stack.new }
-    ensures steps_on { OnTrue result ((most : ℕ) → HasAtMostChoices lexicon.now.tries most → steps.new + 1 + steps_left lexicon.now most stack.new level ≤ steps.old + steps_left lexicon.now most stack.old level) }
-    ensures steps_end { OnFalse result ((most : ℕ) → HasAtMostChoices lexicon.now.tries most → steps.new ≤ steps.old + steps_left lexicon.now most stack.old level) }
+    ensures steps_on { OnTrue result ((most : ℕ) → HasAtMostRules lexicon.now.tries most → steps.new + 1 + steps_left lexicon.now most stack.new level ≤ steps.old + steps_left lexicon.now most stack.old level) }
+    ensures steps_end { OnFalse result ((most : ℕ) → HasAtMostRules lexicon.now.tries most → steps.new ≤ steps.old + steps_left lexicon.now most stack.old level) }
 {
     while !next_change(lexicon, line, stack, level, steps) {
         if !leave_node(lexicon, line, stack, level, steps) {

@@ -3,12 +3,12 @@ ghost use Rattle.text_definitions.specs.Lines.{IsLine};
 ghost use Rattle.annotated_trie.specs.Searched.{IsSearchedLexicon};
 ghost use Rattle.search_frames.specs.Frames.{IsFrame, ChangesFrom, here_of};
 ghost use Rattle.search_frames.specs.Reached.{IsReached};
-ghost use Rattle.search_frames.specs.Costs.{HasAtMostChoices};
+ghost use Rattle.search_frames.specs.Costs.{HasAtMostRules};
 ghost use Rattle.search_frames.specs.Turns.{HasToTry, IsTurn, HasFallen, HasPaid};
 
 use super::Resumption;
-use super::going_on::go_on;
 use super::configuration::Configuration;
+use super::going_on::go_on;
 use super::skipping::skip_unwritten;
 use super::testing::{Test, test_key};
 use annotated_trie::Lexicon;
@@ -17,7 +17,7 @@ use outside::Steps;
 use phoneme::Line;
 use reader_choices::Choices;
 
-/// What the next key of a frame does: there is none; or it ends the line; or it leads on to another place.
+/// What the next key of a frame does: there is none; or it ends the line; or it leads on to another configuration.
 #[derive(Clone, Copy, Debug, PartialEq, Eq)]
 pub enum Turn {
     Nothing,
@@ -25,7 +25,7 @@ pub enum Turn {
     LeadsOn(Configuration),
 }
 
-/// What a frame has still to try: every key that is possible at its place, or just the keys after that of its step.
+/// What a frame has still to try: every key that is possible at its configuration, or just the keys after that of its step.
 #[derive(Clone, Copy, Debug, PartialEq, Eq)]
 pub enum ToTry {
     All,
@@ -63,7 +63,7 @@ pub trait SearchGuide: Guide {
         ensures turn { IsTurn lexicon.now line.now choices.now level stack.old stack.new result }
         ensures falls { HasFallen lexicon.now level stack.old stack.new result }
         ensures changes { ChangesFrom level stack.old stack.new }
-        ensures steps { (most : ℕ) → HasAtMostChoices lexicon.now.tries most → HasPaid lexicon.now most level stack.old stack.new steps.old steps.new result };
+        ensures steps { (most : ℕ) → HasAtMostRules lexicon.now.tries most → HasPaid lexicon.now most level stack.old stack.new steps.old steps.new result };
 }
 
 impl SearchGuide for OpenGuide {

@@ -22,7 +22,7 @@ use phoneme::Line;
 use reader_choices::Choices;
 use sandhi_rules::RuleSet;
 
-/// What a key may do at a place, whatever the grammar says: neither lead on nor end the line; or end it; or lead on to a form
+/// What a key may do at a configuration, whatever the grammar says: neither lead on nor end the line; or end it; or lead on to a form
 /// that begins after `at` letters of the line and is entered so.
 #[derive(Clone, Copy, Debug, PartialEq, Eq)]
 pub enum LetterTest {
@@ -31,8 +31,14 @@ pub enum LetterTest {
     LeadsOn { at: u32, entrance: Entrance },
 }
 
-/// Whether the step at the place passes the local test of each choice.
-fn is_allowed(rules: &RuleSet, line: &Line, choices: &Choices, place: &Configuration, step: &Step) -> bool
+/// Whether the step at the configuration passes the local test of each choice.
+fn is_allowed(
+    rules: &RuleSet,
+    line: &Line,
+    choices: &Choices,
+    place: &Configuration,
+    step: &Step,
+) -> bool
     requires over { IsEntranceOver (leads_of rules.now.rules) place.now.entrance }
     requires at { step.now.at ≡ place.now.at }
     requires lead { step.now.lead ≡ length (supplied (entrance_of (leads_of rules.now.rules) place.now.entrance)) }
@@ -44,8 +50,14 @@ fn is_allowed(rules: &RuleSet, line: &Line, choices: &Choices, place: &Configura
     choices.allows_entered(rules, line, lead, is_first(place.entrance), step)
 }
 
-/// Whether the step may stand at the place, whether another form follows it or not.
-fn may_stand(lexicon: &Lexicon, line: &Line, choices: &Choices, place: &Configuration, step: &Step) -> bool
+/// Whether the step may stand at the configuration, whether another form follows it or not.
+fn may_stand(
+    lexicon: &Lexicon,
+    line: &Line,
+    choices: &Choices,
+    place: &Configuration,
+    step: &Step,
+) -> bool
     requires place { IsConfigurationIn lexicon.now line.now place.now }
     requires at { step.now.at ≡ place.now.at }
     requires lead { step.now.lead ≡ length (supplied (numbered_of lexicon.now place.now).entrance) }
@@ -60,8 +72,8 @@ fn may_stand(lexicon: &Lexicon, line: &Line, choices: &Choices, place: &Configur
         && is_allowed(rules, line, choices, place, step)
 }
 
-/// What the step, whose key is possible at the place, may do there as far as the letters of the line, the blanks and the choices
-/// tell. The place's state is not looked at.
+/// What the step, whose key is possible at the configuration, may do there as far as the letters of the line, the blanks and the choices
+/// tell. The configuration's state is not looked at.
 pub fn test_letters(
     lexicon: &Lexicon,
     line: &Line,

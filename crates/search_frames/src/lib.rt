@@ -1,5 +1,5 @@
-//! The frames of a search over tries (own; after the backtracking search of Huet 2005): which keys may follow at a place of
-//! the line, one after another in their order, and whether one leads on or ends the line. The state of a search is a value, which can
+//! The frames of a search over tries (own; after the backtracking search of Huet 2005): which keys may follow at a configuration,
+//! one after another in their order, and whether one leads on or ends the line. The state of a search is a value, which can
 //! be kept and gone on from later (`Resumption`).
 //!
 //! Proved: `Resumption::copy` gives the same in every field (`ok`). `open_frame` makes a frame that has everything to try (`all`); `go_on` brings it to its next key, which is the first
@@ -10,11 +10,13 @@
 //! path begins, and tells what the key does (`turn`); none of them changes what stands before its level (`changes`). `test_key` says
 //! whether a key leads on, and where to, or ends the line, or neither (`exact`), and `test_letters` says the same as far as the
 //! letters, the blanks and the choices tell, whatever the grammar says (`exact`). `push_ways` appends just the keys that do so at a
-//! place, in their order (`ok`). A frame takes at most `steps_of_frame` steps, one for each key that it comes to counted in (`steps`
+//! configuration, in their order (`ok`). A frame takes at most `steps_of_frame` steps, one for each key that it comes to counted in (`steps`
 //! of `open_frame`, `steps_on` and `steps_end` of `go_on`, `steps` of `go_to`, `skip_unwritten`, `turn` and `push_ways`).
 #![tactic(auto)]
 
 mod arriving;
+mod configuration;
+mod cursor;
 mod entering;
 mod frame;
 mod going_on;
@@ -22,13 +24,11 @@ mod guiding;
 mod letter_testing;
 mod line_tests;
 mod opening;
-mod configuration;
 mod resumption;
 mod rooms;
 mod seeking;
 mod sharing;
 mod skipping;
-mod position;
 mod stepping;
 mod testing;
 #[cfg(test)]
@@ -37,18 +37,18 @@ mod walking;
 mod ways;
 
 pub use arriving::go_to;
+pub use configuration::Configuration;
+pub use cursor::Cursor;
 pub use frame::{Frame, NODES_OF_FRAME};
 pub use going_on::go_on;
 pub use guiding::{SearchGuide, ToTry, Turn};
 pub use letter_testing::{LetterTest, test_letters};
 pub use opening::open_frame;
-pub use configuration::Configuration;
 pub use resumption::Resumption;
 pub use rooms::new_stack;
 pub use seeking::seek;
 pub use sharing::resumptions_are_shared;
 pub use skipping::skip_unwritten;
-pub use position::Position;
 pub use testing::{Test, test_key};
 pub use walking::supplied_letters;
 pub use ways::{Way, push_ways};

@@ -8,14 +8,14 @@ use derivation::Step;
 use phoneme::{Letter, Line};
 use sandhi_rules::RuleSet;
 
-/// After how many letters of the line the letters end that the step takes at the place.
+/// After how many letters of the line the letters end that the step takes at the configuration.
 pub(crate) fn end_of(place: &Configuration, step: &Step) -> usize
     ensures { result ≡ place.now.at + step.now.taken }
 {
     place.at as usize + step.taken as usize
 }
 
-/// The letters of the line that the step takes at the place.
+/// The letters of the line that the step takes at the configuration.
 pub(crate) fn letters_taken<'a>(line: &'a Line, place: &Configuration, step: &Step) -> &'a [Letter]
     requires { place.now.at + step.now.taken ≤ length line.now.letters }
     ensures { result.now ≡ take step.now.taken (drop place.now.at line.now.letters) }
@@ -78,7 +78,7 @@ pub(crate) fn may_follow(rules: &RuleSet, step: &Step) -> bool
     }
 }
 
-/// Whether no blank stands strictly inside the letters that the step takes at the place.
+/// Whether no blank stands strictly inside the letters that the step takes at the configuration.
 pub(crate) fn has_no_blank_inside(line: &Line, place: &Configuration, step: &Step) -> bool
     ensures { IsTrue result ↔ All (λ blank. place.now.at < blank → blank < place.now.at + step.now.taken → ⊥) line.now.blanks }
 {
@@ -90,7 +90,7 @@ pub(crate) fn has_no_blank_inside(line: &Line, place: &Configuration, step: &Ste
     }
 }
 
-/// Whether no blank stands after the place.
+/// Whether no blank stands after the letters that are derived at the configuration.
 pub(crate) fn has_no_blank_after(line: &Line, place: &Configuration) -> bool
     ensures { IsTrue result ↔ All (λ blank. blank ≤ place.now.at) line.now.blanks }
 {

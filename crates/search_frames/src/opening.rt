@@ -1,17 +1,16 @@
 ghost use Rattle.std.specs.Prelude.{◌≡◌, ◌+◌, ◌<◌, ◌≤◌, ℕ, length};
 ghost use Rattle.search_frames.specs.Stacks.{IsStack};
 ghost use Rattle.search_frames.specs.Frames.{IsFrame, IsConfigurationIn, HasAllToTry, ChangesFrom, configuration_at};
-ghost use Rattle.search_frames.specs.Costs.{HasAtMostChoices, steps_left, steps_of_frame};
+ghost use Rattle.search_frames.specs.Costs.{HasAtMostRules, steps_left, steps_of_frame};
 
-use super::{Frame, Resumption};
-use super::Configuration;
 use super::walking::{supplied_letters, walk_phase};
+use super::{Configuration, Frame, Resumption};
 use annotated_trie::Lexicon;
 use derivation::Step;
 use outside::Steps;
 use phoneme::Line;
 
-/// Makes the frame at the level, counted from 0, one that stands at the place and has still to try every key.
+/// Makes the frame at the level, counted from 0, one that stands at the configuration and has still to try every key.
 pub fn open_frame<L>(
     lexicon: &Lexicon,
     line: &Line,
@@ -27,7 +26,7 @@ pub fn open_frame<L>(
     ensures place { configuration_at stack.new level ≡ place }
     ensures all { HasAllToTry lexicon.now line.now stack.new level }
     ensures changes { ChangesFrom level stack.old stack.new }
-    ensures steps { (most : ℕ) → HasAtMostChoices lexicon.now.tries most → steps.new + steps_left lexicon.now most stack.new level ≤ steps.old + steps_of_frame lexicon.now most }
+    ensures steps { (most : ℕ) → HasAtMostRules lexicon.now.tries most → steps.new + steps_left lexicon.now most stack.new level ≤ steps.old + steps_of_frame lexicon.now most }
 {
     stack.steps[level] = Step {
         phase: 0,

@@ -1,17 +1,17 @@
 ghost use Rattle.std.specs.Prelude.{IfOk};
 
-use super::{Frame, Position};
+use super::{Cursor, Frame};
 use derivation::Step;
 use phoneme::Memory;
 use shared_trie::Node;
 use std::alloc::Global;
 
 /// The state of a backtracking search (after Huet 2005). `steps` and `frames` have one length, the room of the search, and
-/// their first `depth` entries are in use. `nodes` has `NODES_OF_FRAME` places for each frame, of which the frame's first
+/// their first `depth` entries are in use. `nodes` has `NODES_OF_FRAME` for each frame, of which the frame's first
 /// `walked` are the nodes that it has walked in its present phase.
 #[derive(Debug, Drop)]
 pub struct Resumption {
-    pub(crate) position: Position,
+    pub(crate) cursor: Cursor,
     pub(crate) depth: u32,
     pub(crate) steps: Vec<Step>,
     pub(crate) frames: Vec<Frame>,
@@ -21,14 +21,14 @@ pub struct Resumption {
 impl Resumption {
     ghost use Rattle.std.specs.Prelude.{◌≡◌, ◌<◌, ◌≤◌};
     ghost use Rattle.search_frames.specs.Copies.{IsCopyOf};
-    ghost use Rattle.search_frames.specs.Stacks.{IsStack, depth_of, position_in, room_of, steps_in, with_depth, with_position};
+    ghost use Rattle.search_frames.specs.Stacks.{IsStack, depth_of, cursor_in, room_of, steps_in, with_depth, with_cursor};
     ghost use Rattle.search_frames.specs.Frames.{step_of};
 
     /// Where the search stands among its answers.
-    pub fn position(&self) -> Position
-        ensures { result ≡ position_in self.now }
+    pub fn cursor(&self) -> Cursor
+        ensures { result ≡ cursor_in self.now }
     {
-        self.position
+        self.cursor
     }
 
     /// How many frames are in use, one for each step of an answer.
@@ -57,10 +57,10 @@ impl Resumption {
     }
 
     /// Has the search stand there among its answers.
-    pub fn stand_at(&mut self, position: Position)
-        ensures { self.new ≡ with_position self.old position }
+    pub fn stand_at(&mut self, cursor: Cursor)
+        ensures { self.new ≡ with_cursor self.old cursor }
     {
-        self.position = position;
+        self.cursor = cursor;
     }
 
     /// Has so many frames be in use.
@@ -75,7 +75,7 @@ impl Resumption {
         ensures ok { IfOk result (λ copy. IsCopyOf self.now copy) }
     {
         Ok(Resumption {
-            position: self.position,
+            cursor: self.cursor,
             depth: self.depth,
             steps: Vec::from_slice(alloc, self.steps.as_slice())?,
             frames: Vec::from_slice(alloc, self.frames.as_slice())?,

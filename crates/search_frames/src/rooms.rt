@@ -1,9 +1,9 @@
 ghost use Rattle.std.specs.Prelude.{◌≡◌, ◌*◌, ◌^◌, ◌<◌, length, IfOk};
 ghost use Rattle.search_frames.specs.declared.frame.TheConstants.{NODES_OF_FRAME};
-ghost use Rattle.search_frames.specs.declared.position.Position.TheVariants as position;
-ghost use Rattle.search_frames.specs.Stacks.{IsStack, depth_of, position_in, room_of};
+ghost use Rattle.search_frames.specs.declared.cursor.Cursor.TheVariants as cursor;
+ghost use Rattle.search_frames.specs.Stacks.{IsStack, depth_of, cursor_in, room_of};
 
-use super::{Frame, NODES_OF_FRAME, Resumption, Position};
+use super::{Cursor, Frame, NODES_OF_FRAME, Resumption};
 use annotated_trie::Lexicon;
 use derivation::{Entrance, Step};
 use phoneme::Memory;
@@ -22,7 +22,7 @@ fn filled<T: Copy>(alloc: Global, value: T, count: usize) -> Result<Vec<T>, Memo
 /// memory.
 pub fn new_stack(alloc: Global, lexicon: &Lexicon, room: usize) -> Result<Resumption, Memory>
     requires few { room * NODES_OF_FRAME < 2 ^ 32 }
-    ensures position { IfOk result (λ stack. position_in stack ≡ position.Before) }
+    ensures cursor { IfOk result (λ stack. cursor_in stack ≡ cursor.Before) }
     ensures empty { IfOk result (λ stack. depth_of stack ≡ 0) }
     ensures room { IfOk result (λ stack. room_of stack ≡ room) }
     ensures is_stack { IfOk result IsStack }
@@ -44,7 +44,7 @@ pub fn new_stack(alloc: Global, lexicon: &Lexicon, room: usize) -> Result<Resump
     };
     let node = lexicon.tries().store().root(0);
     Ok(Resumption {
-        position: Position::Before,
+        cursor: Cursor::Before,
         depth: 0,
         steps: filled(alloc, step, room)?,
         frames: filled(alloc, frame, room)?,

@@ -5,9 +5,9 @@ ghost use Rattle.search_frames.specs.Frames.{IsFrame, ChangesFrom, IsAtKey, here
 ghost use Rattle.search_frames.specs.Configurations.{IsPossible};
 ghost use Rattle.search_frames.specs.Changes.{MayBeMade, IsPlaceAfter};
 
-use super::{NODES_OF_FRAME, Resumption};
 use super::stepping::set_key;
 use super::walking::walk_phase;
+use super::{NODES_OF_FRAME, Resumption};
 use annotated_trie::Lexicon;
 use derivation::Key;
 use outside::Steps;

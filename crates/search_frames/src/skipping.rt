@@ -2,12 +2,12 @@ ghost use Rattle.std.specs.Prelude.{◌≡◌, ◌+◌, ◌<◌, ◌≤◌, ℕ,
 ghost use Rattle.annotated_trie.specs.Searched.{IsSearchedLexicon};
 ghost use Rattle.search_frames.specs.Stacks.{IsStack};
 ghost use Rattle.search_frames.specs.Frames.{IsFrame, ChangesFrom, step_of, frame_of, still_to_try};
-ghost use Rattle.search_frames.specs.Costs.{HasAtMostChoices, steps_from_change, steps_left};
+ghost use Rattle.search_frames.specs.Costs.{HasAtMostRules, steps_from_change, steps_left};
 ghost use Rattle.search_frames.specs.Changes.{HasSet};
 ghost use Rattle.search_frames.specs.Skips.{HasSkipped, SkippedUnwritten};
 
-use super::{NODES_OF_FRAME, Resumption};
 use super::line_tests::{begins_with, w_of};
+use super::{NODES_OF_FRAME, Resumption};
 use annotated_trie::Lexicon;
 use outside::Steps;
 use phoneme::{Letter, Line};
@@ -27,7 +27,7 @@ fn written_from<L>(
     requires later { 0 < next }
     ensures skipped { HasSkipped lexicon.now letters.now node next result }
     ensures rises { next ≤ result }
-    ensures steps { (most : ℕ) → HasAtMostChoices lexicon.now.tries most → steps.new + steps_from_change most result ≤ steps.old + 1 + steps_from_change most next }
+    ensures steps { (most : ℕ) → HasAtMostRules lexicon.now.tries most → steps.new + steps_from_change most result ≤ steps.old + 1 + steps_from_change most next }
 {
     let tries = lexicon.tries();
     let rules = lexicon.rules();
@@ -63,7 +63,7 @@ pub fn skip_unwritten<L>(
     ensures skipped { SkippedUnwritten lexicon.now line.now level stack.old stack.new }
     ensures falls { still_to_try lexicon.now stack.new level ≤ still_to_try lexicon.now stack.old level }
     ensures changes { ChangesFrom level stack.old stack.new }
-    ensures steps { (most : ℕ) → HasAtMostChoices lexicon.now.tries most → steps.new + steps_left lexicon.now most stack.new level ≤ steps.old + 1 + steps_left lexicon.now most stack.old level }
+    ensures steps { (most : ℕ) → HasAtMostRules lexicon.now.tries most → steps.new + steps_left lexicon.now most stack.new level ≤ steps.old + 1 + steps_left lexicon.now most stack.old level }
 {
     let frame = stack.frames[level];
     if frame.walked == 0 || frame.next == 0 {

@@ -3,11 +3,11 @@ ghost use Rattle.std.specs.Bool.{OnTrue, OnFalse};
 ghost use Rattle.annotated_trie.specs.Searched.{IsSearchedLexicon};
 ghost use Rattle.search_frames.specs.Stacks.{IsStack};
 ghost use Rattle.search_frames.specs.Frames.{IsFrame, ChangesFrom, WentOn, LeftNode, HasNothingToTry, HasNoChange, step_of, frame_of, still_to_try};
-ghost use Rattle.search_frames.specs.Costs.{HasAtMostChoices, steps_from_change, steps_left, steps_after_node};
+ghost use Rattle.search_frames.specs.Costs.{HasAtMostRules, steps_from_change, steps_left, steps_after_node};
 ghost use Rattle.search_frames.specs.Changes.{IsChangeFrom, HasNoChangeFrom, HasSet};
 
-use super::{NODES_OF_FRAME, Resumption};
 use super::walking::walk_phase;
+use super::{NODES_OF_FRAME, Resumption};
 use annotated_trie::Lexicon;
 use outside::Steps;
 use phoneme::Line;
@@ -31,7 +31,7 @@ pub(crate) fn change_from<L>(
     requires searched { IsSearchedLexicon lexicon.now }
     requires node { node < length lexicon.now.tries.trie.rows }
     ensures first { MatchOption result (HasNoChangeFrom lexicon.now.tries node next) (λ change. IsChangeFrom lexicon.now.tries node next change.rule change.next) }
-    ensures steps { (most : ℕ) → HasAtMostChoices lexicon.now.tries most
+    ensures steps { (most : ℕ) → HasAtMostRules lexicon.now.tries most
         → MatchOption result (steps.new ≤ steps.old + steps_from_change most next) (λ change. steps.new + 1 + steps_from_change most change.next ≤ steps.old + steps_from_change most next) }
 {
     let tries = lexicon.tries();
@@ -84,8 +84,8 @@ pub(crate) fn next_change<L>(
     ensures unchanged { OnFalse result (stack.new ≡ stack.old) }
     ensures none { OnFalse result (HasNoChange lexicon.now line.now stack.old level) }
     ensures changes { ChangesFrom level stack.old stack.new }
-    ensures steps_on { OnTrue result ((most : ℕ) → HasAtMostChoices lexicon.now.tries most → steps.new + 1 + steps_left lexicon.now most stack.new level ≤ steps.old + steps_left lexicon.now most stack.old level) }
-    ensures steps_end { OnFalse result ((most : ℕ) → HasAtMostChoices lexicon.now.tries most → steps.new + steps_after_node lexicon.now most stack.old level ≤ steps.old + steps_left lexicon.now most stack.old level) }
+    ensures steps_on { OnTrue result ((most : ℕ) → HasAtMostRules lexicon.now.tries most → steps.new + 1 + steps_left lexicon.now most stack.new level ≤ steps.old + steps_left lexicon.now most stack.old level) }
+    ensures steps_end { OnFalse result ((most : ℕ) → HasAtMostRules lexicon.now.tries most → steps.new + steps_after_node lexicon.now most stack.old level ≤ steps.old + steps_left lexicon.now most stack.old level) }
 {
     let frame = stack.frames[level];
     if frame.walked == 0 {

@@ -13,7 +13,7 @@ use derivation::Step;
 use phoneme::Line;
 use reader_choices::Choices;
 
-/// What a key does at a place: it neither leads on nor ends the line; or it ends it; or it leads on to another place.
+/// What a key does at a configuration: it neither leads on nor ends the line; or it ends it; or it leads on to another one.
 #[derive(Clone, Copy, Debug, PartialEq, Eq)]
 pub enum Test {
     Refused,
@@ -21,7 +21,7 @@ pub enum Test {
     LeadsOn(Configuration),
 }
 
-/// What the step, whose key is possible at the place, does there.
+/// What the step, whose key is possible at the configuration, does there.
 pub fn test_key(
     lexicon: &Lexicon,
     line: &Line,

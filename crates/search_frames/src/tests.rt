@@ -1,4 +1,4 @@
-use super::{Frame, Resumption, Position};
+use super::{Cursor, Frame, Resumption};
 use derivation::{Entrance, Step};
 use form_lists::FormLists;
 use phase_automaton::State;
@@ -37,7 +37,7 @@ fn small(rt: &impl Abort, alloc: Global) -> Result<Resumption, Memory> {
     };
     let node = node(rt, alloc)?;
     Ok(Resumption {
-        position: Position::At,
+        cursor: Cursor::At,
         depth: 1,
         steps: vec![in alloc; step, step]?,
         frames: vec![in alloc; first, second]?,
@@ -46,7 +46,7 @@ fn small(rt: &impl Abort, alloc: Global) -> Result<Resumption, Memory> {
 }
 
 fn is_same(left: &Resumption, right: &Resumption) -> bool {
-    left.position == right.position
+    left.cursor == right.cursor
         && left.depth == right.depth
         && left.steps.as_slice() == right.steps.as_slice()
         && left.frames.as_slice() == right.frames.as_slice()
@@ -59,7 +59,7 @@ fn a_changed_copy_leaves_its_source(rt: HostRuntime) -> Result<(), Fail> {
     let again = small(&rt, rt.alloc())?;
     let mut copy = source.copy(rt.alloc())?;
     assert!(rt; is_same(&copy, &source));
-    copy.position = Position::Past;
+    copy.cursor = Cursor::Past;
     copy.depth = 2;
     for step in copy.steps.iter_mut() {
         step.taken = 0;

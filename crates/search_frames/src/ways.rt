@@ -3,14 +3,14 @@ ghost use Rattle.text_definitions.specs.Lines.{IsLine};
 ghost use Rattle.annotated_trie.specs.Searched.{IsSearchedLexicon};
 ghost use Rattle.search_frames.specs.Stacks.{IsStack, room_of};
 ghost use Rattle.search_frames.specs.Frames.{IsConfigurationIn, numbered_of};
-ghost use Rattle.search_frames.specs.Costs.{HasAtMostChoices, steps_of_frame};
+ghost use Rattle.search_frames.specs.Costs.{HasAtMostRules, steps_of_frame};
 ghost use Rattle.search_frames.specs.WaysFrom.{AppendsWays};
 
 use super::Resumption;
+use super::configuration::Configuration;
 use super::going_on::go_on;
 use super::letter_testing::{LetterTest, test_letters};
 use super::opening::open_frame;
-use super::configuration::Configuration;
 use super::skipping::skip_unwritten;
 use annotated_trie::Lexicon;
 use derivation::Key;
@@ -18,14 +18,14 @@ use outside::Steps;
 use phoneme::{Line, Memory};
 use reader_choices::Choices;
 
-/// A key that leads on from a place or ends the line there, whatever the grammar says, and which of the two (own).
+/// A key that leads on from a configuration or ends the line there, whatever the grammar says, and which of the two (own).
 #[derive(Clone, Copy, Debug, PartialEq, Eq)]
 pub struct Way {
     pub key: Key,
     pub test: LetterTest,
 }
 
-/// Appends all ways from the place, in the order of their keys. The place's state is not looked at. `walker` has room for a frame.
+/// Appends all ways from the configuration, in the order of their keys. Its state is not looked at. `walker` has room for a frame.
 /// Refused only for want of memory.
 pub fn push_ways<L>(
     lexicon: &Lexicon,
@@ -44,7 +44,7 @@ pub fn push_ways<L>(
     ensures ok { OnOk result (AppendsWays lexicon.now line.now choices.now (numbered_of lexicon.now place) ways.old.items ways.new.items) }
     ensures walker { OnOk result (IsStack walker.new) }
     ensures room { OnOk result (room_of walker.new ≡ room_of walker.old) }
-    ensures steps { (most : ℕ) → HasAtMostChoices lexicon.now.tries most → steps.new ≤ steps.old + steps_of_frame lexicon.now most }
+    ensures steps { (most : ℕ) → HasAtMostRules lexicon.now.tries most → steps.new ≤ steps.old + steps_of_frame lexicon.now most }
 {
     open_frame(lexicon, line, walker, 0, place, steps);
     while go_on(lexicon, line, walker, 0, steps) {

@@ -41,54 +41,54 @@ compare_key_lists left right = slice_cmp compare_keys left right
 abbrev pub compare_answers : RuleSet → List Step → List Step → Ordering
 compare_answers rules left right = compare_key_lists (keys_of rules left) (keys_of rules right)
 
--- a position in the listing: before the first answer, at an answer, or past the last
-pub data Position : Type 0 where
-  BeforeFirst : Position
-  AtAnswer : (steps : List Step) → Position
-  PastLast : Position
+-- a cursor in the listing: before the first answer, at an answer, or past the last
+pub data Cursor : Type 0 where
+  BeforeFirst : Cursor
+  AtAnswer : (steps : List Step) → Cursor
+  PastLast : Cursor
 
--- the answer comes after the position
-abbrev pub IsAbove : RuleSet → Position → List Step → Type 0
+-- the answer comes after the cursor
+abbrev pub IsAbove : RuleSet → Cursor → List Step → Type 0
 IsAbove rules BeforeFirst answer = Unit {0}
 IsAbove rules (AtAnswer steps) answer = compare_answers rules steps answer ≡ Less
 IsAbove rules PastLast answer = ⊥
 
--- the strictly rising list that has every answer above the position and nothing else
-pub record IsListingAbove (lexicon : Lexicon) (line : Line) (choices : List Choice) (position : Position) (answers : List (List Step)) : Type 0 where
+-- the strictly rising list that has every answer above the cursor and nothing else
+pub record IsListingAbove (lexicon : Lexicon) (line : Line) (choices : List Choice) (cursor : Cursor) (answers : List (List Step)) : Type 0 where
   pub rising : IsStrictlySortedBy (compare_answers lexicon.rules) answers
   pub only_answers : (steps : List Step) → Contains answers steps → IsAnswer lexicon line choices steps
-  pub only_above : (steps : List Step) → Contains answers steps → IsAbove lexicon.rules position steps
-  pub complete : (steps : List Step) → IsAnswer lexicon line choices steps → IsAbove lexicon.rules position steps → Contains answers steps
+  pub only_above : (steps : List Step) → Contains answers steps → IsAbove lexicon.rules cursor steps
+  pub complete : (steps : List Step) → IsAnswer lexicon line choices steps → IsAbove lexicon.rules cursor steps → Contains answers steps
 
 -- the listing is the strictly rising list that has every answer and nothing else
 abbrev pub IsListing : Lexicon → Line → List Choice → List (List Step) → Type 0
 IsListing lexicon line choices answers = IsListingAbove lexicon line choices BeforeFirst answers
 
--- the next answer after a position is the least answer above it
-pub record IsNext (lexicon : Lexicon) (line : Line) (choices : List Choice) (position : Position) (next : List Step) : Type 0 where
+-- the next answer after a cursor is the least answer above it
+pub record IsNext (lexicon : Lexicon) (line : Line) (choices : List Choice) (cursor : Cursor) (next : List Step) : Type 0 where
   pub answer : IsAnswer lexicon line choices next
-  pub above : IsAbove lexicon.rules position next
-  pub least : (other : List Step) → IsAnswer lexicon line choices other → IsAbove lexicon.rules position other → compare_answers lexicon.rules next other ≢ Greater
+  pub above : IsAbove lexicon.rules cursor next
+  pub least : (other : List Step) → IsAnswer lexicon line choices other → IsAbove lexicon.rules cursor other → compare_answers lexicon.rules next other ≢ Greater
 
 -- the answer comes after each of these
 abbrev pub ComesAfter : RuleSet → List (List Step) → List Step → Type 0
 ComesAfter rules earlier steps = All (λ before. compare_answers rules before steps ≡ Less) earlier
 
--- a page of count answers at a position has the first count answers above it, or all of them where they are fewer: what is
+-- a page of count answers at a cursor has the first count answers above it, or all of them where they are fewer: what is
 -- above and not on the page comes after a full page; more says whether there is such an answer
-pub record IsPage (lexicon : Lexicon) (line : Line) (choices : List Choice) (position : Position) (count : ℕ) (page : List (List Step)) (more : Bool) : Type 0 where
+pub record IsPage (lexicon : Lexicon) (line : Line) (choices : List Choice) (cursor : Cursor) (count : ℕ) (page : List (List Step)) (more : Bool) : Type 0 where
   pub rising : IsStrictlySortedBy (compare_answers lexicon.rules) page
   pub only_answers : (steps : List Step) → Contains page steps → IsAnswer lexicon line choices steps
-  pub only_above : (steps : List Step) → Contains page steps → IsAbove lexicon.rules position steps
+  pub only_above : (steps : List Step) → Contains page steps → IsAbove lexicon.rules cursor steps
   pub at_most : length page ≤ count
-  pub first : (steps : List Step) → IsAnswer lexicon line choices steps → IsAbove lexicon.rules position steps
+  pub first : (steps : List Step) → IsAnswer lexicon line choices steps → IsAbove lexicon.rules cursor steps
       → Contains page steps ⊎ ((length page ≡ count) × ComesAfter lexicon.rules page steps)
-  pub left : IsTrue more ↔ ((steps : List Step) × IsAnswer lexicon line choices steps × IsAbove lexicon.rules position steps × ComesAfter lexicon.rules page steps)
+  pub left : IsTrue more ↔ ((steps : List Step) × IsAnswer lexicon line choices steps × IsAbove lexicon.rules cursor steps × ComesAfter lexicon.rules page steps)
 
--- the position at the last of these answers, or the given position where there is none
-abbrev pub position_after : Position → List (List Step) → Position
-position_after position [] = position
-position_after position (steps ∷ page) = position_after (AtAnswer steps) page
+-- the cursor at the last of these answers, or the given cursor where there is none
+abbrev pub cursor_after : Cursor → List (List Step) → Cursor
+cursor_after cursor [] = cursor
+cursor_after cursor (steps ∷ page) = cursor_after (AtAnswer steps) page
 
 -- a page that was asked for: how many answers, which they are, and whether one is left
 pub record Page : Type 0 where
@@ -97,11 +97,11 @@ pub record Page : Type 0 where
   pub more : Bool
 
 -- pages that follow one another: each is the page at the last answer of those before it
-abbrev pub ArePages : Lexicon → Line → List Choice → Position → List Page → Type 0
-ArePages lexicon line choices position [] = Unit {0}
-ArePages lexicon line choices position (page ∷ pages) =
-    IsPage lexicon line choices position page.count page.answers page.more
-    × ArePages lexicon line choices (position_after position page.answers) pages
+abbrev pub ArePages : Lexicon → Line → List Choice → Cursor → List Page → Type 0
+ArePages lexicon line choices cursor [] = Unit {0}
+ArePages lexicon line choices cursor (page ∷ pages) =
+    IsPage lexicon line choices cursor page.count page.answers page.more
+    × ArePages lexicon line choices (cursor_after cursor page.answers) pages
 
 -- items are ordered by the letters before them, then those with a lead before those without, then by phase, form and
 -- the length of the lead

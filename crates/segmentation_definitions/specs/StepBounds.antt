@@ -25,7 +25,7 @@ pub record AreChoicesAt (lexicon : Lexicon) (phase : ℕ) (front : List ℕ) (nu
   pub members : (number : ℕ) → Contains numbers number ↔ IsChoiceAt lexicon phase front number
 
 -- most is the greatest number of choices at one front of a form
-pub record IsMostChoices (lexicon : Lexicon) (most : ℕ) : Type 0 where
+pub record IsMostRules (lexicon : Lexicon) (most : ℕ) : Type 0 where
   pub bound : (phase : ℕ) (front numbers : List ℕ) → AreChoicesAt lexicon phase front numbers → length numbers ≤ most
   pub least : (most ≡ 0) ⊎ ((phase : ℕ) × (front : List ℕ) × (numbers : List ℕ) × AreChoicesAt lexicon phase front numbers × (length numbers ≡ most))
 

@@ -23,15 +23,15 @@ use Rattle.search_frames.specs.Frames.{IsConfigurationIn, IsFrame, IsUntried, Ha
 -- ---- what stays
 
 pub keeps_itself : (level : ℕ) (stack : Resumption) → IsStack stack → KeepsBefore level stack stack
-keeps_itself level stack is = record { position = refl; room = refl; is_stack = is; steps = refl; frames = refl; nodes = refl }
+keeps_itself level stack is = record { cursor = refl; room = refl; is_stack = is; steps = refl; frames = refl; nodes = refl }
 
 pub keeps_if_changes : (level : ℕ) (old new : Resumption) → ChangesFrom level old new → KeepsBefore level old new
 keeps_if_changes level old new c =
-    record { position = c.position; room = c.room; is_stack = c.is_stack; steps = c.steps; frames = c.frames; nodes = c.nodes }
+    record { cursor = c.cursor; room = c.room; is_stack = c.is_stack; steps = c.steps; frames = c.frames; nodes = c.nodes }
 
 pub keeps_then : (level : ℕ) (old mid new : Resumption) → KeepsBefore level old mid → KeepsBefore level mid new → KeepsBefore level old new
 keeps_then level old mid new a b = record {
-  position = b.position ∙ a.position;
+  cursor = b.cursor ∙ a.cursor;
   room = b.room ∙ a.room;
   is_stack = b.is_stack;
   steps = b.steps ∙ a.steps;
@@ -45,7 +45,7 @@ shorter_front n m xs ys le same = sym (take-take n m xs le) ∙ ap (take n) same
 
 pub keeps_less : (level : ℕ) (old new : Resumption) → KeepsBefore (level + 1) old new → KeepsBefore level old new
 keeps_less level old new k = record {
-  position = k.position;
+  cursor = k.cursor;
   room = k.room;
   is_stack = k.is_stack;
   steps = shorter_front level (level + 1) new.steps.items old.steps.items (omega arith) k.steps;
@@ -165,7 +165,7 @@ module _ (searched : SearchedLexicon) (line : Line) where
 -- nor to those before it
 pub other_depth_keeps : (level : ℕ) (old stack : Resumption) (depth : ℕ) → KeepsBefore level old stack → KeepsBefore level old (with_depth stack depth)
 other_depth_keeps level old stack depth keeps = record {
-  position = keeps.position;
+  cursor = keeps.cursor;
   room = keeps.room;
   is_stack = record { steps = keeps.is_stack.steps; nodes = keeps.is_stack.nodes };
   steps = keeps.steps;
@@ -175,7 +175,7 @@ other_depth_keeps level old stack depth keeps = record {
 
 pub keeps_other_depth : (level : ℕ) (old stack : Resumption) (depth : ℕ) → KeepsBefore level (with_depth old depth) stack → KeepsBefore level old stack
 keeps_other_depth level old stack depth keeps = record {
-  position = keeps.position;
+  cursor = keeps.cursor;
   room = keeps.room;
   is_stack = keeps.is_stack;
   steps = keeps.steps;

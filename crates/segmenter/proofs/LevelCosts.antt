@@ -16,7 +16,7 @@ use Rattle.search_frames.specs.declared.resumption.Resumption.{Resumption}
 use Rattle.search_frames.specs.Configurations.{NumberedConfiguration, after, opening, rules_in}
 use Rattle.search_frames.specs.Frames.{here_of, still_to_try}
 use Rattle.search_frames.specs.Reached.{rank}
-use Rattle.search_frames.specs.Costs.{HasAtMostChoices, steps_of_phase, steps_left_in_phase, steps_left, steps_of_frame}
+use Rattle.search_frames.specs.Costs.{HasAtMostRules, steps_of_phase, steps_left_in_phase, steps_left, steps_of_frame}
 use Rattle.search_frames.proofs.FrameCosts.{some_steps, steps_within}
 use Rattle.search_frames.proofs.ConfigurationRanks.{rank_rises, rank_within}
 use Rattle.segmenter.specs.Chains.{AreFrames, LeadAlong}
@@ -168,5 +168,5 @@ module _ (searched : SearchedLexicon) (line : Line) (choices : List Choice) (is 
 abbrev pub CostsAtMost : (Guide : Type 0) → (Guide → SearchedLexicon → Line → List Choice → Type 0) → (Guide → ℕ → Entrance → Option ℕ → Bool) → SearchValue
     → ℕ → ℕ → Type 0
 CostsAtMost Guide known says search before now =
-    AreKnownExact Guide known says search → (most : ℕ) → HasAtMostChoices search.searched.tries most
+    AreKnownExact Guide known says search → (most : ℕ) → HasAtMostRules search.searched.tries most
     → now ≤ before + advance_bound search.searched.lexicon most (length search.line.letters)

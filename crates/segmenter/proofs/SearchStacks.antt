@@ -9,23 +9,23 @@ use Rattle.derivation.specs.Steps.{steps_of}
 use Rattle.annotated_trie.specs.Searched.{SearchedLexicon}
 use Rattle.search_frames.specs.Copies.{IsCopyOf}
 use Rattle.search_frames.specs.declared.frame.TheConstants.{NODES_OF_FRAME}
-use Rattle.search_frames.specs.declared.position.Position.{Position as StackPosition}
-use Rattle.search_frames.specs.declared.position.Position.TheVariants as position
+use Rattle.search_frames.specs.declared.cursor.Cursor.{Cursor as StackCursor}
+use Rattle.search_frames.specs.declared.cursor.Cursor.TheVariants as cursor
 use Rattle.search_frames.specs.declared.resumption.Resumption.{Resumption}
 use Rattle.search_frames.specs.Configurations.{NumberedConfiguration, after, opening, rules_in, ways_in}
-use Rattle.search_frames.specs.Stacks.{IsStack, KeepsBefore, steps_in, with_position}
+use Rattle.search_frames.specs.Stacks.{IsStack, KeepsBefore, steps_in, with_cursor}
 use Rattle.search_frames.specs.Frames.{IsFrame, here_of}
 use Rattle.search_frames.specs.Reached.{IsReached}
 use Rattle.segmenter.specs.Chains.{AreFrames, LeadAlong, HasRoom}
-use Rattle.segmenter.specs.Searches.{IsStackOf, StandsAtAnswer, StandsWhere, position_of, position_at}
+use Rattle.segmenter.specs.Searches.{IsStackOf, StandsAtAnswer, StandsWhere, cursor_of, cursor_at}
 use Rattle.segmenter.proofs.KeptFrames.{frame_kept, is_frame_kept, later_kept, here_kept, key_kept}
 use Rattle.search_frames.proofs.ReachedConfigurations.{opening_reached}
 use Rattle.segmenter.proofs.StandingAnswers.{frames_count}
 
 -- ---- a stack that stands otherwise
 
-module _ (searched : SearchedLexicon) (line : Line) (stack : Resumption) (to : StackPosition) where
-  frame_restood : (level : ℕ) → IsFrame searched line stack level → IsFrame searched line (with_position stack to) level
+module _ (searched : SearchedLexicon) (line : Line) (stack : Resumption) (to : StackCursor) where
+  frame_restood : (level : ℕ) → IsFrame searched line stack level → IsFrame searched line (with_cursor stack to) level
   frame_restood level is = record {
     placed = record {
       is_stack = record { steps = is.placed.is_stack.steps; nodes = is.placed.is_stack.nodes };
@@ -40,15 +40,15 @@ module _ (searched : SearchedLexicon) (line : Line) (stack : Resumption) (to : S
   }
 
   pub frames_restood : (keys : List Key) (level : ℕ) (here : NumberedConfiguration) → AreFrames searched line stack level here keys
-      → AreFrames searched line (with_position stack to) level here keys
+      → AreFrames searched line (with_cursor stack to) level here keys
   frames_restood [] level here frames = frames
   frames_restood (key ∷ keys) level here (frame, here_is, later, key_is, frames) =
       (frame_restood level frame, here_is, later, key_is, frames_restood keys (level + 1) (after searched line here key) frames)
 
 module _ (searched : SearchedLexicon) (line : Line) (choices : List Choice) where
   -- the stack of a search after its frames changed and its stand was set
-  pub stack_restood : (old new : Resumption) (to : StackPosition) → IsStackOf searched line choices old → KeepsBefore 0 old new
-      → (to ≡ position.At → StandsAtAnswer searched line choices new) → IsStackOf searched line choices (with_position new to)
+  pub stack_restood : (old new : Resumption) (to : StackCursor) → IsStackOf searched line choices old → KeepsBefore 0 old new
+      → (to ≡ cursor.At → StandsAtAnswer searched line choices new) → IsStackOf searched line choices (with_cursor new to)
   stack_restood old new to is keeps answer = record {
     is_line = is.is_line;
     is_stack = record { steps = keeps.is_stack.steps; nodes = keeps.is_stack.nodes };
@@ -62,7 +62,7 @@ module _ (searched : SearchedLexicon) (line : Line) (choices : List Choice) wher
 
 copy_keeps : (level : ℕ) (old new : Resumption) → IsStack old → IsCopyOf old new → KeepsBefore level old new
 copy_keeps level old new is copy = record {
-  position = copy.position;
+  cursor = copy.cursor;
   room = ap length copy.frames;
   is_stack = record {
     steps = ap length copy.steps ∙ is.steps ∙ sym (ap length copy.frames);
@@ -90,27 +90,27 @@ module _ (searched : SearchedLexicon) (line : Line) (old new : Resumption) (copy
   steps_copied : steps_in new ≡ steps_in old
   steps_copied = ap (λ depth. take depth new.steps.items) copy.depth ∙ ap (take old.depth) copy.steps
 
-  position_as_copied : (at : StackPosition) → position_at searched line new at ≡ position_at searched line old at
-  position_as_copied position.Before = refl
-  position_as_copied position.At = ap (λ steps. AtAnswer (steps_of (rules_in searched) line.letters steps)) steps_copied
-  position_as_copied position.Past = refl
+  cursor_as_copied : (at : StackCursor) → cursor_at searched line new at ≡ cursor_at searched line old at
+  cursor_as_copied cursor.Before = refl
+  cursor_as_copied cursor.At = ap (λ steps. AtAnswer (steps_of (rules_in searched) line.letters steps)) steps_copied
+  cursor_as_copied cursor.Past = refl
 
-  position_copied : position_of searched line new ≡ position_of searched line old
-  position_copied = position_as_copied new.position ∙ ap (position_at searched line old) copy.position
+  cursor_copied : cursor_of searched line new ≡ cursor_of searched line old
+  cursor_copied = cursor_as_copied new.cursor ∙ ap (cursor_at searched line old) copy.cursor
 
   -- a copy stands where the original does
   pub copy_stands : (choices : List Choice) → IsStackOf searched line choices old
-      → StandsWhere (record { searched = searched; line = line; choices = choices; position = position_of searched line old }) new
+      → StandsWhere (record { searched = searched; line = line; choices = choices; cursor = cursor_of searched line old }) new
   copy_stands choices is = record {
     is_stack = record {
       is_line = is.is_line;
       is_stack = (copy_keeps 0 old new is.is_stack copy).is_stack;
       room = subst (λ n. 2 * length line.letters ≤ n) (sym (ap length copy.frames)) is.room;
       answer = λ at.
-          let stands = is.answer (sym copy.position ∙ at) in
+          let stands = is.answer (sym copy.cursor ∙ at) in
           record { keys = stands.keys; frames = frames_copied stands.keys 0 opening stands.frames; path = stands.path };
     };
-    position = position_copied;
+    cursor = cursor_copied;
   }
 
 -- ---- frames along a path

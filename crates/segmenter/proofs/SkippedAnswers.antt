@@ -6,17 +6,17 @@ use Rattle.segmentation_definitions.specs.Derivations.{Step}
 use Rattle.segmentation_definitions.specs.Items.{Choice}
 use Rattle.segmentation_definitions.specs.Answers.{IsAnswer}
 use Rattle.segmentation_definitions.specs.Listings.{Key, keys_of, AtAnswer}
-use Rattle.listing_laws.specs.Positions.{IsFirst}
+use Rattle.listing_laws.specs.Cursors.{IsFirst}
 use Rattle.derivation.specs.Steps.{steps_of}
 use Rattle.annotated_trie.specs.Searched.{SearchedLexicon, IsSearchedLexicon}
-use Rattle.search_frames.specs.declared.position.Position.{Position as StackPosition}
-use Rattle.search_frames.specs.declared.position.Position.TheVariants as position
+use Rattle.search_frames.specs.declared.cursor.Cursor.{Cursor as StackCursor}
+use Rattle.search_frames.specs.declared.cursor.Cursor.TheVariants as cursor
 use Rattle.search_frames.specs.declared.resumption.Resumption.{Resumption}
 use Rattle.search_frames.specs.Configurations.{opening, rules_in, ways_in}
 use Rattle.search_frames.specs.Frames.{here_of}
 use Rattle.segmenter.specs.Chains.{AreFrames, HasFound, HasNone, HasRoom, ComesAfter, LeadAlong}
 use Rattle.search_frames.specs.Stacks.{steps_in}
-use Rattle.segmenter.specs.Searches.{SearchValue, IsStackOf, StandsAtAnswer, IsPastKeys, Skipped, HasSkippedAll, position_at, position_of}
+use Rattle.segmenter.specs.Searches.{SearchValue, IsStackOf, StandsAtAnswer, IsPastKeys, Skipped, HasSkippedAll, cursor_at, cursor_of}
 use Rattle.segmenter.specs.Skips.{IsLeastPast, HasNonePast, StandsPast, HasSkipped, HasSkippedOut, value_of}
 use Rattle.segmenter.proofs.StandingAnswers.{StandAsAnswer, frames_stand, frames_count, frames_front, along_path, along_front, path_of, with_depth}
 use Rattle.segmenter.proofs.SearchStacks.{at_opening, first_room, some_depth}
@@ -32,7 +32,7 @@ module _ (searched : SearchedLexicon) (line : Line) (choices : List Choice) (is 
     (count : n ≡ min depth (length (keys_of (rules_in searched) here))) where
   -- the search that stands at the answer
   abbrev search_here : SearchValue
-  search_here = record { searched = searched; line = line; choices = choices; position = AtAnswer here }
+  search_here = record { searched = searched; line = line; choices = choices; cursor = AtAnswer here }
 
   past_if_after : (answer : List Step) → ComesAfter (take n (keys_of (rules_in searched) here)) (keys_of (rules_in searched) answer)
       → IsPastKeys search_here depth answer
@@ -66,7 +66,7 @@ module _ (searched : SearchedLexicon) (line : Line) (choices : List Choice) (is 
 -- ---- the stack of a search, of which only the first frames stay in use
 
 module _ (searched : SearchedLexicon) (line : Line) (choices : List Choice) (old : Resumption) (is : IsSearchedLexicon searched)
-    (stack_is : IsStackOf searched line choices old) (at : old.position ≡ position.At) (depth n : ℕ) (n_is : n ≡ min depth old.depth) where
+    (stack_is : IsStackOf searched line choices old) (at : old.cursor ≡ cursor.At) (depth n : ℕ) (n_is : n ≡ min depth old.depth) where
   stands : StandsAtAnswer searched line choices old
   stands = stack_is.answer at
 
@@ -113,9 +113,9 @@ module _ (searched : SearchedLexicon) (line : Line) (choices : List Choice) (old
 
   -- what is seen of the stack
   seen_here : value_of searched line choices old
-      ≡ record { searched = searched; line = line; choices = choices; position = AtAnswer steps_here }
+      ≡ record { searched = searched; line = line; choices = choices; cursor = AtAnswer steps_here }
   unfolding steps_here
-  seen_here = ap (λ position. record { searched = searched; line = line; choices = choices; position = position_at searched line old position }) at
+  seen_here = ap (λ cursor. record { searched = searched; line = line; choices = choices; cursor = cursor_at searched line old cursor }) at
 
   count_here : n ≡ min depth (length (keys_of (rules_in searched) steps_here))
   unfolding steps_here
@@ -153,7 +153,7 @@ module _ (searched : SearchedLexicon) (line : Line) (choices : List Choice) (dep
   pub skipped : HasSkipped searched line choices depth old new → Skipped depth (value_of searched line choices old) (value_of searched line choices new)
   skipped skip = record {
     answer = steps_of (rules_in searched) line.letters (steps_in new);
-    is = ap (λ position. record { searched = searched; line = line; choices = choices; position = position_at searched line new position }) skip.position;
+    is = ap (λ cursor. record { searched = searched; line = line; choices = choices; cursor = cursor_at searched line new cursor }) skip.cursor;
     is_answer = skip.least.is_answer;
     past = skip.least.past;
     least = skip.least.least;
@@ -162,16 +162,16 @@ module _ (searched : SearchedLexicon) (line : Line) (choices : List Choice) (dep
   pub skipped_all : HasSkippedOut searched line choices depth old new
       → HasSkippedAll depth (value_of searched line choices old) (value_of searched line choices new)
   skipped_all skip = record {
-    is = ap (λ position. record { searched = searched; line = line; choices = choices; position = position_at searched line new position }) skip.position;
+    is = ap (λ cursor. record { searched = searched; line = line; choices = choices; cursor = cursor_at searched line new cursor }) skip.cursor;
     none = skip.none;
   }
 
 -- a stack that is seen at an answer stands at one
 pub stands_at : (searched : SearchedLexicon) (line : Line) (stack : Resumption) (answer : List Step)
-    → position_of searched line stack ≡ AtAnswer answer → stack.position ≡ position.At
-stands_at searched line stack answer at = by_stand stack.position at
+    → cursor_of searched line stack ≡ AtAnswer answer → stack.cursor ≡ cursor.At
+stands_at searched line stack answer at = by_stand stack.cursor at
   where
-    by_stand : (to : StackPosition) → position_at searched line stack to ≡ AtAnswer answer → to ≡ position.At
-    by_stand position.Before at = absurd (cc (at))
-    by_stand position.At at = refl
-    by_stand position.Past at = absurd (cc (at))
+    by_stand : (to : StackCursor) → cursor_at searched line stack to ≡ AtAnswer answer → to ≡ cursor.At
+    by_stand cursor.Before at = absurd (cc (at))
+    by_stand cursor.At at = refl
+    by_stand cursor.Past at = absurd (cc (at))

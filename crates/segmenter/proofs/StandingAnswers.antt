@@ -14,7 +14,7 @@ use Rattle.segmentation_definitions.specs.Answers.{IsAnswer}
 use Rattle.segmentation_definitions.specs.Listings.{Key, keys_of, compare_keys, BeforeFirst, AtAnswer, IsAbove, IsNext}
 use Rattle.segmentation_definitions.proofs.KeyLists.{compare_keys_total, compare_keys_exact}
 use Rattle.listing_laws.specs.Ways.{IsPath}
-use Rattle.listing_laws.specs.Positions.{IsFirst}
+use Rattle.listing_laws.specs.Cursors.{IsFirst}
 use Rattle.answer_paths.specs.Fronts.{supplied, ways_of}
 use Rattle.answer_paths.specs.Following.{step_at, MayStand}
 use Rattle.answer_paths.proofs.FrontParts.{supplied_after}
@@ -319,7 +319,7 @@ module _ (searched : SearchedLexicon) (line : Line) (choices : List Choice) wher
 -- the stack with so many frames in use
 abbrev pub with_depth : ℕ → Resumption → Resumption
 with_depth depth stack =
-    record { position = stack.position; depth = depth; steps = stack.steps; frames = stack.frames; nodes = stack.nodes }
+    record { cursor = stack.cursor; depth = depth; steps = stack.steps; frames = stack.frames; nodes = stack.nodes }
 
 -- where only the first frames stay in use they stand along the first keys
 pub frames_front : (searched : SearchedLexicon) (line : Line) (stack : Resumption) (depth n : ℕ) (keys : List Key) (level : ℕ) (here : NumberedConfiguration)

@@ -4,34 +4,34 @@ use Rattle.std.specs.declared.cmp.Ordering.TheVariants.{Greater}
 use Rattle.text_definitions.specs.Lines.{Line, IsLine}
 use Rattle.segmentation_definitions.specs.Derivations.{Step}
 use Rattle.segmentation_definitions.specs.Items.{Choice}
-use Rattle.segmentation_definitions.specs.Listings.{Key, keys_of, compare_answers, Position, BeforeFirst, AtAnswer, PastLast, IsAbove, IsNext}
+use Rattle.segmentation_definitions.specs.Listings.{Key, keys_of, compare_answers, Cursor, BeforeFirst, AtAnswer, PastLast, IsAbove, IsNext}
 use Rattle.segmentation_definitions.specs.Answers.{IsAnswer}
 use Rattle.listing_laws.specs.Ways.{IsPath}
 use Rattle.derivation.specs.Steps.{steps_of, StandIn}
 use Rattle.derivation.specs.declared.step.Step.{Step as ProgramStep}
 use Rattle.annotated_trie.specs.Searched.{SearchedLexicon}
-use Rattle.search_frames.specs.declared.position.Position.{Position as StackPosition}
-use Rattle.search_frames.specs.declared.position.Position.TheVariants as position
+use Rattle.search_frames.specs.declared.cursor.Cursor.{Cursor as StackCursor}
+use Rattle.search_frames.specs.declared.cursor.Cursor.TheVariants as cursor
 use Rattle.search_frames.specs.declared.resumption.Resumption.{Resumption}
-use Rattle.search_frames.specs.Stacks.{IsStack, position_in, room_of, steps_in}
+use Rattle.search_frames.specs.Stacks.{IsStack, cursor_in, room_of, steps_in}
 use Rattle.search_frames.specs.Configurations.{rules_in, opening, ways_in}
 use Rattle.segmenter.specs.Chains.{AreFrames}
 
--- the lexicon, the line, the choices, and the position in the listing of the line's answers
+-- the lexicon, the line, the choices, and the cursor in the listing of the line's answers
 pub record SearchValue : Type 0 where
   pub searched : SearchedLexicon
   pub line : Line
   pub choices : List Choice
-  pub position : Position
+  pub cursor : Cursor
 
 -- where the stack stands in the listing
-abbrev pub position_at : SearchedLexicon → Line → Resumption → StackPosition → Position
-position_at searched line stack position.Before = BeforeFirst
-position_at searched line stack position.At = AtAnswer (steps_of (rules_in searched) line.letters (steps_in stack))
-position_at searched line stack position.Past = PastLast
+abbrev pub cursor_at : SearchedLexicon → Line → Resumption → StackCursor → Cursor
+cursor_at searched line stack cursor.Before = BeforeFirst
+cursor_at searched line stack cursor.At = AtAnswer (steps_of (rules_in searched) line.letters (steps_in stack))
+cursor_at searched line stack cursor.Past = PastLast
 
-abbrev pub position_of : SearchedLexicon → Line → Resumption → Position
-position_of searched line stack = position_at searched line stack (position_in stack)
+abbrev pub cursor_of : SearchedLexicon → Line → Resumption → Cursor
+cursor_of searched line stack = cursor_at searched line stack (cursor_in stack)
 
 -- the stack stands at an answer: its frames stand along the keys of a path
 pub record StandsAtAnswer (searched : SearchedLexicon) (line : Line) (choices : List Choice) (stack : Resumption) : Type 0 where
@@ -44,43 +44,43 @@ pub record IsStackOf (searched : SearchedLexicon) (line : Line) (choices : List 
   pub is_line : IsLine line
   pub is_stack : IsStack stack
   pub room : 2 * length line.letters ≤ room_of stack
-  pub answer : position_in stack ≡ position.At → StandsAtAnswer searched line choices stack
+  pub answer : cursor_in stack ≡ cursor.At → StandsAtAnswer searched line choices stack
 
 -- the search has moved to the next answer after where it stood
 pub record MovedOn (old new : SearchValue) : Type 0 where
   pub answer : List Step
-  pub is : new ≡ record { searched = old.searched; line = old.line; choices = old.choices; position = AtAnswer answer }
-  pub next : IsNext old.searched.lexicon old.line old.choices old.position answer
+  pub is : new ≡ record { searched = old.searched; line = old.line; choices = old.choices; cursor = AtAnswer answer }
+  pub next : IsNext old.searched.lexicon old.line old.choices old.cursor answer
 
 -- the search has come past the last answer: none was left
 pub record HasEnded (old new : SearchValue) : Type 0 where
-  pub is : new ≡ record { searched = old.searched; line = old.line; choices = old.choices; position = PastLast }
+  pub is : new ≡ record { searched = old.searched; line = old.line; choices = old.choices; cursor = PastLast }
   pub none : (answer : List Step) → IsAnswer old.searched.lexicon old.line old.choices answer
-      → IsAbove old.searched.lexicon.rules old.position answer → ⊥
+      → IsAbove old.searched.lexicon.rules old.cursor answer → ⊥
 
 -- these are the program's steps of the answer at which the search stands, or it stands at none
 abbrev pub IsCurrent : SearchValue → Option (List ProgramStep) → Type 0
-IsCurrent search None = (answer : List Step) → search.position ≡ AtAnswer answer → ⊥
+IsCurrent search None = (answer : List Step) → search.cursor ≡ AtAnswer answer → ⊥
 IsCurrent search (Some steps) =
-    (search.position ≡ AtAnswer (steps_of search.searched.lexicon.rules search.line.letters steps))
+    (search.cursor ≡ AtAnswer (steps_of search.searched.lexicon.rules search.line.letters steps))
     × StandIn search.searched.lexicon.rules search.line.letters steps × (0 < length steps)
 
 -- the stack is one of the search's lexicon, line and choices, and stands where the search stands
 pub record StandsWhere (search : SearchValue) (stack : Resumption) : Type 0 where
   pub is_stack : IsStackOf search.searched search.line search.choices stack
-  pub position : position_of search.searched search.line stack ≡ search.position
+  pub cursor : cursor_of search.searched search.line stack ≡ search.cursor
 
 -- the answer comes after the one at which the search stands, and has other first keys, as many as depth
 abbrev pub IsPastKeys : SearchValue → ℕ → List Step → Type 0
 IsPastKeys search depth answer =
-    IsAbove search.searched.lexicon.rules search.position answer
-    × ((here : List Step) → search.position ≡ AtAnswer here
+    IsAbove search.searched.lexicon.rules search.cursor answer
+    × ((here : List Step) → search.cursor ≡ AtAnswer here
     → take depth (keys_of search.searched.lexicon.rules answer) ≢ take depth (keys_of search.searched.lexicon.rules here))
 
 -- the search has moved to the least answer that comes after it and has other first keys
 pub record Skipped (depth : ℕ) (old new : SearchValue) : Type 0 where
   pub answer : List Step
-  pub is : new ≡ record { searched = old.searched; line = old.line; choices = old.choices; position = AtAnswer answer }
+  pub is : new ≡ record { searched = old.searched; line = old.line; choices = old.choices; cursor = AtAnswer answer }
   pub is_answer : IsAnswer old.searched.lexicon old.line old.choices answer
   pub past : IsPastKeys old depth answer
   pub least : (other : List Step) → IsAnswer old.searched.lexicon old.line old.choices other → IsPastKeys old depth other
@@ -88,7 +88,7 @@ pub record Skipped (depth : ℕ) (old new : SearchValue) : Type 0 where
 
 -- the search has come past the last answer: none that comes after it has other first keys
 pub record HasSkippedAll (depth : ℕ) (old new : SearchValue) : Type 0 where
-  pub is : new ≡ record { searched = old.searched; line = old.line; choices = old.choices; position = PastLast }
+  pub is : new ≡ record { searched = old.searched; line = old.line; choices = old.choices; cursor = PastLast }
   pub none : (answer : List Step) → IsAnswer old.searched.lexicon old.line old.choices answer → IsPastKeys old depth answer → ⊥
 
 -- the keys are those of no answer
@@ -98,7 +98,7 @@ AreNoKeys searched line choices keys =
 
 -- the search stands at the answer with these keys, or before the first where there are none
 abbrev pub StandsAtKeys : SearchValue → List Key → Type 0
-StandsAtKeys search [] = search.position ≡ BeforeFirst
+StandsAtKeys search [] = search.cursor ≡ BeforeFirst
 StandsAtKeys search (key ∷ keys) =
-    (answer : List Step) × (search.position ≡ AtAnswer answer) × IsAnswer search.searched.lexicon search.line search.choices answer
+    (answer : List Step) × (search.cursor ≡ AtAnswer answer) × IsAnswer search.searched.lexicon search.line search.choices answer
     × (keys_of search.searched.lexicon.rules answer ≡ key ∷ keys)

@@ -8,17 +8,17 @@ use Rattle.segmentation_definitions.specs.Listings.{compare_answers}
 use Rattle.segmentation_definitions.specs.Answers.{IsAnswer}
 use Rattle.derivation.specs.Steps.{steps_of}
 use Rattle.annotated_trie.specs.Searched.{SearchedLexicon}
-use Rattle.search_frames.specs.declared.position.Position.TheVariants as position
-use Rattle.search_frames.specs.Stacks.{position_in}
+use Rattle.search_frames.specs.declared.cursor.Cursor.TheVariants as cursor
+use Rattle.search_frames.specs.Stacks.{cursor_in}
 use Rattle.search_frames.specs.declared.resumption.Resumption.{Resumption}
 use Rattle.search_frames.specs.Configurations.{rules_in}
 use Rattle.search_frames.specs.Stacks.{steps_in}
-use Rattle.segmenter.specs.Searches.{SearchValue, StandsAtAnswer, IsPastKeys, position_of}
+use Rattle.segmenter.specs.Searches.{SearchValue, StandsAtAnswer, IsPastKeys, cursor_of}
 
 -- what a search with this stack is seen as
 abbrev pub value_of : SearchedLexicon → Line → List Choice → Resumption → SearchValue
 value_of searched line choices stack =
-    record { searched = searched; line = line; choices = choices; position = position_of searched line stack }
+    record { searched = searched; line = line; choices = choices; cursor = cursor_of searched line stack }
 
 -- the least answer that comes after the one at which the search stands and has other first keys, as many as depth
 pub record IsLeastPast (depth : ℕ) (search : SearchValue) (answer : List Step) : Type 0 where
@@ -44,10 +44,10 @@ pub record StandsPast (searched : SearchedLexicon) (line : Line) (choices : List
 
 -- the stack has moved to this answer
 pub record HasSkipped (searched : SearchedLexicon) (line : Line) (choices : List Choice) (depth : ℕ) (old new : Resumption) : Type 0 where
-  pub position : position_in new ≡ position.At
+  pub cursor : cursor_in new ≡ cursor.At
   pub least : HasLeastPast searched line choices depth old new
 
 -- the stack has come past the last answer, since none is past these keys
 pub record HasSkippedOut (searched : SearchedLexicon) (line : Line) (choices : List Choice) (depth : ℕ) (old new : Resumption) : Type 0 where
-  pub position : position_in new ≡ position.Past
+  pub cursor : cursor_in new ≡ cursor.Past
   pub none : HasNonePast depth (value_of searched line choices old)

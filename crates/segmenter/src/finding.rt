@@ -6,7 +6,7 @@ ghost use Rattle.annotated_trie.specs.Searched.{IsSearchedLexicon};
 ghost use Rattle.search_frames.specs.Stacks.{IsStack, KeepsBefore, depth_of};
 ghost use Rattle.search_frames.specs.Frames.{IsFrame, IsConfigurationIn, numbered_of, here_of};
 ghost use Rattle.search_frames.specs.Guided.{IsGuideOf, IsExactOf};
-ghost use Rattle.search_frames.specs.Costs.{HasAtMostChoices, steps_left};
+ghost use Rattle.search_frames.specs.Costs.{HasAtMostRules, steps_left};
 ghost use Rattle.search_frames.specs.Reached.{IsReached};
 ghost use Rattle.search_frames.specs.Turns.{HasToTry};
 ghost use Rattle.segmenter.specs.MoveCosts.{steps_of_levels, levels_from, levels_after};
@@ -18,7 +18,7 @@ use phoneme::Line;
 use reader_choices::Choices;
 use search_frames::{Configuration, Resumption, SearchGuide, ToTry, Turn, open_frame};
 
-/// Finds the first path from the place, with the frames from the level on. False where there is none.
+/// Finds the first path from the configuration, with the frames from the level on. False where there is none.
 #[cycle(find)]
 pub(crate) fn find_first<D: SearchGuide, L>(
     lexicon: &Lexicon,
@@ -41,9 +41,9 @@ pub(crate) fn find_first<D: SearchGuide, L>(
     ensures found { OnTrue result (HasFound lexicon.now line.now choices.now Every stack.new level (numbered_of lexicon.now place)) }
     ensures none { OnFalse result (HasNone lexicon.now line.now choices.now Every (numbered_of lexicon.now place)) }
     ensures changes { KeepsBefore level stack.old stack.new }
-    ensures steps_on { IsExactOf lexicon.now line.now choices.now (D.says guide.now) → (most : ℕ) → HasAtMostChoices lexicon.now.tries most
+    ensures steps_on { IsExactOf lexicon.now line.now choices.now (D.says guide.now) → (most : ℕ) → HasAtMostRules lexicon.now.tries most
         → OnTrue result (steps.new ≤ steps.old + 1 + steps_of_levels lexicon.now most (levels_from line.now (numbered_of lexicon.now place))) }
-    ensures steps_end { IsExactOf lexicon.now line.now choices.now (D.says guide.now) → (most : ℕ) → HasAtMostChoices lexicon.now.tries most
+    ensures steps_end { IsExactOf lexicon.now line.now choices.now (D.says guide.now) → (most : ℕ) → HasAtMostRules lexicon.now.tries most
         → OnFalse result (steps.new ≤ steps.old + 1) }
 {
     if !guide.live(place.at, place.entrance, place.state, steps) {
@@ -86,9 +86,9 @@ pub(crate) fn find_next<D: SearchGuide, L>(
     ensures found { OnTrue result (HasFound lexicon.now line.now choices.now (BeginsUntried lexicon.now stack.old level) stack.new level (here_of lexicon.now stack.old level)) }
     ensures none { OnFalse result (HasNone lexicon.now line.now choices.now (BeginsUntried lexicon.now stack.old level) (here_of lexicon.now stack.old level)) }
     ensures changes { KeepsBefore level stack.old stack.new }
-    ensures steps_on { IsExactOf lexicon.now line.now choices.now (D.says guide.now) → (most : ℕ) → HasAtMostChoices lexicon.now.tries most
+    ensures steps_on { IsExactOf lexicon.now line.now choices.now (D.says guide.now) → (most : ℕ) → HasAtMostRules lexicon.now.tries most
         → OnTrue result (steps.new ≤ steps.old + steps_left lexicon.now most stack.old level + steps_of_levels lexicon.now most (levels_after line.now (here_of lexicon.now stack.old level))) }
-    ensures steps_end { IsExactOf lexicon.now line.now choices.now (D.says guide.now) → (most : ℕ) → HasAtMostChoices lexicon.now.tries most
+    ensures steps_end { IsExactOf lexicon.now line.now choices.now (D.says guide.now) → (most : ℕ) → HasAtMostRules lexicon.now.tries most
         → OnFalse result (steps.new ≤ steps.old + steps_left lexicon.now most stack.old level) }
 {
     let mut to_try = to_try;
@@ -137,9 +137,9 @@ pub(crate) fn find_later<D: SearchGuide, L>(
         → LeadAlong lexicon.now line.now choices.now (here_of lexicon.now stack.old level) keys
         → OnFalse result (HasNone lexicon.now line.now choices.now (ComesAfter keys) (here_of lexicon.now stack.old level)) }
     ensures changes { KeepsBefore level stack.old stack.new }
-    ensures steps_on { IsExactOf lexicon.now line.now choices.now (D.says guide.now) → (most : ℕ) → HasAtMostChoices lexicon.now.tries most
+    ensures steps_on { IsExactOf lexicon.now line.now choices.now (D.says guide.now) → (most : ℕ) → HasAtMostRules lexicon.now.tries most
         → OnTrue result (steps.new ≤ steps.old + steps_of_levels lexicon.now most (depth_of stack.old - level + levels_after line.now (here_of lexicon.now stack.old level))) }
-    ensures steps_end { IsExactOf lexicon.now line.now choices.now (D.says guide.now) → (most : ℕ) → HasAtMostChoices lexicon.now.tries most
+    ensures steps_end { IsExactOf lexicon.now line.now choices.now (D.says guide.now) → (most : ℕ) → HasAtMostRules lexicon.now.tries most
         → OnFalse result (steps.new ≤ steps.old + steps_of_levels lexicon.now most (depth_of stack.old - level)) }
 {
     if find_deeper(lexicon, line, choices, guide, stack, level, steps) {
@@ -185,9 +185,9 @@ fn find_deeper<D: SearchGuide, L>(
         → OnFalse result (HasNoneBelow lexicon.now line.now choices.now (here_of lexicon.now stack.old level) key rest) }
     ensures changes { KeepsBefore level stack.old stack.new }
     ensures kept { OnFalse result (KeepsBefore (level + 1) stack.old stack.new) }
-    ensures steps_on { IsExactOf lexicon.now line.now choices.now (D.says guide.now) → (most : ℕ) → HasAtMostChoices lexicon.now.tries most
+    ensures steps_on { IsExactOf lexicon.now line.now choices.now (D.says guide.now) → (most : ℕ) → HasAtMostRules lexicon.now.tries most
         → OnTrue result (steps.new ≤ steps.old + steps_of_levels lexicon.now most (depth_of stack.old - level + levels_after line.now (here_of lexicon.now stack.old level))) }
-    ensures steps_end { IsExactOf lexicon.now line.now choices.now (D.says guide.now) → (most : ℕ) → HasAtMostChoices lexicon.now.tries most
+    ensures steps_end { IsExactOf lexicon.now line.now choices.now (D.says guide.now) → (most : ℕ) → HasAtMostRules lexicon.now.tries most
         → OnFalse result (steps.new ≤ steps.old + steps_of_levels lexicon.now most (depth_of stack.old - (level + 1))) }
 {
     level + 1 < stack.depth() as usize

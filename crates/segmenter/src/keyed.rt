@@ -19,7 +19,8 @@ use phoneme::Line;
 use reader_choices::Choices;
 use search_frames::{Configuration, Resumption, Test, open_frame, seek, test_key};
 
-/// Makes the frame at the level, counted from 0, one that stands at the place and at the key, and tells what the key does there.
+/// Makes the frame at the level, counted from 0, one that stands at the configuration and at the key, and tells what the key does
+/// there.
 fn stand_at_key(
     lexicon: &Lexicon,
     line: &Line,
@@ -46,7 +47,7 @@ fn stand_at_key(
     test_key(lexicon, line, choices, &place, &stack.step(level))
 }
 
-/// Goes from the place along the keys, with the frames from the level on. False where they are no path from there.
+/// Goes from the configuration along the keys, with the frames from the level on. False where they are no path from there.
 pub(crate) fn find_keys(
     lexicon: &Lexicon,
     line: &Line,

@@ -1,10 +1,10 @@
 //! The search for the answers of a line: it lists them one after another in their order, from any of them on (a backtracking
 //! search whose stack is a value that can be kept, after Huet 2005).
 //!
-//! Proved: contracts see a `Search` as its lexicon, line and choices and its position in the listing. `new` stands before the
+//! Proved: contracts see a `Search` as its lexicon, line and choices and its cursor in the listing. `new` stands before the
 //! first answer (`ok`). `advance` moves to the next one (`moved`), or past the last exactly where none is left (`ended`), under
 //! any guide that never says false of what stands in an answer; it takes no memory. `current` gives the steps of the answer at the
-//! position (`answer`). `save` and `into_resumption` keep the position (`ok`), and `go_on` stands there again (`ok`). `resume`
+//! cursor (`answer`). `save` and `into_resumption` keep the cursor (`ok`), and `go_on` stands there again (`ok`). `resume`
 //! stands at the answer with the given keys, or before the first where there are none (`over`, `at`), and answers `NotAnAnswer`
 //! only where no answer has them (`not_an_answer`). `skip` moves to the least later answer whose first keys are others (`moved`),
 //! or past the last exactly where there is none (`ended`). Under a guide that is known to be exact, as a chart is (`known` of

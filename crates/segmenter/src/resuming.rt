@@ -3,12 +3,12 @@ ghost use Rattle.std.specs.Bool.{OnTrue, OnFalse};
 ghost use Rattle.segmentation_definitions.specs.Derivations.{Step};
 ghost use Rattle.segmentation_definitions.specs.Listings.{AtAnswer};
 ghost use Rattle.annotated_trie.specs.Searched.{IsSearchedLexicon};
-ghost use Rattle.search_frames.specs.declared.position.Position.TheVariants as position;
+ghost use Rattle.search_frames.specs.declared.cursor.Cursor.TheVariants as cursor;
 ghost use Rattle.segmenter.specs.declared.resuming.ResumeError.TheVariants.{NotAnAnswer as ErrorNotAnAnswer, Memory as ErrorMemory};
-ghost use Rattle.search_frames.specs.Stacks.{KeepsBefore, position_in};
+ghost use Rattle.search_frames.specs.Stacks.{KeepsBefore, cursor_in};
 ghost use Rattle.derivation.specs.Steps.{keys_meant};
 ghost use Rattle.search_frames.specs.Guided.{IsGuideOf, IsExactOf};
-ghost use Rattle.search_frames.specs.Costs.{HasAtMostChoices};
+ghost use Rattle.search_frames.specs.Costs.{HasAtMostRules};
 ghost use Rattle.segmentation_definitions.specs.StepBounds.{advance_bound};
 ghost use Rattle.segmenter.specs.MoveCosts.{AreKnownExact, steps_of_levels};
 ghost use Rattle.segmenter.specs.Searches.{IsStackOf, AreNoKeys, StandsAtKeys, Skipped, HasSkippedAll};
@@ -22,7 +22,7 @@ use derivation::Key;
 use outside::Steps;
 use phoneme::{Line, Memory};
 use reader_choices::Choices;
-use search_frames::{Resumption, SearchGuide, Position};
+use search_frames::{Cursor, Resumption, SearchGuide};
 use std::alloc::Global;
 use thiserror::Error;
 
@@ -56,7 +56,7 @@ impl<'a, D: SearchGuide> Search<'a, D> {
     ) -> Result<Search<'a, D>, ResumeError>
         requires guide { IsGuideOf lexicon.now line.now choices.now (D.covers guide.now) (D.says guide.now) }
         requires known { D.known guide.now lexicon.now line.now choices.now }
-        ensures over { IfOk result (λ search. search ≡ record { searched = lexicon.now; line = line.now; choices = choices.now; position = search.position }) }
+        ensures over { IfOk result (λ search. search ≡ record { searched = lexicon.now; line = line.now; choices = choices.now; cursor = search.cursor }) }
         ensures at { IfOk result (λ search. StandsAtKeys search (keys_meant keys.now)) }
         ensures not_an_answer { IfErr result (λ error. error ≡ ErrorNotAnAnswer → (keys.now ≢ []) × AreNoKeys lexicon.now line.now choices.now (keys_meant keys.now)) }
     {
@@ -73,11 +73,11 @@ impl<'a, D: SearchGuide> Search<'a, D> {
     /// later answer that has others. False where there is none; then the search stands past the last. Takes no memory, and no more
     /// steps than `advance` may take.
     pub fn skip<L>(&mut self, depth: u32, steps: &mut Steps<L>) -> bool
-        requires at { (answer : List Step) × (self.old.position ≡ AtAnswer answer) }
+        requires at { (answer : List Step) × (self.old.cursor ≡ AtAnswer answer) }
         requires depth { 1 ≤ depth }
         ensures moved { OnTrue result (Skipped depth self.old self.new) }
         ensures ended { OnFalse result (HasSkippedAll depth self.old self.new) }
-        ensures steps { AreKnownExact D D.known D.says self.old → (most : ℕ) → HasAtMostChoices self.old.searched.tries most → steps.new ≤ steps.old + advance_bound self.old.searched.lexicon most (length self.old.line.letters) }
+        ensures steps { AreKnownExact D D.known D.says self.old → (most : ℕ) → HasAtMostRules self.old.searched.tries most → steps.new ≤ steps.old + advance_bound self.old.searched.lexicon most (length self.old.line.letters) }
     {
         skip_on(
             self.lexicon,
@@ -102,7 +102,7 @@ fn go_to_keys(
 ) -> bool
     requires searched { IsSearchedLexicon lexicon.now }
     requires stack { IsStackOf lexicon.now line.now choices.now stack.old }
-    requires before { position_in stack.old ≡ position.Before }
+    requires before { cursor_in stack.old ≡ cursor.Before }
     ensures stack { OnTrue result (IsStackOf lexicon.now line.now choices.now stack.new) }
     ensures at { OnTrue result (StandsAtKeys (value_of lexicon.now line.now choices.now stack.new) (keys_meant keys.now)) }
     ensures none { OnFalse result ((keys.now ≢ []) × AreNoKeys lexicon.now line.now choices.now (keys_meant keys.now)) }
@@ -113,7 +113,7 @@ fn go_to_keys(
     if !find_keys(lexicon, line, choices, stack, 0, opening(lexicon), keys) {
         return false;
     }
-    stack.stand_at(Position::At);
+    stack.stand_at(Cursor::At);
     true
 }
 
@@ -131,12 +131,12 @@ fn find_past<D: SearchGuide, L>(
     requires guide { IsGuideOf lexicon.now line.now choices.now (D.covers guide.now) (D.says guide.now) }
     requires known { D.known guide.now lexicon.now line.now choices.now }
     requires stack { IsStackOf lexicon.now line.now choices.now stack.old }
-    requires at { position_in stack.old ≡ position.At }
+    requires at { cursor_in stack.old ≡ cursor.At }
     requires depth { 1 ≤ depth }
     ensures found { OnTrue result (StandsPast lexicon.now line.now choices.now depth stack.old stack.new) }
     ensures none { OnFalse result (HasNonePast depth (value_of lexicon.now line.now choices.now stack.old)) }
     ensures changes { KeepsBefore 0 stack.old stack.new }
-    ensures steps { IsExactOf lexicon.now line.now choices.now (D.says guide.now) → (most : ℕ) → HasAtMostChoices lexicon.now.tries most → steps.new ≤ steps.old + steps_of_levels lexicon.now most (4 * length line.now.letters) }
+    ensures steps { IsExactOf lexicon.now line.now choices.now (D.says guide.now) → (most : ℕ) → HasAtMostRules lexicon.now.tries most → steps.new ≤ steps.old + steps_of_levels lexicon.now most (4 * length line.now.letters) }
 {
     let in_use = depth.min(stack.depth());
     stack.use_frames(in_use);
@@ -158,15 +158,15 @@ fn skip_on<D: SearchGuide, L>(
     requires guide { IsGuideOf lexicon.now line.now choices.now (D.covers guide.now) (D.says guide.now) }
     requires known { D.known guide.now lexicon.now line.now choices.now }
     requires stack { IsStackOf lexicon.now line.now choices.now stack.old }
-    requires at { position_in stack.old ≡ position.At }
+    requires at { cursor_in stack.old ≡ cursor.At }
     requires depth { 1 ≤ depth }
     ensures stack { IsStackOf lexicon.now line.now choices.now stack.new }
     ensures moved { OnTrue result (HasSkipped lexicon.now line.now choices.now depth stack.old stack.new) }
     ensures ended { OnFalse result (HasSkippedOut lexicon.now line.now choices.now depth stack.old stack.new) }
-    ensures steps { IsExactOf lexicon.now line.now choices.now (D.says guide.now) → (most : ℕ) → HasAtMostChoices lexicon.now.tries most → steps.new ≤ steps.old + steps_of_levels lexicon.now most (4 * length line.now.letters) }
+    ensures steps { IsExactOf lexicon.now line.now choices.now (D.says guide.now) → (most : ℕ) → HasAtMostRules lexicon.now.tries most → steps.new ≤ steps.old + steps_of_levels lexicon.now most (4 * length line.now.letters) }
 {
     let found = find_past(lexicon, line, choices, guide, stack, depth, steps);
-    let position = if found { Position::At } else { Position::Past };
-    stack.stand_at(position);
+    let cursor = if found { Cursor::At } else { Cursor::Past };
+    stack.stand_at(cursor);
     found
 }

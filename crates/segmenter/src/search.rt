@@ -4,16 +4,16 @@ ghost use Rattle.text_definitions.specs.Lines.{Line as LineValue};
 ghost use Rattle.segmentation_definitions.specs.Items.{Choice};
 ghost use Rattle.segmentation_definitions.specs.Listings.{BeforeFirst};
 ghost use Rattle.annotated_trie.specs.Searched.{IsSearchedLexicon};
-ghost use Rattle.search_frames.specs.declared.position.Position.TheVariants as position;
+ghost use Rattle.search_frames.specs.declared.cursor.Cursor.TheVariants as cursor;
 ghost use Rattle.search_frames.specs.Frames.{IsConfigurationIn, numbered_of};
 ghost use Rattle.search_frames.specs.Configurations.{opening};
-ghost use Rattle.search_frames.specs.Stacks.{KeepsBefore, position_in};
+ghost use Rattle.search_frames.specs.Stacks.{KeepsBefore, cursor_in};
 ghost use Rattle.search_frames.specs.Guided.{IsGuideOf, IsExactOf};
-ghost use Rattle.search_frames.specs.Costs.{HasAtMostChoices};
+ghost use Rattle.search_frames.specs.Costs.{HasAtMostRules};
 ghost use Rattle.segmentation_definitions.specs.StepBounds.{advance_bound};
 ghost use Rattle.segmenter.specs.MoveCosts.{AreKnownExact, steps_of_levels};
 ghost use Rattle.segmenter.specs.Moves.{StandsAtNext, HasNoNext, HasMoved, HasRunOut};
-ghost use Rattle.segmenter.specs.Searches.{IsStackOf, position_of, MovedOn, HasEnded, IsCurrent, StandsWhere};
+ghost use Rattle.segmenter.specs.Searches.{IsStackOf, cursor_of, MovedOn, HasEnded, IsCurrent, StandsWhere};
 
 use super::finding::{find_first, find_later};
 use annotated_trie::Lexicon;
@@ -21,7 +21,7 @@ use derivation::{Entrance, Step};
 use outside::Steps;
 use phoneme::{Line, Memory};
 use reader_choices::Choices;
-use search_frames::{Configuration, Resumption, SearchGuide, Position, new_stack};
+use search_frames::{Configuration, Cursor, Resumption, SearchGuide, new_stack};
 use std::alloc::Global;
 use std::marker::Model;
 
@@ -39,11 +39,11 @@ pub struct Search<'a, D: SearchGuide> {
 impl<'a, D: SearchGuide> Model for Search<'a, D> {
     ghost use Rattle.annotated_trie.specs.Searched.{IsSearchedLexicon};
     ghost use Rattle.search_frames.specs.Guided.{IsGuideOf};
-    ghost use Rattle.segmenter.specs.Searches.{SearchValue, IsStackOf, position_of};
+    ghost use Rattle.segmenter.specs.Searches.{SearchValue, IsStackOf, cursor_of};
 
     ghost Value = { SearchValue };
 
-    ghost view = { λ s. record { searched = s.lexicon.now; line = s.line.now; choices = s.choices.now; position = position_of s.lexicon.now s.line.now s.stack } };
+    ghost view = { λ s. record { searched = s.lexicon.now; line = s.line.now; choices = s.choices.now; cursor = cursor_of s.lexicon.now s.line.now s.stack } };
 
     ghost invariant = { λ s. IsSearchedLexicon s.lexicon.now
         × IsGuideOf s.lexicon.now s.line.now s.choices.now (D.covers s.guide.now) (D.says s.guide.now)
@@ -62,7 +62,7 @@ impl<'a, D: SearchGuide> Search<'a, D> {
     ) -> Result<Search<'a, D>, Memory>
         requires guide { IsGuideOf lexicon.now line.now choices.now (D.covers guide.now) (D.says guide.now) }
         requires known { D.known guide.now lexicon.now line.now choices.now }
-        ensures ok { IfOk result (λ search. search ≡ record { searched = lexicon.now; line = line.now; choices = choices.now; position = BeforeFirst }) }
+        ensures ok { IfOk result (λ search. search ≡ record { searched = lexicon.now; line = line.now; choices = choices.now; cursor = BeforeFirst }) }
     {
         let stack = empty_stack(alloc, lexicon, line)?;
         Ok(Search::go_on(lexicon, line, choices, guide, stack))
@@ -80,7 +80,7 @@ impl<'a, D: SearchGuide> Search<'a, D> {
         requires guide { IsGuideOf lexicon.now line.now choices.now (D.covers guide.now) (D.says guide.now) }
         requires known { D.known guide.now lexicon.now line.now choices.now }
         requires stack { IsStackOf lexicon.now line.now choices.now from }
-        ensures ok { result ≡ record { searched = lexicon.now; line = line.now; choices = choices.now; position = position_of lexicon.now line.now from } }
+        ensures ok { result ≡ record { searched = lexicon.now; line = line.now; choices = choices.now; cursor = cursor_of lexicon.now line.now from } }
     {
         let _rules = lexicon.rules();
         Search {
@@ -98,7 +98,7 @@ impl<'a, D: SearchGuide> Search<'a, D> {
     pub fn advance<L>(&mut self, steps: &mut Steps<L>) -> bool
         ensures moved { OnTrue result (MovedOn self.old self.new) }
         ensures ended { OnFalse result (HasEnded self.old self.new) }
-        ensures steps { AreKnownExact D D.known D.says self.old → (most : ℕ) → HasAtMostChoices self.old.searched.tries most → steps.new ≤ steps.old + advance_bound self.old.searched.lexicon most (length self.old.line.letters) }
+        ensures steps { AreKnownExact D D.known D.says self.old → (most : ℕ) → HasAtMostRules self.old.searched.tries most → steps.new ≤ steps.old + advance_bound self.old.searched.lexicon most (length self.old.line.letters) }
     {
         move_on(
             self.lexicon,
@@ -114,9 +114,9 @@ impl<'a, D: SearchGuide> Search<'a, D> {
     pub fn current(&self) -> Option<&[Step]>
         ensures answer { MatchOption result (IsCurrent self.now None) (λ steps. IsCurrent self.now (Some steps.now)) }
     {
-        match self.stack.position() {
-            Position::At => Some(self.stack.steps()),
-            Position::Before | Position::Past => None,
+        match self.stack.cursor() {
+            Cursor::At => Some(self.stack.steps()),
+            Cursor::Before | Cursor::Past => None,
         }
     }
 
@@ -151,10 +151,10 @@ fn find_next_answer<D: SearchGuide, L>(
     ensures found { OnTrue result (StandsAtNext lexicon.now line.now choices.now stack.old stack.new) }
     ensures none { OnFalse result (HasNoNext lexicon.now line.now choices.now stack.old) }
     ensures changes { KeepsBefore 0 stack.old stack.new }
-    ensures steps { IsExactOf lexicon.now line.now choices.now (D.says guide.now) → (most : ℕ) → HasAtMostChoices lexicon.now.tries most → steps.new ≤ steps.old + steps_of_levels lexicon.now most (4 * length line.now.letters) }
+    ensures steps { IsExactOf lexicon.now line.now choices.now (D.says guide.now) → (most : ℕ) → HasAtMostRules lexicon.now.tries most → steps.new ≤ steps.old + steps_of_levels lexicon.now most (4 * length line.now.letters) }
 {
-    match stack.position() {
-        Position::Before => find_first(
+    match stack.cursor() {
+        Cursor::Before => find_first(
             lexicon,
             line,
             choices,
@@ -164,8 +164,8 @@ fn find_next_answer<D: SearchGuide, L>(
             opening(lexicon),
             steps,
         ),
-        Position::At => find_later(lexicon, line, choices, guide, stack, 0, steps),
-        Position::Past => false,
+        Cursor::At => find_later(lexicon, line, choices, guide, stack, 0, steps),
+        Cursor::Past => false,
     }
 }
 
@@ -185,11 +185,11 @@ fn move_on<D: SearchGuide, L>(
     ensures stack { IsStackOf lexicon.now line.now choices.now stack.new }
     ensures moved { OnTrue result (HasMoved lexicon.now line.now choices.now stack.old stack.new) }
     ensures ended { OnFalse result (HasRunOut lexicon.now line.now choices.now stack.old stack.new) }
-    ensures steps { IsExactOf lexicon.now line.now choices.now (D.says guide.now) → (most : ℕ) → HasAtMostChoices lexicon.now.tries most → steps.new ≤ steps.old + steps_of_levels lexicon.now most (4 * length line.now.letters) }
+    ensures steps { IsExactOf lexicon.now line.now choices.now (D.says guide.now) → (most : ℕ) → HasAtMostRules lexicon.now.tries most → steps.new ≤ steps.old + steps_of_levels lexicon.now most (4 * length line.now.letters) }
 {
     let found = find_next_answer(lexicon, line, choices, guide, stack, steps);
-    let position = if found { Position::At } else { Position::Past };
-    stack.stand_at(position);
+    let cursor = if found { Cursor::At } else { Cursor::Past };
+    stack.stand_at(cursor);
     found
 }
 
@@ -211,7 +211,7 @@ pub(crate) fn empty_stack(
     lexicon: &Lexicon,
     line: &Line,
 ) -> Result<Resumption, Memory>
-    ensures position { IfOk result (λ stack. position_in stack ≡ position.Before) }
+    ensures cursor { IfOk result (λ stack. cursor_in stack ≡ cursor.Before) }
     ensures ok { IfOk result (λ stack. (choices : List Choice) → IsStackOf lexicon.now line.now choices stack) }
 {
     new_stack(alloc, lexicon, 2 * line.letters.as_slice().len())

@@ -84,17 +84,15 @@ fn lexicon(rt: &impl Abort, alloc: Global) -> Result<Lexicon, Memory> {
 fn take_letters(steps: Option<&[Step]>, counts: &[u32]) -> bool {
     match steps {
         None => false,
-        Some(steps) => steps.iter().map(|step| step.taken).eq(counts.iter().copied()),
+        Some(steps) => steps
+            .iter()
+            .map(|step| step.taken)
+            .eq(counts.iter().copied()),
     }
 }
 
 /// Asserts that the search, which goes to the next answer and skips by the depth in turn, comes to just these answers.
-fn assert_passes(
-    rt: &impl Abort,
-    search: &mut Search<OpenGuide>,
-    depth: u32,
-    answers: &[&[u32]],
-) {
+fn assert_passes(rt: &impl Abort, search: &mut Search<OpenGuide>, depth: u32, answers: &[&[u32]]) {
     let mut steps = Steps::<()>::new();
     let mut found = 0;
     for _ in 0..answers.len() {

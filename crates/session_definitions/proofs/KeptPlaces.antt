@@ -9,7 +9,7 @@ use Rattle.session_definitions.specs.Replies.{Open, Reply, refused, with_line, w
 use Rattle.session_definitions.specs.PageReplies.{KeepsPlace}
 
 stays : (state : State) (reply : Reply) → reply.after ≡ Open state → KeepsPlace state reply
-stays state reply same = record { next = state; goes_on = same; line = refl; choices = refl; position = refl }
+stays state reply same = record { next = state; goes_on = same; line = refl; choices = refl; cursor = refl }
 
 pub refusal_keeps : (state : State) (why : List ℕ) (reply : Reply) → reply ≡ refused state why → KeepsPlace state reply
 refusal_keeps state why reply is = stays state reply (λ i. (is i).after)
@@ -22,7 +22,7 @@ summary_over lexicon state (Some line) reply is = record {
   goes_on = λ i. (is.is i).after;
   line = refl;
   choices = refl;
-  position = refl;
+  cursor = refl;
 }
 
 pub summary_keeps : (lexicon : Lexicon) (state : State) (reply : Reply) → IsReplyTo lexicon state Summary reply → KeepsPlace state reply

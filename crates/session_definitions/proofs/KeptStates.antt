@@ -12,13 +12,13 @@ use Rattle.lexicon_text_definitions.specs.FileLines.{Parts, parts_of}
 use Rattle.segmentation_definitions.specs.declared.limits.TheConstants.{MOST_CHOICES}
 use Rattle.segmentation_definitions.specs.Derivations.{Step}
 use Rattle.segmentation_definitions.specs.Items.{Item, Choice}
-use Rattle.segmentation_definitions.specs.Listings.{Position, IsPage, IsSummary}
+use Rattle.segmentation_definitions.specs.Listings.{Cursor, IsPage, IsSummary}
 use Rattle.bookmark_definitions.specs.Bookmarks.{Bookmark}
 use Rattle.bookmark_definitions.specs.BookmarkReadings.{bookmark_of_text}
 use Rattle.session_definitions.specs.SessionLines.{line_text, is_long}
 use Rattle.session_definitions.specs.States.{State, opening, fresh, after_answers, after_choice, after_undo, after_resume}
 use Rattle.session_definitions.specs.Requests.{Request, Text, Page, Summary, Choose, Undo, Tags, Mark, Resume, Quit, NoWord, alone, after_blank, request_with, request_of}
-use Rattle.session_definitions.specs.Replies.{After, Open, Over, Reply, agreed, refused, reply_to_line, reply_to_text, reply_to_undo, reply_to_mark, reply_to_choice, reply_to_tags, with_line, with_summary, with_item, reply_about, IsReplyOver, IsPageReply, IsSummaryReply, IsPositionOfBookmark, IsResumeReply, OfPosition, OfNoPosition, IsReplyTo, IsReplyToText, IsReply}
+use Rattle.session_definitions.specs.Replies.{After, Open, Over, Reply, agreed, refused, reply_to_line, reply_to_text, reply_to_undo, reply_to_mark, reply_to_choice, reply_to_tags, with_line, with_summary, with_item, reply_about, IsReplyOver, IsPageReply, IsSummaryReply, IsCursorOfBookmark, IsResumeReply, OfCursor, OfNoCursor, IsReplyTo, IsReplyToText, IsReply}
 use Rattle.session_definitions.specs.Sessions.{IsWrittenAfter, AreReplies}
 use Rattle.session_definitions.specs.ReachedStates.{IsReached}
 
@@ -27,14 +27,14 @@ pub record AreKept (lexicon : Lexicon) (P : State → Type 0) : Type 0 where
   pub opens : P opening
   pub reads : (scheme : Scheme) (text : List ℕ) (line : Line) → line_of_text scheme text ≡ Ok line → P (fresh (Some line) [])
   pub prints : (state : State) (line : Line) (count : ℕ) (answers : List (List Step)) (more : Bool) → P state → state.line ≡ Some line
-      → IsPage lexicon line state.choices state.position count answers more → P (after_answers state answers)
+      → IsPage lexicon line state.choices state.cursor count answers more → P (after_answers state answers)
   pub sums : (state : State) (line : Line) (items : List Item) → P state → state.line ≡ Some line
       → IsSummary lexicon line state.choices items → P (record state { summary = Some items })
   pub chooses : (state : State) (items : List Item) (kept : Bool) (number : ℕ) (item : Item) → P state → state.summary ≡ Some items
       → slice_get items number ≡ Some item → nat_le MOST_CHOICES (length state.choices) ≡ false → P (after_choice state kept item)
   pub undoes : (state : State) → P state → P (after_undo state)
-  pub resumes : (text : List ℕ) (mark : Bookmark) (position : Position) → bookmark_of_text text ≡ Some mark
-      → IsPositionOfBookmark lexicon mark position → P (after_resume mark position)
+  pub resumes : (text : List ℕ) (mark : Bookmark) (cursor : Cursor) → bookmark_of_text text ≡ Some mark
+      → IsCursorOfBookmark lexicon mark cursor → P (after_resume mark cursor)
 
 -- ---- what a line asks for
 
@@ -154,9 +154,9 @@ module _ (lexicon : Lexicon) (P : State → Type 0) (are : AreKept lexicon P) wh
 
   to_resume : (state : State) (text : List ℕ) (mark : Bookmark) (reply : Reply) → P state → bookmark_of_text text ≡ Some mark
       → IsResumeReply lexicon state mark reply → Goes reply.after
-  to_resume state text mark reply p e (OfPosition position is f) =
-      goes_by state reply _ f (goes_in (after_resume mark position) (are.resumes text mark position e is))
-  to_resume state text mark reply p e (OfNoPosition none f) = goes_by state reply _ f (goes_in state p)
+  to_resume state text mark reply p e (OfCursor cursor is f) =
+      goes_by state reply _ f (goes_in (after_resume mark cursor) (are.resumes text mark cursor e is))
+  to_resume state text mark reply p e (OfNoCursor none f) = goes_by state reply _ f (goes_in state p)
 
   to_request : (state : State) (text : List ℕ) (request : Request) (reply : Reply) → P state → IsResumedBy text request
       → IsReplyTo lexicon state request reply → Goes reply.after

@@ -6,7 +6,7 @@ use Rattle.lexicon_definitions.specs.Lexicons.{Lexicon}
 use Rattle.lexicon_text_definitions.specs.FileLines as file
 use Rattle.list_laws.proofs.Sorted.{same_sorted}
 use Rattle.segmentation_definitions.specs.Items.{Item, Choice}
-use Rattle.segmentation_definitions.specs.Listings.{Position, AtAnswer, Key}
+use Rattle.segmentation_definitions.specs.Listings.{Cursor, AtAnswer, Key}
 use Rattle.segmentation_definitions.specs.PrintedAnswers.{next_number, printed_page}
 use Rattle.segmentation_definitions.proofs.Listings.{same_page}
 use Rattle.segmentation_definitions.proofs.ItemOrder.{compare_items_total}
@@ -16,12 +16,12 @@ use Rattle.session_definitions.specs.SessionLines.{line_text, is_long}
 use Rattle.session_definitions.specs.States.{State, after_answers, after_resume}
 use Rattle.session_definitions.specs.PrintedSummaries.{printed_summary}
 use Rattle.session_definitions.specs.Requests.{Request, Text, Page, Summary, Choose, Undo, Tags, Mark, Resume, Quit, NoWord, request_of}
-use Rattle.session_definitions.specs.Replies.{Reply, reply_in, agreed, refused, IsReplyOver, IsPageReply, IsSummaryReply, IsPositionOfKeys, IsResumeReply, OfPosition, OfNoPosition, IsReplyTo, IsReplyToText, IsReply}
+use Rattle.session_definitions.specs.Replies.{Reply, reply_in, agreed, refused, IsReplyOver, IsPageReply, IsSummaryReply, IsCursorOfKeys, IsResumeReply, OfCursor, OfNoCursor, IsReplyTo, IsReplyToText, IsReply}
 
 one_page_reply : (lexicon : Lexicon) (state : State) (count : ℕ) (line : Line) (a b : Reply) → IsPageReply lexicon state count line a
     → IsPageReply lexicon state count line b → a ≡ b
 one_page_reply lexicon state count line a b p q =
-    let page = same_page lexicon line state.choices state.position count p.answers q.answers p.more q.more p.page q.page in
+    let page = same_page lexicon line state.choices state.cursor count p.answers q.answers p.more q.more p.page q.page in
     let printed : reply_in (after_answers state p.answers) (printed_page lexicon.rules (next_number state.printed) p.answers p.more)
     ≡ reply_in (after_answers state q.answers) (printed_page lexicon.rules (next_number state.printed) q.answers q.more) =
     λ i. reply_in (after_answers state (page.0 i)) (printed_page lexicon.rules (next_number state.printed) (page.0 i) (page.1 i)) in
@@ -37,22 +37,22 @@ one_summary_reply lexicon state line a b p q =
     p.is ∙ ap (λ (items : List Item). reply_in (record state { summary = Some items }) (printed_summary lexicon.rules items)) same ∙ sym q.is
 
 -- an answer is determined by its keys
-pub one_position : (lexicon : Lexicon) (line : Line) (choices : List Choice) (keys : List Key) (left right : Position)
-    → IsPositionOfKeys lexicon line choices keys left → IsPositionOfKeys lexicon line choices keys right → left ≡ right
-one_position lexicon line choices [] left right p q = p ∙ sym q
-one_position lexicon line choices (key ∷ keys) left right (steps, answer, e, at) (others, other, f, other_at) =
+pub one_cursor : (lexicon : Lexicon) (line : Line) (choices : List Choice) (keys : List Key) (left right : Cursor)
+    → IsCursorOfKeys lexicon line choices keys left → IsCursorOfKeys lexicon line choices keys right → left ≡ right
+one_cursor lexicon line choices [] left right p q = p ∙ sym q
+one_cursor lexicon line choices (key ∷ keys) left right (steps, answer, e, at) (others, other, f, other_at) =
     let same : steps ≡ others =
     same_steps lexicon.rules steps others 0 0 [] [] line.letters line.letters [] [] refl refl answer.derives.covers other.derives.covers (e ∙ sym f) in
     at ∙ ap AtAnswer same ∙ sym other_at
 
 one_resume_reply : (lexicon : Lexicon) (state : State) (mark : Bookmark) (a b : Reply) → IsResumeReply lexicon state mark a
     → IsResumeReply lexicon state mark b → a ≡ b
-one_resume_reply lexicon state mark a b (OfPosition position p e) (OfPosition other q f) =
-    let same = one_position lexicon mark.line mark.choices mark.keys position other p.keys q.keys in
-    e ∙ ap (λ (x : Position). agreed (after_resume mark x)) same ∙ sym f
-one_resume_reply lexicon state mark a b (OfPosition position p e) (OfNoPosition none f) = absurd (none position p)
-one_resume_reply lexicon state mark a b (OfNoPosition none e) (OfPosition position q f) = absurd (none position q)
-one_resume_reply lexicon state mark a b (OfNoPosition none e) (OfNoPosition other f) = e ∙ sym f
+one_resume_reply lexicon state mark a b (OfCursor cursor p e) (OfCursor other q f) =
+    let same = one_cursor lexicon mark.line mark.choices mark.keys cursor other p.keys q.keys in
+    e ∙ ap (λ (x : Cursor). agreed (after_resume mark x)) same ∙ sym f
+one_resume_reply lexicon state mark a b (OfCursor cursor p e) (OfNoCursor none f) = absurd (none cursor p)
+one_resume_reply lexicon state mark a b (OfNoCursor none e) (OfCursor cursor q f) = absurd (none cursor q)
+one_resume_reply lexicon state mark a b (OfNoCursor none e) (OfNoCursor other f) = e ∙ sym f
 
 one_over : (state : State) (found : Option Line) (is_reply_over : Line → Reply → Type 0)
     → ((line : Line) (a b : Reply) → is_reply_over line a → is_reply_over line b → a ≡ b)

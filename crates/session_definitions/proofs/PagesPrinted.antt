@@ -9,7 +9,7 @@ use Rattle.lexicon_definitions.specs.Lexicons.{Lexicon}
 use Rattle.lexicon_text_definitions.specs.FileLines as file
 use Rattle.segmentation_definitions.specs.Items.{Choice}
 use Rattle.segmentation_definitions.specs.Listings as listings
-use Rattle.segmentation_definitions.specs.Listings.{Position, BeforeFirst, ArePages, IsListing, IsListingAbove}
+use Rattle.segmentation_definitions.specs.Listings.{Cursor, BeforeFirst, ArePages, IsListing, IsListingAbove}
 use Rattle.segmentation_definitions.proofs.Listings.{listing_from_pages}
 use Rattle.session_definitions.specs.SessionLines.{line_text, is_long, lines_of_input}
 use Rattle.session_definitions.specs.States.{State, opening, after_answers}
@@ -50,7 +50,7 @@ of_request lexicon line state NoWord reply e leaves is = Kept (refusal_keeps sta
 of_text : (lexicon : Lexicon) (line : Line) (state : State) (text : List ℕ) (reply : Reply) → state.line ≡ Some line
     → LeavesLine (request_of text) → IsReplyToText lexicon state text reply → IsPageOrKeeps lexicon line state reply
 of_text lexicon line state [] reply e leaves is =
-    Kept (record { next = state; goes_on = λ i. (is i).after; line = refl; choices = refl; position = refl })
+    Kept (record { next = state; goes_on = λ i. (is i).after; line = refl; choices = refl; cursor = refl })
 of_text lexicon line state (byte ∷ text) reply e leaves is = of_request lexicon line state (request_of (byte ∷ text)) reply e leaves is
 
 by_length : (long : Bool) (lexicon : Lexicon) (line : Line) (state : State) (text : List ℕ) (reply : Reply) → state.line ≡ Some line
@@ -103,15 +103,15 @@ same_state left right e = cc (e)
 
 -- the pages that are printed follow one another
 pub are_pages : (lexicon : Lexicon) (line : Line) (state : State) (output : List ℕ) (pages : List listings.Page)
-    → PrintsPages lexicon line state output pages → ArePages lexicon line state.choices state.position pages
+    → PrintsPages lexicon line state output pages → ArePages lexicon line state.choices state.cursor pages
 are_pages lexicon line state output pages (NoReply at) = tt
 are_pages lexicon line state output pages (PageReply at next count reply rest others has page goes following) =
     let same : next ≡ after_answers at page.answers = same_state next (after_answers at page.answers) (sym goes ∙ (λ i. (page.is i).after)) in
-    (page.page, subst (λ (s : State). ArePages lexicon line s.choices s.position others) same (are_pages lexicon line next rest others following))
+    (page.page, subst (λ (s : State). ArePages lexicon line s.choices s.cursor others) same (are_pages lexicon line next rest others following))
 are_pages lexicon line state output pages (OtherReply at input reply rest these is kept following) =
-    let on : ArePages lexicon line kept.next.choices kept.next.position these = are_pages lexicon line kept.next rest these following in
-    subst (λ (choices : List Choice). ArePages lexicon line choices at.position these) kept.choices
-    (subst (λ (position : Position). ArePages lexicon line kept.next.choices position these) kept.position on)
+    let on : ArePages lexicon line kept.next.choices kept.next.cursor these = are_pages lexicon line kept.next rest these following in
+    subst (λ (choices : List Choice). ArePages lexicon line choices at.cursor these) kept.choices
+    (subst (λ (cursor : Cursor). ArePages lexicon line kept.next.choices cursor these) kept.cursor on)
 
 pub pages_printed : (lexicon : Lexicon) (line : Line) (state : State) (lines : List file.Line) (output : List ℕ) (last : After)
     → state.line ≡ Some line → All IsBetweenChanges lines → AreReplies lexicon state lines output last
@@ -121,11 +121,11 @@ pages_printed lexicon line state lines output last e between replies = prints le
 
 -- and up to one that ends with `end` they are together the listing
 pub listing_printed : (lexicon : Lexicon) (line : Line) (state : State) (output : List ℕ) (pages : List listings.Page) (last : listings.Page)
-    → state.position ≡ BeforeFirst → PrintsPages lexicon line state output (pages ++ last ∷ []) → last.more ≡ false
+    → state.cursor ≡ BeforeFirst → PrintsPages lexicon line state output (pages ++ last ∷ []) → last.more ≡ false
     → IsListing lexicon line state.choices (flat_map (λ page. page.answers) (pages ++ last ∷ []))
 listing_printed lexicon line state output pages last before printed ended =
-    subst (λ (x : Position). IsListingAbove lexicon line state.choices x (flat_map (λ page. page.answers) (pages ++ last ∷ []))) before
-    (listing_from_pages lexicon line state.choices pages state.position last
+    subst (λ (x : Cursor). IsListingAbove lexicon line state.choices x (flat_map (λ page. page.answers) (pages ++ last ∷ []))) before
+    (listing_from_pages lexicon line state.choices pages state.cursor last
     (are_pages lexicon line state output (pages ++ last ∷ []) printed) ended)
 
 -- ---- within a session

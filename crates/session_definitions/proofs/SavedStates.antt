@@ -15,15 +15,15 @@ use Rattle.segmentation_definitions.specs.declared.limits.TheConstants.{LAST_ANS
 use Rattle.segmentation_definitions.specs.Derivations.{Step}
 use Rattle.segmentation_definitions.specs.Items.{Item, Choice}
 use Rattle.segmentation_definitions.specs.Answers.{IsAnswer}
-use Rattle.segmentation_definitions.specs.Listings.{Position, BeforeFirst, AtAnswer, position_after, Key, keys_of, IsSummary}
+use Rattle.segmentation_definitions.specs.Listings.{Cursor, BeforeFirst, AtAnswer, cursor_after, Key, keys_of, IsSummary}
 use Rattle.bookmark_definitions.specs.Bookmarks.{Bookmark, IsBookmark, IsKeyWithinBounds}
 use Rattle.bookmark_definitions.specs.BookmarkTexts.{text_of_bookmark}
 use Rattle.bookmark_definitions.specs.BookmarkReadings.{bookmark_of_text}
 use Rattle.bookmark_definitions.proofs.WrittenBookmarks.{bookmark_tells, bookmark_back}
 use Rattle.session_definitions.specs.States.{State, fresh, after_resume, keys_at, bookmark_at}
-use Rattle.session_definitions.specs.Replies.{Reply, agreed, IsPositionOfKeys, IsPositionOfBookmark, IsResumeReply, OfPosition, OfNoPosition}
+use Rattle.session_definitions.specs.Replies.{Reply, agreed, IsCursorOfKeys, IsCursorOfBookmark, IsResumeReply, OfCursor, OfNoCursor}
 use Rattle.session_definitions.specs.ReachedStates.{IsReached}
-use Rattle.session_definitions.proofs.OneReply.{one_position}
+use Rattle.session_definitions.proofs.OneReply.{one_cursor}
 use Rattle.session_definitions.proofs.KeptStates.{AreKept, kept}
 use Rattle.session_definitions.proofs.AnswerBounds.{IsSound, IsItemOver, item_of_summary_within, keys_of_answer_within, few_keys_of_answer}
 
@@ -33,10 +33,10 @@ abbrev pub IsChoiceOver : Lexicon → Choice → Type 0
 IsChoiceOver lexicon choice = IsItemOver lexicon choice.item
 
 -- nothing was printed and the session stands before the first answer, or it stands at an answer of its line
-pub data IsPlaceOf (lexicon : Lexicon) (found : Option Line) (choices : List Choice) (printed : ℕ) (position : Position) : Type 0 where
-  Before : position ≡ BeforeFirst → printed ≡ 0 → IsPlaceOf lexicon found choices printed position
-  At : (line : Line) (steps : List Step) → found ≡ Some line → IsAnswer lexicon line choices steps → position ≡ AtAnswer steps → 0 < printed
-      → IsPlaceOf lexicon found choices printed position
+pub data IsPlaceOf (lexicon : Lexicon) (found : Option Line) (choices : List Choice) (printed : ℕ) (cursor : Cursor) : Type 0 where
+  Before : cursor ≡ BeforeFirst → printed ≡ 0 → IsPlaceOf lexicon found choices printed cursor
+  At : (line : Line) (steps : List Step) → found ≡ Some line → IsAnswer lexicon line choices steps → cursor ≡ AtAnswer steps → 0 < printed
+      → IsPlaceOf lexicon found choices printed cursor
 
 pub record IsSaved (lexicon : Lexicon) (state : State) : Type 0 where
   pub line : (line : Line) → state.line ≡ Some line → IsLine line
@@ -44,7 +44,7 @@ pub record IsSaved (lexicon : Lexicon) (state : State) : Type 0 where
   pub items : All (IsChoiceOver lexicon) state.choices
   pub summary : (items : List Item) → state.summary ≡ Some items → All (IsItemOver lexicon) items
   pub printed : state.printed ≤ LAST_ANSWER_NUMBER
-  pub place : IsPlaceOf lexicon state.line state.choices state.printed state.position
+  pub place : IsPlaceOf lexicon state.line state.choices state.printed state.cursor
 
 -- ---- each kind of reply
 
@@ -67,29 +67,29 @@ one_line line other e is = let same : line ≡ other = cc (e) in subst IsLine sa
 
 -- a page with answers leaves the session at one of them
 last_of : (steps : List Step) (answers : List (List Step)) → (last : List Step) × Contains (steps ∷ answers) last
-    × (position_after (AtAnswer steps) answers ≡ AtAnswer last)
+    × (cursor_after (AtAnswer steps) answers ≡ AtAnswer last)
 last_of steps [] = (steps, Contains-get_or (steps ∷ []) 0 steps (omega arith), refl)
 last_of steps (next ∷ answers) =
     let (last, (place, within, is), e) = last_of next answers in (last, (suc place, omega arith, is), e)
 
-place_after : (lexicon : Lexicon) (line : Line) (found : Option Line) (choices : List Choice) (printed : ℕ) (position : Position) (answers : List (List Step))
+place_after : (lexicon : Lexicon) (line : Line) (found : Option Line) (choices : List Choice) (printed : ℕ) (cursor : Cursor) (answers : List (List Step))
     → found ≡ Some line → ((steps : List Step) → Contains answers steps → IsAnswer lexicon line choices steps) → printed ≤ LAST_ANSWER_NUMBER
-    → IsPlaceOf lexicon found choices printed position
-    → IsPlaceOf lexicon found choices (min (printed + length answers) LAST_ANSWER_NUMBER) (position_after position answers)
-place_after lexicon line found choices printed position [] e are within (Before p none) = Before p (omega (arith, none))
-place_after lexicon line found choices printed position [] e are within (At other steps f answer p some) = At other steps f answer p (omega (arith, some))
-place_after lexicon line found choices printed position (steps ∷ answers) e are within place =
+    → IsPlaceOf lexicon found choices printed cursor
+    → IsPlaceOf lexicon found choices (min (printed + length answers) LAST_ANSWER_NUMBER) (cursor_after cursor answers)
+place_after lexicon line found choices printed cursor [] e are within (Before p none) = Before p (omega (arith, none))
+place_after lexicon line found choices printed cursor [] e are within (At other steps f answer p some) = At other steps f answer p (omega (arith, some))
+place_after lexicon line found choices printed cursor (steps ∷ answers) e are within place =
     let (last, among, p) = last_of steps answers in At line last e (are last among) p (omega arith)
 
 some_printed : (printed : ℕ) (key : Key) (keys : List Key) → (key ∷ keys ≡ []) ↔ (printed ≡ 0) → 0 < printed
 some_printed zero key keys none = absurd (cc (none.1 refl))
 some_printed (suc printed) key keys none = omega arith
 
-place_of_keys : (lexicon : Lexicon) (line : Line) (choices : List Choice) (printed : ℕ) (keys : List Key) (position : Position)
-    → (keys ≡ []) ↔ (printed ≡ 0) → IsPositionOfKeys lexicon line choices keys position
-    → IsPlaceOf lexicon (Some line) choices printed position
-place_of_keys lexicon line choices printed [] position none e = Before e (none.0 refl)
-place_of_keys lexicon line choices printed (key ∷ keys) position none (steps, answer, same, e) =
+place_of_keys : (lexicon : Lexicon) (line : Line) (choices : List Choice) (printed : ℕ) (keys : List Key) (cursor : Cursor)
+    → (keys ≡ []) ↔ (printed ≡ 0) → IsCursorOfKeys lexicon line choices keys cursor
+    → IsPlaceOf lexicon (Some line) choices printed cursor
+place_of_keys lexicon line choices printed [] cursor none e = Before e (none.0 refl)
+place_of_keys lexicon line choices printed (key ∷ keys) cursor none (steps, answer, same, e) =
     At line steps refl answer e (some_printed printed key keys none)
 
 summed : (lexicon : Lexicon) (line : Line) (choices : List Choice) (items others : List Item) → IsSound lexicon → IsLine line
@@ -105,16 +105,16 @@ chosen lexicon items number item are e =
     let within = slice_get_within items number item e in
     subst (IsItemOver lexicon) (get_or_from_slice_get items number item item e) (are number item within)
 
-resumed : (lexicon : Lexicon) (text : List ℕ) (mark : Bookmark) (position : Position) → bookmark_of_text text ≡ Some mark
-    → IsPositionOfBookmark lexicon mark position → IsSaved lexicon (after_resume mark position)
-resumed lexicon text mark position e is =
+resumed : (lexicon : Lexicon) (text : List ℕ) (mark : Bookmark) (cursor : Cursor) → bookmark_of_text text ≡ Some mark
+    → IsCursorOfBookmark lexicon mark cursor → IsSaved lexicon (after_resume mark cursor)
+resumed lexicon text mark cursor e is =
     let mark_is : IsBookmark mark = (bookmark_tells text mark e).1 in record {
       line = λ other f. one_line mark.line other f mark_is.line;
       few = mark_is.few_choices;
       items = λ k d lt. record { within = mark_is.items k d lt; phase = is.phases k d lt };
       summary = no_summary lexicon;
       printed = mark_is.printed;
-      place = place_of_keys lexicon mark.line mark.choices mark.printed mark.keys position mark_is.no_keys is.keys;
+      place = place_of_keys lexicon mark.line mark.choices mark.printed mark.keys cursor mark_is.no_keys is.keys;
     }
 
 are_kept : (lexicon : Lexicon) → IsSound lexicon → AreKept lexicon (IsSaved lexicon)
@@ -128,7 +128,7 @@ are_kept lexicon sound = record {
     items = p.items;
     summary = p.summary;
     printed = omega arith;
-    place = place_after lexicon line state.line state.choices state.printed state.position answers e page.only_answers p.printed p.place;
+    place = place_after lexicon line state.line state.choices state.printed state.cursor answers e page.only_answers p.printed p.place;
   };
   sums = λ state line items p e summary. record {
     line = p.line;
@@ -145,17 +145,17 @@ are_kept lexicon sound = record {
   undoes = λ state p. is_fresh lexicon state.line (take (length state.choices - 1) state.choices) p.line
       (omega (arith, p.few, length-take-le (length state.choices - 1) state.choices))
       (All-take (IsChoiceOver lexicon) (length state.choices - 1) state.choices p.items);
-  resumes = λ text mark position e is. resumed lexicon text mark position e is;
+  resumes = λ text mark cursor e is. resumed lexicon text mark cursor e is;
 }
 
 -- ---- the bookmark of such a state
 
--- what the keys of a position of the line are
-record AreKeysAt (lexicon : Lexicon) (line : Line) (choices : List Choice) (printed : ℕ) (position : Position) (keys : List Key) : Type 0 where
+-- what the keys of a cursor of the line are
+record AreKeysAt (lexicon : Lexicon) (line : Line) (choices : List Choice) (printed : ℕ) (cursor : Cursor) (keys : List Key) : Type 0 where
   few : length keys ≤ 2 * length line.letters
   within : All IsKeyWithinBounds keys
   none : (keys ≡ []) ↔ (printed ≡ 0)
-  stands : IsPositionOfKeys lexicon line choices keys position
+  stands : IsCursorOfKeys lexicon line choices keys cursor
 
 module _ (lexicon : Lexicon) (state : State) (line : Line) (sound : IsSound lexicon) (p : IsSaved lexicon state) (here : state.line ≡ Some line) where
   abbrev mark : Bookmark
@@ -171,24 +171,24 @@ module _ (lexicon : Lexicon) (state : State) (line : Line) (sound : IsSound lexi
     stands = (step ∷ steps, answer, refl, refl);
   }
 
-  keys_of_place : (position : Position) → IsPlaceOf lexicon state.line state.choices state.printed position
-      → AreKeysAt lexicon line state.choices state.printed position (keys_at lexicon.rules position)
-  keys_of_place position (Before e none) =
-      subst (λ (x : Position). AreKeysAt lexicon line state.choices state.printed x (keys_at lexicon.rules x)) (sym e) (record {
+  keys_of_place : (cursor : Cursor) → IsPlaceOf lexicon state.line state.choices state.printed cursor
+      → AreKeysAt lexicon line state.choices state.printed cursor (keys_at lexicon.rules cursor)
+  keys_of_place cursor (Before e none) =
+      subst (λ (x : Cursor). AreKeysAt lexicon line state.choices state.printed x (keys_at lexicon.rules x)) (sym e) (record {
         few = omega arith;
         within = All-nil IsKeyWithinBounds;
         none = (λ same. none, λ same. refl);
         stands = refl;
       })
-  keys_of_place position (At other steps f answer e some) =
+  keys_of_place cursor (At other steps f answer e some) =
       let found : Some other ≡ Some line = sym f ∙ here in
       let same : other ≡ line = cc (found) in
-      subst (λ (x : Position). AreKeysAt lexicon line state.choices state.printed x (keys_at lexicon.rules x)) (sym e)
+      subst (λ (x : Cursor). AreKeysAt lexicon line state.choices state.printed x (keys_at lexicon.rules x)) (sym e)
       (of_answer steps (subst (λ (l : Line). IsAnswer lexicon l state.choices steps) same answer) some)
 
   pub mark_is_bookmark : IsBookmark mark
   mark_is_bookmark =
-      let keys = keys_of_place state.position p.place in record {
+      let keys = keys_of_place state.cursor p.place in record {
         line = p.line line here;
         few_choices = p.few;
         items = λ k d lt. (p.items k d lt).within;
@@ -201,27 +201,27 @@ module _ (lexicon : Lexicon) (state : State) (line : Line) (sound : IsSound lexi
   pub mark_is_read_back : bookmark_of_text (text_of_bookmark mark) ≡ Some mark
   mark_is_read_back = bookmark_back mark mark_is_bookmark
 
-  position_is : IsPositionOfBookmark lexicon mark state.position
-  position_is = record { phases = λ k d lt. (p.items k d lt).phase; keys = (keys_of_place state.position p.place).stands }
+  cursor_is : IsCursorOfBookmark lexicon mark state.cursor
+  cursor_is = record { phases = λ k d lt. (p.items k d lt).phase; keys = (keys_of_place state.cursor p.place).stands }
 
-  same_state : agreed (after_resume mark state.position) ≡ agreed (record state { summary = None })
+  same_state : agreed (after_resume mark state.cursor) ≡ agreed (record state { summary = None })
   same_state = λ i. agreed (record {
     line = sym here i;
     choices = state.choices;
     printed = state.printed;
-    position = state.position;
+    cursor = state.cursor;
     summary = None;
   })
 
   resumes_to : (other : State) (reply : Reply) → IsResumeReply lexicon other mark reply → reply ≡ agreed (record state { summary = None })
-  resumes_to other reply (OfPosition position is e) =
-      let same : position ≡ state.position = one_position lexicon line state.choices mark.keys position state.position is.keys position_is.keys in
-      e ∙ ap (λ (x : Position). agreed (after_resume mark x)) same ∙ same_state
-  resumes_to other reply (OfNoPosition none e) = absurd (none state.position position_is)
+  resumes_to other reply (OfCursor cursor is e) =
+      let same : cursor ≡ state.cursor = one_cursor lexicon line state.choices mark.keys cursor state.cursor is.keys cursor_is.keys in
+      e ∙ ap (λ (x : Cursor). agreed (after_resume mark x)) same ∙ same_state
+  resumes_to other reply (OfNoCursor none e) = absurd (none state.cursor cursor_is)
 
   pub mark_resumes : (other : State) (reply : Reply)
       → IsResumeReply lexicon other mark reply ↔ (reply ≡ agreed (record state { summary = None }))
-  mark_resumes other reply = (resumes_to other reply, λ e. OfPosition state.position position_is (e ∙ sym same_state))
+  mark_resumes other reply = (resumes_to other reply, λ e. OfCursor state.cursor cursor_is (e ∙ sym same_state))
 
 -- each state that a session reaches is such a state
 pub saved : (lexicon : Lexicon) (state : State) → IsSound lexicon → IsReached lexicon state → IsSaved lexicon state

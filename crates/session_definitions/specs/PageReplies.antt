@@ -7,13 +7,13 @@ use Rattle.segmentation_definitions.specs.Derivations.{Step}
 use Rattle.session_definitions.specs.States.{State}
 use Rattle.session_definitions.specs.Replies.{Reply, Open, IsPageReply, IsReply}
 
--- after the reply the session goes on with the same line, the same choices and at the same position
+-- after the reply the session goes on with the same line, the same choices and at the same cursor
 pub record KeepsPlace (state : State) (reply : Reply) : Type 0 where
   pub next : State
   pub goes_on : reply.after ≡ Open next
   pub line : next.line ≡ state.line
   pub choices : next.choices ≡ state.choices
-  pub position : next.position ≡ state.position
+  pub cursor : next.cursor ≡ state.cursor
 
 -- from this state on the session prints pages of the line, up to one that ends with `end`, and these are all their answers, one
 -- after another; between two pages there may be replies that keep the place

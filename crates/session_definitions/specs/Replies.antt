@@ -11,7 +11,7 @@ use Rattle.segmentation_definitions.specs.declared.limits.TheConstants.{MOST_CHO
 use Rattle.segmentation_definitions.specs.Derivations.{Step}
 use Rattle.segmentation_definitions.specs.Items.{Item, Choice}
 use Rattle.segmentation_definitions.specs.Answers.{IsAnswer}
-use Rattle.segmentation_definitions.specs.Listings.{Position, BeforeFirst, AtAnswer, IsPage, IsSummary, Key, keys_of}
+use Rattle.segmentation_definitions.specs.Listings.{Cursor, BeforeFirst, AtAnswer, IsPage, IsSummary, Key, keys_of}
 use Rattle.segmentation_definitions.specs.PrintedAnswers.{output_line, next_number, printed_page}
 use Rattle.bookmark_definitions.specs.Bookmarks.{Bookmark}
 use Rattle.bookmark_definitions.specs.BookmarkTexts.{text_of_bookmark}
@@ -67,11 +67,11 @@ abbrev pub IsReplyOver : State → Option Line → (Line → Reply → Type 0) �
 IsReplyOver state None is_reply_over reply = reply ≡ refused state (codes "no text")
 IsReplyOver state (Some line) is_reply_over reply = is_reply_over line reply
 
--- `page N`: the next answers are printed, and the position goes on
+-- `page N`: the next answers are printed, and the cursor goes on
 pub record IsPageReply (lexicon : Lexicon) (state : State) (count : ℕ) (line : Line) (reply : Reply) : Type 0 where
   pub answers : List (List Step)
   pub more : Bool
-  pub page : IsPage lexicon line state.choices state.position count answers more
+  pub page : IsPage lexicon line state.choices state.cursor count answers more
   pub is : reply ≡ reply_in (after_answers state answers) (printed_page lexicon.rules (next_number state.printed) answers more)
 
 -- `summary`: the summary is printed, and is that of the state from now on
@@ -120,24 +120,24 @@ reply_to_tags lexicon state item = reply_in state (printed_tags (analyses_of_ite
 
 -- ---- `resume B`
 
--- without keys the position is before the first answer; else it is at the answer that has these keys
-abbrev pub IsPositionOfKeys : Lexicon → Line → List Choice → List Key → Position → Type 0
-IsPositionOfKeys lexicon line choices [] position = position ≡ BeforeFirst
-IsPositionOfKeys lexicon line choices (key ∷ keys) position =
+-- without keys the cursor is before the first answer; else it is at the answer that has these keys
+abbrev pub IsCursorOfKeys : Lexicon → Line → List Choice → List Key → Cursor → Type 0
+IsCursorOfKeys lexicon line choices [] cursor = cursor ≡ BeforeFirst
+IsCursorOfKeys lexicon line choices (key ∷ keys) cursor =
     (steps : List Step) × IsAnswer lexicon line choices steps × (keys_of lexicon.rules steps ≡ key ∷ keys)
-    × (position ≡ AtAnswer steps)
+    × (cursor ≡ AtAnswer steps)
 
--- the bookmark is one over this lexicon, at this position: the lexicon has the phases of its items, and its keys are those of
+-- the bookmark is one over this lexicon, at this cursor: the lexicon has the phases of its items, and its keys are those of
 -- an answer, whose phases the lexicon has too
-pub record IsPositionOfBookmark (lexicon : Lexicon) (mark : Bookmark) (position : Position) : Type 0 where
+pub record IsCursorOfBookmark (lexicon : Lexicon) (mark : Bookmark) (cursor : Cursor) : Type 0 where
   pub phases : All (λ choice. choice.item.phase < length lexicon.phases) mark.choices
-  pub keys : IsPositionOfKeys lexicon mark.line mark.choices mark.keys position
+  pub keys : IsCursorOfKeys lexicon mark.line mark.choices mark.keys cursor
 
 -- a bookmark over this lexicon is gone on from, and any other is refused
 pub data IsResumeReply (lexicon : Lexicon) (state : State) (mark : Bookmark) (reply : Reply) : Type 0 where
-  OfPosition : (position : Position) → IsPositionOfBookmark lexicon mark position → reply ≡ agreed (after_resume mark position)
+  OfCursor : (cursor : Cursor) → IsCursorOfBookmark lexicon mark cursor → reply ≡ agreed (after_resume mark cursor)
       → IsResumeReply lexicon state mark reply
-  OfNoPosition : ((position : Position) → IsPositionOfBookmark lexicon mark position → ⊥) → reply ≡ refused state (codes "bookmark")
+  OfNoCursor : ((cursor : Cursor) → IsCursorOfBookmark lexicon mark cursor → ⊥) → reply ≡ refused state (codes "bookmark")
       → IsResumeReply lexicon state mark reply
 
 -- ---- any line

@@ -5,7 +5,7 @@ use Rattle.lexicon_definitions.specs.Lexicons.{RuleSet}
 use Rattle.segmentation_definitions.specs.declared.limits.TheConstants.{LAST_ANSWER_NUMBER}
 use Rattle.segmentation_definitions.specs.Derivations.{Step}
 use Rattle.segmentation_definitions.specs.Items.{Item, Choice}
-use Rattle.segmentation_definitions.specs.Listings.{Position, BeforeFirst, AtAnswer, PastLast, position_after, Key, keys_of}
+use Rattle.segmentation_definitions.specs.Listings.{Cursor, BeforeFirst, AtAnswer, PastLast, cursor_after, Key, keys_of}
 use Rattle.bookmark_definitions.specs.Bookmarks.{Bookmark}
 
 -- a line of text or none, the reader's choices, oldest first, the number of answers printed, the last of these or before the
@@ -14,13 +14,13 @@ pub record State : Type 0 where
   pub line : Option Line
   pub choices : List Choice
   pub printed : ℕ
-  pub position : Position
+  pub cursor : Cursor
   pub summary : Option (List Item)
 
 -- with this line or none and these choices, and nothing printed
 abbrev pub fresh : Option Line → List Choice → State
 fresh line choices =
-    record { line = line; choices = choices; printed = 0; position = BeforeFirst; summary = None }
+    record { line = line; choices = choices; printed = 0; cursor = BeforeFirst; summary = None }
 
 -- at the start there is no line, no choice, nothing printed and no summary
 abbrev pub opening : State
@@ -29,7 +29,7 @@ opening = fresh None []
 -- after these answers were printed; their number rises no more once it is the last one
 abbrev pub after_answers : State → List (List Step) → State
 after_answers state answers =
-    record state { printed = min (state.printed + length answers) LAST_ANSWER_NUMBER; position = position_after state.position answers }
+    record state { printed = min (state.printed + length answers) LAST_ANSWER_NUMBER; cursor = cursor_after state.cursor answers }
 
 -- after this choice
 abbrev pub after_choice : State → Bool → Item → State
@@ -39,13 +39,13 @@ after_choice state kept item = fresh state.line (state.choices ++ record { kept 
 abbrev pub after_undo : State → State
 after_undo state = fresh state.line (take (length state.choices - 1) state.choices)
 
--- with the line, the choices and the number of a bookmark, at this position
-abbrev pub after_resume : Bookmark → Position → State
-after_resume mark position =
-    record { line = Some mark.line; choices = mark.choices; printed = mark.printed; position = position; summary = None }
+-- with the line, the choices and the number of a bookmark, at this cursor
+abbrev pub after_resume : Bookmark → Cursor → State
+after_resume mark cursor =
+    record { line = Some mark.line; choices = mark.choices; printed = mark.printed; cursor = cursor; summary = None }
 
 -- the keys of the last answer printed, none before the first
-abbrev pub keys_at : RuleSet → Position → List Key
+abbrev pub keys_at : RuleSet → Cursor → List Key
 keys_at rules BeforeFirst = []
 keys_at rules (AtAnswer steps) = keys_of rules steps
 keys_at rules PastLast = []
@@ -53,4 +53,4 @@ keys_at rules PastLast = []
 -- the bookmark of a state with this line
 abbrev pub bookmark_at : RuleSet → State → Line → Bookmark
 bookmark_at rules state line =
-    record { line = line; choices = state.choices; printed = state.printed; keys = keys_at rules state.position }
+    record { line = line; choices = state.choices; printed = state.printed; keys = keys_at rules state.cursor }

@@ -4,29 +4,29 @@ ghost use Rattle.text_definitions.specs.Lines.{Line};
 ghost use Rattle.lexicon_definitions.specs.Lexicons.{Lexicon};
 ghost use Rattle.lexicon_text_definitions.specs.FileLines as file;
 ghost use Rattle.segmentation_definitions.specs.Derivations.{Step};
-ghost use Rattle.segmentation_definitions.specs.Listings.{Position, BeforeFirst, Page, ArePages, IsListingAbove, IsListing};
+ghost use Rattle.segmentation_definitions.specs.Listings.{Cursor, BeforeFirst, Page, ArePages, IsListingAbove, IsListing};
 ghost use Rattle.bookmark_definitions.specs.Bookmarks.{Bookmark};
 ghost use Rattle.session_definitions.specs.SessionLines.{lines_of_input};
 ghost use Rattle.session_definitions.specs.States.{State, opening, after_resume};
 ghost use Rattle.session_definitions.specs.Requests.{Summary, Tags, Mark};
-ghost use Rattle.session_definitions.specs.Replies.{Open, Reply, refused, IsReplyTo, IsPositionOfBookmark};
+ghost use Rattle.session_definitions.specs.Replies.{Open, Reply, refused, IsReplyTo, IsCursorOfBookmark};
 ghost use Rattle.session_definitions.specs.Sessions.{End, AreReplies, IsSession};
 ghost use Rattle.session_definitions.specs.PageReplies.{KeepsPlace, ArePageReplies};
 ghost use Rattle.session_definitions.specs.PrintedPages.{IsBetweenChanges, PrintsPages};
 
 /// For one line and one list of choices, the pages from nothing printed up to `end` are together the listing, wherever they were
-/// cut; those from a later position on are what lies above it; and after a bookmark was resumed they are what lies above its
+/// cut; those from a later cursor on are what lies above it; and after a bookmark was resumed they are what lies above its
 /// last answer.
 pub fn pages_to_the_end_are_the_listing()
-    ensures whole { (lexicon : Lexicon) (line : Line) (state : State) (answers : List (List Step)) → state.position ≡ BeforeFirst
+    ensures whole { (lexicon : Lexicon) (line : Line) (state : State) (answers : List (List Step)) → state.cursor ≡ BeforeFirst
         → ArePageReplies lexicon line state answers → IsListing lexicon line state.choices answers }
     ensures above { (lexicon : Lexicon) (line : Line) (state : State) (answers : List (List Step))
-        → ArePageReplies lexicon line state answers → IsListingAbove lexicon line state.choices state.position answers }
-    ensures resumed { (lexicon : Lexicon) (mark : Bookmark) (position : Position) (answers : List (List Step))
-        → IsPositionOfBookmark lexicon mark position → ArePageReplies lexicon mark.line (after_resume mark position) answers
-        → IsListingAbove lexicon mark.line mark.choices position answers }
+        → ArePageReplies lexicon line state answers → IsListingAbove lexicon line state.choices state.cursor answers }
+    ensures resumed { (lexicon : Lexicon) (mark : Bookmark) (cursor : Cursor) (answers : List (List Step))
+        → IsCursorOfBookmark lexicon mark cursor → ArePageReplies lexicon mark.line (after_resume mark cursor) answers
+        → IsListingAbove lexicon mark.line mark.choices cursor answers }
     ensures one { (lexicon : Lexicon) (line : Line) (state other : State) (left right : List (List Step))
-        → other.choices ≡ state.choices → other.position ≡ state.position → ArePageReplies lexicon line state left
+        → other.choices ≡ state.choices → other.cursor ≡ state.cursor → ArePageReplies lexicon line state left
         → ArePageReplies lexicon line other right → left ≡ right }
 {}
 
@@ -50,8 +50,8 @@ pub fn a_session_prints_the_listing()
         → (printed : List ℕ) × (rest : List ℕ) × (pages : List Page) × (output ≡ front ++ (printed ++ rest))
         × PrintsPages lexicon line state printed pages }
     ensures pages { (lexicon : Lexicon) (line : Line) (state : State) (output : List ℕ) (pages : List Page)
-        → PrintsPages lexicon line state output pages → ArePages lexicon line state.choices state.position pages }
+        → PrintsPages lexicon line state output pages → ArePages lexicon line state.choices state.cursor pages }
     ensures listing { (lexicon : Lexicon) (line : Line) (state : State) (output : List ℕ) (pages : List Page) (last : Page)
-        → state.position ≡ BeforeFirst → PrintsPages lexicon line state output (pages ++ last ∷ []) → last.more ≡ false
+        → state.cursor ≡ BeforeFirst → PrintsPages lexicon line state output (pages ++ last ∷ []) → last.more ≡ false
         → IsListing lexicon line state.choices (flat_map (λ page. page.answers) (pages ++ last ∷ [])) }
 {}

@@ -13,7 +13,7 @@ ghost use Rattle.session_definitions.specs.ReachedStates.{IsReached};
 
 /// No state that a session reaches is past the last answer of its line.
 pub fn no_state_is_past_the_last()
-    ensures { (lexicon : Lexicon) (state : State) → IsReached lexicon state → state.position ≡ PastLast → ⊥ }
+    ensures { (lexicon : Lexicon) (state : State) → IsReached lexicon state → state.cursor ≡ PastLast → ⊥ }
 {}
 
 /// What `mark` prints in a state that a session over a lexicon reaches is the text of a bookmark within the bounds, and is read back

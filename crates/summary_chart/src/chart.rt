@@ -1,7 +1,7 @@
 ghost use Rattle.std.specs.Prelude.{◌≡◌, ◌+◌, ◌*◌, ◌≤◌, ℕ, length, IfOk, MatchOption};
 ghost use Rattle.text_definitions.specs.Lines.{IsLine};
 ghost use Rattle.segmentation_definitions.specs.StepBounds.{chart_bound};
-ghost use Rattle.search_frames.specs.Costs.{HasAtMostChoices};
+ghost use Rattle.search_frames.specs.Costs.{HasAtMostRules};
 ghost use Rattle.search_frames.specs.Guided.{IsGuideOf, IsExactOf};
 ghost use Rattle.summary_chart.specs.Charts.{IsOpenTable, CoversPlace, says_of, steps_of_pass};
 ghost use Rattle.summary_chart.specs.PlaceWays.{IsChartOf, AreStops, AreWaysAt, HasStopAt};
@@ -64,8 +64,8 @@ impl Chart {
         ensures guide { IfOk result (λ chart. IsGuideOf lexicon.now line.now choices.now (CoversPlace chart.table) (says_of chart.table)) }
         ensures exact { IfOk result (λ chart. IsExactOf lexicon.now line.now choices.now (says_of chart.table)) }
         ensures chart { IfOk result (λ chart. IsChartOf lexicon.now line.now choices.now chart) }
-        ensures steps { (most : ℕ) → HasAtMostChoices lexicon.now.tries most → steps.new ≤ steps.old + steps_of_pass lexicon.now line.now most }
-        ensures bound { (most : ℕ) → HasAtMostChoices lexicon.now.tries most → steps.new ≤ steps.old + chart_bound lexicon.now.lexicon most (length line.now.letters) (length (leads_in lexicon.now)) }
+        ensures steps { (most : ℕ) → HasAtMostRules lexicon.now.tries most → steps.new ≤ steps.old + steps_of_pass lexicon.now line.now most }
+        ensures bound { (most : ℕ) → HasAtMostRules lexicon.now.tries most → steps.new ≤ steps.old + chart_bound lexicon.now.lexicon most (length line.now.letters) (length (leads_in lexicon.now)) }
     {
         // The proof knows what holds of a line, a lexicon and an automaton only of those that are read.
         let _letters = &line.letters;

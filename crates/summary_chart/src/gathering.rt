@@ -11,7 +11,7 @@ use super::table::Table;
 use annotated_trie::Lexicon;
 use phoneme::Line;
 use reader_choices::Choices;
-use search_frames::{LetterTest, Configuration, Way};
+use search_frames::{Configuration, LetterTest, Way};
 
 /// The states of the set from which the way ends the line or leads on to a place of the table. The place's own state is not looked
 /// at.

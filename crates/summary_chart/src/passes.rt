@@ -2,7 +2,7 @@ ghost use Rattle.std.specs.Prelude.{◌≡◌, ◌<◌, ◌+◌, ◌≤◌, ℕ,
 ghost use Rattle.text_definitions.specs.Lines.{IsLine};
 ghost use Rattle.annotated_trie.specs.Searched.{IsSearchedLexicon};
 ghost use Rattle.search_frames.specs.Stacks.{IsStack, room_of};
-ghost use Rattle.search_frames.specs.Costs.{HasAtMostChoices};
+ghost use Rattle.search_frames.specs.Costs.{HasAtMostRules};
 ghost use Rattle.summary_chart.specs.Charts.{HasReached, IsChartTable, IsOpenTable, steps_of_pass};
 ghost use Rattle.summary_chart.specs.PlaceWays.{HasWaysBefore};
 
@@ -38,7 +38,7 @@ pub(crate) fn reach<L>(
     requires ways { ways.old.items ≡ [] }
     ensures reached { OnOk result (HasReached lexicon.now line.now choices.now table.new) }
     ensures ways { OnOk result (HasWaysBefore lexicon.now line.now choices.now (length table.new.sets.items) table.new stops.new.items ways.new.items) }
-    ensures steps { (most : ℕ) → HasAtMostChoices lexicon.now.tries most → steps.new ≤ steps.old + steps_of_pass lexicon.now line.now most }
+    ensures steps { (most : ℕ) → HasAtMostRules lexicon.now.tries most → steps.new ≤ steps.old + steps_of_pass lexicon.now line.now most }
 {
     let state = lexicon.automaton().start();
     let mut index = table.next_filled(0);

@@ -12,7 +12,7 @@ use super::table::Table;
 use annotated_trie::Lexicon;
 use phoneme::Line;
 use reader_choices::Choices;
-use search_frames::{LetterTest, Configuration, Way};
+use search_frames::{Configuration, LetterTest, Way};
 
 /// Puts into the table where the way leads on to from the states of the set at the place. The place's own state is not looked at.
 fn spread_way(

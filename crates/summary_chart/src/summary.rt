@@ -3,7 +3,7 @@ ghost use Rattle.text_definitions.specs.Lines.{IsLine};
 ghost use Rattle.segmentation_definitions.specs.Listings.{IsSummary};
 ghost use Rattle.segmentation_definitions.specs.StepBounds.{chart_bound};
 ghost use Rattle.annotated_trie.specs.Searched.{IsSearchedLexicon};
-ghost use Rattle.search_frames.specs.Costs.{HasAtMostChoices};
+ghost use Rattle.search_frames.specs.Costs.{HasAtMostRules};
 ghost use Rattle.summary_chart.specs.Charts.{IsChartTable, steps_of_pass};
 ghost use Rattle.summary_chart.specs.PlaceWays.{HasWaysBefore, IsChartOf};
 ghost use Rattle.summary_chart.specs.Spreading.{leads_in};

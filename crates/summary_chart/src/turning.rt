@@ -15,7 +15,7 @@ use outside::Steps;
 use phase_automaton::State;
 use phoneme::Line;
 use reader_choices::Choices;
-use search_frames::{LetterTest, Configuration, Resumption, SearchGuide, ToTry, Turn, Way, go_to};
+use search_frames::{Configuration, LetterTest, Resumption, SearchGuide, ToTry, Turn, Way, go_to};
 use std::cmp::Ordering;
 
 /// Whether the key comes after the last one, which any key does where there is none.

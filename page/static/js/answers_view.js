@@ -58,7 +58,7 @@ function isOneWord(step, next, blanks) {
 
 /** The rule by which a form met the next one, or by which the line ends. */
 function ruleElement({ u, v, w }) {
-  return make("span", { class: "rule" }, make("span", { class: "unseen" }, " by "), ruleInWords(`${u}|${v}>${w}`, setting("output")));
+  return make("span", { class: "rule" }, ruleInWords(`${u}|${v}>${w}`, setting("output")));
 }
 
 async function toggleAnalyses(frame, segments, actions) {

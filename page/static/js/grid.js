@@ -10,7 +10,9 @@ import { setting } from "./settings.js";
 import { state } from "./state.js";
 
 const HEADS = 1; // rows over the boxes
-const TIGHT = 1.15; // signs a column from which a box has small letters
+const REM = 16; // pixels
+const COLUMN = { least: 1.2 * REM, most: 2.6 * REM }; // as the style has it
+const SIGN = { devanagari: 0.85 * REM, iast: 0.6 * REM, slp1: 0.62 * REM }; // what a sign takes on average
 
 /** Draws the grid of the reading. `actions` are `keep(box)`, `reject(box)`, `showAnalyses(box)`, `undo()`. */
 export function drawGrid(actions) {
@@ -21,6 +23,7 @@ export function drawGrid(actions) {
   const grid = byId("grid");
   const isFocused = grid.contains(document.activeElement);
   const kept = keptSegments(choices);
+  const column = columnWidth(letters.length);
   grid.style.setProperty("--letters", letters.length);
   grid.style.setProperty("--rows", Math.max(0, ...rows) + 1 + HEADS);
   fill(
@@ -31,7 +34,7 @@ export function drawGrid(actions) {
     }),
     boxes.map((box, number) => {
       const { start, end } = columnsOf(box);
-      return place(boxElement(box, number, kept, actions), start, end, rows[number] + 1 + HEADS);
+      return place(boxElement(box, number, { kept, column }, actions), start, end, rows[number] + 1 + HEADS);
     })
   );
   prepareKeys(grid, actions, isFocused);
@@ -48,7 +51,13 @@ function keptSegments(choices) {
   return new Set(choices.filter((choice) => choice.is_kept).map(({ at, lead, phase, form }) => [at, lead, phases[phase], form].join()));
 }
 
-function boxElement(box, number, kept, actions) {
+/** How many pixels a column has, about. */
+function columnWidth(letters) {
+  const width = (byId("grid-frame").clientWidth - 1.3 * REM) / letters;
+  return Math.min(COLUMN.most, Math.max(COLUMN.least, width));
+}
+
+function boxElement(box, number, { kept, column }, actions) {
   const form = showWord(setting("output"), box.form);
   const isKept = box.ways.some(({ at, lead, phase, form: slp1 }) => kept.has([at, lead, phase, slp1].join()));
   const { start, end } = columnsOf(box);
@@ -57,7 +66,7 @@ function boxElement(box, number, kept, actions) {
   const classes = [
     "box", `hue-${hueOf(box.phase, state.server.phases)}`,
     isKept && "kept", box.isCertain && "certain", box.end === null && "open",
-    signs > TIGHT * (end - start) && "tight", end - start === 1 && "single",
+    signs * SIGN[setting("output")] > (end - start) * column - REM / 2 && "tight", end - start === 1 && "single",
   ].filter(Boolean).join(" ");
   return make("div", { class: classes, data: { number, start, end, form: box.form, phase: box.phase } },
     make("button", {

@@ -9,6 +9,7 @@ import { tokensOf } from "./tokens.js";
 
 const COST_OF_KIND = { number: 0, danda: 0, skip: 0, joint: 3, stop: 3, mark: 3, loose: 15, other: 24 };
 const NEARLY = 4; // costs that are so near to the least are as good
+const LIKELY = 24; // those that are so near are tried too, where the guess has no answer
 const MOST_SIGNS = 400; // of a text that are looked at
 
 /** What a text costs in each scheme, the least first. */
@@ -38,7 +39,14 @@ function costAfter(before, letter) {
 
 /** The scheme of a text. `last` is the one that was chosen last. */
 export function guessScheme(text, last) {
+  return likelySchemes(text, last)[0];
+}
+
+/** The schemes that a text may be in, the likeliest first. */
+export function likelySchemes(text, last) {
   const costs = costsOf(text);
-  const near = costs.filter(({ cost }) => cost <= costs[0].cost + NEARLY).map(({ id }) => id);
-  return near.includes(last) ? last : near[0];
+  const least = costs[0].cost;
+  const likely = costs.filter(({ cost }) => cost <= least + LIKELY).map(({ id }) => id);
+  const isNear = costs.some(({ id, cost }) => id === last && cost <= least + NEARLY);
+  return isNear ? [last, ...likely.filter((id) => id !== last)] : likely;
 }

@@ -1,7 +1,7 @@
 // The line: what is typed, its scheme, what was changed in it, and a fault where it stands.
 
 import { byId, fill, make, show } from "./dom.js";
-import { guessScheme } from "./guess.js";
+import { likelySchemes } from "./guess.js";
 import { SCHEMES, schemeNamed, showWord } from "./schemes.js";
 import { choose, setting } from "./settings.js";
 import { state } from "./state.js";
@@ -37,18 +37,21 @@ export function prepareLine(actions) {
   showGuess();
 }
 
-/** The typed line and its scheme. */
+/** The typed line, and the schemes that it may be in: the one that was chosen, or those that are likely. */
 export function typedLine() {
   const typed = byId("line-text").value;
   const chosen = byId("scheme").value;
   const isGuessed = chosen === GUESS;
-  return { typed, scheme: isGuessed ? guessScheme(typed, setting("scheme")) : chosen, isGuessed };
+  return { typed, schemes: isGuessed ? likelySchemes(typed, setting("scheme")) : [chosen], isGuessed };
 }
 
 function showGuess() {
-  const { typed, scheme } = typedLine();
-  const name = typed.trim() ? `guessed: ${schemeNamed(scheme).name}` : "guessed";
-  byId("scheme").options[0].textContent = name;
+  const { typed, schemes } = typedLine();
+  nameGuess(typed.trim() ? schemes[0] : null);
+}
+
+function nameGuess(scheme) {
+  byId("scheme").options[0].textContent = scheme ? `guessed: ${schemeNamed(scheme).name}` : "guessed";
 }
 
 /** Puts a line into the field, as after a link or in a text. */
@@ -65,6 +68,7 @@ export function lineInOutput(line) {
 
 export function drawLine(actions) {
   byId("twin").checked = state.twin === 1;
+  if (state.isGuessed && byId("scheme").value === GUESS && state.typed) nameGuess(state.scheme);
   drawParts(actions);
   drawChanges(actions);
 }
@@ -81,6 +85,7 @@ function drawParts(actions) {
 }
 
 function drawChanges(actions) {
+  if (state.mayCut) return drawCut(actions);
   if (state.changes.length === 0) return fill(byId("notice"));
   const told = state.changes.map(({ what, count }) => make("li", {}, count > 1 ? `${what} (${count} times)` : what));
   const read = lineInOutput(state.reading.line);
@@ -91,6 +96,16 @@ function drawChanges(actions) {
       make("ul", {}, told),
       make("button", { type: "button", class: "quiet", on: { click: actions.readAsTyped } }, "Read as it was typed")
     )
+  );
+}
+
+/** Offers to cut a verse at its dandas, where it was read across them. */
+function drawCut(actions) {
+  fill(
+    byId("notice"),
+    make("div", { class: "changed" },
+      make("p", {}, "Read as one line, as if sandhi were made across the danda too. ",
+        make("button", { type: "button", class: "quiet", on: { click: actions.cut } }, "Cut it there")))
   );
 }
 

@@ -21,13 +21,15 @@ const ORDERS = [["program", "program’s order", "In the program’s order"], ["
 const actions = {
   guarded,
   read: () => guarded(async () => {
-    const { typed, scheme, isGuessed } = typedLine();
+    const { typed, schemes, isGuessed } = typedLine();
     if (!typed.trim()) return;
     state.isGuessed = isGuessed;
-    choose("scheme", scheme);
-    await settle(await reader.readTyped(typed, scheme));
+    const outcome = await reader.readTyped(typed, schemes);
+    choose("scheme", state.scheme);
+    await settle(outcome);
   }),
-  readAsTyped: () => guarded(async () => settle(await reader.readTyped(state.typed, state.scheme, false))),
+  readAsTyped: () => guarded(async () => settle(await reader.readTyped(state.typed, [state.scheme], "typed"))),
+  cut: () => guarded(async () => settle(await reader.readTyped(state.typed, [state.scheme], "cleaned"))),
   readPart: (part) => guarded(async () => settle(await reader.readPart(part))),
   changeTwin: (twin) => guarded(async () => {
     state.twin = twin;
@@ -71,7 +73,7 @@ const actions = {
 
 async function readEntry(entry) {
   const { typed, scheme, bookmark } = texts.goToEntry(entry);
-  const asTyped = await reader.readTyped(typed, scheme);
+  const asTyped = await reader.readTyped(typed, [scheme]);
   const isFurther = bookmark && bookmark !== state.reading?.bookmark;
   await settle(isFurther ? await reader.readBookmark(bookmark) : asTyped);
 }
@@ -107,9 +109,9 @@ async function tellStretch() {
 }
 
 function remember() {
-  const { typed, scheme, parts, part, changes } = state;
+  const { typed, scheme, parts, part, changes, mayCut } = state;
   const address = addressOf(state);
-  const kept = { typed, scheme, parts, part, changes };
+  const kept = { typed, scheme, parts, part, changes, mayCut };
   if (address === location.hash) history.replaceState(kept, "", address);
   else history.pushState(kept, "", address);
 }
@@ -155,7 +157,7 @@ async function followAddress() {
   }
   state.place = address.place && texts.entryAt(address.place) ? address.place : null;
   if (!address.mark) return;
-  const kept = history.state ?? { typed: "", parts: [], part: 0, changes: [] };
+  const kept = history.state ?? { typed: "", parts: [], part: 0, changes: [], mayCut: false };
   Object.assign(state, kept);
   const outcome = await reader.readBookmark(address.mark);
   if (outcome.refused) return drawFailure(outcome.refused);

@@ -37,30 +37,37 @@ async function readAsTyped(scheme, typed) {
   return answer;
 }
 
+/** How a text is answered in a scheme: as it was typed, or cleaned where that has no answer or a fault. */
+async function tryScheme(typed, scheme, how) {
+  const asTyped = how === "cleaned" ? { refused: "no answer" } : await readAsTyped(scheme, typed);
+  const base = { typed, scheme, parts: [], part: 0, changes: [], mayCut: false, reading: asTyped };
+  const cleaned = how === "typed" ? { parts: [] } : clean(scheme, typed);
+  if (!asTyped.refused && asTyped.count > 0) return { ...base, mayCut: cleaned.parts.length > 1 };
+  if (how === "cleaned" || cleaned.parts.length > 1 || cleaned.parts[0]?.changes.length > 0) {
+    const reading = await askForReading("line", { scheme: "slp1", text: cleaned.parts[0].slp1 });
+    const isBetter = !reading.refused && (reading.count > 0 || asTyped.refused || cleaned.parts.length > 1);
+    if (isBetter) return { ...base, parts: cleaned.parts, changes: cleaned.parts[0].changes, reading };
+  }
+  return asTyped.refused ? { ...base, reading: null, fault: asTyped.refused, place: cleaned.fault ?? asTyped.place } : base;
+}
+
 /**
- * Reads what was typed: first as it is; where that has no answer or a fault, cleaned. Gives `{ fault }` where neither is
- * a line.
+ * Reads what was typed in the first of these schemes in which it has an answer, or in the first. `how` is `best`, `typed`
+ * for only as it was typed, or `cleaned`. Gives `{ fault, place }` where it is no line.
  */
-export async function readTyped(typed, scheme, mayClean = true) {
-  const asTyped = await readAsTyped(scheme, typed);
-  const base = { typed, scheme, parts: [], part: 0, changes: [], stretch: null, begin: 0 };
-  if (!asTyped.refused && (asTyped.count > 0 || !mayClean)) {
-    return adopt({ ...base, reading: asTyped });
+export async function readTyped(typed, schemes, how = "best") {
+  let first = null;
+  for (const scheme of schemes) {
+    const found = await tryScheme(typed, scheme, how);
+    first ??= found;
+    if (found.reading?.count > 0) return adoptLine(found);
   }
-  const cleaned = mayClean ? clean(scheme, typed) : { parts: [] };
-  const isChanged = cleaned.parts.length > 1 || cleaned.parts[0]?.changes.length > 0;
-  if (isChanged) {
-    const first = await askForReading("line", { scheme: "slp1", text: cleaned.parts[0].slp1 });
-    const isBetter = !first.refused && (first.count > 0 || asTyped.refused || cleaned.parts.length > 1);
-    if (isBetter) {
-      return adopt({ ...base, parts: cleaned.parts, changes: cleaned.parts[0].changes, reading: first });
-    }
-  }
-  if (asTyped.refused) {
-    adopt({ ...base, reading: null });
-    return { fault: asTyped.refused, place: cleaned.fault ?? asTyped.place };
-  }
-  return adopt({ ...base, reading: asTyped });
+  return adoptLine(first);
+}
+
+function adoptLine({ fault, place, ...found }) {
+  adopt({ ...found, stretch: null, begin: 0 });
+  return fault === undefined ? {} : { fault, place };
 }
 
 /** Reads another part of the verse that was cut. */

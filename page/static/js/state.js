@@ -7,6 +7,7 @@ export const state = {
   typed: "", // the line as it was typed
   scheme: "devanagari",
   isGuessed: true, // whether the scheme was guessed, and not chosen
+  mayCut: false, // whether the line was read across a danda, and could be cut there
   parts: [], // the parts of the verse, where it was cut: `{ slp1, from, to, changes }`
   part: 0,
   changes: [], // what cleaning changed in the line that is read

@@ -13,7 +13,8 @@ const STOPS = ".;!?\u2026\u0970";
 const QUOTES = "\"'`\u00b4\u2018\u2019\u201a\u201b\u201c\u201d\u201e\u00ab\u00bb\u2039\u203a";
 const BRACKETS = "()[]{}<>\u27e8\u27e9";
 const OTHER_MARKS = ",:*\u0950\u02bc\u02bd\u0951\u0952\u200b\u200c\u200d\u2060\ufeff";
-const NUMBER = /\p{N}+(?:[.,:/\u2013-]\p{N}+)*/uy;
+const NUMBER = /\p{N}+(?:[.,:/\u2013-]\p{N}+)*[a-d]{0,2}(?!\p{L})|\p{N}+/uy;
+const REFERENCE = /[([][^()[\]]*\p{N}[^()[\]]*[)\]]|\p{L}[\p{L}\p{M}]{0,5}[_.,]+\p{N}[\p{N}.,:_-]*[a-d]{0,2}(?!\p{L})/uy;
 const DANDA = /\|+|\/+|[\u0964\u0965]+/uy;
 
 // Spellings of IAST as it is printed, beside those that the scheme has.
@@ -28,11 +29,18 @@ export function tokensOf(scheme, text) {
   const tokens = [];
   let place = 0;
   while (place < text.length) {
-    const token = spelled(scheme, text, place, tokens) ?? unspelled(scheme, text, place);
+    const token = reference(text, place, tokens) ?? spelled(scheme, text, place, tokens) ?? unspelled(scheme, text, place);
     tokens.push(token);
     place = token.to;
   }
   return tokens;
+}
+
+/** A reference such as `BhG_1.1` or `(2.47)`, which stands where a word begins. It counts as a number. */
+function reference(text, place, tokens) {
+  if (tokens.at(-1)?.kind === "letter") return null;
+  const found = matchAt(REFERENCE, text, place);
+  return found ? { kind: "number", from: place, to: place + found.length, letters: "" } : null;
 }
 
 function spelled(scheme, text, place, tokens) {

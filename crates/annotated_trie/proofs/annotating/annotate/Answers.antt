@@ -2,7 +2,7 @@
 use Rattle.std.proofs.Common.{◌<◌, ◌^◌, ℕ, List, length, map, sym, ap, subst, arith}
 use Rattle.std.specs.Prelude.{All}
 use Rattle.annotated_trie.specs.Choices.{AnnotatedTrie, IsAnnotatedTrie}
-use Rattle.annotated_trie.specs.Views.{IsMostChoices, list_at}
+use Rattle.annotated_trie.specs.Views.{IsMostRules, list_at}
 use Rattle.annotated_trie.proofs.ChoiceLaws.{IsAnnotatedTrie-chosen, chosen_few}
 use Rattle.annotated_trie.proofs.annotating.annotate.Goals as goal
 
@@ -26,8 +26,8 @@ new-requires c =
     record {
       count = c.in_ok-lists.ensures.ok.count;
       within = c.in_ok-lists.ensures.ok.within;
-      is_most = subst (λ ls. IsMostChoices (map (list_at ls) places) most) c.as_slice.ensures.value
-          (subst (λ (ps : List ℕ). IsMostChoices (map (list_at c.as_slice.result.now) ps) most) c.as_slice-2.ensures.value c.longest_at-most.ensures);
+      is_most = subst (λ ls. IsMostRules (map (list_at ls) places) most) c.as_slice.ensures.value
+          (subst (λ (ps : List ℕ). IsMostRules (map (list_at c.as_slice.result.now) ps) most) c.as_slice-2.ensures.value c.longest_at-most.ensures);
       few = c.longest_at-most.type_inv;
     }
 

@@ -3,8 +3,8 @@ use Rattle.std.proofs.Common.{◌≡◌, ◌<◌, ◌^◌, ℕ, List, [], ◌∷
 use Rattle.std.proofs.lemmas.List.{map_more}
 use Rattle.std.proofs.lemmas.Bool.Decides.{nat_tests}
 use Rattle.std.specs.Ordering.{nat_cmp, ord_max}
-use Rattle.annotated_trie.specs.Views.{IsMostChoices, list_at}
-use Rattle.annotated_trie.proofs.GroupLaws.{IsMostChoices-push}
+use Rattle.annotated_trie.specs.Views.{IsMostRules, list_at}
+use Rattle.annotated_trie.proofs.GroupLaws.{IsMostRules-push}
 use Rattle.annotated_trie.proofs.ListPlaces.{list_at-read}
 use Rattle.annotated_trie.proofs.node_choices.longest_at.Goals as goal
 
@@ -35,6 +35,6 @@ loop-place-preserved c =
     let len : c.len.result ≡ length c.index-lists-place.result.items = let e = c.len.ensures in omega (arith, e) in
     let long : c.max-longest.result ≡ max c.loop-place.longest (length (list_at lists place)) =
     c.max-longest.ensures ∙ ord_max-nat c.loop-place.longest c.len.result ∙ ap (λ (n : ℕ). max c.loop-place.longest n) (len ∙ ap (λ (xs : List ℕ). length xs) (sym read)) in
-    subst (λ ls. IsMostChoices ls c.max-longest.result) (sym (map_more (list_at lists) places k 0 c.loop-place-test.true))
-    (subst (IsMostChoices (map (list_at lists) (take k places) ++ list_at lists place ∷ [])) (sym long)
-    (IsMostChoices-push (map (list_at lists) (take k places)) (list_at lists place) c.loop-place.longest c.loop-place.invariant))
+    subst (λ ls. IsMostRules ls c.max-longest.result) (sym (map_more (list_at lists) places k 0 c.loop-place-test.true))
+    (subst (IsMostRules (map (list_at lists) (take k places) ++ list_at lists place ∷ [])) (sym long)
+    (IsMostRules-push (map (list_at lists) (take k places)) (list_at lists place) c.loop-place.longest c.loop-place.invariant))

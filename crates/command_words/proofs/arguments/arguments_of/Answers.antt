@@ -1,6 +1,6 @@
 -- One word more is told.
 use Rattle.std.proofs.Common.{◌≡◌, ◌+◌, List, ◌∷◌, map, drop, string_bytes, sym, ap, subst, ◌∙◌, arith}
-use Rattle.run_definitions.specs.Arguments.{FileWord, Turn}
+use Rattle.run_definitions.specs.Arguments.{FileWord, NextWord}
 use Rattle.command_words.specs.Meant.{turn_meant, word_meant}
 use Rattle.command_words.specs.Turns.{turn_after, is_argument, arguments_with}
 use Rattle.command_words.proofs.ArgumentTurns.{GiveWith, one_more}
@@ -25,7 +25,7 @@ loop-word-preserved c =
       gives = λ given e.
           let now = subst (λ ws. GiveWith ws turn so_far c.loop-word.place given) split (c.loop-word.invariant.gives given e) in
           let after = one_more word rest turn so_far c.loop-word.place given now in
-          subst (λ (t : Turn). GiveWith rest t (map word_meant c.push_argument.new.arguments.items) (c.loop-word.place + 1) given) (sym turns)
+          subst (λ (t : NextWord). GiveWith rest t (map word_meant c.push_argument.new.arguments.items) (c.loop-word.place + 1) given) (sym turns)
           (subst (λ (xs : List FileWord). GiveWith rest (turn_after turn word) xs (c.loop-word.place + 1) given) (sym adds) after);
       place = let before = c.loop-word.invariant.place in omega (arith, before);
     }

@@ -1,4 +1,4 @@
--- By induction on the choices taken.
+-- By induction on the branches taken.
 use Rattle.std.proofs.lemmas.Cmp.{tied_itself}
 use Rattle.listing_laws.proofs.Depths.{to_come_at_some, to_come_from_depth, one_depth, deeper_first}
 use Rattle.listing_laws.proofs.listed_paths.what_is_to_come_falls_into_depths.Goals as goal

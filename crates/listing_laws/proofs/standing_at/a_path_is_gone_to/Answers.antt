@@ -1,6 +1,6 @@
--- What is left to go to is told at the top; at a choice that ends, the stack stands for what is above the path.
+-- What is left to go to is told at the top; at a branch that ends, the stack stands for what is above the path.
 use Rattle.listing_laws.proofs.Paths.{path_from_top}
-use Rattle.listing_laws.proofs.AtPositions.{stands_at_path, stands_past_last}
+use Rattle.listing_laws.proofs.AtCursors.{stands_at_path, stands_past_last}
 use Rattle.listing_laws.proofs.standing_at.a_path_is_gone_to.Goals as goal
 
 pub returns : goal.returns

@@ -1,6 +1,6 @@
 -- The same is to try as at entry, by a number that falls, and no more is spent than what is no longer left.
 use Rattle.std.proofs.Common.{ℕ, ◌+◌, ◌≤◌}
-use Rattle.search_frames.specs.Costs.{HasAtMostChoices, steps_left}
+use Rattle.search_frames.specs.Costs.{HasAtMostRules, steps_left}
 use Rattle.search_frames.specs.Frames.{still_to_try}
 use Rattle.search_frames.proofs.StepLoops.{HasSameToTry}
 use Rattle.search_frames.proofs.going_on.go_on.Given as goal
@@ -8,7 +8,7 @@ use Rattle.search_frames.proofs.going_on.go_on.Given as goal
 abbrev pub invariant-loop-stack : goal.invariant-loop-stack
 invariant-loop-stack g l = record {
   same : HasSameToTry l.lexicon l.line l.level l.fn.stack l.stack;
-  spent : (most : ℕ) → HasAtMostChoices l.lexicon.tries most
+  spent : (most : ℕ) → HasAtMostRules l.lexicon.tries most
       → l.steps + steps_left l.lexicon most l.stack l.level ≤ l.fn.steps + steps_left l.lexicon most l.fn.stack l.level;
 }
 

@@ -58,7 +58,7 @@ returns g c =
     let step : Step = record { phase = c.args.phase; rule = c.index_mut.result.now.rule; at = c.index_mut.result.now.at; lead = c.index_mut.result.now.lead; taken = c.index_mut.result.now.taken } in
     let frame : Frame = record { entrance = c.index_mut-frame.result.now.entrance; state = c.index_mut-frame.result.now.state; walked = c.walk_fronts-walked.result; next = 0 } in
     let new : Resumption = record {
-      position = old.position;
+      cursor = old.cursor;
       depth = old.depth;
       steps = with_item old.steps level step;
       frames = with_item old.frames level frame;
@@ -72,7 +72,7 @@ returns g c =
       begun = begins.phase_is;
       phases = begun_phases searched line new level c.args.phase begins c.rules.ensures.searched;
       changes = record {
-        position = refl;
+        cursor = refl;
         depth = refl;
         room = length-set old.frames.items level frame;
         is_stack = begins.placed.is_stack;

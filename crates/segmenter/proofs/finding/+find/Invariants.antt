@@ -3,7 +3,7 @@
 use Rattle.std.proofs.Common.{ℕ, ◌+◌, ◌-◌, ◌*◌, ◌≤◌, length}
 use Rattle.search_frames.specs.Frames.{numbered_of, here_of, still_to_try}
 use Rattle.search_frames.specs.Guided.{IsExactOf}
-use Rattle.search_frames.specs.Costs.{HasAtMostChoices, steps_left}
+use Rattle.search_frames.specs.Costs.{HasAtMostRules, steps_left}
 use Rattle.search_frames.specs.Reached.{rank}
 use Rattle.search_frames.specs.Turns.{HasToTry}
 use Rattle.segmenter.proofs.PathsFound.{IsUnderWay}
@@ -19,7 +19,7 @@ abbrev pub invariant-find_next-loop-stack : goal.invariant-find_next-loop-stack
 invariant-find_next-loop-stack g l = record {
   under : IsUnderWay l.lexicon l.line l.choices l.level l.initial.stack l.stack;
   to_try : HasToTry l.lexicon l.line l.stack l.level l.to_try;
-  spent : IsExactOf l.lexicon l.line l.choices (g.D.Guide.says l.guide) → (most : ℕ) → HasAtMostChoices l.lexicon.tries most
+  spent : IsExactOf l.lexicon l.line l.choices (g.D.Guide.says l.guide) → (most : ℕ) → HasAtMostRules l.lexicon.tries most
       → l.steps + steps_left l.lexicon most l.stack l.level ≤ l.initial.steps + steps_left l.lexicon most l.initial.stack l.level;
 }
 

@@ -60,8 +60,8 @@ returns-clause-found g c =
     let choices = c.args.choices.now in
     let fewest = c.min-in_use.ensures ∙ ap (min c.args.depth) c.depth.ensures in
     let found = subst (λ stack. (keys : List Key) → AreFrames searched line stack 0 (here_of searched stack 0) keys
-        → LeadAlong searched line choices (here_of searched stack 0) keys
-        → OnTrue c.find_later.result (HasFound searched line choices (ComesAfter keys) c.find_later.new.stack 0 (here_of searched stack 0)))
+    → LeadAlong searched line choices (here_of searched stack 0) keys
+    → OnTrue c.find_later.result (HasFound searched line choices (ComesAfter keys) c.find_later.new.stack 0 (here_of searched stack 0)))
     c.use_frames.ensures c.find_later.ensures.found in
     on_true c.find_later.result
     (stands_past searched line choices c.args.stack.now c.requires.searched c.requires.stack c.requires.at
@@ -79,8 +79,8 @@ returns-clause-none g c =
     let choices = c.args.choices.now in
     let fewest = c.min-in_use.ensures ∙ ap (min c.args.depth) c.depth.ensures in
     let none = subst (λ stack. (keys : List Key) → AreFrames searched line stack 0 (here_of searched stack 0) keys
-        → LeadAlong searched line choices (here_of searched stack 0) keys
-        → OnFalse c.find_later.result (HasNone searched line choices (ComesAfter keys) (here_of searched stack 0)))
+    → LeadAlong searched line choices (here_of searched stack 0) keys
+    → OnFalse c.find_later.result (HasNone searched line choices (ComesAfter keys) (here_of searched stack 0)))
     c.use_frames.ensures c.find_later.ensures.none in
     on_false c.find_later.result
     (none_past_here searched line choices c.args.stack.now c.requires.searched c.requires.stack c.requires.at

@@ -1,4 +1,4 @@
--- The frames stay as they are where the position is set.
+-- The frames stay as they are where the cursor is set.
 use Rattle.std.proofs.Common.{Bool, true, ◌≡◌, sym, subst}
 use Rattle.std.specs.Bool.{OnTrue}
 use Rattle.segmenter.specs.Searches.{IsStackOf}
@@ -12,9 +12,9 @@ if_true {P = P} b is p = subst (λ b. OnTrue b P) is p
 pub returns-clause-stack : goal.returns-clause-stack
 returns-clause-stack g c =
     subst (IsStackOf c.args.lexicon.now c.args.line.now c.args.choices.now) (sym c.stand_at.ensures)
-    (stack_restood c.args.lexicon.now c.args.line.now c.args.choices.now c.args.stack.now c.find_past-found.new.stack c.if-found.position
+    (stack_restood c.args.lexicon.now c.args.line.now c.args.choices.now c.args.stack.now c.find_past-found.new.stack c.if-found.cursor
     c.requires.stack c.find_past-found.ensures.changes
     (λ at. elim c.if-found.branch [
       | then-found w ↦ (if_true c.find_past-found.result w.if-found.true c.find_past-found.ensures.found).answer
-      | else-found w ↦ absurd (cc (at, w.position-is))
+      | else-found w ↦ absurd (cc (at, w.cursor-is))
     ]))

@@ -4,7 +4,7 @@ use Rattle.std.specs.String.{string_bytes}
 use Rattle.lexicon_text_definitions.specs.FileLines.{Grammar as GrammarLine, may_follow}
 use Rattle.lexicon_text_definitions.specs.FileContents.{Told}
 use Rattle.lexicon_file.specs.declared.error.FileWhy.TheVariants.{Grammar}
-use Rattle.lexicon_file.specs.declared.line_error.LineError.TheVariants.{Why}
+use Rattle.lexicon_file.specs.declared.take_error.TakeError.TheVariants.{Why}
 use Rattle.lexicon_file.proofs.GrammarLemmas.{stage_before_grammar, no_forms_told, grammar_told, grammar_fault, limits_told, body_told}
 use Rattle.lexicon_file.proofs.told.Told.take_grammar.Goals as goal
 

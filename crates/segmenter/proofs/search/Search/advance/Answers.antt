@@ -1,6 +1,6 @@
 -- The view is told by the stack.
 use Rattle.std.proofs.Common.{subst}
-use Rattle.segmenter.specs.Searches.{SearchValue, MovedOn, position_of}
+use Rattle.segmenter.specs.Searches.{SearchValue, MovedOn, cursor_of}
 use Rattle.segmenter.proofs.PathsFound.{on_true}
 use Rattle.segmenter.proofs.SearchMoves.{moved_on}
 use Rattle.segmenter.specs.Skips.{value_of}
@@ -14,7 +14,7 @@ returns-clause-moved g c =
       searched = s.lexicon.now;
       line = s.line.now;
       choices = s.choices.now;
-      position = position_of s.lexicon.now s.line.now c.move_on.new.stack;
+      cursor = cursor_of s.lexicon.now s.line.now c.move_on.new.stack;
     } in
     on_true c.move_on.result
     (λ moved. subst (λ old. MovedOn old now) c.self.view_is

@@ -1,6 +1,6 @@
 /// Where a search stands among its answers: before the first, at one, or past the last.
 #[derive(Clone, Copy, Debug, PartialEq, Eq)]
-pub enum Position {
+pub enum Cursor {
     Before,
     At,
     Past,
