@@ -16,6 +16,7 @@ CODE = re.compile(
     re.MULTILINE,
 )
 LOGIC = re.compile(r"^\s*(?:(?:pub|abbrev|unfoldable|opaque|record|data|module) )*([^\W\d][\w'-]*)(?= ?[:({]| where)", re.MULTILINE)
+SCRIPTS = {".css", ".html", ".js", ".py", ".sh"}
 CONSTANT = re.compile(r"^pub const (\w+): \w+ = ([\d_]+);", re.MULTILINE)
 VARIANTS = r"^pub enum {}\b[^{{]*\{{\n(.*?)^\}}"
 
@@ -58,7 +59,7 @@ class Tree:
         self.crates = {folder.name: Crate(folder) for folder in folders}
         self.libraries = {used for uses in self.listed.values() for used in uses} - set(self.listed)
         self.names = set().union(*(crate.names for crate in self.crates.values()))
-        self.mentioned = set().union(*(crate.mentioned for crate in self.crates.values()))
+        self.mentioned = set().union(*(crate.mentioned for crate in self.crates.values()), self._words_of_scripts())
 
     def _read_list(self):
         """The crates of crates.txt, each with those that it may use, in the order of the file."""
@@ -68,6 +69,13 @@ class Tree:
             if name.strip():
                 listed[name.strip()] = uses.split()
         return listed
+
+    def _words_of_scripts(self):
+        """All words in the scripts and pages beside the crates, with the names of their files."""
+        folders = [folder for folder in self.root.glob("*/") if folder.name not in ("crates", ".git")]
+        paths = [path for folder in folders for path in folder.rglob("*") if path.suffix in SCRIPTS]
+        paths += [path for path in [*self.root.glob("*"), *self.root.glob(".ci/*")] if path.is_file() and not path.suffix]
+        return {word for path in paths for word in [path.stem, *WORD.findall(path.read_text(encoding="utf-8"))]}
 
     def text(self, path):
         return (self.root / path).read_text(encoding="utf-8")
