@@ -36,6 +36,8 @@ const actions = {
   readPart: (part) => guarded(async () => settle(await reader.readPart(part))),
   changeTwin: (twin) => guarded(async () => {
     state.twin = twin;
+    const { refused } = await texts.openAgain();
+    if (refused) drawFailure(refused);
     await actions.read();
   }),
   keep: (box) => guarded(async () => {
@@ -70,6 +72,11 @@ const actions = {
   finish: () => guarded(async () => {
     const { refused } = await texts.finishLine();
     if (refused) drawFailure(`The line was not finished: ${refused}.`);
+    texts.drawTextRoom();
+  }),
+  reopen: () => guarded(async () => {
+    const { refused } = await texts.reopenLine();
+    if (refused) drawFailure(refused);
     texts.drawTextRoom();
   }),
 };
