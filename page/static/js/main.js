@@ -88,8 +88,11 @@ async function readEntry(entry) {
   await settle(isFurther ? await reader.readBookmark(bookmark) : asTyped);
 }
 
+let running = 0; // things that the reader did and that are not done yet
+
 /** Runs what a reader did. A fault is told on the page; a question that a newer one replaced is passed over. */
 async function guarded(act) {
+  running += 1;
   byId("reading").setAttribute("aria-busy", "true");
   try {
     await act();
@@ -98,7 +101,8 @@ async function guarded(act) {
     drawFailure(fault instanceof Failed ? fault.message : `Something went wrong: ${fault.message}`);
     if (!(fault instanceof Failed)) throw fault;
   } finally {
-    byId("reading").removeAttribute("aria-busy");
+    running -= 1;
+    if (running === 0) byId("reading").removeAttribute("aria-busy");
   }
 }
 
