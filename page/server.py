@@ -48,12 +48,27 @@ def cache_folder():
     return Path(base) / "yuzudeck"
 
 
+def tell(words):
+    print(words, flush=True)
+
+
+def pass_on(line):
+    """Shows what `sandhi` says while it builds the program. Its list of commands is not shown."""
+    if line.startswith("sandhi: "):
+        print(line, end="", file=sys.stderr, flush=True)
+    return line
+
+
 def status_of_program(program):
     """Builds the program where it is not built, and says whether it is proved: `proved`, `unproved` or `unknown`."""
-    asked = subprocess.run([program, "--"], stdin=subprocess.DEVNULL, capture_output=True, text=True, check=False)
-    if asked.stdout != "usage\n":
-        raise CannotBuild(asked.stderr.strip() or f"{program} is not the program")
-    if "not proved" in asked.stderr:
+    with subprocess.Popen(
+        [program, "--"], stdin=subprocess.DEVNULL, stdout=subprocess.PIPE, stderr=subprocess.PIPE, text=True
+    ) as asked:
+        said = list(map(pass_on, asked.stderr))
+        is_program = asked.stdout.read() == "usage\n"
+    if not is_program:
+        raise CannotBuild(f"{program} is not the program, or could not be built")
+    if any("not proved" in line for line in said):
         return "unproved"
     return "proved" if Path(program).resolve() == TOP / "sandhi" else "unknown"
 
@@ -63,7 +78,7 @@ def make_questions(words):
     program = str(Path(words.program).resolve())
     status = status_of_program(program)
     if words.lexicon == "-":
-        lexicons = starter_lexicons(program, TOP / "lexicons" / "starter", cache_folder())
+        lexicons = starter_lexicons(program, TOP / "lexicons" / "starter", cache_folder(), tell)
     else:
         lexicons = [own_lexicon(program, words.lexicon)]
     lexicons[0].open()
@@ -110,7 +125,7 @@ def main():
         server = make_server(words.port, questions)
         signal.signal(signal.SIGTERM, stop)
         address = f"http://127.0.0.1:{server.server_port}/"
-        print(f"The page is at {address}  (ctrl-C ends it)", flush=True)
+        tell(f"The page is at {address}  (ctrl-C ends it)")
         threading.Thread(target=first.reader.warm, daemon=True).start()
         if not words.no_browser:
             open_browser(address)

@@ -43,8 +43,9 @@ class PageServer:
             env={**os.environ, **environment},
             start_new_session=True,
         )
-        said = self.process.stdout.readline()
-        found = re.search(r"http://127\.0\.0\.1:(\d+)/", said)
+        found = None
+        while not found and (said := self.process.stdout.readline()):
+            found = re.search(r"http://127\.0\.0\.1:(\d+)/", said)
         if not found:
             raise RuntimeError(f"the server did not start: {said}{self.process.stderr.read()}")
         self.port = int(found[1])

@@ -11,7 +11,7 @@ from bookmarks import MOST_CHOICES, Bookmark, Segment, read_bookmark
 from boxes import make_boxes
 from lexicons import Builder, Meanings, own_lexicon, read_phases, unsplit_rules
 from notes import NoteFolder, NotWritten, can_annotate, is_finished
-from reader import Reader
+from reader import Reader, TooManyCommands
 from readings import mark_of_text, read_from, shown_answers, state_of
 from replies import Refusal, Rule, read_page
 from session import BadCommand, BadLexicon, Ended, OutOfTime, Session, as_line
@@ -132,6 +132,16 @@ class Sessions(WithFolder):
             self.assertEqual(reply[-1], "end")
             numbers.add(reader.process)
         self.assertGreater(len(numbers), 2)
+
+    def test_a_request_that_no_program_can_take_is_refused(self):
+        reader = Reader(PROGRAM, str(self.file("some.lex", SMALL)), most_input=100)
+        self.addCleanup(reader.close)
+        with self.assertRaises(TooManyCommands):
+            reader.answer(lambda exchange: [exchange.ask("text slp1 nAsti") for _ in range(20)])
+        with self.assertRaises(TooManyCommands):
+            self.lexicon(SMALL).answer(
+                lambda exchange: [exchange.ask("mark") for _ in range(1001)]
+            )
 
     def test_a_program_that_takes_too_long_is_stopped_and_not_asked_again(self):
         asked = self.folder / "asked"

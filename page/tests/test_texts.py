@@ -144,6 +144,15 @@ class Finishing(WithText):
         self.assertIn("guREH: guRa m.pl.ins", rows[1][2])
         self.assertEqual(len(rows), 2)
 
+    def test_a_finished_line_can_be_taken_back(self):
+        self.open_line(2)
+        self.assertTrue(self.browser.run("return document.getElementById('reopen').hidden"))
+        self.finish()
+        self.page.click("#reopen")
+        self.browser.wait("return document.getElementById('reopen').hidden")
+        self.assertEqual(self.lines()[1][2], "one answer")
+        self.assertEqual(list((self.folder / "verses.txt.notes").iterdir()), [])
+
     def exported(self):
         path = self.browser.downloads / "verses.txt.tsv"
         path.unlink(missing_ok=True)

@@ -11,6 +11,7 @@ const FAULTS = {
   "no letters": "There are no letters in this line.",
   "too long": "A line has at most 1,000 letters.",
   "long line": "This is too long for a line.",
+  "too many": "A line has at most 200 choices. Take some back first.",
   bookmark: "This address has a line or choices that the lexicon has not. It may be of an earlier version of the lexicon.",
 };
 
