@@ -16,6 +16,7 @@ tells each crate that is begun; with the variable SANDHI_TIMES it tells at the e
 and of the processors. Where a crate is refused, what was said of it follows, and the status is 1.
 """
 
+import fcntl
 import hashlib
 import os
 import re
@@ -120,39 +121,49 @@ class Builder:
         return [*words, "--statements", "-o", str(self.library(crate))]
 
     def run(self, words, crate, log):
-        """The status of a command in the crate's folder."""
+        """The status of a command in the crate's folder, whose output goes to the log."""
+        log.seek(0)
+        log.truncate()
         with subprocess.Popen(
             words, cwd=CRATES / crate, start_new_session=True, stdin=subprocess.DEVNULL, stdout=log, stderr=log
         ) as process:
             self.running.add(process)
+            if self.stopped:
+                self.stop()
             try:
-                return process.wait()
+                status = process.wait()
             finally:
                 self.running.discard(process)
+        log.seek(0)
+        return status
+
+    def check(self, crate, jobs, log):
+        """Whether the crate is proved. Where its check was killed, most likely for memory, it is tried once more with one job."""
+        for number in (jobs, 1):
+            status = self.run([f"{self.kit}/bin/rattle", "build", *self.words(crate, number)], crate, log)
+            if status != -signal.SIGKILL or self.stopped:
+                break
+        return status == 0 and PROVED.search(log.read()) is not None
+
+    def link(self, log):
+        """Whether the program is linked of the object file that was made of it."""
+        room = self.room(self.program)
+        words = [f"{self.kit}/bin/rattle-link", "--target", "x86_64-unknown-linux-gnu", "--toolchain", f"{self.kit}/toolchain"]
+        words += ["-o", f"{room}/program", f"{room}/program.o", f"{self.kit}/c/libos_c.a", f"{self.kit}/c/liblibc_c.a"]
+        return self.run(words, self.program, log) == 0
 
     def build(self, crate, jobs, log):
         """Whether the crate is proved and what it makes is built."""
-        kept = self.room(crate) / "sum"
-        made = CRATES / crate / "out" / crate if crate == self.program else self.library(crate)
+        is_program, kept = crate == self.program, self.room(crate) / "sum"
+        made = self.room(crate) / "program" if is_program else self.library(crate)
         if made.exists() and kept.is_file() and kept.read_text() == self.sums[crate]:
             return True
         shutil.rmtree(self.room(crate), ignore_errors=True)
         self.room(crate).mkdir(parents=True)
-        if self.run([f"{self.kit}/bin/rattle", "build", *self.words(crate, jobs)], crate, log):
+        if not self.check(crate, jobs, log) or is_program and not self.link(log):
             return False
-        log.seek(0)
-        said = log.read()
-        if crate == self.program:
-            linked = [f"{self.room(crate)}/program", f"{self.room(crate)}/program.o"]
-            c_code = [f"{self.kit}/c/libos_c.a", f"{self.kit}/c/liblibc_c.a"]
-            link = [f"{self.kit}/bin/rattle-link", "--target", "x86_64-unknown-linux-gnu", "--toolchain", f"{self.kit}/toolchain"]
-            if not PROVED.search(said) or self.run([*link, "-o", *linked, *c_code], crate, log):
-                return False
-            os.replace(linked[0], made)
-        elif not PROVED.search(said):
-            return False
-        # A file that was changed while it was proved changes the sum.
-        if self.stopped or self.sum_of(crate) != self.sums[crate]:
+        if self.sum_of(crate) != self.sums[crate]:
+            log.write("a file of this crate was changed while it was proved\n")
             return False
         kept.write_text(self.sums[crate])
         return True
@@ -164,6 +175,17 @@ class Builder:
                 os.killpg(process.pid, signal.SIGTERM)
             except OSError:
                 pass
+
+
+def lock(crates):
+    """Waits until no command of the toolchain works in these crates' folders, and keeps others out as it does."""
+    held = [os.open(CRATES / it, os.O_RDONLY) for it in sorted(crates)]
+    for it in held:
+        try:
+            fcntl.flock(it, fcntl.LOCK_EX | fcntl.LOCK_NB)
+        except BlockingIOError:
+            say("waiting for another command that works in this repository")
+            fcntl.flock(it, fcntl.LOCK_EX)
 
 
 def stop_at_signal(*_):
@@ -223,10 +245,15 @@ def main(words):
     uses = {name: [it for it in used.split() if it in names] for name, used in pairs}
     of_kit = {name: [it for it in used.split() if it not in names] for name, used in pairs}
     kit = Path(subprocess.run(["rt", "doc"], capture_output=True, text=True, check=True).stdout.strip()).parent
-    if not prove(uses, Builder(uses, of_kit, kit)):
+    lock(uses)
+    builder = Builder(uses, of_kit, kit)
+    if not prove(uses, builder):
         return 1
     # A source that was changed in the meantime is newer.
-    os.utime(CRATES / names[-1] / "out" / names[-1], (began, began))
+    program, made = CRATES / names[-1] / "out" / names[-1], builder.room(names[-1])
+    shutil.copy(made / "program", made / "copy")
+    os.utime(made / "copy", (began, began))
+    os.replace(made / "copy", program)
     say("the program is proved")
     return 0
 
