@@ -9,7 +9,7 @@ returns-in_default c = not_four_whole c.args.text.now (not_cut 32 c.args.text.no
 pub returns-in_default-cut_at : goal.returns-in_default-cut_at
 returns-in_default-cut_at c =
     not_four_second c.args.text.now c.in-Some.first.now c.in-Some.rest.now (cut_as_parted 32 c.args.text.now c.in-Some.first.now c.in-Some.rest.now c.in-Some.ensures)
-    (not_cut 32 c.in-Some.rest.now c.in_default-cut.ensures)
+    (not_cut 32 c.in-Some.rest.now c.in_default-cut_at.ensures)
 
 pub returns-in-Some-two_fields : goal.returns-in-Some-two_fields
 returns-in-Some-two_fields c =

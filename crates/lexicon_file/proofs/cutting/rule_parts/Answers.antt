@@ -12,7 +12,7 @@ returns-in_default c = no_bar c.args.field.now (not_cut 124 c.args.field.now c.i
 pub returns-in_default-cut_at : goal.returns-in_default-cut_at
 returns-in_default-cut_at c =
     no_sign c.args.field.now c.in-Some.u.now c.in-Some.rest.now (cut_as_parted 124 c.args.field.now c.in-Some.u.now c.in-Some.rest.now c.in-Some.ensures)
-    (not_cut 62 c.in-Some.rest.now c.in_default-cut.ensures)
+    (not_cut 62 c.in-Some.rest.now c.in_default-cut_at.ensures)
 
 pub returns-then-has_marks : goal.returns-then-has_marks
 returns-then-has_marks c =
