@@ -8,14 +8,20 @@ the program's. A crate is begun once all that it uses is built, and first the on
 counted in lines. There run as many as there are processors, and 3 GB of free memory for each. A crate beside which fewer
 wait than there are processors gets the processors that are left, at most four.
 
-Each crate is checked whole and built by the toolchain's command: `rt lib`, and `rt run` for the program. A line on standard
-error tells each crate that is begun; with the variable SANDHI_TIMES it tells at the end of each crate its seconds by the
-clock and of the processors. Where a crate is refused, what was said of it follows, and the status is 1.
+Each crate is checked whole, and from nothing, by `rattle build`, over the statements of the crates below it; the check takes
+nothing that earlier checks kept. Its last line must say that the crate is proved, and have no word of trust but those that the
+toolchain's gate takes. What was proved of a crate is kept in its folder out/proved, under a sum of all that it was made
+from, so that after a change only the crates that changed and those above them are proved again. A line on standard error
+tells each crate that is begun; with the variable SANDHI_TIMES it tells at the end of each crate its seconds by the clock
+and of the processors. Where a crate is refused, what was said of it follows, and the status is 1.
 """
 
+import fcntl
+import hashlib
 import os
 import re
 import resource
+import shutil
 import signal
 import subprocess
 import sys
@@ -58,26 +64,109 @@ def count_lanes():
     return max(1, min(lanes, 1024 * int(free[1]) // MEMORY if free else lanes))
 
 
+# The last line of a check that proved a crate, as the toolchain's gate takes it.
+PROVED = re.compile(
+    r"^logic=proved( (functions|axioms|target|cpu|threads|main|sum)=\S+)+ native=nat,char,string"
+    r" logic-built=trusted libraries-built=trusted statements=trusted\n\Z",
+    re.M,
+)
+
+
 class Builder:
-    """The crates that are being built, each by a process group of its own."""
+    """The crates that are being built, each by process groups of its own."""
 
-    def __init__(self, program):
-        self.program, self.running, self.stopped = program, set(), False
+    def __init__(self, uses, of_kit, kit):
+        self.uses, self.of_kit, self.kit = uses, of_kit, kit
+        self.program, self.running, self.stopped = list(uses)[-1], set(), False
+        self.sums = {}
+        for crate in uses:
+            self.sums[crate] = self.sum_of(crate)
 
-    def build(self, crate, jobs, log):
-        """Whether the crate is built. The program tells that it was by its answer to a word that is no command."""
+    def sum_of(self, crate):
+        """A sum of all that the crate is made from: its files, the crates and libraries that it uses, and the toolchain."""
+        files = [it for part in ("src", "specs", "proofs") for it in (CRATES / crate / part).rglob("*") if it.is_file()]
+        made = hashlib.sha256(repr((crate, self.of_kit[crate], (self.kit / "WHAT").read_bytes())).encode())
+        for file in sorted(files):
+            made.update(repr((str(file.relative_to(CRATES)), file.read_bytes())).encode())
+        made.update(repr([self.sums[it] for it in self.uses[crate]]).encode())
+        return made.hexdigest()
+
+    def below(self, crate):
+        """The crates below this one, each after those that it uses."""
+        found = []
+        for it in self.uses[crate]:
+            found += [one for one in [*self.below(it), it] if one not in found]
+        return found
+
+    def room(self, crate):
+        return CRATES / crate / "out" / "proved"
+
+    def library(self, crate):
+        return self.room(crate) / f"{crate}.rlib"
+
+    def words(self, crate, jobs):
         is_program = crate == self.program
-        words = ["rt", "run", "--jobs", str(jobs), "--", "--"] if is_program else ["rt", "lib", "--jobs", str(jobs)]
-        answers = tempfile.TemporaryFile()
-        how = {"stdin": subprocess.DEVNULL, "stdout": answers if is_program else log, "stderr": log}
-        with subprocess.Popen(words, cwd=CRATES / crate, start_new_session=True, **how) as process:
+        words = ["--crate-name", crate, "src/main.rt" if is_program else "src/lib.rt"]
+        for name in ["std", *self.of_kit[crate]]:
+            words += ["--extern", f"{name}={self.kit}/rlibs/{name}.rlib"]
+        words += ["-L", f"dependency={self.kit}/rlibs"]
+        for name in self.uses[crate]:
+            words += ["--extern", f"{name}={self.library(name)}"]
+        for name in self.below(crate):
+            words += ["-L", f"dependency={self.room(name)}"]
+        words += ["--antt-project", f"{self.kit}/rattle/logic/antt-project.json", "--logic-built", f"{self.kit}/logic_built"]
+        words += ["--jobs", str(jobs), "--links", f"{crate}="]
+        if is_program:
+            return [*words, "--toolchain", f"{self.kit}/toolchain", "--backend", "llvm", "-o", f"{self.room(crate)}/program.o"]
+        return [*words, "--statements", "-o", str(self.library(crate))]
+
+    def run(self, words, crate, log):
+        """The status of a command in the crate's folder, whose output goes to the log."""
+        log.seek(0)
+        log.truncate()
+        with subprocess.Popen(
+            words, cwd=CRATES / crate, start_new_session=True, stdin=subprocess.DEVNULL, stdout=log, stderr=log
+        ) as process:
             self.running.add(process)
+            if self.stopped:
+                self.stop()
             try:
                 status = process.wait()
             finally:
                 self.running.discard(process)
-        answers.seek(0)
-        return not self.stopped and (answers.read() == b"usage\n" if is_program else status == 0)
+        log.seek(0)
+        return status
+
+    def check(self, crate, jobs, log):
+        """Whether the crate is proved. Where its check was killed, most likely for memory, it is tried once more with one job."""
+        for number in (jobs, 1):
+            status = self.run([f"{self.kit}/bin/rattle", "build", *self.words(crate, number)], crate, log)
+            if status != -signal.SIGKILL or self.stopped:
+                break
+        return status == 0 and PROVED.search(log.read()) is not None
+
+    def link(self, log):
+        """Whether the program is linked of the object file that was made of it."""
+        room = self.room(self.program)
+        words = [f"{self.kit}/bin/rattle-link", "--target", "x86_64-unknown-linux-gnu", "--toolchain", f"{self.kit}/toolchain"]
+        words += ["-o", f"{room}/program", f"{room}/program.o", f"{self.kit}/c/libos_c.a", f"{self.kit}/c/liblibc_c.a"]
+        return self.run(words, self.program, log) == 0
+
+    def build(self, crate, jobs, log):
+        """Whether the crate is proved and what it makes is built."""
+        is_program, kept = crate == self.program, self.room(crate) / "sum"
+        made = self.room(crate) / "program" if is_program else self.library(crate)
+        if made.exists() and kept.is_file() and kept.read_text() == self.sums[crate]:
+            return True
+        shutil.rmtree(self.room(crate), ignore_errors=True)
+        self.room(crate).mkdir(parents=True)
+        if not self.check(crate, jobs, log) or is_program and not self.link(log):
+            return False
+        if self.sum_of(crate) != self.sums[crate]:
+            log.write("a file of this crate was changed while it was proved\n")
+            return False
+        kept.write_text(self.sums[crate])
+        return True
 
     def stop(self):
         self.stopped = True
@@ -88,14 +177,24 @@ class Builder:
                 pass
 
 
+def lock(crates):
+    """Waits until no command of the toolchain works in these crates' folders, and keeps others out as it does."""
+    held = [os.open(CRATES / it, os.O_RDONLY) for it in sorted(crates)]
+    for it in held:
+        try:
+            fcntl.flock(it, fcntl.LOCK_EX | fcntl.LOCK_NB)
+        except BlockingIOError:
+            say("waiting for another command that works in this repository")
+            fcntl.flock(it, fcntl.LOCK_EX)
+
+
 def stop_at_signal(*_):
     raise KeyboardInterrupt
 
 
-def prove(uses):
+def prove(uses, builder):
     """Builds all crates, and returns whether each is. Where one is refused or this is broken off, the others are ended."""
-    program = list(uses)[-1]
-    above, lanes, builder = work_from(uses), count_lanes(), Builder(program)
+    above, lanes = work_from(uses), count_lanes()
     left, running, built, busy = sorted(uses, key=lambda it: -above[it]), {}, set(), 0
 
     def one(crate, jobs, log):
@@ -143,10 +242,18 @@ def main(words):
     began = time.time()
     pairs = [word.partition(":")[::2] for word in words]
     names = [name for name, _ in pairs]
-    if not prove({name: [it for it in used.split() if it in names] for name, used in pairs}):
+    uses = {name: [it for it in used.split() if it in names] for name, used in pairs}
+    of_kit = {name: [it for it in used.split() if it not in names] for name, used in pairs}
+    kit = Path(subprocess.run(["rt", "doc"], capture_output=True, text=True, check=True).stdout.strip()).parent
+    lock(uses)
+    builder = Builder(uses, of_kit, kit)
+    if not prove(uses, builder):
         return 1
     # A source that was changed in the meantime is newer.
-    os.utime(CRATES / names[-1] / "out" / names[-1], (began, began))
+    program, made = CRATES / names[-1] / "out" / names[-1], builder.room(names[-1])
+    shutil.copy(made / "program", made / "copy")
+    os.utime(made / "copy", (began, began))
+    os.replace(made / "copy", program)
     say("the program is proved")
     return 0
 

@@ -40,7 +40,9 @@ put_page() {
     fi
     install -D -m 755 "$top/sandhi-page" "$root/$shared/sandhi-page" || return
     copy_folder "$top/page" "$root/$shared/page" || return
-    ln -s ../../bin/sandhi "$root/$shared/sandhi"
+    # As in the repository, a script `sandhi` beside the page runs the proved program.
+    printf '#!/bin/sh\nexec "$(dirname "$(readlink -f "$0")")/../../bin/sandhi" "$@"\n' >"$root/$shared/sandhi" &&
+        chmod 755 "$root/$shared/sandhi" || return
     ln -s ../share/yuzudeck/sandhi-page "$root/usr/bin/sandhi-page"
 }
 

@@ -95,8 +95,8 @@ def unsplit_rules(rules):
 class Builder:
     """Makes lexicon files of source files, each once, in a folder of its own."""
 
-    def __init__(self, program, folder):
-        self._program, self._folder = program, Path(folder)
+    def __init__(self, program, folder, tell=lambda words: None):
+        self._program, self._folder, self._tell = program, Path(folder), tell
 
     def build(self, name, rules, tables, stems):
         """The path of the lexicon of these three texts. The file is there whole or not at all."""
@@ -105,6 +105,7 @@ class Builder:
         target = self._folder / f"{name}-{digest[:12]}.lex"
         if target.exists():
             return target
+        self._tell(f"The lexicon {name} is made, which takes some seconds.")
         self._folder.mkdir(parents=True, exist_ok=True)
         with tempfile.TemporaryDirectory(dir=self._folder, prefix="making-") as room:
             paths = [Path(room) / source for source in SOURCES]
@@ -125,9 +126,9 @@ def run_build(program, sources, target):
         raise CannotBuild(f"build ended with status {built.returncode}: {said[0] if said else 'it said nothing'}")
 
 
-def starter_lexicons(program, sources, cache):
-    """The starter lexicon, and its twin for texts that are written without sandhi between words."""
-    sources, builder = Path(sources), Builder(program, cache)
+def starter_lexicons(program, sources, cache, tell=lambda words: None):
+    """The starter lexicon, and its twin for texts that are written without sandhi between words. `tell` says what is made."""
+    sources, builder = Path(sources), Builder(program, cache, tell)
 
     def texts():
         return [(sources / name).read_text(encoding="utf-8") for name in SOURCES]

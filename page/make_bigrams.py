@@ -41,8 +41,8 @@ def main():
     rows = [line.split("\t") for line in READINGS.read_text(encoding="utf-8").splitlines()]
     table = counts(slp1_of_devanagari(row[2]) for row in rows if int(row[0]) % 2)
     lines = [
-        "// Made by make_bigrams.py: what it costs that a letter follows another, a row for the letter before and a digit of",
-        "// base 36 for the letter after, both in this order. A blank is the end of a word.",
+        "// Made by make_bigrams.py: what it costs that a letter follows another. A row is the letter before, and a digit of",
+        "// base 36 in it the letter after, both in this order. A blank is the end of a word.",
         "",
         f'export const ORDER = "{ORDER}";',
         "",

@@ -38,8 +38,12 @@ def run_annotate(program, lexicon, mark, out):
     """The exit status of `sandhi annotate LEX MARK OUT`."""
     words = [program, "annotate", "--", str(lexicon), str(mark), str(out)]
     done = subprocess.run(
-        words, stdin=subprocess.DEVNULL, stdout=subprocess.DEVNULL, stderr=subprocess.DEVNULL,
-        timeout=MOST_SECONDS, check=False,
+        words,
+        stdin=subprocess.DEVNULL,
+        stdout=subprocess.DEVNULL,
+        stderr=subprocess.DEVNULL,
+        timeout=MOST_SECONDS,
+        check=False,
     )
     return done.returncode
 
@@ -130,5 +134,7 @@ def is_finished(exchange, note, phases):
         (step.segment.at, step.segment.lead, step.segment.form, phases[phase], taken, rule)
         for step, (phase, taken, rule) in zip(answer.steps, keys)
     ]
-    noted = [tuple(segment[name] for name in ("at", "lead", "form", "phase", "taken", "rule")) for segment in note.segments]
+    noted = [
+        tuple(segment[name] for name in ("at", "lead", "form", "phase", "taken", "rule")) for segment in note.segments
+    ]
     return read == noted

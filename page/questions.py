@@ -6,7 +6,14 @@ from lexicons import CannotBuild, Meanings
 from notes import NoteFolder, NotWritten, is_finished
 from reader import Busy, TooManyCommands
 from readings import (
-    MOST_ANALYSES, PAGE, PROGRAM_SCHEMES, analyses_of, mark_of_text, read_from, shown_answers, state_of,
+    MOST_ANALYSES,
+    PAGE,
+    PROGRAM_SCHEMES,
+    analyses_of,
+    mark_of_text,
+    read_from,
+    shown_answers,
+    state_of,
 )
 from replies import Refusal
 from session import BadCommand, BadLexicon, Ended, OutOfTime
@@ -198,7 +205,9 @@ class View:
             "hasMore": reading.has_more,
             "next": reading.next_mark,
             "boxes": [told_box(box) for box in reading.boxes],
-            "answers": [told_answer(answer) for answer in shown_answers(reading, self._order, self._begin, self._most)],
+            "answers": [
+                told_answer(answer) for answer in shown_answers(reading, self._order, self._begin, self._most)
+            ],
         }
 
 

@@ -15,7 +15,7 @@ class Busy(Exception):
 
 
 class TooManyCommands(Exception):
-    """A request would send more commands than one may."""
+    """A request would send more commands than one may, or more than the input of a program may have."""
 
 
 class Exchange:
@@ -64,14 +64,17 @@ class Reader:
             self._places.release()
 
     def _answer(self, request):
-        may_fail = True
+        may_fail = may_be_full = True
         while True:
             session = self._running()
             try:
                 with session.within(self._seconds):
                     return request(Exchange(session))
-            except Full:
+            except Full as fault:
                 self._drop()
+                if not may_be_full:
+                    raise TooManyCommands from fault
+                may_be_full = False
             except OutOfTime:
                 self._drop()
                 raise

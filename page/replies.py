@@ -43,7 +43,7 @@ class Step(NamedTuple):
 
     @property
     def end(self):
-        """Where the segment ends in the line: letters of the next form that the rule leaves as they are, are not its."""
+        """Where the segment ends in the line. Letters of the next form that the rule leaves as they are do not count."""
         return self.segment.at + self.taken + (self.rule.shared if self.rule else 0)
 
 

@@ -29,11 +29,17 @@ BROWSERS_OF_THE_TERMINAL = {"www-browser", "links", "elinks", "lynx", "w3m"}
 
 def read_words(words):
     parser = argparse.ArgumentParser(prog="sandhi-page", description="Serves the reader's page in a browser.")
-    parser.add_argument("lexicon", nargs="?", default="-", help="a lexicon file; without it, or for -, the starter lexicon")
+    parser.add_argument(
+        "lexicon", nargs="?", default="-", help="a lexicon file; without it, or for -, the starter lexicon"
+    )
     parser.add_argument("text", nargs="?", help="a text file to read")
-    parser.add_argument("--port", type=int, default=None, help=f"the port; without it {PORT}, or the next that is free")
+    parser.add_argument(
+        "--port", type=int, default=None, help=f"the port; without it {PORT}, or the next that is free"
+    )
     parser.add_argument("--no-browser", action="store_true", help="open no browser")
-    parser.add_argument("--program", default=str(TOP / "sandhi"), help="the program; without it the one of this repository")
+    parser.add_argument(
+        "--program", default=str(TOP / "sandhi"), help="the program; without it the one of this repository"
+    )
     return parser.parse_args(words)
 
 
@@ -42,12 +48,27 @@ def cache_folder():
     return Path(base) / "yuzudeck"
 
 
+def tell(words):
+    print(words, flush=True)
+
+
+def pass_on(line):
+    """Shows what `sandhi` says while it builds the program. Its list of commands is not shown."""
+    if line.startswith("sandhi: "):
+        print(line, end="", file=sys.stderr, flush=True)
+    return line
+
+
 def status_of_program(program):
     """Builds the program where it is not built, and says whether it is proved: `proved`, `unproved` or `unknown`."""
-    asked = subprocess.run([program, "--"], stdin=subprocess.DEVNULL, capture_output=True, text=True, check=False)
-    if asked.stdout != "usage\n":
-        raise CannotBuild(asked.stderr.strip() or f"{program} is not the program")
-    if "not proved" in asked.stderr:
+    with subprocess.Popen(
+        [program, "--"], stdin=subprocess.DEVNULL, stdout=subprocess.PIPE, stderr=subprocess.PIPE, text=True
+    ) as asked:
+        said = list(map(pass_on, asked.stderr))
+        is_program = asked.stdout.read() == "usage\n"
+    if not is_program:
+        raise CannotBuild(f"{program} is not the program, or could not be built")
+    if any("not proved" in line for line in said):
         return "unproved"
     return "proved" if Path(program).resolve() == TOP / "sandhi" else "unknown"
 
@@ -57,14 +78,17 @@ def make_questions(words):
     program = str(Path(words.program).resolve())
     status = status_of_program(program)
     if words.lexicon == "-":
-        lexicons = starter_lexicons(program, TOP / "lexicons" / "starter", cache_folder())
+        lexicons = starter_lexicons(program, TOP / "lexicons" / "starter", cache_folder(), tell)
     else:
         lexicons = [own_lexicon(program, words.lexicon)]
     lexicons[0].open()
     texts = Texts(Path.cwd(), words.text)
     if words.text:
         texts.lines(texts.given)
-    return Questions(program, lexicons, texts, can_finish=can_annotate(program), status_of_program=status), lexicons[0]
+    return (
+        Questions(program, lexicons, texts, can_finish=can_annotate(program), status_of_program=status),
+        lexicons[0],
+    )
 
 
 def make_server(port, questions):
@@ -101,7 +125,7 @@ def main():
         server = make_server(words.port, questions)
         signal.signal(signal.SIGTERM, stop)
         address = f"http://127.0.0.1:{server.server_port}/"
-        print(f"The page is at {address}  (ctrl-C ends it)", flush=True)
+        tell(f"The page is at {address}  (ctrl-C ends it)")
         threading.Thread(target=first.reader.warm, daemon=True).start()
         if not words.no_browser:
             open_browser(address)

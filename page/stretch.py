@@ -6,12 +6,28 @@ from replies import accepted, read_page
 
 MOST_QUESTIONS = 400
 
-# What the last letters of a piece may have been before sandhi with the next piece changed them. A piece whose end sandhi
-# changed has no answer by itself, so it is asked for with these too.
+# What the last letter of a piece may have been before sandhi with the next piece changed it. A piece whose end was changed
+# has no answer by itself, so it is asked for with these too.
 BEFORE_SANDHI = {
-    "o": ["aH"], "A": ["AH"], "a": ["aH", "e"], "S": ["H"], "z": ["H"], "s": ["H"], "r": ["H"],
-    "d": ["t"], "g": ["k"], "b": ["p"], "q": ["w"], "c": ["t"], "j": ["t"], "l": ["t"], "n": ["t"], "N": ["k"],
-    "Y": ["n"], "y": ["i", "I"], "v": ["u", "O"],
+    "o": ["aH"],
+    "A": ["AH"],
+    "a": ["aH", "e"],
+    "S": ["H"],
+    "z": ["H"],
+    "s": ["H"],
+    "r": ["H"],
+    "d": ["t"],
+    "g": ["k"],
+    "b": ["p"],
+    "q": ["w"],
+    "c": ["t"],
+    "j": ["t"],
+    "l": ["t"],
+    "n": ["t"],
+    "N": ["k"],
+    "Y": ["n"],
+    "y": ["i", "I"],
+    "v": ["u", "O"],
 }
 
 

@@ -32,18 +32,20 @@ LISTS = {
     "batch": [(RUN, "BatchOutcomes", "IsBatchRun"), (RUN, "BatchOutcomes", "IsBatchSoFar")],
     "demo": [(RUN, "DemoOutcomes", "IsDemoRun")],
     "the headline": [
-        (PROGRAM, "Ends", "WroteAll"),
-        (PROGRAM, "Ends", "WrotePrefix"),
-        (PROGRAM, "Ends", "IsNoFault"),
-        (PROGRAM, "Ends", "MayEndNoCommand"),
+        (PROGRAM, "Headline", "WroteAll"),
+        (PROGRAM, "Headline", "WrotePrefix"),
+        (PROGRAM, "Headline", "IsNoFault"),
+        (PROGRAM, "Headline", "MayEndNoCommand"),
         ("outside", "Counts", "Rose"),
         ("outside", "Files", "told_without"),
     ],
+    "the faults": [(PROGRAM, "Faults", "TellsEnd")],
     "the other clauses": [
-        (PROGRAM, "Sessions", "ReadsFailed"),
-        (PROGRAM, "Sessions", "LacksFile"),
-        (PROGRAM, "Sessions", "IsRepliedTo"),
+        (PROGRAM, "ReadFaults", "ReadsFailed"),
+        (PROGRAM, "ReadFaults", "LacksFile"),
+        (PROGRAM, "RepliedSoFar", "IsRepliedTo"),
         (RUN, "Commands", "WriteNoFile"),
+        (RUN, "Commands", "ReadNoFile"),
         (RUN, "Commands", "DoReadInput"),
     ],
 }
@@ -87,8 +89,8 @@ class File:
                 continue
             if line.startswith("--"):
                 comment.append(line)
-            elif line and not line[0].isspace():
-                name = HEAD.match(line)[1]
+            elif head := HEAD.match(line):
+                name = head[1]
                 if current is None or current.name != name:
                     current = self.defined.setdefault(name, Definition(name))
                     current.lines += comment

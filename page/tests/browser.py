@@ -16,7 +16,15 @@ ELEMENT = "element-6066-11e4-a52e-4f735466cecf"
 DRIVERS = ("chromedriver",)
 BROWSERS = ("chromium", "chromium-browser", "google-chrome")
 WAIT_SECONDS = 20
-KEYS = {"enter": "\ue007", "delete": "\ue017", "right": "\ue014", "left": "\ue012", "up": "\ue013", "down": "\ue015", "tab": "\ue004"}
+KEYS = {
+    "enter": "\ue007",
+    "delete": "\ue017",
+    "right": "\ue014",
+    "left": "\ue012",
+    "up": "\ue013",
+    "down": "\ue015",
+    "tab": "\ue004",
+}
 
 
 def find_browser():
@@ -44,12 +52,21 @@ class Browser:
         self._port = free_port()
         self._folder = tempfile.TemporaryDirectory(prefix="page-browser-", ignore_cleanup_errors=True)
         self._driver = subprocess.Popen(
-            [driver, f"--port={self._port}"], stdout=subprocess.DEVNULL, stderr=subprocess.DEVNULL, start_new_session=True
+            [driver, f"--port={self._port}"],
+            stdout=subprocess.DEVNULL,
+            stderr=subprocess.DEVNULL,
+            start_new_session=True,
         )
         self._session = ""
         arguments = [
-            "--headless=new", "--disable-gpu", "--no-first-run", "--disable-dev-shm-usage", f"--window-size={width},{height}",
-            f"--user-data-dir={self._folder.name}", "--force-color-profile=srgb", "--disable-background-networking",
+            "--headless=new",
+            "--disable-gpu",
+            "--no-first-run",
+            "--disable-dev-shm-usage",
+            f"--window-size={width},{height}",
+            f"--user-data-dir={self._folder.name}",
+            "--force-color-profile=srgb",
+            "--disable-background-networking",
         ]
         if os.geteuid() == 0:
             arguments.append("--no-sandbox")
@@ -153,7 +170,9 @@ class Browser:
         return self.call("POST", "/element", {"using": "css selector", "value": selector})[ELEMENT]
 
     def all(self, selector):
-        return [found[ELEMENT] for found in self.call("POST", "/elements", {"using": "css selector", "value": selector})]
+        return [
+            found[ELEMENT] for found in self.call("POST", "/elements", {"using": "css selector", "value": selector})
+        ]
 
     def click(self, element):
         self.call("POST", f"/element/{element}/click")
@@ -179,7 +198,11 @@ class Browser:
         """Writes a picture of the window, or of the whole page."""
         if whole:
             size = self.run("return [document.documentElement.scrollWidth, document.documentElement.scrollHeight]")
-            shot = {"format": "png", "captureBeyondViewport": True, "clip": {"x": 0, "y": 0, "width": size[0], "height": size[1], "scale": 1}}
+            shot = {
+                "format": "png",
+                "captureBeyondViewport": True,
+                "clip": {"x": 0, "y": 0, "width": size[0], "height": size[1], "scale": 1},
+            }
             data = self.call("POST", "/goog/cdp/execute", {"cmd": "Page.captureScreenshot", "params": shot})["data"]
         else:
             data = self.call("GET", "/screenshot")

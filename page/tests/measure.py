@@ -66,7 +66,11 @@ def lines_with_answers(session, rows):
         session.ask(f"text devanagari {row[2]}")
         counts[row[2]] = len(session.ask("page 1000")) - 1
     found = [text for text, count in counts.items() if LEAST <= count <= MOST]
-    pairs = ((one, other) for one, other in itertools.permutations(counts, 2) if LEAST <= counts[one] * counts[other] <= MOST)
+    pairs = (
+        (one, other)
+        for one, other in itertools.permutations(counts, 2)
+        if LEAST <= counts[one] * counts[other] <= MOST
+    )
     for one, other in itertools.islice(pairs, 0, None, 97):
         if len(found) == LINES:
             break
@@ -158,11 +162,15 @@ def main():
         browser.close()
     at = lambda share: times[min(len(times) - 1, int(share * len(times)))]  # noqa: E731
     print(f"load {os.getloadavg()[0]:.1f} on {os.cpu_count()} processors")
-    print(f"{len(texts)} lines with {LEAST} to {MOST} answers, {len(times)} clicks: median {statistics.median(times):.0f} ms, "
-          f"95th of 100 {at(0.95):.0f} ms, most {times[-1]:.0f} ms")
+    print(
+        f"{len(texts)} lines with {LEAST} to {MOST} answers, {len(times)} clicks: median {statistics.median(times):.0f} ms, "
+        f"95th of 100 {at(0.95):.0f} ms, most {times[-1]:.0f} ms"
+    )
     print(f"processor time: {1000 * spent:.0f} ms for each click, with those that take a choice back")
-    print(f"first line: {statistics.median(all_ for all_, _ in begun):.2f} s from the start of the server, "
-          f"{statistics.median(entered for _, entered in begun):.2f} s from Enter")
+    print(
+        f"first line: {statistics.median(all_ for all_, _ in begun):.2f} s from the start of the server, "
+        f"{statistics.median(entered for _, entered in begun):.2f} s from Enter"
+    )
     print(f"server: at most {most:.0f} MiB, at the end {now:.0f} MiB")
 
 

@@ -26,13 +26,26 @@ class PageServer:
     def __init__(self, lexicon=LEXICON, text=None, program=PROGRAM, folder=None, **environment):
         self._room = tempfile.TemporaryDirectory(prefix="page-server-")
         self.folder = Path(folder or self._room.name)
-        words = [str(TOP / "sandhi-page"), str(lexicon), *([str(text)] if text else []), "--no-browser", "--port", "0"]
+        words = [
+            str(TOP / "sandhi-page"),
+            str(lexicon),
+            *([str(text)] if text else []),
+            "--no-browser",
+            "--port",
+            "0",
+        ]
         self.process = subprocess.Popen(
-            [*words, "--program", str(program)], cwd=self.folder, stdout=subprocess.PIPE, stderr=subprocess.PIPE, text=True,
-            env={**os.environ, **environment}, start_new_session=True,
+            [*words, "--program", str(program)],
+            cwd=self.folder,
+            stdout=subprocess.PIPE,
+            stderr=subprocess.PIPE,
+            text=True,
+            env={**os.environ, **environment},
+            start_new_session=True,
         )
-        said = self.process.stdout.readline()
-        found = re.search(r"http://127\.0\.0\.1:(\d+)/", said)
+        found = None
+        while not found and (said := self.process.stdout.readline()):
+            found = re.search(r"http://127\.0\.0\.1:(\d+)/", said)
         if not found:
             raise RuntimeError(f"the server did not start: {said}{self.process.stderr.read()}")
         self.port = int(found[1])
@@ -68,7 +81,9 @@ class PageServer:
 
     def programs(self):
         """The numbers of the program's processes that this server runs."""
-        listed = subprocess.run(["ps", "-o", "pid=,args=", "--ppid", str(self.process.pid)], capture_output=True, text=True)
+        listed = subprocess.run(
+            ["ps", "-o", "pid=,args=", "--ppid", str(self.process.pid)], capture_output=True, text=True
+        )
         return [int(line.split()[0]) for line in listed.stdout.splitlines() if " read " in line]
 
     def stop(self):

@@ -1,8 +1,10 @@
 """Devanagari in SLP1, written apart from the page, so that tests can hold the page against it."""
 
 LETTERS = dict(
-    zip("अआइईउऊऋॠऌएऐओऔ\u0902\u0901\u0903कखगघङचछजझञटठडढणतथदधनपफबभमयरलवशषसहऽ",
-        "aAiIuUfFxeEoOM~HkKgGNcCjJYwWqQRtTdDnpPbBmyrlvSzsh'")
+    zip(
+        "अआइईउऊऋॠऌएऐओऔ\u0902\u0901\u0903कखगघङचछजझञटठडढणतथदधनपफबभमयरलवशषसहऽ",
+        "aAiIuUfFxeEoOM~HkKgGNcCjJYwWqQRtTdDnpPbBmyrlvSzsh'",
+    )
 )
 SIGNS = dict(zip("ािीुूृॄॢेैोौ", "AiIuUfFxeEoO"))
 CONSONANTS = "kKgGNcCjJYwWqQRtTdDnpPbBmyrlvSzsh"

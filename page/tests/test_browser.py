@@ -16,7 +16,8 @@ PART = re.compile(r"([^ \[\]()]+)\[([a-z0-9_]+)\]")
 SEEN = """
 const boxes = [...document.querySelectorAll('#grid .box')].map((box) => {
   const { start, end, form, phase } = box.dataset;
-  return { start: Number(start), end: Number(end), form, phase, classes: [...box.classList], number: Number(box.dataset.number) };
+  const number = Number(box.dataset.number);
+  return { number, start: Number(start), end: Number(end), form, phase, classes: [...box.classList] };
 });
 const answers = [...document.querySelectorAll('#answers > li')].map((answer) => {
   return [...answer.querySelectorAll('.words .form')].map((form) => [form.dataset.phase, form.textContent]);
@@ -72,7 +73,9 @@ class Page:
         """Puts a text into the line, and reads it."""
         self.browser.run(
             "const line = document.getElementById('line-text'); line.value = arguments[0];"
-            "line.dispatchEvent(new Event('input')); document.getElementById('line-form').requestSubmit();", text)
+            "line.dispatchEvent(new Event('input')); document.getElementById('line-form').requestSubmit();",
+            text,
+        )
         return self.seen()
 
     def click(self, selector):
@@ -120,18 +123,24 @@ class Clicks(WithPage):
         for segment in (segment for answer in left for segment in answer):
             place = max(0, segment.at - segment.lead), segment.form, segment.phase
             ends.setdefault(place, set()).add(max(segment.end, place[0] + 1))
-        self.assertEqual(sorted((box["start"], box["form"], box["phase"]) for box in seen["boxes"]), sorted(ends), told)
+        self.assertEqual(
+            sorted((box["start"], box["form"], box["phase"]) for box in seen["boxes"]), sorted(ends), told
+        )
         for box in seen["boxes"]:
             place = box["start"], box["form"], box["phase"]
             self.assertIn(box["end"], ends[place], (told, box))
-            with_it = [answer for answer in left if any((max(0, s.at - s.lead), s.form, s.phase) == place for s in answer)]
+            with_it = [
+                answer for answer in left if any((max(0, s.at - s.lead), s.form, s.phase) == place for s in answer)
+            ]
             self.assertEqual("certain" in box["classes"], len(with_it) == len(left), (told, box))
         return left
 
     def ways(self, answers, box):
         """The segments that a box stands for."""
         place = box["start"], box["form"], box["phase"]
-        return sorted({s.key for answer in answers for s in answer if (max(0, s.at - s.lead), s.form, s.phase) == place})
+        return sorted(
+            {s.key for answer in answers for s in answer if (max(0, s.at - s.lead), s.form, s.phase) == place}
+        )
 
     def keep(self, box, wanted, ways):
         """Keeps a box; where it is entered in several ways, that of the reading is chosen in the question."""
@@ -151,7 +160,12 @@ class Clicks(WithPage):
         for segment in target:
             if len(left) == 1:
                 break
-            box = next(b for b in seen["boxes"] if (b["start"], b["form"], b["phase"]) == (max(0, segment.at - segment.lead), segment.form, segment.phase))
+            box = next(
+                b
+                for b in seen["boxes"]
+                if (b["start"], b["form"], b["phase"])
+                == (max(0, segment.at - segment.lead), segment.form, segment.phase)
+            )
             ways = self.ways(left, box)
             if len(ways) == 1 and "certain" in box["classes"]:
                 continue
@@ -254,13 +268,22 @@ class Texts(WithPage):
     """What is typed: schemes, cleaning, faults, hostile texts."""
 
     def test_one_line_in_six_schemes(self):
-        texts = ["रामो वनं गच्छति", "rāmo vanaṃ gacchati", "rAmo vanaM gacCati", "rAmo vanaM gacchati", "raamo vana.m gacchati", "rAmo vanaM gacCawi"]
+        texts = [
+            "रामो वनं गच्छति",
+            "rāmo vanaṃ gacchati",
+            "rAmo vanaM gacCati",
+            "rAmo vanaM gacchati",
+            "raamo vana.m gacchati",
+            "rAmo vanaM gacCawi",
+        ]
         read = [self.page.type(text)["boxes"] for text in texts]
         self.assertTrue(read[0])
         self.assertEqual(read, [read[0]] * 6)
 
     def test_a_verse_as_it_is_printed(self):
-        seen = self.page.type("“धर्मक्षेत्रे कुरु-क्षेत्रे समवेता युयुत्सवः ।\nमामकाः पाण्डवाश्चैव किमकुर्वत संजय ॥ १ ॥”")
+        seen = self.page.type(
+            "“धर्मक्षेत्रे कुरु-क्षेत्रे समवेता युयुत्सवः ।\nमामकाः पाण्डवाश्चैव किमकुर्वत संजय ॥ १ ॥”"
+        )
         self.assertEqual(count_of(seen["count"]), 8)
         self.assertIn("Not read as it was typed", seen["notice"])
         self.assertEqual(len(self.browser.all("#parts button")), 2)
@@ -281,7 +304,9 @@ class Texts(WithPage):
         self.page.setting(output="slp1", scheme="hk").open()
         seen = self.page.type("astyuttarasyAM diSi devatAtmA himAlayo nAma nagADirAjaH")
         self.assertGreater(count_of(seen["count"]), 0)
-        self.assertEqual(self.browser.run("return document.getElementById('scheme').options[0].textContent"), "guessed: SLP1")
+        self.assertEqual(
+            self.browser.run("return document.getElementById('scheme').options[0].textContent"), "guessed: SLP1"
+        )
 
     def test_a_fault_is_marked_in_what_was_typed(self):
         for text, fault in (("rāmo xyz", "x"), ("रामो वनx", "x"), ("rAmo va€naM", "€"), ("रामो \u093f", "\u093f")):
@@ -292,7 +317,10 @@ class Texts(WithPage):
     def test_what_can_not_be_read_is_told(self):
         self.page.type("rAmo vanaM blubBaM gacCati")
         self.browser.wait("return document.querySelector('.stretch-line')")
-        self.assertEqual(self.browser.run("return [...document.querySelectorAll('.unread')].map((piece) => piece.textContent)"), ["blubBaM"])
+        self.assertEqual(
+            self.browser.run("return [...document.querySelectorAll('.unread')].map((piece) => piece.textContent)"),
+            ["blubBaM"],
+        )
 
     def test_a_word_made_unknown_is_found(self):
         """In 40 readings the stretch has the unknown word and at most its two neighbours."""
@@ -307,15 +335,28 @@ class Texts(WithPage):
                 continue
             self.browser.wait("return document.querySelector('.stretch-line')")
             unread = self.browser.run(
-                "return [...document.querySelector('.stretch-line').children].flatMap((piece, i) => piece.matches('.unread') ? [i] : [])")
+                "return [...document.querySelector('.stretch-line').children].flatMap((piece, i) => piece.matches('.unread') ? [i] : [])"
+            )
             self.assertIn(place, unread, number)
             self.assertTrue(all(abs(place - other) <= 1 for other in unread), (number, place, unread))
             tried += 1
         self.assertEqual(tried, 40)
 
     def test_hostile_texts(self):
-        hostile = ("<script>alert(1)</script>", "<img src=x onerror=alert(1)>", "a" * 1000, "a" * 1001, "rA" * 32_768, "\u202e\u0000\ufffe",
-                   "'; quit", "1;na;;0;", "\\", "%0aquit", "na\nquit\nna", "\ud83d\ude00")
+        hostile = (
+            "<script>alert(1)</script>",
+            "<img src=x onerror=alert(1)>",
+            "a" * 1000,
+            "a" * 1001,
+            "rA" * 32_768,
+            "\u202e\u0000\ufffe",
+            "'; quit",
+            "1;na;;0;",
+            "\\",
+            "%0aquit",
+            "na\nquit\nna",
+            "\ud83d\ude00",
+        )
         for text in hostile:
             started = time.monotonic()
             seen = self.page.type(text)
@@ -335,7 +376,9 @@ class Answers(WithPage):
     LINE = "sa tu tIraM samAsAdya tamasAyA munistadA"
 
     def numbers(self):
-        return self.browser.run("return [...document.querySelectorAll('#answers > li')].map((answer) => answer.value)")
+        return self.browser.run(
+            "return [...document.querySelectorAll('#answers > li')].map((answer) => answer.value)"
+        )
 
     def test_pages(self):
         self.page.type(self.LINE)
@@ -381,7 +424,11 @@ class Answers(WithPage):
             self.assertEqual(self.browser.run(forms), form)
 
     def test_compounds_have_hyphens(self):
-        self.page.type("DarmakzetrekurukzetresamavetAyuyutsavaH".replace("ekuru", "e kuru").replace("esama", "e sama").replace("Ayuyu", "A yuyu"))
+        self.page.type(
+            "DarmakzetrekurukzetresamavetAyuyutsavaH".replace("ekuru", "e kuru")
+            .replace("esama", "e sama")
+            .replace("Ayuyu", "A yuyu")
+        )
         words = self.browser.run("return document.querySelector('#answers .words').textContent")
         self.assertTrue(words.startswith("Darma-kzetre kuru-kzetre "), words)
 
@@ -407,7 +454,9 @@ class Keys(WithPage):
         self.browser.press("u")
         self.assertEqual(self.page.seen()["choices"], [])
         self.browser.press("enter")
-        self.browser.wait("return document.querySelectorAll('#choices li').length === 1 || document.querySelector('dialog[open]')")
+        self.browser.wait(
+            "return document.querySelectorAll('#choices li').length === 1 || document.querySelector('dialog[open]')"
+        )
 
     def test_a_slash_goes_to_the_line(self):
         self.page.open()
@@ -419,11 +468,19 @@ class Keys(WithPage):
         self.page.reject(3)
         self.page.click("#answers .all-analyses")
         found = self.browser.all("button, input, select, textarea, summary, a[href]")
-        shown = [element for element in found if self.browser.run("return arguments[0].checkVisibility()", {"element-6066-11e4-a52e-4f735466cecf": element})]
+        shown = [
+            element
+            for element in found
+            if self.browser.run(
+                "return arguments[0].checkVisibility()", {"element-6066-11e4-a52e-4f735466cecf": element}
+            )
+        ]
         self.assertGreater(len(shown), 60)
         for element in shown:
             role, label = self.browser.role(element), self.browser.label(element)
-            self.assertIn(role, ("button", "radio", "checkbox", "combobox", "textbox", "link", "DisclosureTriangle"), label)
+            self.assertIn(
+                role, ("button", "radio", "checkbox", "combobox", "textbox", "link", "DisclosureTriangle"), label
+            )
             self.assertTrue(label.strip(), role)
 
 
@@ -434,16 +491,24 @@ class Widths(WithPage):
         try:
             for theme in ("light", "dark"):
                 self.page.setting(output="iast", theme=theme).open()
-                for text in ("sa tu tIraM samAsAdya tamasAyA munistadA", "a" * 300 + "!", "<" * 500, "rAmo vanaM blubBaM gacCati"):
+                for text in (
+                    "sa tu tIraM samAsAdya tamasAyA munistadA",
+                    "a" * 300 + "!",
+                    "<" * 500,
+                    "rAmo vanaM blubBaM gacCati",
+                ):
                     self.page.type(text)
                     width, grid, frame = self.browser.run(
                         "const frame = document.getElementById('grid-frame');"
-                        "return [document.documentElement.scrollWidth, frame.scrollWidth, frame.clientWidth]")
+                        "return [document.documentElement.scrollWidth, frame.scrollWidth, frame.clientWidth]"
+                    )
                     self.assertLessEqual(width, 360, (theme, text[:20]))
                     if text.startswith("sa tu"):
                         self.assertGreater(grid, frame)
         finally:
-            self.browser.call("POST", "/goog/cdp/execute", {"cmd": "Emulation.clearDeviceMetricsOverride", "params": {}})
+            self.browser.call(
+                "POST", "/goog/cdp/execute", {"cmd": "Emulation.clearDeviceMetricsOverride", "params": {}}
+            )
             self.page.setting(output="slp1", scheme="slp1").open()
 
     def test_boxes_stand_under_their_letters(self):
@@ -452,7 +517,8 @@ class Widths(WithPage):
         letters, boxes = self.browser.run(
             "const edges = (element) => { const { left, right, top, bottom } = element.getBoundingClientRect(); return [left, right, top, bottom]; };"
             "return [[...document.querySelectorAll('#grid .letter')].map(edges),"
-            " [...document.querySelectorAll('#grid .box')].map((box) => [Number(box.dataset.start), Number(box.dataset.end), ...edges(box)])];")
+            " [...document.querySelectorAll('#grid .box')].map((box) => [Number(box.dataset.start), Number(box.dataset.end), ...edges(box)])];"
+        )
         for start, end, left, right, _, _ in boxes:
             self.assertAlmostEqual(left, letters[start][0], delta=2)
             self.assertAlmostEqual(right, letters[end - 1][1], delta=2)

@@ -11,7 +11,7 @@ from bookmarks import MOST_CHOICES, Bookmark, Segment, read_bookmark
 from boxes import make_boxes
 from lexicons import Builder, Meanings, own_lexicon, read_phases, unsplit_rules
 from notes import NoteFolder, NotWritten, can_annotate, is_finished
-from reader import Reader
+from reader import Reader, TooManyCommands
 from readings import mark_of_text, read_from, shown_answers, state_of
 from replies import Refusal, Rule, read_page
 from session import BadCommand, BadLexicon, Ended, OutOfTime, Session, as_line
@@ -22,8 +22,10 @@ import reference
 from serving import PROGRAM, TOP, readings
 
 SAMPLES = TOP / "samples"
-SMALL = "slx 1\nphase word\ngrammar word+\nrule a|a>A\nrule a|A>A\nform word asti as pr.ac.3.sg\n" \
+SMALL = (
+    "slx 1\nphase word\ngrammar word+\nrule a|a>A\nrule a|A>A\nform word asti as pr.ac.3.sg\n"
     "form word Asti Asti ind\nform word na na ind\nend\n"
+)
 MANY = "slx 1\nphase word\ngrammar word+\nplain a a\nform word a a ind\nform word aa aa ind\nend\n"
 SLEEPER = "#!/bin/sh\nread line\nsleep 60\n"
 
@@ -48,10 +50,26 @@ class WithFolder(unittest.TestCase):
 
 class Bookmarks(unittest.TestCase):
     def test_texts_are_read_back_and_others_refused(self):
-        for text in ("1;nAsti;;0;", "1;rAmo_rAjA;+2.1.0.Asti,-0.0.15.na;1;0.1.2,0.3.0", "1;a;;1000000000000000;0.1.0"):
+        for text in (
+            "1;nAsti;;0;",
+            "1;rAmo_rAjA;+2.1.0.Asti,-0.0.15.na;1;0.1.2,0.3.0",
+            "1;a;;1000000000000000;0.1.0",
+        ):
             self.assertEqual(str(read_bookmark(text)), text)
-        for text in ("", "1;;;0;", "2;na;;0;", "1;na_;;0;", "1;_na;;0;", "1;na;+1.0.0;0;", "1;na;,;0;", "1;na;;x;",
-                     "1;na;;0;\n", "1;na;;\u0661;", "1;né;;0;", "1;" + "a" * 65_000 + ";;0;"):
+        for text in (
+            "",
+            "1;;;0;",
+            "2;na;;0;",
+            "1;na_;;0;",
+            "1;_na;;0;",
+            "1;na;+1.0.0;0;",
+            "1;na;,;0;",
+            "1;na;;x;",
+            "1;na;;0;\n",
+            "1;na;;\u0661;",
+            "1;né;;0;",
+            "1;" + "a" * 65_000 + ";;0;",
+        ):
             self.assertIsNone(read_bookmark(text), text[:40])
 
     def test_blanks_and_choices(self):
@@ -66,8 +84,14 @@ class Bookmarks(unittest.TestCase):
 
 class Replies(unittest.TestCase):
     def test_a_joint_belongs_to_the_form_before_but_for_letters_left_as_they_are(self):
-        for (u, v, w), shared in {("a", "i", "e"): 1, ("aH", "v", "ov"): 1, ("H", "st", "st"): 0, ("t", "S", "cC"): 2,
-                                  ("e", "a", "e'"): 2, ("m", "", "M"): 1}.items():
+        for (u, v, w), shared in {
+            ("a", "i", "e"): 1,
+            ("aH", "v", "ov"): 1,
+            ("H", "st", "st"): 0,
+            ("t", "S", "cC"): 2,
+            ("e", "a", "e'"): 2,
+            ("m", "", "M"): 1,
+        }.items():
             self.assertEqual(Rule(u, v, w).shared, shared, (u, v, w))
 
     def test_places_of_segments(self):
@@ -108,6 +132,16 @@ class Sessions(WithFolder):
             self.assertEqual(reply[-1], "end")
             numbers.add(reader.process)
         self.assertGreater(len(numbers), 2)
+
+    def test_a_request_that_no_program_can_take_is_refused(self):
+        reader = Reader(PROGRAM, str(self.file("some.lex", SMALL)), most_input=100)
+        self.addCleanup(reader.close)
+        with self.assertRaises(TooManyCommands):
+            reader.answer(lambda exchange: [exchange.ask("text slp1 nAsti") for _ in range(20)])
+        with self.assertRaises(TooManyCommands):
+            self.lexicon(SMALL).answer(
+                lambda exchange: [exchange.ask("mark") for _ in range(1001)]
+            )
 
     def test_a_program_that_takes_too_long_is_stopped_and_not_asked_again(self):
         asked = self.folder / "asked"
@@ -156,8 +190,9 @@ class Boxes(WithFolder):
         self.assertEqual(later.answers[0].number, 1001)
 
     def test_a_segment_in_every_answer_is_one_whose_reject_leaves_nothing(self):
-        lexicon = self.lexicon(MANY.replace("plain a a\n", "plain a a\nplain a k\nplain k a\n").replace(
-            "end", "form word k k ind\nend"))
+        lexicon = self.lexicon(
+            MANY.replace("plain a a\n", "plain a a\nplain a k\nplain k a\n").replace("end", "form word k k ind\nend")
+        )
         mark = lexicon.answer(lambda exchange: mark_of_text(exchange, "slp1", "a" * 20 + "k" + "a" * 20))
         reading = lexicon.answer(lambda exchange: read_from(exchange, mark, lexicon.phases))
         self.assertTrue(reading.has_more)
@@ -170,7 +205,14 @@ class Boxes(WithFolder):
         path = folder.build("sample", *texts)
         lexicon = own_lexicon(PROGRAM, path)
         self.addCleanup(lexicon.close)
-        for text in ("senAgacCati", "rAmo vanaM gacCati", "rAmo nadIM ca paSyati", "naroSvaH", "devAgacCati", "rAmasyASvaH"):
+        for text in (
+            "senAgacCati",
+            "rAmo vanaM gacCati",
+            "rAmo nadIM ca paSyati",
+            "naroSvaH",
+            "devAgacCati",
+            "rAmasyASvaH",
+        ):
             mark = lexicon.answer(lambda exchange, text=text: mark_of_text(exchange, "slp1", text))
             reading = lexicon.answer(lambda exchange, mark=mark: read_from(exchange, mark, lexicon.phases))
             answers = reference.answers_of(PROGRAM, str(path), text, "slp1")
@@ -205,7 +247,10 @@ class Questions(WithFolder):
 
     def test_states(self):
         lexicon = self.lexicon(SMALL)
-        states = [lexicon.answer(lambda exchange, text=text: state_of(exchange, "slp1", text)) for text in ("na", "nAsti", "k", "n!")]
+        states = [
+            lexicon.answer(lambda exchange, text=text: state_of(exchange, "slp1", text))
+            for text in ("na", "nAsti", "k", "n!")
+        ]
         self.assertEqual([state.get("answers", state.get("refused")) for state in states], [1, 2, 0, "spelling"])
 
     def test_fewest_words_first_keeps_the_order_among_equals(self):
@@ -213,7 +258,9 @@ class Questions(WithFolder):
         mark = lexicon.answer(lambda exchange: mark_of_text(exchange, "slp1", "aaaaa"))
         reading = lexicon.answer(lambda exchange: read_from(exchange, mark, lexicon.phases))
         shown = shown_answers(reading, "words", 0, 10)
-        self.assertEqual([(len(answer.steps), answer.number) for answer in shown], sorted((len(a.steps), a.number) for a in shown))
+        self.assertEqual(
+            [(len(answer.steps), answer.number) for answer in shown], sorted((len(a.steps), a.number) for a in shown)
+        )
         self.assertNotEqual(shown, shown_answers(reading, "program", 0, 10))
 
     def test_a_bookmark_of_another_lexicon_is_refused(self):
@@ -226,12 +273,17 @@ class Lexicons(WithFolder):
     def test_the_twin_has_all_pairs_plain(self):
         rules = (TOP / "lexicons" / "starter" / "rules.toml").read_text(encoding="utf-8")
         before, after = tomllib.loads(rules), tomllib.loads(unsplit_rules(rules))
-        self.assertEqual([before[name] for name in ("phases", "grammar", "rules")], [after[name] for name in ("phases", "grammar", "rules")])
+        self.assertEqual(
+            [before[name] for name in ("phases", "grammar", "rules")],
+            [after[name] for name in ("phases", "grammar", "rules")],
+        )
         self.assertEqual(after["plain"], ["<everyletter> <everyletter>"])
 
     def test_the_twin_reads_words_without_sandhi(self):
         builder = Builder(PROGRAM, self.folder)
-        rules, tables, stems = [(SAMPLES / name).read_text(encoding="utf-8") for name in ("rules.toml", "tables.csv", "stems.csv")]
+        rules, tables, stems = [
+            (SAMPLES / name).read_text(encoding="utf-8") for name in ("rules.toml", "tables.csv", "stems.csv")
+        ]
         text = "text slp1 rAmaH ASvam gacCati"
         counts = []
         for twin in (rules, unsplit_rules(rules)):
@@ -296,30 +348,48 @@ class Notes(WithFolder):
     def test_a_line_with_one_answer_is_finished_and_found_again(self):
         name = self.finish("1;nAsti;+2.1.0.Asti;0;")
         self.assertEqual([path.name for path in self.notes.path.iterdir()], [name])
-        note, = self.notes.notes()
+        (note,) = self.notes.notes()
         self.assertEqual((note.line, note.part, str(note.bookmark)), (1, 1, "1;nAsti;+2.1.0.Asti;0;"))
         self.assertEqual(note.segments[1]["tags"], [["Asti", "ind"]])
         self.assertTrue(self.small.answer(lambda exchange: is_finished(exchange, note, self.small.phases)))
 
     def test_a_line_with_several_answers_or_none_is_not_finished(self):
-        for bookmark, why in {"1;nAsti;;0;": "several", "1;nAsti;-2.1.0.Asti,-2.1.0.asti;0;": "no answer", "1;na;+0.0.9.na;0;": "bookmark"}.items():
+        for bookmark, why in {
+            "1;nAsti;;0;": "several",
+            "1;nAsti;-2.1.0.Asti,-2.1.0.asti;0;": "no answer",
+            "1;na;+0.0.9.na;0;": "bookmark",
+        }.items():
             with self.assertRaisesRegex(NotWritten, why):
                 self.finish(bookmark)
         self.assertEqual(list(self.notes.path.iterdir()), [])
 
     def test_a_note_of_other_segments_or_of_another_lexicon_does_not_count(self):
         path = self.notes.path / self.finish("1;nAsti;+2.1.0.Asti;0;")
-        for old, new in (('"rule":2', '"rule":1'), ('"choices":["+2.1.0.Asti"]', '"choices":[]'), ("+2.1.0", "+2.1.7")):
+        for old, new in (
+            ('"rule":2', '"rule":1'),
+            ('"choices":["+2.1.0.Asti"]', '"choices":[]'),
+            ("+2.1.0", "+2.1.7"),
+        ):
             text = path.read_text(encoding="utf-8")
             path.write_text(text.replace(old, new), encoding="utf-8")
-            note, = self.notes.notes()
-            self.assertFalse(self.small.answer(lambda exchange, note=note: is_finished(exchange, note, self.small.phases)), old)
+            (note,) = self.notes.notes()
+            self.assertFalse(
+                self.small.answer(lambda exchange, note=note: is_finished(exchange, note, self.small.phases)), old
+            )
             path.write_text(text, encoding="utf-8")
 
     def test_what_is_no_note_is_passed_over(self):
         path = self.notes.path / self.finish("1;na;;0;")
         text = path.read_text(encoding="utf-8")
-        for damaged in ("", "[]", "null", '{"text":1}', "[" * 100_000, text.replace('"text":"na"', '"text":"n!"'), text[:-20]):
+        for damaged in (
+            "",
+            "[]",
+            "null",
+            '{"text":1}',
+            "[" * 100_000,
+            text.replace('"text":"na"', '"text":"n!"'),
+            text[:-20],
+        ):
             path.write_text(damaged, encoding="utf-8")
             self.assertEqual(self.notes.notes(), [], damaged[:40])
 
@@ -327,7 +397,9 @@ class Notes(WithFolder):
         self.finish("1;nAsti;+2.1.0.Asti;0;", 3, 2)
         self.finish("1;na;;0;", 3, 2)
         self.finish("1;na;;0;", 3, 1)
-        self.assertEqual([(note.line, note.part, note.bookmark.line) for note in self.notes.notes()], [(3, 1, "na"), (3, 2, "na")])
+        self.assertEqual(
+            [(note.line, note.part, note.bookmark.line) for note in self.notes.notes()], [(3, 1, "na"), (3, 2, "na")]
+        )
         self.notes.reopen(3, 2)
         self.assertEqual([(note.line, note.part) for note in self.notes.notes()], [(3, 1)])
 

@@ -108,23 +108,35 @@ class Tables(WithPage):
         """Texts drawn by lot from pieces of a scheme, with faults among them: the same letters, or a fault for both."""
         lot = random.Random(36)
         pieces = {
-            "slp1": list(LETTERS) + ["!"], "wx": list("aAiIuUqQLeEoOMzHkKgGfcCjJFtTdDNwWxXnpPbBmyrlvSRshZ") + ["V"],
+            "slp1": list(LETTERS) + ["!"],
+            "wx": list("aAiIuUqQLeEoOMzHkKgGfcCjJFtTdDNwWxXnpPbBmyrlvSRshZ") + ["V"],
             "velthuis": 'a A aa i I ii u .r .rr .l ai au e o .m ~m .h k kh g "n c ch ~n .t .th t th d n p m y r l v "s .s s h .a _ ~ .'.split(),
-            "devanagari": list("अआइईउऋॠऌएऐओऔंँःकखगघङचजञटडणतथदनपमयरलवशषसहऽािीुूृॄॢेैोौ्") + ["\u200c", "\u200d", "\u093c", "x"],
+            "devanagari": list("अआइईउऋॠऌएऐओऔंँःकखगघङचजञटडणतथदनपमयरलवशषसहऽािीुूृॄॢेैोौ्")
+            + ["\u200c", "\u200d", "\u093c", "x"],
         }
         for scheme in NATIVE:
             texts = ["".join(lot.choices(pieces[scheme], k=lot.randint(1, 7))) for _ in range(600)]
             read = self.later(READ, scheme, texts)
             for text, letters in zip(texts, read):
                 told = self.read_by_program(scheme, text)
-                self.assertEqual("?" if told.startswith("?") else told, "?" if "?" in letters else letters or "?", (scheme, text))
+                self.assertEqual(
+                    "?" if told.startswith("?") else told, "?" if "?" in letters else letters or "?", (scheme, text)
+                )
 
     def test_iast_and_harvard_kyoto(self):
-        told = self.later(STRICT, "iast", ["rāmo vanaṃ gacchati |", "a\u0304", "nareṇa", "a_i", "ai", "a__i", "Rama", "rāmo 12", "1 rā", "_a"])
-        self.assertEqual([each.get("text", each.get("fault")) for each in told],
-                         ["rAmo vanaM gacCati  ", "A", "nareRa", "ai", "E", 1, 0, "rAmo   ".replace("   ", "  "), 0, 0])
+        told = self.later(
+            STRICT,
+            "iast",
+            ["rāmo vanaṃ gacchati |", "a\u0304", "nareṇa", "a_i", "ai", "a__i", "Rama", "rāmo 12", "1 rā", "_a"],
+        )
+        self.assertEqual(
+            [each.get("text", each.get("fault")) for each in told],
+            ["rAmo vanaM gacCati  ", "A", "nareRa", "ai", "E", 1, 0, "rAmo   ".replace("   ", "  "), 0, 0],
+        )
         told = self.later(STRICT, "hk", ["lR", "l_R", "RR", "R_R", "n!", "gacchati", "zaGkha JAna"])
-        self.assertEqual([each.get("text", each.get("fault")) for each in told], ["x", "lf", "F", "ff", 1, "gacCati", "SaNKa YAna"])
+        self.assertEqual(
+            [each.get("text", each.get("fault")) for each in told], ["x", "lf", "F", "ff", 1, "gacCati", "SaNKa YAna"]
+        )
 
     def test_the_page_and_convert_agree(self):
         """Each word in each scheme, converted by the program to each other one, is what the page prints there."""
@@ -137,7 +149,9 @@ class Tables(WithPage):
             for scheme in ALL:
                 source.write_text("".join(f"{text}\n" for text in printed[scheme]), encoding="utf-8")
                 for other in ALL:
-                    subprocess.run([PROGRAM, "convert", scheme, other, str(source), str(target)], check=True, capture_output=True)
+                    subprocess.run(
+                        [PROGRAM, "convert", scheme, other, str(source), str(target)], check=True, capture_output=True
+                    )
                     self.assertEqual(target.read_text(encoding="utf-8").splitlines(), printed[other], (scheme, other))
 
 
@@ -177,7 +191,7 @@ class Cleaning(WithPage):
             ("devanagari", "ॐ रामः संगच्छति । वनं याति ॥ १.२ ॥", ["rAmaH saNgacCati", "vanaM yAti"]),
             ("slp1", "12. rAmaH (saH) saMBavati, ca. nadI?", ["rAmaH saH samBavati ca", "nadI"]),
             ("hk", "rAmaH | sItA || ③ Ⅳ ४", ["rAmaH", "sItA"]),
-            ("velthuis", "raama.h; \"sata.m .tiikaa.", ["rAmaH", "SataM wIkA"]),
+            ("velthuis", 'raama.h; "sata.m .tiikaa.', ["rAmaH", "SataM wIkA"]),
             ("wx", "saFjaya uvAca — rAmaH", ["saYjaya uvAca  rAmaH".replace("  ", " ")]),
             ("iast", "saṁgama r̥ṣi", ["saNgama fzi"]),
             ("devanagari", "तं च संवादं संस्कृतम्", ["taM ca saMvAdaM saMskftam"]),
@@ -189,10 +203,12 @@ class Cleaning(WithPage):
             self.assertEqual(self.clean(scheme, text), parts, text)
 
     def test_a_sign_that_is_nothing_is_a_fault_at_its_place(self):
-        self.assertEqual([self.clean("iast", "rāmo xa"), self.clean("slp1", "rAma €"), self.clean("devanagari", "रामx")], [5, 5, 3])
+        self.assertEqual(
+            [self.clean("iast", "rāmo xa"), self.clean("slp1", "rAma €"), self.clean("devanagari", "रामx")], [5, 5, 3]
+        )
 
     def test_what_was_changed_is_told(self):
-        part, = self.later(CLEAN, "iast", "“saṃgama-saṃdhi”")["parts"]
+        (part,) = self.later(CLEAN, "iast", "“saṃgama-saṃdhi”")["parts"]
         told = {change["what"].split(" ")[0]: change["count"] for change in part["changes"]}
         self.assertEqual(told, {"quotes,": 2, "hyphens": 1, "anusvara": 2})
         self.assertEqual(self.later(CLEAN, "iast", "saṅgama")["parts"][0]["changes"], [])
@@ -201,7 +217,19 @@ class Cleaning(WithPage):
 class Heads(WithPage):
     def test_syllables_stand_over_their_letters(self):
         told = self.later(HEADS, "devanagari", "rAmovanaMkimatra", [4, 9, 12])
-        self.assertEqual(told, [["रा", 0, 2], ["मो", 2, 4], ["व", 4, 6], ["नं", 6, 9], ["कि", 9, 11], ["म्", 11, 12], ["अ", 12, 13], ["त्र", 13, 16]])
+        self.assertEqual(
+            told,
+            [
+                ["रा", 0, 2],
+                ["मो", 2, 4],
+                ["व", 4, 6],
+                ["नं", 6, 9],
+                ["कि", 9, 11],
+                ["म्", 11, 12],
+                ["अ", 12, 13],
+                ["त्र", 13, 16],
+            ],
+        )
         told = self.later(HEADS, "iast", "KaH", [])
         self.assertEqual(told, [["kh", 0, 1], ["a", 1, 2], ["ḥ", 2, 3]])
 

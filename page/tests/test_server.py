@@ -24,7 +24,9 @@ class WithServer(unittest.TestCase):
         cls.addClassCleanup(cls.server.stop)
 
     def post(self, body=None, path="/ask/line", **changes):
-        return self.server.request("POST", path, body if body is not None else json.dumps(LINE), self.server.headers(**changes))[0]
+        return self.server.request(
+            "POST", path, body if body is not None else json.dumps(LINE), self.server.headers(**changes)
+        )[0]
 
 
 class Guards(WithServer):
@@ -33,14 +35,24 @@ class Guards(WithServer):
         self.assertEqual((status, answer["count"], answer["line"]), (200, 1, "rAmo_vanaM_gacCati"))
 
     def test_only_the_loopback_address_is_served(self):
-        listening = subprocess.run(["ss", "-Hltnp"], capture_output=True, text=True).stdout if os.path.exists("/usr/bin/ss") else ""
+        listening = (
+            subprocess.run(["ss", "-Hltnp"], capture_output=True, text=True).stdout
+            if os.path.exists("/usr/bin/ss")
+            else ""
+        )
         found = [line.split()[3] for line in listening.splitlines() if f"pid={self.server.process.pid}," in line]
         self.assertIn(found, ([], [f"127.0.0.1:{self.server.port}"]))
         with self.assertRaises(OSError):
             socket.create_connection(("127.0.0.2", self.server.port), timeout=2).close()
 
     def test_host_and_origin(self):
-        for host in ("evil.example", f"evil.example:{self.server.port}", "127.0.0.1", f"127.0.0.1:{self.server.port + 1}", ""):
+        for host in (
+            "evil.example",
+            f"evil.example:{self.server.port}",
+            "127.0.0.1",
+            f"127.0.0.1:{self.server.port + 1}",
+            "",
+        ):
             self.assertEqual(self.server.get("/", Host=host)[0], 403, host)
             self.assertEqual(self.post(Host=host), 403, host)
         for origin in ("http://evil.example", "null", f"https://127.0.0.1:{self.server.port}", None):
@@ -54,7 +66,16 @@ class Guards(WithServer):
             self.assertEqual(self.post(**{"X-Page-Token": token and token.encode("latin-1")}), 403, token)
 
     def test_bodies(self):
-        for body in ("", "[]", "null", "{", '{"lexicon":0}', "[" * 100_000, b"\xff{}", json.dumps({**LINE, "more": 1})):
+        for body in (
+            "",
+            "[]",
+            "null",
+            "{",
+            '{"lexicon":0}',
+            "[" * 100_000,
+            b"\xff{}",
+            json.dumps({**LINE, "more": 1}),
+        ):
             self.assertEqual(self.post(body), 400, body[:20])
         self.assertEqual(self.post(**{"Content-Type": "text/plain"}), 400)
         self.assertEqual(self.post(json.dumps({**LINE, "text": "a" * 300_000})), 413)
@@ -64,17 +85,50 @@ class Guards(WithServer):
 
     def test_fields(self):
         for changes in (
-            {"lexicon": 1}, {"lexicon": -1}, {"lexicon": True}, {"lexicon": "0"}, {"scheme": "latin"}, {"scheme": []}, {"text": 1},
-            {"text": "a\nquit"}, {"text": "a\rb"}, {"text": "a\0b"}, {"text": "\ud800"}, {"order": ""}, {"begin": -1}, {"begin": 1001},
-            {"most": 101}, {"most": 1.0}, {"most": None},
+            {"lexicon": 1},
+            {"lexicon": -1},
+            {"lexicon": True},
+            {"lexicon": "0"},
+            {"scheme": "latin"},
+            {"scheme": []},
+            {"text": 1},
+            {"text": "a\nquit"},
+            {"text": "a\rb"},
+            {"text": "a\0b"},
+            {"text": "\ud800"},
+            {"order": ""},
+            {"begin": -1},
+            {"begin": 1001},
+            {"most": 101},
+            {"most": 1.0},
+            {"most": None},
         ):
             self.assertEqual(self.post(json.dumps({**LINE, **changes})), 400, changes)
-        for segments in (1, [1], [[0, 0, "noun"]], [[0, 0, 1, "na"]], [[True, 0, "noun", "na"]], [[0, 0, "noun", "na"]] * 201):
+        for segments in (
+            1,
+            [1],
+            [[0, 0, "noun"]],
+            [[0, 0, 1, "na"]],
+            [[True, 0, "noun", "na"]],
+            [[0, 0, "noun", "na"]] * 201,
+        ):
             body = {"lexicon": 0, "bookmark": READING["bookmark"], "segments": segments}
-            self.assertEqual(self.post(json.dumps(body), "/ask/analyses"), 400, segments if isinstance(segments, int) else segments[0])
+            self.assertEqual(
+                self.post(json.dumps(body), "/ask/analyses"),
+                400,
+                segments if isinstance(segments, int) else segments[0],
+            )
 
     def test_paths_and_methods(self):
-        for path in ("/../server.py", "/js/../../server.py", "/%2e%2e/server.py", "//etc/passwd", "/js/", "/index.html", "/tests/run.py"):
+        for path in (
+            "/../server.py",
+            "/js/../../server.py",
+            "/%2e%2e/server.py",
+            "//etc/passwd",
+            "/js/",
+            "/index.html",
+            "/tests/run.py",
+        ):
             self.assertEqual(self.server.get(path)[0], 404, path)
         self.assertEqual(self.post("{}", "/ask/nothing"), 404)
         self.assertEqual(self.post("{}", "/ask/__init__"), 404)
@@ -82,7 +136,11 @@ class Guards(WithServer):
         self.assertEqual(self.server.get("/ask/line")[0], 404)
 
     def test_what_the_program_refuses_is_an_answer(self):
-        for text, told in {"rAmo!": ("spelling", 4), "|": ("no letters", None), "a" * 1001: ("too long", None)}.items():
+        for text, told in {
+            "rAmo!": ("spelling", 4),
+            "|": ("no letters", None),
+            "a" * 1001: ("too long", None),
+        }.items():
             status, answer = self.server.ask("line", {**LINE, "text": text})
             self.assertEqual((status, answer["refused"], answer["at"]), (200, *told))
         for bookmark in ("", "1;rAmo;+0.0.15.rAmaH;0;", "2;a;;0;", "1;rAmo\u00a0;;0;", "quit"):
@@ -104,7 +162,12 @@ class Guards(WithServer):
             self.assertEqual(headers["Referrer-Policy"], "no-referrer")
 
     def test_what_is_not_http(self):
-        for sent in (b"\0" * 2000 + b"\r\n\r\n", b"GET / HTTP/9.9\r\n\r\n", b"A" * 70_000 + b"\r\n\r\n", b"POST /ask/line HTTP/1.1\r\nHost: x\r\n\r\n"):
+        for sent in (
+            b"\0" * 2000 + b"\r\n\r\n",
+            b"GET / HTTP/9.9\r\n\r\n",
+            b"A" * 70_000 + b"\r\n\r\n",
+            b"POST /ask/line HTTP/1.1\r\nHost: x\r\n\r\n",
+        ):
             with socket.create_connection(("127.0.0.1", self.server.port), timeout=10) as connection:
                 connection.sendall(sent)
                 self.assertNotIn(b" 200 ", connection.recv(100)[:20])
@@ -134,7 +197,7 @@ class Programs(unittest.TestCase):
         server = PageServer(SMALL)
         self.addCleanup(server.stop)
         before = server.ask("reading", READING)
-        number, = server.programs()
+        (number,) = server.programs()
         os.kill(number, signal.SIGKILL)
         self.assertEqual(server.ask("reading", {**READING, "most": 19})[1]["boxes"], before[1]["boxes"])
         self.assertEqual(server.ask("stretch", {"lexicon": 0, "bookmark": READING["bookmark"]})[0], 200)
@@ -144,7 +207,7 @@ class Programs(unittest.TestCase):
         for sign in (signal.SIGINT, signal.SIGTERM):
             server = PageServer(SMALL)
             server.ask("line", LINE)
-            number, = server.programs()
+            (number,) = server.programs()
             server.process.send_signal(sign)
             self.assertEqual(server.process.wait(timeout=20), 0)
             with self.assertRaises(ProcessLookupError):
@@ -152,10 +215,23 @@ class Programs(unittest.TestCase):
             server.stop()
 
     def test_a_start_that_fails_says_why(self):
-        for words, why in (["none.lex"], "none.lex"), (["--program", "/bin/true"], "is not the program"), ([str(SMALL), "none.txt"], "none.txt"):
+        for words, why in (
+            (["none.lex"], "none.lex"),
+            (["--program", "/bin/true"], "is not the program"),
+            ([str(SMALL), "none.txt"], "none.txt"),
+        ):
             ended = subprocess.run(
-                [str(TOP / "sandhi-page"), *words, "--no-browser", "--port", "0", *([] if "--program" in words else ["--program", PROGRAM])],
-                capture_output=True, text=True, timeout=60,
+                [
+                    str(TOP / "sandhi-page"),
+                    *words,
+                    "--no-browser",
+                    "--port",
+                    "0",
+                    *([] if "--program" in words else ["--program", PROGRAM]),
+                ],
+                capture_output=True,
+                text=True,
+                timeout=60,
             )
             self.assertEqual(ended.returncode, 1)
             self.assertIn(why, ended.stderr)

@@ -54,7 +54,9 @@ class WithText(unittest.TestCase):
 
     def wait_for_states(self):
         self.browser.wait("return document.querySelectorAll('#text-lines li').length > 0")
-        self.browser.wait("return ![...document.querySelectorAll('#text-lines .state')].some((state) => state.textContent === '…')")
+        self.browser.wait(
+            "return ![...document.querySelectorAll('#text-lines .state')].some((state) => state.textContent === '…')"
+        )
 
     def lines(self):
         return self.browser.run(LINES)
@@ -64,15 +66,26 @@ class WithText(unittest.TestCase):
 
     def finish(self):
         self.page.click("#finish")
-        self.browser.wait("return document.getElementById('finish').textContent === 'Next line' || document.querySelector('.fault')")
+        self.browser.wait(
+            "return document.getElementById('finish').textContent === 'Next line' || document.querySelector('.fault')"
+        )
         self.assertEqual(self.browser.all("#notice .fault"), [])
 
 
 class Lines(WithText):
     def test_lines_and_their_states(self):
         told = [(number, state) for number, _, state in self.lines()]
-        self.assertEqual(told, [("1.1", "several answers"), ("1.2", "one answer"), ("3", "several answers"), ("4", "no answer"),
-                                ("5", "one answer"), ("6", "not read")])
+        self.assertEqual(
+            told,
+            [
+                ("1.1", "several answers"),
+                ("1.2", "one answer"),
+                ("3", "several answers"),
+                ("4", "no answer"),
+                ("5", "one answer"),
+                ("6", "not read"),
+            ],
+        )
         self.assertEqual(self.lines()[1][1], "upapanno guRErizwE rUpavAnaSvakovidaH")
 
     def test_a_click_reads_a_line_and_the_address_leads_back_to_it(self):
@@ -82,7 +95,9 @@ class Lines(WithText):
         self.browser.reload()
         self.wait_for_states()
         self.assertEqual(self.page.seen()["boxes"], seen["boxes"])
-        self.assertEqual(self.browser.run("return document.querySelector('.text-line[aria-current] .number').textContent"), "1.2")
+        self.assertEqual(
+            self.browser.run("return document.querySelector('.text-line[aria-current] .number').textContent"), "1.2"
+        )
 
     def test_choices_are_still_there_when_a_line_is_opened_again(self):
         self.open_line(1)
@@ -109,18 +124,34 @@ class Finishing(WithText):
         notes = sorted(path.name for path in (self.folder / "verses.txt.notes").iterdir())
         self.assertEqual([name[:9] for name in notes], ["000001-01", "000001-02"])
         note = json.loads((self.folder / "verses.txt.notes" / notes[1]).read_text(encoding="utf-8"))
-        self.assertEqual((note["version"], note["choices"], note["text"]), (1, [], "upapanno_guRErizwE_rUpavAnaSvakovidaH"))
+        self.assertEqual(
+            (note["version"], note["choices"], note["text"]), (1, [], "upapanno_guRErizwE_rUpavAnaSvakovidaH")
+        )
 
         self.server.stop()
         self.start()
-        self.assertEqual([state for _, _, state in self.lines()], ["finished", "finished", "several answers", "no answer", "one answer", "not read"])
+        self.assertEqual(
+            [state for _, _, state in self.lines()],
+            ["finished", "finished", "several answers", "no answer", "one answer", "not read"],
+        )
         self.assertEqual(count_of(self.open_line(1)["count"]), 1)
         self.assertGreater(len(self.page.seen()["choices"]), 0)
         self.assertEqual(self.exported()[0], "line\treading\tanalyses")
         rows = [row.split("\t") for row in self.exported()[1:]]
-        self.assertEqual(rows[1][:2], ["upapanno guRErizwE rUpavAnaSvakovidaH", "upa-pannaH guREH izwEH rUpavAn aSva-kovidaH"])
+        self.assertEqual(
+            rows[1][:2], ["upapanno guRErizwE rUpavAnaSvakovidaH", "upa-pannaH guREH izwEH rUpavAn aSva-kovidaH"]
+        )
         self.assertIn("guREH: guRa m.pl.ins", rows[1][2])
         self.assertEqual(len(rows), 2)
+
+    def test_a_finished_line_can_be_taken_back(self):
+        self.open_line(2)
+        self.assertTrue(self.browser.run("return document.getElementById('reopen').hidden"))
+        self.finish()
+        self.page.click("#reopen")
+        self.browser.wait("return document.getElementById('reopen').hidden")
+        self.assertEqual(self.lines()[1][2], "one answer")
+        self.assertEqual(list((self.folder / "verses.txt.notes").iterdir()), [])
 
     def exported(self):
         path = self.browser.downloads / "verses.txt.tsv"
@@ -135,7 +166,7 @@ class Finishing(WithText):
     def test_a_damaged_note_and_a_moved_line(self):
         self.open_line(2)
         self.finish()
-        path, = (self.folder / "verses.txt.notes").iterdir()
+        (path,) = (self.folder / "verses.txt.notes").iterdir()
         self.server.stop()
         self.text.write_text("रामो राजा बभूव ह\n" + VERSES, encoding="utf-8")
         self.start()
@@ -155,7 +186,9 @@ class WithoutTheCommand(WithText):
         room = tempfile.TemporaryDirectory(prefix="page-program-")
         self.addCleanup(room.cleanup)
         program = Path(room.name) / "sandhi"
-        program.write_text(f'#!/bin/sh\n[ "$1" != annotate ] || {{ echo usage; exit 2; }}\nexec "{PROGRAM}" "$@"\n', encoding="utf-8")
+        program.write_text(
+            f'#!/bin/sh\n[ "$1" != annotate ] || {{ echo usage; exit 2; }}\nexec "{PROGRAM}" "$@"\n', encoding="utf-8"
+        )
         program.chmod(0o755)
         self.program = str(program)
         super().setUp()
@@ -185,7 +218,9 @@ class Meanings(unittest.TestCase):
         page.type("rAmo vanaM gacCati")
         page.click("#answers .all-analyses")
         browser.wait("return document.querySelector('#answers .analyses')")
-        told = browser.run("return [...document.querySelectorAll('#answers .meaning')].map((meaning) => meaning.textContent)")
+        told = browser.run(
+            "return [...document.querySelectorAll('#answers .meaning')].map((meaning) => meaning.textContent)"
+        )
         self.assertEqual(told, ["<b>a name</b>", "", "√gam (present)"])
 
 

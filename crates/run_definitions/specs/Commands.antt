@@ -86,6 +86,6 @@ WriteNoFile words = (out : FileWord) → DoWrite words out → ⊥
 abbrev pub DoReadInput : List (List ℕ) → Type 0
 DoReadInput words = (command : Command) × AreWordsOf command words × ReadsInput command
 
--- where the words are of a command that reads the input, this is told
-abbrev pub IsToldWhereRead : List (List ℕ) → Option (List ℕ) → Type 0
-IsToldWhereRead words input = DoReadInput words → (bytes : List ℕ) × (input ≡ Some bytes)
+-- the words are of no command that reads a file
+abbrev pub ReadNoFile : List (List ℕ) → Type 0
+ReadNoFile words = (command : Command) → AreWordsOf command words → files_of command ≡ []

@@ -19,8 +19,9 @@ use Rattle.run_definitions.specs.BatchOutcomes.{TextTells, IsTextOutcome, IsBatc
 use Rattle.sandhi_program.specs.declared.status.Status.{Status}
 use Rattle.sandhi_program.specs.declared.status.Status.TheVariants.{Done, Usage, BadFile}
 use Rattle.sandhi_program.specs.declared.status.AnyFault.TheVariants.{Large}
-use Rattle.sandhi_program.specs.Ends.{Tells, WroteAll, WrotePrefix, IsNoFault, file_fault}
-use Rattle.sandhi_program.specs.RunEnds.{Devices, HasOutcome}
+use Rattle.sandhi_program.specs.Faults.{Tells, file_fault}
+use Rattle.sandhi_program.specs.Headline.{WrotePrefix, IsNoFault}
+use Rattle.sandhi_program.specs.RunEnds.{WroteOutcome, Devices, HasOutcome}
 use Rattle.sandhi_program.specs.Sessions.{WritesRefusal}
 use Rattle.sandhi_program.specs.Batches.{RepliesToText, RepliesInBatch}
 use Rattle.sandhi_program.proofs.FilesRead.{first_content, whole, within, longer}
@@ -40,7 +41,7 @@ first_of_all lexicon scheme count text old new w = record {
 module _ (lex : FileWord) (scheme : Scheme) (file : FileWord) (count : ℕ) (result : Status) (old new : Devices)
     (r : RepliesInBatch lex scheme file count result old new) where
   pub batch_outcome : IsNoFault result → (files : Files) (told : List ℕ) → old.files ≡ Some files → old.written ≡ Some told
-      → WroteAll (IsBatchOutcome lex scheme file count files) new.files told new.written result
+      → WroteOutcome (IsBatchOutcome lex scheme file count files) new.files told new.written result
   batch_outcome own files told f o =
       let (done, wrote) = r.on_text.replied.done own in record {
         outcome = outcome_over files wrote.output ends.Done;

@@ -15,7 +15,7 @@ use Rattle.run_definitions.specs.BuildOutcomes.{AreTables, AreStems, OfLimit, Of
 use Rattle.sandhi_program.specs.declared.status.Status.TheVariants.{Done, Usage, BadFile}
 use Rattle.sandhi_program.specs.declared.status.AnyFault.{AnyFault}
 use Rattle.sandhi_program.specs.declared.build.Built.{Built}
-use Rattle.sandhi_program.specs.Ends.{file_fault}
+use Rattle.sandhi_program.specs.Faults.{file_fault}
 use Rattle.sandhi_program.specs.RunEnds.{HasOutcome}
 use Rattle.sandhi_program.specs.Sources.{HoldsSource, IsRefusedSource, TooLarge, Faulty, IsBuilt}
 use Rattle.sandhi_program.specs.SourceErrors.{HaveLargeLexicon}

@@ -10,7 +10,7 @@ use Rattle.lexicon_text_definitions.specs.FileReadings.{IsReadAs}
 use Rattle.lexicon_text_definitions.specs.declared.limits.TheConstants.{MOST_FILE_BYTES}
 use Rattle.sandhi_program.specs.declared.status.Status.{Status}
 use Rattle.sandhi_program.specs.declared.status.Status.TheVariants.{Done, Usage, BadFile}
-use Rattle.sandhi_program.specs.Ends.{Tells, file_fault}
+use Rattle.sandhi_program.specs.Faults.{Tells, file_fault}
 use Rattle.sandhi_program.specs.RunEnds.{HasOutcome}
 use Rattle.sandhi_program.specs.Checks.{WritesCheck, Overlaps, OfFile}
 use Rattle.sandhi_program.proofs.FilesRead.{whole, within}

@@ -6,19 +6,21 @@ use Rattle.outside.specs.Counts.{Rose}
 use Rattle.outside.specs.Files.{Files, told_without}
 use Rattle.text_definitions.specs.Schemes.{Scheme}
 use Rattle.lexicon_definitions.specs.Lexicons.{Lexicon}
-use Rattle.run_definitions.specs.Commands.{Command, Read, Batch, FileWord, AreWordsOf, out_of, DoWrite, WriteNoFile, DoReadInput, IsToldWhereRead}
+use Rattle.run_definitions.specs.Commands.{Command, Read, Batch, FileWord, AreWordsOf, out_of, DoWrite, WriteNoFile, DoReadInput}
 use Rattle.run_definitions.specs.Ends as ends
 use Rattle.run_definitions.specs.LexiconTells.{Holds, DoesTell}
-use Rattle.run_definitions.specs.ReadOutcomes.{IsReadOutcome}
+use Rattle.run_definitions.specs.ReadOutcomes.{IsToldWhereServed, IsReadOutcome}
 use Rattle.run_definitions.specs.BatchOutcomes.{IsBatchOutcome}
 use Rattle.run_definitions.specs.Outcomes.{Outcome, IsOutcome, OfCommand, IsSoFar, OfOne}
 use Rattle.run_definitions.proofs.OneCommand.{one_command}
 use Rattle.run_definitions.proofs.SoFar.{all_is_so_far}
 use Rattle.sandhi_program.specs.declared.status.Status.{Status}
 use Rattle.sandhi_program.specs.declared.status.Status.TheVariants.{Usage, ReadFault, WriteFault}
-use Rattle.sandhi_program.specs.Ends.{WroteAll, WrotePrefix, IsNoFault}
-use Rattle.sandhi_program.specs.RunEnds.{Devices}
-use Rattle.sandhi_program.specs.Sessions.{SourceTold, RanCommand, Apart, InBatch, InSession, ReadsFailed, LacksFile, IsRepliedTo, Untouched, Taken}
+use Rattle.sandhi_program.specs.Headline.{WrotePrefix, IsNoFault}
+use Rattle.sandhi_program.specs.RunEnds.{WroteOutcome, Devices}
+use Rattle.sandhi_program.specs.Sessions.{SourceTold, RanCommand, Apart, InBatch, InSession}
+use Rattle.sandhi_program.specs.ReadFaults.{ReadsFailed, LacksFile}
+use Rattle.sandhi_program.specs.RepliedSoFar.{IsRepliedTo, Untouched, Taken}
 use Rattle.sandhi_program.proofs.Runs.{ran_outcome, ran_missing, ran_prefix, ran_usage, ran_read_fault, ran_write_fault, ran_files, ran_failed_writes, ran_other_files, ran_done_files, ran_read_fault_files, ran_read_fault_written, ran_write_fault_files}
 use Rattle.sandhi_program.proofs.RunOutcomes.{run_ran, written_by, writes_nothing, one_run_outcome}
 use Rattle.sandhi_program.proofs.BatchRuns.{batch_outcome, batch_prefix, batch_usage}
@@ -26,7 +28,7 @@ use Rattle.sandhi_program.proofs.SessionRuns.{serves_outcome, serves_prefix, ser
 
 -- what was written of an outcome of one kind was of one of another
 wrote_all_of : (P Q : Outcome → Type 0) → ((outcome : Outcome) → P outcome → Q outcome) → (after : Option Files) (old : List ℕ)
-    → (written : Option (List ℕ)) (status : Status) → WroteAll P after old written status → WroteAll Q after old written status
+    → (written : Option (List ℕ)) (status : Status) → WroteOutcome P after old written status → WroteOutcome Q after old written status
 wrote_all_of P Q embeds after old written status w =
     record { outcome = w.outcome; is_it = embeds w.outcome w.is_it; output = w.output; files = w.files; told = w.told }
 
@@ -55,12 +57,12 @@ module _ (words : List (List ℕ)) (command : Command) (are : AreWordsOf command
       let d : None ≡ Some out = sym (ap out_of e) ∙ written_by words command are out writes in cc (d)
 
   pub command_outcome : RanCommand command Stays result old new source source_now → IsNoFault result → (files : Files) (told : List ℕ)
-      → old.files ≡ Some files → old.written ≡ Some told → IsToldWhereRead words source.left
-      → WroteAll (IsOutcome words files source.left) new.files told new.written result
+      → old.files ≡ Some files → old.written ≡ Some told → IsToldWhereServed words files source.left
+      → WroteOutcome (IsOutcome words files source.left) new.files told new.written result
   command_outcome (Apart stays ran) own files told f o is_told =
       ran_outcome _ _ _ _ _ _ (run_ran words command are source.left result old new ran) own files told f o
   command_outcome (InSession lex e s) own files told f o is_told =
-      let (input, l) = is_told (does_read lex e) in
+      let (input, l) = is_told lex s.lexicon (are_of_read lex e) (s.holds files f) in
       wrote_all_of (IsReadOutcome lex files source.left) (IsOutcome words files source.left)
       (λ outcome is. OfCommand (Read lex) (are_of_read lex e) is) new.files told new.written result
       (serves_outcome lex result old new source source_now s own files told input f o l)
@@ -72,7 +74,7 @@ module _ (words : List (List ℕ)) (command : Command) (are : AreWordsOf command
   pub command_missing : RanCommand command Stays result old new source source_now → result ≡ ReadFault → (files : Files) (told : List ℕ)
       → old.files ≡ Some files → old.written ≡ Some told
       → ReadsFailed words old.failed_reads new.failed_reads source.faults source_now.faults
-      ⊎ WroteAll (IsOutcome words files source.left) new.files told new.written result
+      ⊎ WroteOutcome (IsOutcome words files source.left) new.files told new.written result
   command_missing (Apart stays ran) r files told f o =
       elim (ran_missing _ _ _ _ _ _ (run_ran words command are source.left result old new ran) r files told f o) [
         | inl rose ↦ inl (inl rose)
@@ -83,13 +85,13 @@ module _ (words : List (List ℕ)) (command : Command) (are : AreWordsOf command
   command_missing (InBatch lex scheme file count e stays b) r files told f o = absurd (b.on_text.replied.read_fault r)
 
   pub command_prefix : RanCommand command Stays result old new source source_now → (files : Files) → old.files ≡ Some files
-      → IsToldWhereRead words source.left → WrotePrefix (IsSoFar words files source.left) old.written new.written
+      → IsToldWhereServed words files source.left → WrotePrefix (IsSoFar words files source.left) old.written new.written
   command_prefix (Apart stays ran) files f is_told = elim (ran_prefix _ _ _ _ _ _ ran files f) [
     | inl same ↦ inl same
     | inr (outcome, is, grown) ↦ inr (outcome.output, OfOne command are (all_is_so_far command files source.left outcome is), grown)
   ]
   command_prefix (InSession lex e s) files f is_told =
-      let (input, l) = is_told (does_read lex e) in
+      let (input, l) = is_told lex s.lexicon (are_of_read lex e) (s.holds files f) in
       elim (serves_prefix lex result old new source source_now s files input f l) [
         | inl same ↦ inl same
         | inr (output, is, grown) ↦ inr (output, OfOne (Read lex) (are_of_read lex e) is, grown)
@@ -160,6 +162,13 @@ module _ (words : List (List ℕ)) (command : Command) (are : AreWordsOf command
   command_read_fault_files (Apart stays ran) r = ran_read_fault_files _ _ _ _ _ _ ran r
   command_read_fault_files (InSession lex e s) r = s.files
   command_read_fault_files (InBatch lex scheme file count e stays b) r = b.on_text.files
+
+  -- a command that does not read the input has written nothing where a file was not read
+  pub command_read_fault_output : RanCommand command Stays result old new source source_now → result ≡ ReadFault → (DoReadInput words → ⊥)
+      → new.written ≡ old.written
+  command_read_fault_output (Apart stays ran) r not = ran_read_fault_written _ _ _ _ _ _ ran r
+  command_read_fault_output (InSession lex e s) r not = absurd (not (does_read lex e))
+  command_read_fault_output (InBatch lex scheme file count e stays b) r not = absurd (b.on_text.replied.read_fault r)
 
   pub command_write_fault_files : RanCommand command Stays result old new source source_now → result ≡ WriteFault → (out : FileWord) → DoWrite words out
       → (files : Files) → old.files ≡ Some files

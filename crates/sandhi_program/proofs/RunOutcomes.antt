@@ -1,8 +1,8 @@
 -- The outcome of a command is that of the run whose words are the command's.
-use Rattle.std.proofs.Common.{◌≡◌, ℕ, List, Option, Some, refl, ap, ◌∙◌}
+use Rattle.std.proofs.Common.{◌≡◌, ℕ, List, Option, Some, None, refl, ap, ◌∙◌}
 use Rattle.outside.specs.Files.{Files}
 use Rattle.lexicon_text_definitions.proofs.OneReading.{one_reading}
-use Rattle.run_definitions.specs.Commands.{Command, FileWord, AreWordsOf, AreOfNoCommand, DoWrite, WriteNoFile, files_of, out_of}
+use Rattle.run_definitions.specs.Commands.{Command, Segment, Check, Build, Read, Batch, Demo, FileWord, AreWordsOf, AreOfNoCommand, DoWrite, WriteNoFile, files_of, out_of}
 use Rattle.run_definitions.specs.Outcomes.{Outcome, IsOutcome, IsOutcomeOf, OfNoCommand, OfCommand}
 use Rattle.run_definitions.specs.Refusals.{usage_outcome}
 use Rattle.run_definitions.proofs.OneCommand.{one_command}
@@ -26,6 +26,15 @@ module _ (words : List (List ℕ)) (command : Command) (are : AreWordsOf command
 
   pub writes_nothing : WriteNoFile words → (out : FileWord) → out_of command ≡ Some out → ⊥
   writes_nothing none out e = none out (command, are, e)
+
+-- a command that writes no file has none to write
+pub writes_none : (command : Command) → ((out : FileWord) → out_of command ≡ Some out → ⊥) → out_of command ≡ None
+writes_none (Segment lex scheme text) none = refl
+writes_none (Check lex) none = refl
+writes_none (Build rules tables stems out) none = absurd (none out refl)
+writes_none (Read lex) none = refl
+writes_none (Batch lex scheme file count) none = refl
+writes_none (Demo number) none = refl
 
 -- a run has one outcome
 pub one_run_outcome : (words : List (List ℕ)) (input : Option (List ℕ)) (files : Files) (a b : Outcome) → IsOutcome words files input a

@@ -10,8 +10,10 @@ use Rattle.run_definitions.specs.Ends as ends
 use Rattle.run_definitions.specs.Ends.{End, Outcome, outcome_over}
 use Rattle.sandhi_program.specs.declared.status.Status.{Status}
 use Rattle.sandhi_program.specs.declared.status.Status.TheVariants.{Done, Memory, Usage, ReadFault, WriteFault, BadFile, BadText, TooMuch}
-use Rattle.sandhi_program.specs.Ends.{Tells, WroteAll, IsNoFault, MayEndNoCommand, IsUnread, Finishes, Refuses, Silently, InWords, Wrote, Nothing, Something}
-use Rattle.sandhi_program.specs.RunEnds.{Devices, devices, HasOutcome, Leaves, Ran, Wanting, NotRead, Printed, NotWritten, Written}
+use Rattle.sandhi_program.specs.Faults.{Tells}
+use Rattle.sandhi_program.specs.Headline.{IsNoFault, MayEndNoCommand}
+use Rattle.sandhi_program.specs.Ends.{IsUnread, Finishes, Refuses, Silently, InWords, Wrote, Nothing, Something}
+use Rattle.sandhi_program.specs.RunEnds.{WroteOutcome, Devices, devices, HasOutcome, Leaves, Ran, Wanting, NotRead, Printed, NotWritten, Written}
 
 -- a status that tells no fault is not one of these
 pub no_fault_is_not_memory : (status : Status) → IsNoFault status → status ≡ Memory → ⊥
@@ -134,7 +136,7 @@ module _ (Stage Whole : Files → Outcome → Type 0) (more reads : List FileWor
 -- all of an output was written before a status
 all_of : (P : Outcome → Type 0) (status result : Status) (output : List ℕ) (after : Files) (left : Option Files) (old new : Option (List ℕ))
     (faults now : ℕ) (told : List ℕ) → HasOutcome P status output after → Finishes status result old new faults now output
-    → IsNoFault result → old ≡ Some told → left ≡ Some after → WroteAll P left told new result
+    → IsNoFault result → old ≡ Some told → left ≡ Some after → WroteOutcome P left told new result
 all_of P status result output after left old new faults now told h f own o l =
     let (same, all) = f.all own in record {
       outcome = record { output = output; files = after; end = h.end };
@@ -157,7 +159,7 @@ ends_well P output after outcome one h is =
 
 module _ (IsIt : Files → Outcome → Type 0) (reads : List FileWord) (writes : Option FileWord) (result : Status) (old new : Devices) where
   pub ran_outcome : Ran IsIt reads writes result old new → IsNoFault result → (files : Files) (told : List ℕ) → old.files ≡ Some files
-      → old.written ≡ Some told → WroteAll (IsIt files) new.files told new.written result
+      → old.written ≡ Some told → WroteOutcome (IsIt files) new.files told new.written result
   ran_outcome (Wanting memory leaves) own files told f o = absurd (no_fault_is_not_memory result own memory)
   ran_outcome (NotRead fault leaves cause) own files told f o = absurd (no_fault_is_not_read_fault result own fault)
   ran_outcome (Printed p) own files told f o =
@@ -171,7 +173,7 @@ module _ (IsIt : Files → Outcome → Type 0) (reads : List FileWord) (writes :
       (s.files ∙ ap (λ x. told_with x out.name s.text) f)
 
   pub ran_missing : Ran IsIt reads writes result old new → result ≡ ReadFault → (files : Files) (told : List ℕ) → old.files ≡ Some files
-      → old.written ≡ Some told → Rose old.failed_reads new.failed_reads ⊎ WroteAll (IsIt files) new.files told new.written result
+      → old.written ≡ Some told → Rose old.failed_reads new.failed_reads ⊎ WroteOutcome (IsIt files) new.files told new.written result
   ran_missing (Wanting memory leaves) r files told f o = let d : Memory ≡ ReadFault = sym memory ∙ r in absurd (cc (d))
   ran_missing (NotRead fault leaves cause) r files told f o = elim cause [
     | inl rose ↦ inl rose

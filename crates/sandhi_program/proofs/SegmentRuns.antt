@@ -15,7 +15,7 @@ use Rattle.sandhi_program.specs.declared.status.Status.{Status}
 use Rattle.sandhi_program.specs.declared.status.Status.TheVariants.{Done, Usage, BadFile, BadText}
 use Rattle.sandhi_program.specs.declared.status.AnyFault.{AnyFault}
 use Rattle.sandhi_program.specs.declared.status.AnyFault.TheVariants.{Large, Lexicon as OfLexicon, Rules, Tables, Stems}
-use Rattle.sandhi_program.specs.Ends.{Tells, file_fault, text_fault}
+use Rattle.sandhi_program.specs.Faults.{Tells, file_fault, text_fault}
 use Rattle.sandhi_program.specs.RunEnds.{HasOutcome}
 use Rattle.sandhi_program.specs.Segments.{IsRefusedFile, Writes}
 use Rattle.sandhi_program.specs.Segments as segments

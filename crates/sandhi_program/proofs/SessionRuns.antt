@@ -17,8 +17,9 @@ use Rattle.run_definitions.specs.LexiconTells.{NotThere, Refused, Holds, DoesTel
 use Rattle.run_definitions.specs.ReadOutcomes.{end_with, IsReadOutcome, IsReadSoFar}
 use Rattle.sandhi_program.specs.declared.status.Status.{Status}
 use Rattle.sandhi_program.specs.declared.status.Status.TheVariants.{Usage, ReadFault, WriteFault, BadFile}
-use Rattle.sandhi_program.specs.Ends.{Tells, WroteAll, WrotePrefix, IsNoFault, file_fault}
-use Rattle.sandhi_program.specs.RunEnds.{Devices, HasOutcome}
+use Rattle.sandhi_program.specs.Faults.{Tells, file_fault}
+use Rattle.sandhi_program.specs.Headline.{WrotePrefix, IsNoFault}
+use Rattle.sandhi_program.specs.RunEnds.{WroteOutcome, Devices, HasOutcome}
 use Rattle.sandhi_program.specs.Sessions.{status_at, SourceTold, IsLexiconFile, WritesRefusal, Serves}
 use Rattle.sandhi_program.proofs.FilesRead.{first_content, whole, within}
 use Rattle.sandhi_program.proofs.SegmentRuns.{refused_file}
@@ -65,7 +66,7 @@ not_usage_at serve.WriteFault e = cc (e)
 
 module _ (lex : FileWord) (result : Status) (old new : Devices) (source source_now : SourceTold) (s : Serves lex result old new source source_now) where
   pub serves_outcome : IsNoFault result → (files : Files) (told input : List ℕ) → old.files ≡ Some files → old.written ≡ Some told
-      → source.left ≡ Some input → WroteAll (IsReadOutcome lex files source.left) new.files told new.written result
+      → source.left ≡ Some input → WroteOutcome (IsReadOutcome lex files source.left) new.files told new.written result
   serves_outcome own files told input f o l =
       let w : WroteSession s.lexicon input told new.written s.end = s.served.session (is_end_at s.end (subst IsNoFault s.is own)) input told l o in record {
         outcome = outcome_over files w.output (end_with w.end);

@@ -11,7 +11,7 @@ use Rattle.run_definitions.specs.SourceTells as sources
 use Rattle.run_definitions.specs.BatchOutcomes.{TextTells, IsTextOutcome, IsBatchOutcome}
 use Rattle.sandhi_program.specs.declared.status.Status.{Status}
 use Rattle.sandhi_program.specs.declared.status.Status.TheVariants.{Done, ReadFault, WriteFault}
-use Rattle.sandhi_program.specs.Ends.{IsNoFault}
+use Rattle.sandhi_program.specs.Headline.{IsNoFault}
 use Rattle.sandhi_program.specs.RunEnds.{Devices, Ran}
 
 -- the replies to the lines of a text were written, or where that stopped a prefix of the replies to some first lines

@@ -12,7 +12,7 @@ use Rattle.run_definitions.specs.Refusals.{file_refusal}
 use Rattle.sandhi_program.specs.declared.status.Status.{Status}
 use Rattle.sandhi_program.specs.declared.status.Status.TheVariants.{Done, BadFile}
 use Rattle.sandhi_program.specs.declared.status.AnyFault.{AnyFault}
-use Rattle.sandhi_program.specs.Ends.{file_fault}
+use Rattle.sandhi_program.specs.Faults.{file_fault}
 use Rattle.sandhi_program.specs.Segments.{IsRefusedFile}
 
 -- the overlap of the definitions that this one is

@@ -1,5 +1,9 @@
+pub mod Headline
+pub mod Faults
 pub mod Ends
 pub mod RunEnds
+pub mod ReadFaults
+pub mod RepliedSoFar
 pub mod Refusals
 pub mod SegmentErrors
 pub mod Segments

@@ -14,15 +14,22 @@ use Rattle.lexicon_builder.specs.declared.error.BuildError.{BuildError}
 use Rattle.lexicon_builder.specs.declared.error.BuildError.TheVariants as built
 use Rattle.sandhi_program.specs.declared.status.AnyFault.TheVariants as any
 use Rattle.sandhi_program.specs.declared.status.TextFault.TheVariants as text
+use Rattle.sandhi_program.specs.declared.lexicon_error.LexiconError.{LexiconError}
+use Rattle.sandhi_program.specs.declared.lexicon_error.LexiconError.TheVariants as lexicon
 use Rattle.sandhi_program.specs.declared.segment.SegmentError.{SegmentError}
 use Rattle.sandhi_program.specs.declared.segment.SegmentError.TheVariants as segment
 use Rattle.sandhi_program.specs.declared.build.SourceError.{SourceError}
 use Rattle.sandhi_program.specs.declared.build.SourceError.TheVariants as source
 
 -- a fault of the lexicon file
-abbrev pub error_of_file : FileError → SegmentError
-error_of_file (file.Fault fault) = segment.BadFile (any.Lexicon fault)
-error_of_file file.Memory = segment.Memory
+abbrev pub error_of_file : FileError → LexiconError
+error_of_file (file.Fault fault) = lexicon.Fault (any.Lexicon fault)
+error_of_file file.Memory = lexicon.Memory
+
+-- a fault of the lexicon file, where a text is read too
+abbrev pub error_of_lexicon_file : LexiconError → SegmentError
+error_of_lexicon_file (lexicon.Fault fault) = segment.BadFile fault
+error_of_lexicon_file lexicon.Memory = segment.Memory
 
 -- a fault of the text
 abbrev pub error_of_line : LineError → SegmentError

@@ -1,5 +1,5 @@
 -- How a run of a command ends, and what it leaves of the devices.
-use Rattle.std.specs.Prelude.{◌≡◌, ℕ, ◌⊎◌, List, [], Option, Some, Contains}
+use Rattle.std.specs.Prelude.{◌≡◌, ℕ, ◌⊎◌, ◌++◌, List, [], Option, Some, Contains}
 use Rattle.outside.specs.Counts.{Rose}
 use Rattle.outside.specs.Files.{Files, Lacks, with_file, told_with, told_without}
 use Rattle.run_definitions.specs.Commands.{FileWord}
@@ -7,7 +7,8 @@ use Rattle.run_definitions.specs.Ends as ends
 use Rattle.run_definitions.specs.Ends.{End, Outcome, outcome_over}
 use Rattle.sandhi_program.specs.declared.status.Status.{Status}
 use Rattle.sandhi_program.specs.declared.status.Status.TheVariants.{Done, Memory, Usage, ReadFault, WriteFault}
-use Rattle.sandhi_program.specs.Ends.{Tells, Finishes}
+use Rattle.sandhi_program.specs.Faults.{Tells}
+use Rattle.sandhi_program.specs.Ends.{Finishes}
 
 -- what the devices tell: the files, how many reads and how many writes of files failed, the bytes that were written to the
 -- output, and how many writes to it failed
@@ -27,6 +28,14 @@ pub record HasOutcome (IsIt : Outcome → Type 0) (status : Status) (output : Li
   pub end : End
   pub told : Tells status end
   pub is_it : IsIt (record { output = output; files = after; end = end })
+
+-- all the output of such an outcome was written, the files are as it leaves them, and the status tells its end
+pub record WroteOutcome (IsIt : Outcome → Type 0) (after : Option Files) (old : List ℕ) (written : Option (List ℕ)) (status : Status) : Type 0 where
+  pub outcome : Outcome
+  pub is_it : IsIt outcome
+  pub output : written ≡ Some (old ++ outcome.output)
+  pub files : after ≡ Some outcome.files
+  pub told : Tells status outcome.end
 
 -- neither a file nor output was written
 pub record Leaves (old new : Devices) : Type 0 where

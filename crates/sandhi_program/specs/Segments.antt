@@ -22,7 +22,7 @@ use Rattle.sandhi_program.specs.declared.status.Status.TheVariants.{Done, BadFil
 use Rattle.sandhi_program.specs.declared.status.AnyFault.{AnyFault}
 use Rattle.sandhi_program.specs.declared.status.AnyFault.TheVariants.{Large, Lexicon as OfLexicon, Rules, Tables, Stems}
 use Rattle.sandhi_program.specs.declared.status.TextFault.{TextFault}
-use Rattle.sandhi_program.specs.Ends.{file_fault, text_fault}
+use Rattle.sandhi_program.specs.Faults.{file_fault, text_fault}
 
 -- a lexicon can be built of what was read of a file: there are forms for each phase, not too many, and the automaton is that of
 -- the grammar

@@ -16,7 +16,8 @@ use Rattle.run_definitions.specs.Outcomes.{IsOutcomeOf}
 use Rattle.sandhi_program.specs.declared.status.Status.{Status}
 use Rattle.sandhi_program.specs.declared.status.Status.TheVariants.{Done, Memory, ReadFault, WriteFault, BadFile, TooMuch}
 use Rattle.sandhi_program.specs.declared.status.AnyFault.{AnyFault}
-use Rattle.sandhi_program.specs.Ends.{Wrote, file_fault}
+use Rattle.sandhi_program.specs.Faults.{file_fault}
+use Rattle.sandhi_program.specs.Ends.{Wrote}
 use Rattle.sandhi_program.specs.RunEnds.{Devices, Ran}
 use Rattle.sandhi_program.specs.Segments.{IsRefusedFile}
 use Rattle.sandhi_program.specs.Batches.{RepliesInBatch}
@@ -99,20 +100,3 @@ pub data RanCommand (command : Command) (SourceStays : Type 0) (result : Status)
       → RepliesInBatch lex scheme file count result old new → RanCommand command SourceStays result old new source source_now
   InSession : (lex : FileWord) → command ≡ Read lex → Serves lex result old new source source_now
       → RanCommand command SourceStays result old new source source_now
-
--- a read failed of the files, or of the input where the words are of a command that reads it
-abbrev pub ReadsFailed : List (List ℕ) → ℕ → ℕ → ℕ → ℕ → Type 0
-ReadsFailed words files files_now input input_now = Rose files files_now ⊎ (DoReadInput words × Rose input input_now)
-
--- a file that the words are to read is not there
-abbrev pub LacksFile : List (List ℕ) → Option Files → Type 0
-LacksFile words files =
-    (command : Command) × AreWordsOf command words
-    × ((word : FileWord) × Contains (files_of command) word × Lacks files word.name)
-
--- nothing was taken of the input, and nothing written; or just the replies to all complete lines among the bytes that were
--- taken, over the lexicon of the file
-pub data IsRepliedTo (lex : FileWord) (files : Files) (input old : List ℕ) (left written : Option (List ℕ)) : Type 0 where
-  Untouched : left ≡ Some input → written ≡ Some old → IsRepliedTo lex files input old left written
-  Taken : (lexicon : Lexicon) → DoesTell files lex.name (Holds lexicon) → RepliedToTaken lexicon input old left written
-      → IsRepliedTo lex files input old left written

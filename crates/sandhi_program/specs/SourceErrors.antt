@@ -7,7 +7,7 @@ use Rattle.run_definitions.specs.SourceLexicons.{IsLexiconOf, IsOversized}
 use Rattle.run_definitions.specs.BuildOutcomes.{lexicon_fault}
 use Rattle.sandhi_program.specs.declared.build.SourceError.{SourceError}
 use Rattle.sandhi_program.specs.declared.build.SourceError.TheVariants.{Fault, Memory}
-use Rattle.sandhi_program.specs.Ends.{file_fault}
+use Rattle.sandhi_program.specs.Faults.{file_fault}
 use Rattle.sandhi_program.specs.Sources.{IsRefusedSource}
 
 -- the error is a fault of the file, or memory ran out

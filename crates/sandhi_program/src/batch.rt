@@ -5,10 +5,10 @@ ghost use Rattle.command_words.specs.Meant.{word_meant};
 ghost use Rattle.sandhi_program.specs.RunEnds.{devices};
 ghost use Rattle.sandhi_program.specs.Batches.{HasReplied, RanOverText, RanBatch};
 
-use super::ending::{refuse_file, refuse_text};
+use super::ending::refuse_file;
+use super::lexicon_error::LexiconError;
 use super::read::read_lexicon;
 use super::reading::read_file;
-use super::segment::SegmentError;
 use super::status::{AnyFault, Status};
 use annotated_trie::Lexicon;
 use batch_reader::Batch;
@@ -37,9 +37,8 @@ pub(crate) fn run_batch<R: Threads + Sync, H: Shelf, O: Sink, G: Gate + Sync>(
     };
     match read_lexicon(alloc, bytes.as_slice()) {
         Ok(lexicon) => batch_over(rt, alloc, words, &lexicon, shelf, out, gate),
-        Err(SegmentError::BadFile(fault)) => refuse_file(alloc, &words.lex, fault, out),
-        Err(SegmentError::BadText(fault)) => refuse_text(alloc, fault, out),
-        Err(SegmentError::Memory) => Status::Memory,
+        Err(LexiconError::Fault(fault)) => refuse_file(alloc, &words.lex, fault, out),
+        Err(LexiconError::Memory) => Status::Memory,
     }
 }
 

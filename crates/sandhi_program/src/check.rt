@@ -11,9 +11,10 @@ ghost use Rattle.sandhi_program.specs.RunEnds.{devices, Ran};
 ghost use Rattle.sandhi_program.specs.Checks.{overlap_of, CanBePrinted, IsPrintedCheck, IsChecked, WritesCheck};
 ghost use Rattle.sandhi_program.specs.SegmentErrors.{IsFileError};
 
-use super::ending::{finish, refuse_file, refuse_text};
+use super::ending::{finish, refuse_file};
+use super::lexicon_error::LexiconError;
 use super::reading::read_file;
-use super::segment::{SegmentError, read_contents};
+use super::segment::read_contents;
 use super::status::Status;
 use answer_printing::rest_line;
 use command_words::PlacedWord;
@@ -112,7 +113,7 @@ fn print_check(alloc: Global, rules: &RuleSet, lists: &FormLists) -> Result<Stri
 }
 
 /// What `check` writes for the bytes of a lexicon file.
-pub(crate) fn check(alloc: Global, bytes: &[u8]) -> Result<String, SegmentError>
+pub(crate) fn check(alloc: Global, bytes: &[u8]) -> Result<String, LexiconError>
     ensures ok { IfOk result (λ output. IsChecked bytes.now (string_bytes output)) }
     ensures refused { IfErr result (IsFileError bytes.now) }
 {
@@ -126,9 +127,8 @@ fn write_check<O: Sink>(alloc: Global, lex: &PlacedWord<'_>, bytes: &[u8], out: 
 {
     match check(alloc, bytes) {
         Ok(output) => finish(out, output.as_bytes(), Status::Done),
-        Err(SegmentError::BadFile(fault)) => refuse_file(alloc, lex, fault, out),
-        Err(SegmentError::BadText(fault)) => refuse_text(alloc, fault, out),
-        Err(SegmentError::Memory) => Status::Memory,
+        Err(LexiconError::Fault(fault)) => refuse_file(alloc, lex, fault, out),
+        Err(LexiconError::Memory) => Status::Memory,
     }
 }
 

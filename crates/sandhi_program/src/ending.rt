@@ -1,5 +1,7 @@
 ghost use Rattle.run_definitions.specs.Refusals.{file_refusal, text_refusal};
-ghost use Rattle.sandhi_program.specs.Ends.{IsNoFault, Finishes, Refuses, file_fault, text_fault};
+ghost use Rattle.sandhi_program.specs.Headline.{IsNoFault};
+ghost use Rattle.sandhi_program.specs.Ends.{Finishes, Refuses};
+ghost use Rattle.sandhi_program.specs.Faults.{file_fault, text_fault};
 
 use super::refusal::{print_file_refusal, print_text_refusal};
 use super::status::{AnyFault, Status, TextFault};

@@ -1,11 +1,12 @@
 //! Yuzudeck's program: makes the devices, runs the words of the command line, and ends with the exit status.
 //!
 //! Proved of `run`, over any devices: all the output of the outcome that the definitions give the words, files and input was
-//! written, the files are as it leaves them, and the status tells its end, unless memory ran out or a device failed
-//! (`outcome`); otherwise a prefix of that output (`prefix`), and for `read` where the input could not be read just the replies
-//! to the complete lines that were taken (`replies`); when each refusal comes (`usage`, `no_command`, `missing`, `read_fault`,
+//! written, the files are as it leaves them, and the exit status is that of its end, unless memory ran out or a device failed
+//! (`outcome`), and the status tells with which fault it ended (`fault`); otherwise a prefix of that output (`prefix`), for `read`
+//! where the input could not be read just the replies to the complete lines that were taken (`replies`), and for any other command
+//! that could not read nothing (`read_fault_output`); when each refusal comes (`usage`, `no_command`, `missing`, `read_fault`,
 //! `write_fault`); what becomes of the files, whatever happens (`files`, `other_files`, `done_files`, `read_fault_files`,
-//! `write_fault_files`); and what stays (`failed_writes`, `unused_shelf`, `input`, `unread_input`).
+//! `write_fault_files`); and what stays (`failed_writes`, `failed_reads`, `unused_shelf`, `input`, `unread_input`).
 #![tactic(auto)]
 
 mod batch;
@@ -19,6 +20,7 @@ mod demo;
 #[cfg(test)]
 mod demo_tests;
 mod ending;
+mod lexicon_error;
 mod read;
 #[cfg(test)]
 mod read_tests;

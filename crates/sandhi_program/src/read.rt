@@ -5,9 +5,10 @@ ghost use Rattle.sandhi_program.specs.RunEnds.{devices};
 ghost use Rattle.sandhi_program.specs.SegmentErrors.{IsFileError};
 ghost use Rattle.sandhi_program.specs.Sessions.{status_at, source_told, sink_told, IsLexiconFile, WentOn, RanCommand};
 
-use super::ending::{refuse_file, refuse_text};
+use super::ending::refuse_file;
+use super::lexicon_error::LexiconError;
 use super::reading::read_file;
-use super::segment::{SegmentError, build_lexicon, read_contents};
+use super::segment::{build_lexicon, read_contents};
 use super::status::Status;
 use annotated_trie::Lexicon;
 use command_words::PlacedWord;
@@ -16,7 +17,7 @@ use reader_session::{ServeEnd, serve};
 use std::alloc::Global;
 
 /// The lexicon of a file's bytes, as it is searched.
-pub(crate) fn read_lexicon(alloc: Global, bytes: &[u8]) -> Result<Lexicon, SegmentError>
+pub(crate) fn read_lexicon(alloc: Global, bytes: &[u8]) -> Result<Lexicon, LexiconError>
     ensures ok { IfOk result (λ lexicon. IsLexiconFile bytes.now lexicon.lexicon) }
     ensures refused { IfErr result (IsFileError bytes.now) }
 {
@@ -51,9 +52,8 @@ fn serve_over<I: Source, O: Sink>(
 {
     match read_lexicon(alloc, bytes) {
         Ok(lexicon) => status_of(serve(alloc, &lexicon, input, out)),
-        Err(SegmentError::BadFile(fault)) => refuse_file(alloc, lex, fault, out),
-        Err(SegmentError::BadText(fault)) => refuse_text(alloc, fault, out),
-        Err(SegmentError::Memory) => Status::Memory,
+        Err(LexiconError::Fault(fault)) => refuse_file(alloc, lex, fault, out),
+        Err(LexiconError::Memory) => Status::Memory,
     }
 }
 

@@ -1,7 +1,7 @@
 ghost use Rattle.std.specs.Prelude.{◌≡◌, IfOk, string_bytes};
 ghost use Rattle.lexicon_file.specs.Faults.{why_of};
 ghost use Rattle.run_definitions.specs.Refusals.{name_of_why, file_refusal, text_refusal};
-ghost use Rattle.sandhi_program.specs.Ends.{file_fault, text_fault};
+ghost use Rattle.sandhi_program.specs.Faults.{file_fault, text_fault};
 
 use super::source_refusal::{name_of_stem_why, name_of_table_why, record_refusal, rules_refusal};
 use super::status::{AnyFault, TextFault};

@@ -1,16 +1,20 @@
-ghost use Rattle.std.specs.Prelude.{◌≡◌, ◌⊎◌, ℕ, List, map, string_bytes, Some};
+ghost use Rattle.std.specs.Prelude.{◌≡◌, ◌⊎◌, ℕ, List, [], map, string_bytes, Some, None};
 ghost use Rattle.outside.specs.Counts.{Rose};
 ghost use Rattle.outside.specs.Files.{Files, told_without};
 ghost use Rattle.lexicon_definitions.specs.Lexicons.{Lexicon};
 ghost use Rattle.run_definitions.specs.Commands.{FileWord, Read, AreWordsOf, AreOfNoCommand};
-ghost use Rattle.run_definitions.specs.Commands.{DoWrite, WriteNoFile, DoReadInput, IsToldWhereRead};
+ghost use Rattle.run_definitions.specs.Commands.{DoWrite, WriteNoFile, ReadNoFile, DoReadInput, files_of, out_of};
+ghost use Rattle.run_definitions.specs.ReadOutcomes.{IsToldWhereServed};
 ghost use Rattle.command_words.specs.Meant.{command_meant};
 ghost use Rattle.run_definitions.specs.Ends as ends;
 ghost use Rattle.run_definitions.specs.LexiconTells.{Holds, DoesTell};
 ghost use Rattle.run_definitions.specs.Outcomes.{Outcome, IsOutcome, IsSoFar};
-ghost use Rattle.sandhi_program.specs.Ends.{WroteAll, WrotePrefix, IsNoFault, MayEndNoCommand};
+ghost use Rattle.sandhi_program.specs.Headline.{WroteAll, WrotePrefix, IsNoFault, MayEndNoCommand};
+ghost use Rattle.sandhi_program.specs.Faults.{TellsEnd};
 ghost use Rattle.sandhi_program.specs.RunEnds.{devices};
-ghost use Rattle.sandhi_program.specs.Sessions.{source_told, RanCommand, ReadsFailed, LacksFile, IsRepliedTo};
+ghost use Rattle.sandhi_program.specs.Sessions.{source_told, RanCommand};
+ghost use Rattle.sandhi_program.specs.ReadFaults.{ReadsFailed, LacksFile};
+ghost use Rattle.sandhi_program.specs.RepliedSoFar.{IsRepliedTo};
 
 use super::batch::run_batch;
 use super::check::run_check;
@@ -36,10 +40,13 @@ fn run_command<R: Threads + Sync, H: Shelf, I: Source, O: Sink, G: Gate + Sync>(
     out: &mut O,
     gate: &G,
 ) -> Status
-    ensures { RanCommand (command_meant command.now) (input.new ≡ input.old) result
+    ensures ran { RanCommand (command_meant command.now) (input.new ≡ input.old) result
         (devices (H.files shelf.old) (H.failed_reads shelf.old) (H.failed_writes shelf.old) (O.written out.old) (O.faults out.old))
         (devices (H.files shelf.new) (H.failed_reads shelf.new) (H.failed_writes shelf.new) (O.written out.new) (O.faults out.new))
         (source_told (I.left input.old) (I.faults input.old)) (source_told (I.left input.new) (I.faults input.new)) }
+    ensures unused_shelf { files_of (command_meant command.now) ≡ [] → out_of (command_meant command.now) ≡ None
+        → shelf.new ≡ shelf.old }
+    ensures failed_reads { files_of (command_meant command.now) ≡ [] → H.failed_reads shelf.new ≡ H.failed_reads shelf.old }
 {
     match command {
         Command::Segment { lex, scheme, text } => {
@@ -65,13 +72,18 @@ pub fn run<R: Threads + Sync, H: Shelf, I: Source, O: Sink, G: Gate + Sync>(
     out: &mut O,
     gate: &G,
 ) -> Status
-    // The headline: over devices that tell their content, the run wrote all the output of the outcome and left its files,
-    // unless memory ran out or a device failed. The input is to be told only where the command reads it.
+    // The headline: over devices that tell their content, the run wrote all the output of the outcome, left its files and ended
+    // with its exit status, unless memory ran out or a device failed. The input is to be told only where a session is served.
     ensures outcome { IsNoFault result → (files : Files) (old : List ℕ) → H.files shelf.old ≡ Some files
         → O.written out.old ≡ Some old
-        → IsToldWhereRead (map string_bytes words.now.items) (I.left input.old)
+        → IsToldWhereServed (map string_bytes words.now.items) files (I.left input.old)
         → WroteAll (IsOutcome (map string_bytes words.now.items) files (I.left input.old))
         (H.files shelf.new) old (O.written out.new) result }
+    // And the fault that the status carries is the outcome's.
+    ensures fault { IsNoFault result → (files : Files) (old : List ℕ) → H.files shelf.old ≡ Some files
+        → O.written out.old ≡ Some old
+        → IsToldWhereServed (map string_bytes words.now.items) files (I.left input.old)
+        → TellsEnd (IsOutcome (map string_bytes words.now.items) files (I.left input.old)) result }
     ensures missing { result ≡ Status.ReadFault → (files : Files) (old : List ℕ) → H.files shelf.old ≡ Some files
         → O.written out.old ≡ Some old
         → ReadsFailed (map string_bytes words.now.items) (H.failed_reads shelf.old) (H.failed_reads shelf.new)
@@ -82,12 +94,14 @@ pub fn run<R: Threads + Sync, H: Shelf, I: Source, O: Sink, G: Gate + Sync>(
     // After a fault or want of memory, a prefix of that output: for `read` and `batch` a prefix of the replies to some first lines,
     // which begin it. Where the input of `read` was not read to its end, just the replies to the complete lines that were taken.
     ensures prefix { (files : Files) → H.files shelf.old ≡ Some files
-        → IsToldWhereRead (map string_bytes words.now.items) (I.left input.old)
+        → IsToldWhereServed (map string_bytes words.now.items) files (I.left input.old)
         → WrotePrefix (IsSoFar (map string_bytes words.now.items) files (I.left input.old)) (O.written out.old) (O.written out.new) }
     ensures replies { result ≡ Status.ReadFault → (lex : FileWord) → AreWordsOf (Read lex) (map string_bytes words.now.items)
         → (files : Files) (bytes old : List ℕ) → H.files shelf.old ≡ Some files → I.left input.old ≡ Some bytes
         → O.written out.old ≡ Some old
         → IsRepliedTo lex files bytes old (I.left input.new) (O.written out.new) }
+    ensures read_fault_output { result ≡ Status.ReadFault → (DoReadInput (map string_bytes words.now.items) → ⊥)
+        → O.written out.new ≡ O.written out.old }
 
     // When each refusal comes.
     ensures usage { result ≡ Status.Usage → AreOfNoCommand (map string_bytes words.now.items) }
@@ -118,7 +132,10 @@ pub fn run<R: Threads + Sync, H: Shelf, I: Source, O: Sink, G: Gate + Sync>(
     // What stays: whatever the words do not use. The source stays also where `read` finds no lexicon in its file.
     ensures failed_writes { WriteNoFile (map string_bytes words.now.items)
         → H.failed_writes shelf.new ≡ H.failed_writes shelf.old }
-    ensures unused_shelf { AreOfNoCommand (map string_bytes words.now.items) → shelf.new ≡ shelf.old }
+    ensures failed_reads { ReadNoFile (map string_bytes words.now.items)
+        → H.failed_reads shelf.new ≡ H.failed_reads shelf.old }
+    ensures unused_shelf { ReadNoFile (map string_bytes words.now.items) → WriteNoFile (map string_bytes words.now.items)
+        → shelf.new ≡ shelf.old }
     ensures input { (DoReadInput (map string_bytes words.now.items) → ⊥) → input.new ≡ input.old }
     ensures unread_input { (lex : FileWord) → AreWordsOf (Read lex) (map string_bytes words.now.items) → (files : Files)
         → H.files shelf.old ≡ Some files

@@ -10,12 +10,13 @@ ghost use Rattle.sandhi_program.specs.Segments.{IsBuildable, IsPrintedPage, IsSe
 ghost use Rattle.sandhi_program.specs.SegmentErrors.{IsFileError, IsRefusal};
 
 use super::ending::{finish, refuse_file, refuse_text};
+use super::lexicon_error::LexiconError;
 use super::reading::read_file;
 use super::status::{AnyFault, Status, TextFault};
 use annotated_trie::Lexicon;
 use answer_printing::{AnswerPrinter, RuleTexts, push_page};
 use command_words::PlacedWord;
-use lexicon_file::{Contents, FileError, read};
+use lexicon_file::{Contents, read};
 use lexicon_text_definitions::MOST_FILE_BYTES;
 use outside::{Shelf, Sink, Steps};
 use phoneme::{Line, Memory};
@@ -44,15 +45,15 @@ impl From<Memory> for SegmentError {
     }
 }
 
-impl From<FileError> for SegmentError {
-    ghost use Rattle.sandhi_program.specs.Refusals.{error_of_file};
+impl From<LexiconError> for SegmentError {
+    ghost use Rattle.sandhi_program.specs.Refusals.{error_of_lexicon_file};
 
-    ghost from_gives = { λ file e. e ≡ error_of_file file };
+    ghost from_gives = { λ lexicon e. e ≡ error_of_lexicon_file lexicon };
 
-    fn from(refused: FileError) -> SegmentError {
+    fn from(refused: LexiconError) -> SegmentError {
         match refused {
-            FileError::Fault(fault) => SegmentError::BadFile(AnyFault::Lexicon(fault)),
-            FileError::Memory => SegmentError::Memory,
+            LexiconError::Fault(fault) => SegmentError::BadFile(fault),
+            LexiconError::Memory => SegmentError::Memory,
         }
     }
 }
@@ -73,14 +74,14 @@ impl From<LineError> for SegmentError {
 }
 
 /// The contents of a lexicon file, whose length is judged before its bytes are looked at.
-pub(crate) fn read_contents(alloc: Global, bytes: &[u8]) -> Result<Contents, SegmentError>
+pub(crate) fn read_contents(alloc: Global, bytes: &[u8]) -> Result<Contents, LexiconError>
     ensures within { IfOk result (λ contents. length bytes.now ≤ MOST_FILE_BYTES) }
     ensures ok { IfOk result (λ contents. IsReadAs bytes.now (Ok (lexicon_of contents))) }
     ensures buildable { IfOk result IsBuildable }
     ensures refused { IfErr result (IsFileError bytes.now) }
 {
     if bytes.len() > MOST_FILE_BYTES {
-        return Err(SegmentError::BadFile(AnyFault::Large));
+        return Err(LexiconError::Fault(AnyFault::Large));
     }
     Ok(read(alloc, bytes)?)
 }

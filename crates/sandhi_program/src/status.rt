@@ -1,5 +1,5 @@
 ghost use Rattle.std.specs.Prelude.{◌≡◌};
-ghost use Rattle.sandhi_program.specs.Ends.{exit_status};
+ghost use Rattle.sandhi_program.specs.Headline.{exit_status};
 
 use latin_schemes::SpellFault;
 use lexicon_file::FileFault;

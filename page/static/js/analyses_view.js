@@ -7,12 +7,14 @@ import { setting } from "./settings.js";
 import { state } from "./state.js";
 import { tagInShort, tagInWords } from "./tags.js";
 
+const HEADS = ["Form", "Stem", "Analysis", "Abbreviated", "Meaning"];
+
 /** The analyses of segments as a table, a group of rows for each segment. */
 export function analysesTable(segments, { analyses, stems }) {
   const groups = segments.map((segment, number) => segmentRows(segment, analyses[number], stems));
   return make("table", { class: "analyses" },
     make("caption", { class: "unseen" }, "Analyses"),
-    make("thead", { class: "unseen" }, make("tr", {}, ["Form", "Stem", "Analysis", "Abbreviated", "Meaning"].map((head) => make("th", { scope: "col" }, head)))),
+    make("thead", { class: "unseen" }, make("tr", {}, HEADS.map((head) => make("th", { scope: "col" }, head)))),
     groups);
 }
 
@@ -20,7 +22,8 @@ function segmentRows(segment, analyses, stems) {
   const output = setting("output");
   const hue = hueOf(segment.phase, state.server.phases);
   const head = make("th", { scope: "rowgroup", rowspan: Math.max(1, analyses.length), class: `hue-${hue}` },
-    make("span", { class: "form sanskrit" }, showWord(output, segment.form)), make("span", { class: "phase" }, segment.phase));
+    make("span", { class: "form sanskrit" }, showWord(output, segment.form)),
+    make("span", { class: "phase" }, segment.phase));
   if (analyses.length === 0) return make("tbody", {}, make("tr", {}, head, make("td", { colspan: 4 }, "no analyses")));
   const rows = analyses.map(([stem, tag], number) => {
     return make("tr", {}, number === 0 ? head : null,

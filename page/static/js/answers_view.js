@@ -92,7 +92,8 @@ function drawPager(actions) {
   const hasNext = begin + shown < count || next !== "";
   show(byId("pager"), !isAtFirst || hasNext);
   const first = printed + begin + 1;
-  const range = shown > 1 ? `${first.toLocaleString("en")} to ${(first + shown - 1).toLocaleString("en")}` : String(first);
+  const told = (number) => number.toLocaleString("en");
+  const range = shown > 1 ? `${told(first)} to ${told(first + shown - 1)}` : told(first);
   const button = (words, isOn, onClick) => make("button", { type: "button", disabled: !isOn, on: { click: onClick } }, words);
   fill(byId("pager"),
     button("First", !isAtFirst, () => actions.showAnswers(0, state.reading.bookmark)),

@@ -1,5 +1,5 @@
-// Made by make_bigrams.py: what it costs that a letter follows another, a row for the letter before and a digit of
-// base 36 for the letter after, both in this order. A blank is the end of a word.
+// Made by make_bigrams.py: what it costs that a letter follows another. A row is the letter before, and a digit of
+// base 36 in it the letter after, both in this order. A blank is the end of a word.
 
 export const ORDER = " aAiIuUfFxeEoOM~HkKgGNcCjJYwWqQRtTdDnpPbBmyrlvSzsh'";
 

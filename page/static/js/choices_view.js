@@ -46,9 +46,10 @@ export function drawChoices(actions) {
       }, "↶"));
   });
   const all = choices.map((_, number) => number);
+  const takeAll = { type: "button", class: "quiet", on: { click: () => actions.takeBack(all) } };
   fill(byId("choices"), items.length === 0 ? null : make("div", { class: "choices" },
     make("ul", { "aria-label": "Your choices" }, items),
-    items.length > 1 ? make("button", { type: "button", class: "quiet", on: { click: () => actions.takeBack(all) } }, "Take all back") : null));
+    items.length > 1 ? make("button", takeAll, "Take all back") : null));
 }
 
 /** Marks what can't be read in a line without an answer. */
@@ -80,5 +81,6 @@ function toldStretch({ pieces, isRead, questions, isWhole }) {
     : "Each piece is read in some run, but not the whole line: look at where the pieces meet.";
   return make("div", { class: "stretch" },
     make("p", { class: "sanskrit stretch-line" }, words),
-    make("p", { class: "note" }, isNothingRead ? "No run of these pieces is read by itself." : told, ` (${asked}${isWhole ? "" : ", and no more were asked"}.)`));
+    make("p", { class: "note" }, isNothingRead ? "No run of these pieces is read by itself." : told,
+      ` (${asked}${isWhole ? "" : ", and no more were asked"}.)`));
 }

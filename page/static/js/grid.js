@@ -48,7 +48,8 @@ function place(element, from, to, row) {
 
 function keptSegments(choices) {
   const { phases } = state.server;
-  return new Set(choices.filter((choice) => choice.is_kept).map(({ at, lead, phase, form }) => [at, lead, phases[phase], form].join()));
+  const kept = choices.filter((choice) => choice.is_kept);
+  return new Set(kept.map(({ at, lead, phase, form }) => [at, lead, phases[phase], form].join()));
 }
 
 /** How many pixels a column has, about. */

@@ -11,6 +11,7 @@ const FAULTS = {
   "no letters": "There are no letters in this line.",
   "too long": "A line has at most 1,000 letters.",
   "long line": "This is too long for a line.",
+  "too many": "A line has at most 200 choices. Take some back first.",
   bookmark: "This address has a line or choices that the lexicon has not. It may be of an earlier version of the lexicon.",
 };
 
@@ -79,7 +80,9 @@ function drawParts(actions) {
   fill(nav, state.parts.map((part, number) => {
     const words = part.slp1.split(" ").map((word) => showWord(setting("output"), word)).join(" ");
     const isHere = number === state.part;
-    const attributes = { type: "button", class: "part", "aria-current": isHere && "true", on: { click: () => actions.readPart(number) } };
+    const attributes = {
+      type: "button", class: "part", "aria-current": isHere && "true", on: { click: () => actions.readPart(number) },
+    };
     return make("button", attributes, make("span", { class: "part-number" }, String(number + 1)), " ", words);
   }));
 }
@@ -123,7 +126,8 @@ export function drawFault({ fault, place }) {
     byId("notice"),
     make("div", { class: "fault" },
       make("p", {}, `This sign is no letter of ${scheme} here: `, make("strong", {}, sign.trim() ? sign : "(a blank)")),
-      make("p", { class: "sanskrit marked" }, shorten(typed.slice(0, place), true), make("mark", {}, sign), shorten(after, false))
+      make("p", { class: "sanskrit marked" },
+        shorten(typed.slice(0, place), true), make("mark", {}, sign), shorten(after, false))
     )
   );
   byId("line-text").setSelectionRange(place, place + sign.length);

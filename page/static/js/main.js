@@ -15,7 +15,10 @@ import { askWhichWay } from "./which_way.js";
 
 const OUTPUTS = [["devanagari", "देव", "Devanagari"], ["iast", "IAST", "IAST"], ["slp1", "SLP1", "SLP1"]];
 const THEMES = [["auto", "auto", "Light or dark as the system"], ["light", "light", "Light"], ["dark", "dark", "Dark"]];
-const ORDERS = [["program", "program’s order", "In the program’s order"], ["words", "fewest words first", "With fewest words first"]];
+const ORDERS = [
+  ["program", "program’s order", "In the program’s order"],
+  ["words", "fewest words first", "With fewest words first"],
+];
 
 /** What a reader can do. Each is safe to call at any time. */
 const actions = {
@@ -33,6 +36,8 @@ const actions = {
   readPart: (part) => guarded(async () => settle(await reader.readPart(part))),
   changeTwin: (twin) => guarded(async () => {
     state.twin = twin;
+    const { refused } = await texts.openAgain();
+    if (refused) drawFailure(refused);
     await actions.read();
   }),
   keep: (box) => guarded(async () => {
@@ -69,6 +74,11 @@ const actions = {
     if (refused) drawFailure(`The line was not finished: ${refused}.`);
     texts.drawTextRoom();
   }),
+  reopen: () => guarded(async () => {
+    const { refused } = await texts.reopenLine();
+    if (refused) drawFailure(refused);
+    texts.drawTextRoom();
+  }),
 };
 
 async function readEntry(entry) {
@@ -78,8 +88,11 @@ async function readEntry(entry) {
   await settle(isFurther ? await reader.readBookmark(bookmark) : asTyped);
 }
 
+let running = 0; // things that the reader did and that are not done yet
+
 /** Runs what a reader did. A fault is told on the page; a question that a newer one replaced is passed over. */
 async function guarded(act) {
+  running += 1;
   byId("reading").setAttribute("aria-busy", "true");
   try {
     await act();
@@ -88,7 +101,8 @@ async function guarded(act) {
     drawFailure(fault instanceof Failed ? fault.message : `Something went wrong: ${fault.message}`);
     if (!(fault instanceof Failed)) throw fault;
   } finally {
-    byId("reading").removeAttribute("aria-busy");
+    running -= 1;
+    if (running === 0) byId("reading").removeAttribute("aria-busy");
   }
 }
 

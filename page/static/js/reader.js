@@ -9,6 +9,7 @@ import { state } from "./state.js";
 import { placeOfByte, toSlp1 } from "./tokens.js";
 
 export const SHOWN = 20; // answers on a page of the list
+const MOST_CHOICES = 200; // of a session
 
 let asking = new AbortController();
 
@@ -89,11 +90,16 @@ function adopt(changes) {
 }
 
 export function keep(segment) {
-  return readBookmark(choosing(state.reading.bookmark, true, [segment], state.server.phases));
+  return choose(true, [segment]);
 }
 
 export function reject(segments) {
-  return readBookmark(choosing(state.reading.bookmark, false, segments, state.server.phases));
+  return choose(false, segments);
+}
+
+async function choose(isKept, segments) {
+  if (state.reading.choices.length + segments.length > MOST_CHOICES) return { refused: "too many" };
+  return readBookmark(choosing(state.reading.bookmark, isKept, segments, state.server.phases));
 }
 
 export function takeBack(numbers) {

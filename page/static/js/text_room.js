@@ -17,6 +17,7 @@ export function prepareTextRoom(actions) {
   fill(byId("text-name"), make("option", { value: "" }, "none"), texts.map((name) => make("option", { value: name }, name)));
   byId("text-name").addEventListener("change", () => actions.openText(byId("text-name").value));
   byId("export").addEventListener("click", exportFinished);
+  byId("reopen").addEventListener("click", actions.reopen);
   byId("finish").addEventListener("click", () => (hereEntry()?.note?.isFinished ? actions.nextLine() : actions.finish()));
   return given;
 }
@@ -42,6 +43,15 @@ export async function openText(name) {
 
 export function isOpen(name) {
   return room.name === name;
+}
+
+/** Opens the text anew with the lexicon that is used now, at the same line. */
+export async function openAgain() {
+  const { place } = state;
+  if (!room.name) return {};
+  const outcome = await openText(room.name);
+  state.place = place && entryAt(place) ? place : null;
+  return outcome;
 }
 
 export function entryAt({ line, part }) {
@@ -135,6 +145,7 @@ function drawFinish() {
   const entry = hereEntry();
   const { reading } = state;
   show(button, Boolean(entry && reading && state.server.canFinish));
+  show(byId("reopen"), Boolean(entry?.note && reading && state.server.canFinish));
   if (!entry || !reading) return;
   const isFinished = Boolean(entry.note?.isFinished && entry.note.bookmark === reading.bookmark);
   if (entry.note?.isFinished && !isFinished) button.textContent = "Finish this line again";

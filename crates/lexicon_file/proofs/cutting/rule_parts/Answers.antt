@@ -9,21 +9,21 @@ use Rattle.lexicon_file.proofs.cutting.rule_parts.Goals as goal
 pub returns-in_default : goal.returns-in_default
 returns-in_default c = no_bar c.args.field.now (not_cut 124 c.args.field.now c.in_default.ensures)
 
-pub returns-in_default-cut : goal.returns-in_default-cut
-returns-in_default-cut c =
+pub returns-in_default-cut_at : goal.returns-in_default-cut_at
+returns-in_default-cut_at c =
     no_sign c.args.field.now c.in-Some.u.now c.in-Some.rest.now (cut_as_parted 124 c.args.field.now c.in-Some.u.now c.in-Some.rest.now c.in-Some.ensures)
     (not_cut 62 c.in-Some.rest.now c.in_default-cut.ensures)
 
 pub returns-then-has_marks : goal.returns-then-has_marks
 returns-then-has_marks c =
-    shape_cut c.args.field.now c.in-Some.u.now c.in-Some.rest.now c.in-Some-cut.v.now c.in-Some-cut.w.now
+    shape_cut c.args.field.now c.in-Some.u.now c.in-Some.rest.now c.in-Some-cut_at.v.now c.in-Some-cut_at.w.now
     (cut_as_parted 124 c.args.field.now c.in-Some.u.now c.in-Some.rest.now c.in-Some.ensures)
-    (cut_as_parted 62 c.in-Some.rest.now c.in-Some-cut.v.now c.in-Some-cut.w.now c.in-Some-cut.ensures)
-    ∙ cond-true (has_mark c.in-Some.u.now || has_mark c.in-Some-cut.v.now || has_mark c.in-Some-cut.w.now) None (Some (record { u = c.in-Some.u.now; v = c.in-Some-cut.v.now; w = c.in-Some-cut.w.now })) (sym c.has_marks.ensures ∙ c.if-has_marks.true)
+    (cut_as_parted 62 c.in-Some.rest.now c.in-Some-cut_at.v.now c.in-Some-cut_at.w.now c.in-Some-cut_at.ensures)
+    ∙ cond-true (has_mark c.in-Some.u.now || has_mark c.in-Some-cut_at.v.now || has_mark c.in-Some-cut_at.w.now) None (Some (record { u = c.in-Some.u.now; v = c.in-Some-cut_at.v.now; w = c.in-Some-cut_at.w.now })) (sym c.has_marks.ensures ∙ c.if-has_marks.true)
 
 pub returns-else-has_marks : goal.returns-else-has_marks
 returns-else-has_marks c =
-    shape_cut c.args.field.now c.in-Some.u.now c.in-Some.rest.now c.in-Some-cut.v.now c.in-Some-cut.w.now
+    shape_cut c.args.field.now c.in-Some.u.now c.in-Some.rest.now c.in-Some-cut_at.v.now c.in-Some-cut_at.w.now
     (cut_as_parted 124 c.args.field.now c.in-Some.u.now c.in-Some.rest.now c.in-Some.ensures)
-    (cut_as_parted 62 c.in-Some.rest.now c.in-Some-cut.v.now c.in-Some-cut.w.now c.in-Some-cut.ensures)
-    ∙ cond-false (has_mark c.in-Some.u.now || has_mark c.in-Some-cut.v.now || has_mark c.in-Some-cut.w.now) None (Some (record { u = c.in-Some.u.now; v = c.in-Some-cut.v.now; w = c.in-Some-cut.w.now })) (sym c.has_marks.ensures ∙ c.if-has_marks.false)
+    (cut_as_parted 62 c.in-Some.rest.now c.in-Some-cut_at.v.now c.in-Some-cut_at.w.now c.in-Some-cut_at.ensures)
+    ∙ cond-false (has_mark c.in-Some.u.now || has_mark c.in-Some-cut_at.v.now || has_mark c.in-Some-cut_at.w.now) None (Some (record { u = c.in-Some.u.now; v = c.in-Some-cut_at.v.now; w = c.in-Some-cut_at.w.now })) (sym c.has_marks.ensures ∙ c.if-has_marks.false)

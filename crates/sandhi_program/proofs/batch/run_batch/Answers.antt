@@ -46,23 +46,20 @@ returns-in-Ok-read_lexicon g c =
       })
     ]
 
-pub returns-in-Err-BadFile : goal.returns-in-Err-BadFile
-returns-in-Err-BadFile g c =
+pub returns-in-Err-Fault : goal.returns-in-Err-Fault
+returns-in-Err-Fault g c =
     let lex = word_meant c.args.words.now.lex in
     let scheme = scheme_of c.args.words.now.scheme in
     let file = word_meant c.args.words.now.file in
     let count = c.args.words.now.count in
     let bytes = c.in-Ok.bytes.items in
-    let fault = c.in-Err-BadFile.fault in
+    let fault = c.in-Err-Fault.fault in
     NoReplies (refused (IsBatchOutcome lex scheme file count) _ None _ _ _ (BadFile lex.place fault) _ (not_usage lex.place fault)
     c.read_file.ensures.files c.read_file.ensures.writes
     (λ told e. batch_refused lex scheme file count bytes _ c.in-Ok.ensures.ok told e _ _ (record {
       fault = fault;
       ends = refl;
-      refused = subst (λ (b : List ℕ). IsRefusedFile b fault) c.as_slice.ensures.value (subst (IsFileError c.as_slice.result.now) c.in-Err-BadFile.field-0-is c.in-Err-BadFile.ensures.refused);
+      refused = subst (λ (b : List ℕ). IsRefusedFile b fault) c.as_slice.ensures.value (subst (IsFileError c.as_slice.result.now) c.in-Err-Fault.field-0-is c.in-Err-Fault.ensures.refused);
       printed = refl;
     }))
     c.refuse_file.ensures)
-
-pub returns-in-Err-BadText : goal.returns-in-Err-BadText
-returns-in-Err-BadText g c = absurd (subst (IsFileError c.as_slice.result.now) c.in-Err-BadText.field-0-is c.in-Err-BadText.ensures.refused)

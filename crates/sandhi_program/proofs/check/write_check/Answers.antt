@@ -8,12 +8,9 @@ use Rattle.sandhi_program.proofs.check.write_check.Goals as goal
 pub returns-in-Ok : goal.returns-in-Ok
 returns-in-Ok g c = Something _ _ (Overlaps refl c.in-Ok.ensures.ok) (rw (← c.as_bytes.ensures.value) c.finish.ensures)
 
-pub returns-in-Err-BadFile : goal.returns-in-Err-BadFile
-returns-in-Err-BadFile g c = elim c.refuse_file.ensures [
+pub returns-in-Err-Fault : goal.returns-in-Err-Fault
+returns-in-Err-Fault g c = elim c.refuse_file.ensures [
   | Silently memory same ↦ Nothing memory same
-  | InWords finishes ↦ Something _ _ (OfFile c.in-Err-BadFile.fault refl
-      (subst (IsFileError c.args.bytes.now) c.in-Err-BadFile.field-0-is c.in-Err-BadFile.ensures.refused) refl) finishes
+  | InWords finishes ↦ Something _ _ (OfFile c.in-Err-Fault.fault refl
+      (subst (IsFileError c.args.bytes.now) c.in-Err-Fault.field-0-is c.in-Err-Fault.ensures.refused) refl) finishes
 ]
-
-pub returns-in-Err-BadText : goal.returns-in-Err-BadText
-returns-in-Err-BadText g c = absurd (subst (IsFileError c.args.bytes.now) c.in-Err-BadText.field-0-is c.in-Err-BadText.ensures.refused)

@@ -14,19 +14,16 @@ returns-in-Ok g c = Served _ c.in-Ok.ensures.ok c.serve.result c.status_of.ensur
   write_fault = c.serve.ensures.write_fault;
 })
 
-pub returns-in-Err-BadFile : goal.returns-in-Err-BadFile
-returns-in-Err-BadFile g c = elim c.refuse_file.ensures [
+pub returns-in-Err-Fault : goal.returns-in-Err-Fault
+returns-in-Err-Fault g c = elim c.refuse_file.ensures [
   | Silently memory same ↦ Unserved refl (Nothing memory same)
   | InWords finishes ↦ Unserved refl (Something _ _ (record {
-    fault = c.in-Err-BadFile.fault;
+    fault = c.in-Err-Fault.fault;
     ends = refl;
-    refused = subst (IsFileError c.args.bytes.now) c.in-Err-BadFile.field-0-is c.in-Err-BadFile.ensures.refused;
+    refused = subst (IsFileError c.args.bytes.now) c.in-Err-Fault.field-0-is c.in-Err-Fault.ensures.refused;
     printed = refl;
   }) finishes)
 ]
-
-pub returns-in-Err-BadText : goal.returns-in-Err-BadText
-returns-in-Err-BadText g c = absurd (subst (IsFileError c.args.bytes.now) c.in-Err-BadText.field-0-is c.in-Err-BadText.ensures.refused)
 
 pub returns-in-Err-Memory : goal.returns-in-Err-Memory
 returns-in-Err-Memory g c = Unserved refl (Nothing refl refl)
