@@ -11,7 +11,7 @@ import subprocess
 import tempfile
 from pathlib import Path
 
-SECONDS = 20
+SECONDS = 120
 
 
 class Example:
