@@ -22,7 +22,7 @@ sys.dont_write_bytecode = True
 HERE = Path(__file__).resolve().parent
 sys.path[:0] = [str(HERE), str(HERE.parent)]
 
-LEAST, MOST, LINES = 150, 250, 8
+LEAST, MOST, LINES = 150, 250, 6
 
 CLICKS = """
 const done = arguments[arguments.length - 1];

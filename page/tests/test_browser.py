@@ -12,6 +12,7 @@ from lexicons import starter_lexicons
 from serving import LEXICON, PROGRAM, TOP, PageServer, readings
 
 TRIED = 40  # readings that are clicked down to one answer
+SHOWN = 10  # answers on a page of the list
 PART = re.compile(r"([^ \[\]()]+)\[([a-z0-9_]+)\]")
 SEEN = """
 const boxes = [...document.querySelectorAll('#grid .box')].map((box) => {
@@ -117,7 +118,7 @@ class Clicks(WithPage):
     def compare(self, seen, answers, choices, told):
         left = reference.under_choices(answers, choices)
         self.assertEqual(count_of(seen["count"]), len(left), told)
-        shown = [[[segment.phase, segment.form] for segment in answer] for answer in left[:20]]
+        shown = [[[segment.phase, segment.form] for segment in answer] for answer in left[:SHOWN]]
         self.assertEqual(seen["answers"], shown, told)
         ends = {}
         for segment in (segment for answer in left for segment in answer):
@@ -382,24 +383,24 @@ class Answers(WithPage):
 
     def test_pages(self):
         self.page.type(self.LINE)
-        self.assertEqual(self.numbers(), list(range(1, 21)))
+        self.assertEqual(self.numbers(), list(range(1, SHOWN + 1)))
         self.page.click("#pager button:last-child")
-        self.assertEqual(self.numbers(), list(range(21, 41)))
-        for _ in range(7):
+        self.assertEqual(self.numbers(), list(range(SHOWN + 1, 2 * SHOWN + 1)))
+        while not self.browser.run("return document.querySelector('#pager button:last-child').disabled"):
             self.page.click("#pager button:last-child")
         self.assertEqual(self.numbers()[-1], 174)
         self.assertTrue(self.browser.run("return document.querySelector('#pager button:last-child').disabled"))
         self.page.click("#pager button:first-child")
-        self.assertEqual(self.numbers(), list(range(1, 21)))
+        self.assertEqual(self.numbers(), list(range(1, SHOWN + 1)))
 
     def test_fewest_words_first(self):
         self.page.type(self.LINE)
         self.page.click("#order-switch label:nth-of-type(2)")
         answers = reference.answers_of(PROGRAM, self.lexicon, self.LINE, "slp1")
         order = sorted(range(len(answers)), key=lambda number: len(answers[number]))
-        self.assertEqual(self.numbers(), [number + 1 for number in order[:20]])
+        self.assertEqual(self.numbers(), [number + 1 for number in order[:SHOWN]])
         self.page.click("#order-switch label:nth-of-type(1)")
-        self.assertEqual(self.numbers(), list(range(1, 21)))
+        self.assertEqual(self.numbers(), list(range(1, SHOWN + 1)))
 
     def test_analyses_in_words(self):
         self.page.type("rAmo vanaM gacCati")

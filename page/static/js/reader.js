@@ -8,7 +8,7 @@ import { setting } from "./settings.js";
 import { state } from "./state.js";
 import { placeOfByte, toSlp1 } from "./tokens.js";
 
-export const SHOWN = 20; // answers on a page of the list
+export const SHOWN = 10; // answers on a page of the list
 const MOST_CHOICES = 200; // of a session
 
 let asking = new AbortController();
