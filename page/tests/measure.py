@@ -22,7 +22,7 @@ sys.dont_write_bytecode = True
 HERE = Path(__file__).resolve().parent
 sys.path[:0] = [str(HERE), str(HERE.parent)]
 
-LEAST, MOST, LINES = 150, 250, 6
+LEAST, MOST, LINES = 150, 250, 3
 
 CLICKS = """
 const done = arguments[arguments.length - 1];
@@ -149,24 +149,22 @@ def main():
     session.close()
     browser = Browser()
     try:
-        begun = [first_line(lambda: PageServer(lexicon), browser, texts[0]) for _ in range(5)]
+        begun = [first_line(lambda: PageServer(lexicon), browser, texts[0]) for _ in range(3)]
         server = PageServer(lexicon)
         page = Page(browser, server.address).open()
         browser.call("POST", "/timeouts", {"script": 600_000})
         lines = [click_times(browser, page, text, {browser.process, server.process.pid}) for text in texts]
-        times = sorted(ms for line, _ in lines for ms in line)
-        spent = sum(seconds for _, seconds in lines) / (2 * len(times))
         most, now = memory_of(server.process.pid)
         server.stop()
     finally:
         browser.close()
-    at = lambda share: times[min(len(times) - 1, int(share * len(times)))]  # noqa: E731
     print(f"load {os.getloadavg()[0]:.1f} on {os.cpu_count()} processors")
-    print(
-        f"{len(texts)} lines with {LEAST} to {MOST} answers, {len(times)} clicks: median {statistics.median(times):.0f} ms, "
-        f"95th of 100 {at(0.95):.0f} ms, most {times[-1]:.0f} ms"
-    )
-    print(f"processor time: {1000 * spent:.0f} ms for each click, with those that take a choice back")
+    for text, (times, spent) in zip(texts, lines):
+        times.sort()
+        print(
+            f"line of {len(text)} signs, {len(times)} clicks: median {statistics.median(times):.0f} ms, "
+            f"95th of 100 {times[int(0.95 * len(times))]:.0f} ms, processor time {500 * spent / len(times):.0f} ms a click"
+        )
     print(
         f"first line: {statistics.median(all_ for all_, _ in begun):.2f} s from the start of the server, "
         f"{statistics.median(entered for _, entered in begun):.2f} s from Enter"

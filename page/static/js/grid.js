@@ -52,9 +52,15 @@ function keptSegments(choices) {
   return new Set(kept.map(({ at, lead, phase, form }) => [at, lead, phases[phase], form].join()));
 }
 
+// The width of the grid's frame is watched and not asked for while the page is drawn, which would lay it out twice.
+let frameWidth = 0;
+new ResizeObserver(([frame]) => {
+  frameWidth = frame.contentRect.width;
+}).observe(byId("grid-frame"));
+
 /** How many pixels a column has, about. */
 function columnWidth(letters) {
-  const width = (byId("grid-frame").clientWidth - 1.3 * REM) / letters;
+  const width = (frameWidth || document.querySelector("main").clientWidth) / letters;
   return Math.min(COLUMN.most, Math.max(COLUMN.least, width));
 }
 
