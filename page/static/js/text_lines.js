@@ -55,20 +55,23 @@ function adoptState(entry, { refused, line, answers }) {
   Object.assign(entry, refused ? { refused } : { refused: undefined, lineText: line, answers });
 }
 
-/** Gives each note to the entry with its text: that of its own number first, else the first that has none. */
+/**
+ * Gives each note to the entry with its text: that of its own number first, else the first that has none. A note whose
+ * text no line has is given to the line of its number, and is said to be of another text.
+ */
 export function giveNotes(entries, notes) {
   for (const note of notes) {
     const text = note.bookmark.split(";")[1];
     const same = entries.filter((entry) => entry.lineText === text && !entry.note);
     const byNumber = entries.find((entry) => entry.line === note.line && entry.part === note.part && !entry.note);
     const entry = same.find((each) => each === byNumber) ?? same[0] ?? byNumber;
-    if (entry) Object.assign(entry, { note, bookmark: note.bookmark });
+    if (entry) Object.assign(entry, { note, bookmark: note.bookmark, isOtherText: entry.lineText !== text });
   }
 }
 
 /** The state of an entry in a word. */
 export function stateInWords(entry) {
-  if (entry.note?.isFinished) return "finished";
+  if (entry.note?.isFinished) return entry.isOtherText ? "finished with another text" : "finished";
   if (entry.refused) return "not read";
   if (entry.answers === undefined) return "…";
   return ["no answer", "one answer", "several answers"][entry.answers];

@@ -86,7 +86,10 @@ export function rememberReading() {
 export async function finishLine() {
   const { line, part } = state.place;
   const answer = await ask("finish", { lexicon: state.twin, bookmark: state.reading.bookmark, text: room.name, line, part });
-  if (!answer.refused) Object.assign(hereEntry(), { note: answer.note, bookmark: answer.note.bookmark });
+  if (answer.refused) return answer;
+  const entry = hereEntry();
+  const { bookmark } = answer.note;
+  Object.assign(entry, { note: answer.note, bookmark, isOtherText: entry.lineText !== bookmark.split(";")[1] });
   return answer;
 }
 
