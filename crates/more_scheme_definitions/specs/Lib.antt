@@ -1,0 +1,2 @@
+pub mod HarvardKyoto
+pub mod Iast

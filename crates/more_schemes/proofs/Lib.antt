@@ -1,0 +1,3 @@
+pub mod SchemeSteps
+pub mod Entries
+pub mod ComposedTexts
