@@ -58,8 +58,8 @@ impl Annotated {
         self.choices(node).len() as u32
     }
 
-    /// The choice of the node at this place, counted from 0: a rule's number, counted from 1. `None` exactly from
-    /// `choice_count` on. Takes one step.
+    /// The choice of the node at this place, counted from 0: a rule's number, counted from 1. `None` exactly where the place
+    /// is not below `choice_count`. Takes one step.
     pub fn choice<L>(&self, node: Node, i: u32, steps: &mut Steps<L>) -> Option<u32>
         requires { node < length self.now.trie.rows }
         ensures value { result ≡ slice_get (choices_of self.now node) i }

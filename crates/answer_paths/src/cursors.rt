@@ -11,7 +11,7 @@ ghost use Rattle.answer_paths.specs.Fronts.{ways_of};
 ghost use Rattle.answer_paths.specs.Cursors.{path_cursor};
 
 /// An answer is above a cursor exactly where its keys are above the path there. So the next answer is the one whose keys
-/// are the first path above, where no path is above no answer is, and the listings above a cursor have the same answers.
+/// are the first path above; where no path is above, no answer is; and the listings above a cursor have the same answers.
 pub fn cursors_agree()
     ensures above { (rules : RuleSet) (cursor : Cursor) (steps : List Step)
         → IsAbove rules cursor steps ↔ IsPathAbove compare_keys (path_cursor rules cursor) (keys_of rules steps) }

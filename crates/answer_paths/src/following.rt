@@ -10,9 +10,9 @@ ghost use Rattle.listing_laws.specs.Stacks.{Frame, LeadTo};
 ghost use Rattle.answer_paths.specs.Fronts.{ways_of, IsLedTo};
 ghost use Rattle.answer_paths.specs.Following.{step_at, MayFollow, MayEnd};
 
-/// A search from the empty front comes only to fronts of answers so far. After such a front a key leads to the one front
-/// that has the step with this key more, exactly where that step may follow, and ends exactly where that step may end the
-/// line. Both are told by how many letters the front covers, by how the next form is entered, and by the phases; and a key
+/// A search from the empty front comes only to lists of steps that may begin an answer. From such a front a key leads to the
+/// front that has the step with this key at its end, exactly where that step may follow; and it ends exactly where that step
+/// may end the line. How many letters the front covers, how the next form is entered, and the phases decide both; and a key
 /// that leads on tells these of the next front. Some list of phases goes on exactly where the grammar's state is live.
 pub fn keys_are_local()
     ensures led { (lexicon : Lexicon) (line : Line) (choices : List Choice) (frames : List (Frame (List Step) Key)) (top : List Step)

@@ -7,8 +7,9 @@ ghost use Rattle.segmentation_definitions.specs.Answers.{IsAnswer};
 ghost use Rattle.segmentation_definitions.specs.Listings.{Cursor, cursor_after, IsAbove, IsNext, IsPage};
 ghost use Rattle.answer_paths.specs.Pages.{AreFirstAnswers};
 
-/// A page is made of next answers: none is the first of no answers; the next answer after the first ones belongs to them;
-/// and they are a page once they are as many as it asks for, where more says whether one is left, or once none is left.
+/// A page is put together answer by answer. The empty list is the first 0 answers after a cursor; first answers and the next
+/// answer after them are first answers too. They are a page as soon as they are as many as it asks for, where `more` says
+/// whether an answer is left; they are one too where no answer is left.
 pub fn pages_are_made_of_next_answers()
     ensures none { (lexicon : Lexicon) (line : Line) (choices : List Choice) (cursor : Cursor)
         → AreFirstAnswers lexicon line choices cursor [] }

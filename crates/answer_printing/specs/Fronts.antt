@@ -10,7 +10,7 @@ use Rattle.answer_printing.specs.declared.printed_front.PrintedStep.{PrintedStep
 abbrev pub step_in : PrintedStep → Step
 step_in printed = printed.step
 
--- what is read where none was printed
+-- what is read at a place where no step was printed
 abbrev pub nothing : PrintedStep
 nothing = record { step = record { phase = 0; rule = 0; at = 0; lead = 0; taken = 0 }; at = 0; before = 0 }
 

@@ -13,7 +13,7 @@ standing_at search cursor =
     record { searched = search.searched; line = search.line; choices = search.choices; cursor = cursor }
 
 -- the same search has listed these answers, at most count: they are the first ones after where it stood. Where they are as many
--- as count, it stands at the last of them, or where it stood if there is none; else it has come past the last answer
+-- as count, it stands at the last of them, or where it stood if count is 0; else it has come past the last answer
 pub record HasListed (old new : SearchValue) (count : ℕ) (answers : List (List Step)) : Type 0 where
   pub same : new ≡ standing_at old new.cursor
   pub first : AreFirstAnswers old.searched.lexicon old.line old.choices old.cursor answers
@@ -21,7 +21,7 @@ pub record HasListed (old new : SearchValue) (count : ℕ) (answers : List (List
   pub full : length answers ≡ count → new ≡ standing_at old (cursor_after old.cursor answers)
   pub ended : length answers < count → HasEnded (standing_at old (cursor_after old.cursor answers)) new
 
--- the program's steps are now those of the last of the answers, or stay as they were where there is none
+-- the program's steps are now those of the last of the answers, or stay as they were where there is no answer
 abbrev pub KeepsLast : SearchValue → List (List Step) → List ProgramStep → List ProgramStep → Type 0
 KeepsLast search [] before after = after ≡ before
 KeepsLast search (answer ∷ answers) before after =

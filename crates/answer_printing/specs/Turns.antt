@@ -13,7 +13,7 @@ pub record HasPrintedNone (old new : SearchValue) (before after : List ℕ) : Ty
   pub ended : HasEnded old new
   pub nothing : after ≡ before
 
--- it has moved to the next answer, or none was left
+-- it has moved to the next answer, or no answer was left
 abbrev pub HasTurned : SearchValue → SearchValue → ℕ → List ℕ → List ℕ → Bool → Type 0
 HasTurned old new number before after true = HasPrintedNext old new number before after
 HasTurned old new number before after false = HasPrintedNone old new before after

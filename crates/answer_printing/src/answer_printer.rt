@@ -64,7 +64,7 @@ impl<'a> AnswerPrinter<'a> {
         &self.spelled.as_bytes()[at..end]
     }
 
-    /// The form of a step after the rule with the number `before`, 0 for none.
+    /// The form of a step after the rule with the number `before`; 0 stands for no rule.
     fn push_word(&self, output: &mut Vec<u8>, before: u32, step: &Step) -> Result<(), Memory>
         requires before { before ≤ length self.now.rules.rules }
         requires rule { step.now.rule ≤ length self.now.rules.rules }
@@ -77,7 +77,7 @@ impl<'a> AnswerPrinter<'a> {
         Ok(())
     }
 
-    /// `FORM[PHASE]`, for a step after the rule with the number `before`, 0 for none.
+    /// `FORM[PHASE]`, for a step after the rule with the number `before`; 0 stands for no rule.
     fn push_form(&self, output: &mut Vec<u8>, before: u32, step: &Step) -> Result<(), Memory>
         requires before { before ≤ length self.now.rules.rules }
         requires phase { step.now.phase < length self.now.rules.names }

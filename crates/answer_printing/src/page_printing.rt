@@ -48,8 +48,8 @@ fn keep_current<D: SearchGuide>(search: &Search<D>, last: &mut Vec<Step>) -> Res
     Ok(())
 }
 
-/// Moves to the next answer and appends its line. False where none is left; then nothing is appended, and the search stands past
-/// the last.
+/// Moves to the next answer and appends its line. False where no answer is left; then nothing is appended, and the search stands
+/// past the last.
 fn push_next<D: SearchGuide, L>(
     alloc: Global,
     output: &mut Vec<u8>,
@@ -95,8 +95,8 @@ fn push_rest(output: &mut Vec<u8>, more: bool) -> Result<(), Memory>
 
 /// Appends at most `count` answers after where the search stands, an answer a line, numbered from `number` on, and tells how many
 /// these are. Where they are as many as `count`, the search then stands at the last of them, or where it stood if `count` is 0;
-/// else it stands past the last answer. `last` is then the steps of the last answer that was printed; it stays where none was.
-/// Refused only for want of memory.
+/// else it stands past the last answer. `last` is then the steps of the last answer that was printed; it stays as it was where no
+/// answer was printed. Refused only for want of memory.
 pub fn push_answers<D: SearchGuide, L>(
     alloc: Global,
     output: &mut Vec<u8>,
@@ -126,7 +126,7 @@ pub fn push_answers<D: SearchGuide, L>(
 }
 
 /// Appends a page: at most `count` answers after where the search stands, an answer a line, numbered from `number` on, then
-/// `more` where one is left and `end` where none is. Refused only for want of memory.
+/// `more` where an answer is left and `end` where no answer is. Refused only for want of memory.
 pub fn push_page<D: SearchGuide, L>(
     alloc: Global,
     output: &mut Vec<u8>,

@@ -5,7 +5,7 @@ ghost use Rattle.answer_printing.specs.Fronts.{AreStarts, IsOpen, step_in};
 use derivation::Step;
 use std::alloc::Global;
 
-/// A step that was printed: where its text begins, and the rule before it, 0 for none.
+/// A step that was printed: where its text begins, and the number of the rule before it; 0 stands for no rule.
 #[derive(Clone, Copy, Debug)]
 pub(crate) struct PrintedStep {
     pub step: Step,
@@ -13,7 +13,7 @@ pub(crate) struct PrintedStep {
     pub before: u32,
 }
 
-/// The printed steps of an answer. The next answer mostly begins with many of them, and only those after these are printed anew.
+/// The printed steps of an answer. The next answer mostly begins with many of them, so only the steps after these are printed anew.
 #[derive(Debug, Drop)]
 pub(crate) struct PrintedFront {
     pub steps: Vec<PrintedStep>,

@@ -27,7 +27,7 @@ fn count_of_workers(rt: &impl Threads) -> usize {
     }
 }
 
-/// A place for the reply to each line, where there is none yet.
+/// A place for the reply to each line, with no reply in it yet.
 #[tactic(auto, using(crate::proofs::FoundReplies::none_more))]
 fn no_replies(alloc: Global, lines: &[Line]) -> Result<Vec<Option<Vec<u8>>>, Memory>
     ensures { IfOk result (λ found. (lexicon : LexiconValue) (count : ℕ) → AreFound lexicon count lines.now found.items) }
@@ -39,8 +39,8 @@ fn no_replies(alloc: Global, lines: &[Line]) -> Result<Vec<Option<Vec<u8>>>, Mem
     Ok(found)
 }
 
-/// The replies that one worker finds: to each next line that no worker has taken yet, until none is left. `next` counts the lines that
-/// were taken. Each reply stands at the place of its line, whatever `next` tells.
+/// The replies that one worker finds: it takes the next line that no worker has taken, and goes on until no line is left. `next` counts
+/// the lines that were taken. Each reply stands at the place of its line, whatever `next` tells.
 #[tactic(auto, using(crate::proofs::FoundReplies::one_found, crate::proofs::FoundReplies::zip_length))]
 fn find_replies<G: Gate>(
     alloc: Global,
@@ -105,8 +105,8 @@ fn find_by_workers<R: Threads + Sync, G: Gate + Sync>(
     Ok(found)
 }
 
-/// The replies to all lines, of which these were found. A line that no worker has answered would be answered here: that the count of the
-/// lines that were taken leaves none out is not proved, and nothing rests on it.
+/// The replies to all lines, of which these were found. A line that no worker has answered is answered here. That the count of the lines
+/// that were taken leaves no line out is not proved, and nothing rests on it.
 #[tactic(auto, using(crate::proofs::RepliesInOrder::replies_with_next, crate::proofs::FoundReplies::reply_found, crate::proofs::FoundReplies::taken_out, crate::proofs::FoundReplies::zip_length))]
 fn complete<G: Gate>(
     alloc: Global,
@@ -129,7 +129,7 @@ fn complete<G: Gate>(
 }
 
 /// The printed page of each line, at most `count` answers a page: reply `i` is that of line `i`. Workers, one for each processor and at
-/// least 2, answer the lines side by side by the runtime's join; each takes the next line that none has taken, until no line is left.
+/// least 2, answer the lines side by side by the runtime's join; each takes the next line that no worker has taken, until all are taken.
 /// Just before a worker begins line `i`, counted from 0, it passes the gate with `i`. The texts are those of the lexicon's rules, so that
 /// a caller with many lists of lines makes them once. Refused only for want of memory.
 pub(crate) fn read_all_with<R: Threads + Sync, G: Gate + Sync>(

@@ -65,8 +65,8 @@ impl<'a, G: Gate + Sync> Batch<'a, G> {
     }
 
     /// Writes the reply to each line of the text after its number, counted from 1: the page of its first answers, or `?` and why it
-    /// is no line. The lines are cut at each line end; nothing after the last one is no line. The replies of a block are written
-    /// before the next block is begun.
+    /// is no line. The text is cut at each line end; what follows the last line end is a line only where it is not empty. The replies
+    /// of a block are written before the next block is begun.
     pub fn serve<R: Threads + Sync, O: Sink>(
         &self,
         rt: &R,

@@ -15,7 +15,7 @@ pub(crate) const BLOCK_LINES: usize = 64;
 /// Lines of a text as they are read.
 #[derive(Drop)]
 pub(crate) struct Block {
-    /// The fault of each of them; none where it is a line that is answered.
+    /// The fault of each of them, or `None` for a line that is answered.
     pub faults: Vec<Option<LineFault>>,
     /// The lines that are answered, in their order.
     pub lines: Vec<Line>,

@@ -1,9 +1,9 @@
 //! The lines of a text answered, each by its printed page: a block of lines at a time is answered at once, and its replies are written
-//! before the next block is begun. A worker for each processor, begun by the runtime's join, takes the next line that none has taken.
+//! before the next block is begun. A worker for each processor, begun by the runtime's join, takes the next line that no other has taken.
 //!
 //! Proved of `Batch::serve`, over any sink: where it succeeds, the replies to all lines of the text were written, each after its
 //! number, in the order of the lines (`ok`), however many threads there were; wherever it stops, a prefix of the replies to some first
-//! lines, which begin them (`prefix`); it fails only where the sink counted a fault (`fault`). `read_all` gives a reply for each of
+//! lines was written (`prefix`); it fails only where the sink counted a fault (`fault`). `read_all` gives a reply for each of
 //! some lines, in their order, and each is the page that the line has when it is answered alone (`ok`); it is refused only for want
 //! of memory.
 //!

@@ -42,7 +42,7 @@ fn push_page<'a>(output: &mut Vec<u8>, pages: &'a [Vec<u8>]) -> Result<&'a [Vec<
     }
 }
 
-/// Appends the reply to a line after its number: its fault, or where it has none the first of the pages. Gives the pages that are
+/// Appends the reply to a line after its number: its fault, or the first of the pages where it has no fault. Gives the pages that are
 /// left.
 fn push_reply<'a>(
     alloc: Global,
@@ -68,8 +68,8 @@ fn push_reply<'a>(
     }
 }
 
-/// Appends the replies to the lines of a block, the first of which has this number: of each its fault, or where it has none the next
-/// of the pages.
+/// Appends the replies to the lines of a block, the first of which has this number: for each line its fault, or the next of the pages
+/// where it has no fault.
 pub(crate) fn push_replies(
     alloc: Global,
     output: &mut Vec<u8>,

@@ -154,7 +154,7 @@ fn assert_read<R: Abort + AllocGlobal + Threads + Sync, G: Gate + Sync>(
     Ok(())
 }
 
-// From none to five lines, cut at each place: the replies are those of one line at a time, in the order of the lines, and the worker
+// From no line to five lines, cut at each place: the replies are those of one line at a time, in the order of the lines, and the worker
 // of each line has passed the gate once.
 #[test]
 fn replies_come_in_the_order_of_the_lines(rt: HostRuntime) -> Result<(), Fail> {

@@ -1,5 +1,5 @@
--- The bookmark that a text is read as, or none (own). The text is cut at `;`, its choices and keys at `,`, and each of these
--- at `.`.
+-- The bookmark that a text is read as, if it is the text of one (own). The text is cut at `;`, its choices and keys at `,`, and
+-- each of these at `.`.
 use Rattle.std.specs.Prelude.{ℕ, ◌+◌, ◌*◌, ◌==◌, ◌&&◌, not, nat_le, Bool, true, false, if◌then◌else◌, Option, Some, None, option_map, option_and_then, Ok, List, [], ◌∷◌, length, codes}
 use Rattle.std.specs.List.{slice_split, concat}
 use Rattle.std.specs.Str.{bytes_eq, all_ascii_digits}
@@ -141,6 +141,6 @@ bookmark_of_fields (version ∷ line ∷ choices ∷ printed ∷ keys ∷ []) =
     else None
 bookmark_of_fields fields = None
 
--- the bookmark that a text is read as, or none
+-- the bookmark that a text is read as; None where it is the text of no bookmark
 unfoldable pub bookmark_of_text : List ℕ → Option Bookmark
 bookmark_of_text text = bookmark_of_fields (slice_split (λ mark. mark == 59) text)

@@ -14,7 +14,7 @@ pub fn a_bookmark_is_read_back()
     ensures { (mark : Bookmark) → IsBookmark mark → bookmark_of_text (text_of_bookmark mark) ≡ Some mark }
 {}
 
-/// The text of a bookmark within the bounds has fewer than 65,000 bytes, so that a line of a session which resumes it is not too long.
+/// The text of a bookmark within the bounds has fewer than 65,000 bytes, so the line of a session that resumes it is not too long.
 pub fn a_bookmark_is_short()
     ensures { (mark : Bookmark) → IsBookmark mark → length (text_of_bookmark mark) < 65000 }
 {}

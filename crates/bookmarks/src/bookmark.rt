@@ -2,7 +2,7 @@ use derivation::{Choice, Key};
 use phoneme::Line;
 
 /// A position in the listing of a line (own): the line, the reader's choices, oldest first, how many answers were printed, and
-/// the keys of the last of these, which are none where no answer was printed.
+/// the keys of the last of these. There are no keys where no answer was printed.
 #[derive(Debug, Drop)]
 pub struct Bookmark {
     pub line: Line,

@@ -1,7 +1,7 @@
 //! Bookmarks: a position in the listing of a line's answers, kept as one short text, from which a reader goes on another day.
 //!
 //! Proved: `print_bookmark` gives the text of a bookmark (`ok`), and `read_bookmark` the bookmark that a text is read as (`ok`);
-//! it answers `Form` only where the text is read as none (`form`). Both are refused besides only for want of memory. By the laws
+//! it answers `Form` only where the text is that of no bookmark (`form`). Otherwise both are refused only for want of memory. By the laws
 //! of `bookmark_definitions` what is printed is read as the same bookmark, and what is read has the text that was read.
 #![tactic(auto)]
 

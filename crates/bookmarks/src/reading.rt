@@ -20,7 +20,7 @@ fn is_within_bounds(mark: &Bookmark) -> bool
         && mark.keys.is_empty() == (mark.printed == 0)
 }
 
-/// The bookmark whose text these bytes are (own format). Refused for its form where they are the text of none.
+/// The bookmark whose text these bytes are (own format). Refused with `Form` where they are the text of no bookmark.
 pub fn read_bookmark(alloc: Global, text: &[u8]) -> Result<Bookmark, BookmarkError>
     ensures ok { IfOk result (λ mark. bookmark_of_text text.now ≡ Some (bookmark_of mark)) }
     ensures form { result ≡ Err BookmarkError.Form → bookmark_of_text text.now ≡ None }

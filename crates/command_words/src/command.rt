@@ -183,7 +183,7 @@ fn command_with<'a>(name: &str, given: &Given<'a>) -> Option<Command<'a>>
     }
 }
 
-/// The command that the words are, if they are one.
+/// The command that the words give, with its arguments, if they give one.
 pub fn command_of(alloc: Global, words: &[String]) -> Result<Option<Command<'_>>, Memory>
     ensures command { IfOk result (λ read. IfSome read (λ command. AreWordsOf (command_meant command) (map string_bytes words.now))) }
     ensures none { IfOk result (λ read. IfNone read (AreOfNoCommand (map string_bytes words.now))) }

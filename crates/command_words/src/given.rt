@@ -16,7 +16,7 @@ pub(crate) struct Given<'a> {
     pub arguments: Vec<PlacedWord<'a>>,
 }
 
-/// What the words after a command's name give, of which the first has the place 1; none where they may not stand so.
+/// What the words after a command's name give; the first of them has the place 1. `None` where words may not stand like this.
 pub(crate) fn given_of(alloc: Global, words: &[String]) -> Result<Option<Given<'_>>, Memory>
     requires count { length words.now < 2 ^ 32 - 1 }
     requires within_limit { All (λ word. length (string_bytes word) ≤ MOST_WORD_BYTES) words.now }

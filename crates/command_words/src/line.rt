@@ -11,7 +11,7 @@ use phoneme::Memory;
 use std::alloc::Global;
 
 /// The words after a command's name as `clap` reads them: an option `--in` with a value, and arguments. There is no flag for
-/// help and none for a version.
+/// help or for a version.
 fn command_line<'a>(alloc: Global) -> Result<Command<'a>, Memory>
     ensures { IfOk result (λ command. app_of command ≡ line_app) }
 {
@@ -24,7 +24,7 @@ fn command_line<'a>(alloc: Global) -> Result<Command<'a>, Memory>
     Ok(bare.arg(value)?.arg(argument)?)
 }
 
-/// What `clap` finds in the words after a command's name; none where it refuses them.
+/// What `clap` finds in the words after a command's name; `None` where it refuses them.
 pub(crate) fn matches_of(alloc: Global, words: &[String]) -> Result<Option<ArgMatches<'_>>, Memory>
     ensures { IfOk result (λ read. MatchOption read (given_by (map string_bytes words.now) ≡ None)
         (λ matches. (given : Given) × (given_by (map string_bytes words.now) ≡ Some given)

@@ -22,7 +22,7 @@ stem_drawn seed =
     letter_drawn consonants seed ∷ letter_drawn vowels (seed_after seed 1) ∷ letter_drawn consonants (seed_after seed 2)
     ∷ letter_drawn vowels (seed_after seed 3) ∷ letter_drawn consonants (seed_after seed 4) ∷ codes "a"
 
--- the stems with this one as the last, where it is none of them
+-- the stems with this one after them, unless it is one of them
 abbrev pub with_stem : List (List ℕ) → List ℕ → List (List ℕ)
 with_stem stems stem = if list_any (bytes_eq stem) stems then stems else stems ++ stem ∷ []
 

@@ -7,8 +7,8 @@ use phoneme::{Line, Memory, Word};
 use sandhi_rules::RuleSet;
 use std::alloc::Global;
 
-/// The form of a step after the rule with the number `before`, 0 for none: the letters that this rule supplies (its
-/// `v`), the letters of the line that the step takes, and the `u` of the step's rule (Huet 2005).
+/// The form of a step after the rule with the number `before`, where 0 stands for no rule: the letters that this rule supplies
+/// (its `v`), the letters of the line that the step takes, and the `u` of the step's rule (Huet 2005).
 pub fn form_after(
     alloc: Global,
     rules: &RuleSet,

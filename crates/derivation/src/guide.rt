@@ -4,10 +4,10 @@ use super::Entrance;
 use outside::Steps;
 use phase_automaton::State;
 
-/// What keeps a search from going on in vain (own). Of each configuration that it covers, which is how many letters of the
-/// line are derived, how the next form is entered, and the state of the grammar, a guide says whether a search is to go on
-/// from there. A trait knows no lexicon: the calls that take a guide ask that it is one for their lexicon, line and choices,
-/// which covers every configuration within these and never says false of one that stands in an answer.
+/// What keeps a search from going on in vain (own). A configuration is how many letters of the line are derived, how the next
+/// form is entered, and the state of the grammar; a guide says of each configuration that it covers whether a search is to go
+/// on from there. A trait knows no lexicon: the calls that take a guide ask that it is one for their lexicon, line and choices.
+/// Such a guide covers every configuration within these, and never says false of one that stands in an answer.
 pub trait Guide {
     ghost use Rattle.derivation.specs.declared.entrance.Entrance.{Entrance};
 

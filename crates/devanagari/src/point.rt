@@ -16,11 +16,11 @@ pub enum Point {
     Letter(Letter),
     /// The sign of a vowel after a consonant.
     Sign(Letter),
-    /// None of these.
+    /// Anything else.
     Foreign,
 }
 
-/// The code of the letter of each code point from U+0900 on, 0 where it is none.
+/// The code of the letter of each code point from U+0900 on, or 0 where it is no letter.
 static LETTERS: [u8; 128] = [
     0, 15, 14, 16, 0, 1, 2, 3, 4, 5, 6, 7, 9, 0, 0, 10, 11, 0, 0, 12, 13, 17, 18, 19, 20, 21, 22,
     23, 24, 25, 26, 27, 28, 29, 30, 31, 32, 33, 34, 35, 36, 0, 37, 38, 39, 40, 41, 42, 43, 0, 44,
@@ -29,7 +29,7 @@ static LETTERS: [u8; 128] = [
     0, 0, 0, 0, 0, 0, 0, 0, 0, 0, 0, 0, 0, 0, 0,
 ];
 
-/// The code of the vowel whose sign each code point from U+0900 on is, 0 where it is none.
+/// The code of the vowel whose sign each code point from U+0900 on is, or 0 where it is no vowel's sign.
 static SIGNS: [u8; 128] = [
     0, 0, 0, 0, 0, 0, 0, 0, 0, 0, 0, 0, 0, 0, 0, 0, 0, 0, 0, 0, 0, 0, 0, 0, 0, 0, 0, 0, 0, 0, 0, 0,
     0, 0, 0, 0, 0, 0, 0, 0, 0, 0, 0, 0, 0, 0, 0, 0, 0, 0, 0, 0, 0, 0, 0, 0, 0, 0, 0, 0, 0, 0, 2, 3,

@@ -69,7 +69,7 @@ impl Reader {
         Ok(self.word)
     }
 
-    /// Gives the last consonant its vowel `a`, where it has none yet.
+    /// Gives the last consonant its vowel `a`, where it has no vowel yet.
     fn push_a_if_bare(&mut self) -> Result<(), Memory>
         ensures ok { OnOk result (self.new.word ≡ (if self.old.bare then self.old.word ++ 1 ∷ [] else self.old.word)) }
         ensures bare { self.new.bare ≡ self.old.bare }

@@ -8,7 +8,7 @@ use phoneme::Memory;
 use std::alloc::Global;
 
 /// The tag that has this text, as its bytes, in this project's own notation: GENDER.NUMBER.CASE, as `m.sg.nom`,
-/// TENSE.VOICE.PERSON.NUMBER, as `pr.ac.3.sg`, or one of `iic`, `pv` and `ind`. `None` where the text is no tag's.
+/// TENSE.VOICE.PERSON.NUMBER, as `pr.ac.3.sg`, or one of `iic`, `pv` and `ind`. `None` where no tag has this text.
 /// Takes no memory.
 pub fn read_tag(text: &[u8]) -> Option<Tag>
     ensures some { IsSome result ↔ IsTagText text.now }

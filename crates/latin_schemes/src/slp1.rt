@@ -10,7 +10,7 @@ use std::alloc::Global;
 /// The byte of each letter, by code from 1.
 static BYTES: [u8; 50] = *b"aAiIuUfFxeEoOM~HkKgGNcCjJYwWqQRtTdDnpPbBmyrlvSzsh'";
 
-/// The code of the letter that each byte spells, 0 where it spells none.
+/// The code of the letter that each byte spells, or 0 where it spells no letter.
 static CODES: [u8; 256] = [
     0, 0, 0, 0, 0, 0, 0, 0, 0, 0, 0, 0, 0, 0, 0, 0, 0, 0, 0, 0, 0, 0, 0, 0, 0, 0, 0, 0, 0, 0, 0, 0,
     0, 0, 0, 0, 0, 0, 0, 50, 0, 0, 0, 0, 0, 0, 0, 0, 0, 0, 0, 0, 0, 0, 0, 0, 0, 0, 0, 0, 0, 0, 0,
@@ -23,7 +23,7 @@ static CODES: [u8; 256] = [
     0, 0, 0, 0, 0, 0, 0, 0, 0, 0, 0, 0, 0, 0, 0, 0,
 ];
 
-/// The word that an SLP1 text spells, one byte a letter. `NotLetter` at the first byte of no letter, places
+/// The word that an SLP1 text spells, one byte a letter. `NotLetter` at the first byte that spells no letter, places
 /// counted in bytes from 0. The table is that of SLP1 (Scharf and Hyman).
 pub fn read_slp1(alloc: Global, text: &[u8]) -> Result<Word, SpellError>
     requires { length text.now < 2 ^ 32 }

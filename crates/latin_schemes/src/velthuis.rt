@@ -21,7 +21,7 @@ fn next_spelling(text: &[u8], at: usize) -> usize
 }
 
 /// The word that a Velthuis text spells: at each place the longest spelling of the table is one letter, and a `_`
-/// between two spellings is passed over. `NotLetter` at the first byte where neither stands, counted from 0. The
+/// between two spellings is passed over. `NotLetter` at the first byte where there is neither, counted from 0. The
 /// spelling `~m` of code 15 is this project's own choice.
 pub fn read_velthuis(alloc: Global, text: &[u8]) -> Result<Word, SpellError>
     requires { length text.now < 2 ^ 32 }

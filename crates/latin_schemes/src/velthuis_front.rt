@@ -40,7 +40,7 @@ pub fn is_lengthened(spelling: &[u8], next: u8) -> bool
     }
 }
 
-/// The code of the letter that the byte spells alone, 0 where it spells none.
+/// The code of the letter that the byte spells alone, or 0 where it spells no letter.
 #[tactic(auto, unfolding(text_definitions::specs::Velthuis::velthuis_letter, text_definitions::specs::Velthuis::velthuis_table, text_definitions::specs::Velthuis::velthuis_capital))]
 fn single(byte: u8) -> u8
     ensures value { letter_with_code result ≡ velthuis_letter (byte ∷ []) }
@@ -74,7 +74,7 @@ fn single(byte: u8) -> u8
     }
 }
 
-/// The code of the letter that two bytes spell, 0 where they spell none.
+/// The code of the letter that two bytes spell, or 0 where they spell no letter.
 #[tactic(auto, unfolding(text_definitions::specs::Velthuis::velthuis_letter, text_definitions::specs::Velthuis::velthuis_table, text_definitions::specs::Velthuis::velthuis_capital))]
 fn pair(first: u8, second: u8) -> u8
     ensures value { letter_with_code result ≡ velthuis_letter (first ∷ second ∷ []) }
@@ -110,7 +110,7 @@ fn pair(first: u8, second: u8) -> u8
     }
 }
 
-/// The code of the letter that three bytes spell, 0 where they spell none.
+/// The code of the letter that three bytes spell, or 0 where they spell no letter.
 #[tactic(auto, unfolding(text_definitions::specs::Velthuis::velthuis_letter, text_definitions::specs::Velthuis::velthuis_table, text_definitions::specs::Velthuis::velthuis_capital))]
 fn triple(first: u8, second: u8, third: u8) -> u8
     ensures value { letter_with_code result ≡ velthuis_letter (first ∷ second ∷ third ∷ []) }

@@ -10,7 +10,7 @@ use std::alloc::Global;
 /// The byte of each letter, by code from 1.
 static BYTES: [u8; 50] = *b"aAiIuUqQLeEoOMzHkKgGfcCjJFtTdDNwWxXnpPbBmyrlvSRshZ";
 
-/// The code of the letter that each byte spells, 0 where it spells none.
+/// The code of the letter that each byte spells, or 0 where it spells no letter.
 static CODES: [u8; 256] = [
     0, 0, 0, 0, 0, 0, 0, 0, 0, 0, 0, 0, 0, 0, 0, 0, 0, 0, 0, 0, 0, 0, 0, 0, 0, 0, 0, 0, 0, 0, 0, 0,
     0, 0, 0, 0, 0, 0, 0, 0, 0, 0, 0, 0, 0, 0, 0, 0, 0, 0, 0, 0, 0, 0, 0, 0, 0, 0, 0, 0, 0, 0, 0, 0,
@@ -23,8 +23,8 @@ static CODES: [u8; 256] = [
     0, 0, 0, 0, 0, 0, 0, 0, 0, 0, 0, 0, 0, 0,
 ];
 
-/// The word that a WX text spells, one byte a letter. `NotLetter` at the first byte of no letter, places counted in
-/// bytes from 0. The table is that of WX, where the bytes `Q`, `L`, `z` and `Z` of the codes 8, 9, 15 and 50 are this
+/// The word that a WX text spells, one byte a letter. `NotLetter` at the first byte that spells no letter, places counted
+/// in bytes from 0. The table is that of WX, where the bytes `Q`, `L`, `z` and `Z` of the codes 8, 9, 15 and 50 are this
 /// project's own choice.
 pub fn read_wx(alloc: Global, text: &[u8]) -> Result<Word, SpellError>
     requires { length text.now < 2 ^ 32 }

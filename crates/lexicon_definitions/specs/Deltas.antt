@@ -24,7 +24,7 @@ analysis_by form delta =
       tag = delta.tag;
     }
 
--- the delta gives the form this analysis, and none that does cuts fewer letters
+-- the delta gives the form this analysis, and no delta that does so cuts fewer letters
 pub record IsDelta (form : List ℕ) (analysis : Analysis) (delta : Delta) : Type 0 where
   pub within : delta.cut ≤ length form
   pub gives : analysis_by form delta ≡ analysis

@@ -19,8 +19,8 @@ placed_at Less new changed x xs placed = x ∷ placed
 placed_at Equal new changed x xs placed = changed ∷ xs
 placed_at Greater new changed x xs placed = new ∷ x ∷ xs
 
--- the rising list with the element at the place changed, or with the new one there where there is none; `side` says of each
--- element whether it stands before the place, at it or after it
+-- the rising list with the element at the place changed, or with the new one put there where no element stands there; `side` says
+-- of each element whether it stands before the place, at it or after it
 abbrev pub placed : {X : Type 0} → (X → Ordering) → X → (X → X) → List X → List X
 placed side new change [] = new ∷ []
 placed side new change (x ∷ xs) = placed_at (side x) new (change x) x xs (placed side new change xs)

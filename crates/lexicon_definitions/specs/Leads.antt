@@ -15,7 +15,7 @@ pub record Lead : Type 0 where
 abbrev pub compare_leads : Lead → Lead → Ordering
 compare_leads left right = ordering_then (compare_words left.v right.v) (nat_cmp left.after right.after)
 
--- rising leads with that of a rule with this v and this set of phases after it; a final rule, whose v is empty, has none
+-- rising leads with that of a rule with this v and this set of phases after it; a final rule, whose v is empty, has no lead
 abbrev pub with_lead : List Lead → List ℕ → ℕ → List Lead
 with_lead leads [] after = leads
 with_lead leads (letter ∷ letters) after = with_element compare_leads leads (record { v = letter ∷ letters; after = after })
@@ -37,7 +37,7 @@ IsLeadOf rules lead = (rule : Rule) × Contains rules rule × IsInner rule × (r
 abbrev pub lead_of : Rule → Lead
 lead_of rule = record { v = rule.v; after = rule.after }
 
--- where the rule's lead stands among the leads, counted from 0; a final rule has none
+-- where the rule's lead stands among the leads, counted from 0; a final rule has no lead
 abbrev pub IsLeadPlace : List Lead → Rule → Option ℕ → Type 0
 IsLeadPlace leads rule None = IsFinal rule
 IsLeadPlace leads rule (Some place) = IsInner rule × (slice_get leads place ≡ Some (lead_of rule))

@@ -48,7 +48,7 @@ compare_pairs left right = ordering_then (nat_cmp left.0 right.0) (nat_cmp left.
 abbrev pub tree_of : RuleSet → Grammar
 tree_of rules = grammar_of rules.names rules.grammar
 
--- the forms of a phase, none where there is no such phase
+-- the forms of a phase; no forms where there is no such phase
 abbrev pub forms_of : Lexicon → ℕ → List Form
 forms_of lexicon phase = slice_index_or lexicon.phases phase []
 

@@ -38,7 +38,7 @@ IsFinal rule = rule.v ≡ []
 abbrev pub IsUnlimited : ℕ → Rule → Type 0
 IsUnlimited count rule = (rule.before ≡ all_phases count) × (IsInner rule → rule.after ≡ all_phases count)
 
--- the set of the phases after an unlimited rule with this v: all of them, or none where the rule is final
+-- the set of the phases after an unlimited rule with this v: all phases, or no phase where v is empty, so that the rule is final
 abbrev pub phases_after : ℕ → List ℕ → ℕ
 phases_after count [] = 0
 phases_after count (letter ∷ v) = all_phases count

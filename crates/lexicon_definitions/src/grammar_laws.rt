@@ -26,7 +26,7 @@ pub fn same_positions_same_state()
         → IsStateAfter grammar left first → IsStateAfter grammar right second → first ≡ second }
 {}
 
-/// A grammar text has one first fault at most, and none where it is a grammar text within the limits.
+/// A text has one first fault as a grammar text at most, and no fault where it is a grammar text within the limits.
 pub fn a_grammar_text_has_one_first_fault()
     ensures one { (names : List (List ℕ)) (text : List ℕ) (first second : Fault) → IsFirstFault names text first
         → IsFirstFault names text second → first ≡ second }

@@ -18,8 +18,8 @@ pub record AreKept (rules : List Rule) (triples : List Triple) (leads : List (Li
 abbrev pub has_twin : List Rule → Rule → Bool
 has_twin rules new = list_any (has_triple new.u new.v new.w) rules
 
--- the rule is appended where none has its triple, and it is a twin where one has; memory may be wanting; a refusal leaves all as
--- it was
+-- the rule is appended where no rule has its triple, and it is a twin where one has; memory may be wanting; a refusal leaves all
+-- as it was
 abbrev pub IsAdded : {A : Type 0} → List Rule → Rule → Result A TakeError → List Rule → Type 0
 IsAdded old rule (Ok done) new = (has_twin old rule ≡ false) × (new ≡ old ++ rule ∷ [])
 IsAdded old rule (Err (Why why)) new = (why ≡ Twice) × (has_twin old rule ≡ true) × (new ≡ old)

@@ -14,7 +14,7 @@ use Rattle.lexicon_file.specs.declared.take_error.TakeError.TheVariants.{Why, Me
 use Rattle.lexicon_file.specs.declared.error.FileWhy.TheVariants.{NoEnd}
 use Rattle.lexicon_file.specs.Faults.{why_of}
 
--- no phase after this one has a form, and where it has none no phase has one
+-- no phase after this one has a form; and where this one has no form, no phase has a form
 pub record IsLastPhase (lists : List (List Form)) (last : ℕ) : Type 0 where
   pub within : last < length lists
   pub none_after : (phase : ℕ) → last < phase → slice_index_or lists phase [] ≡ []

@@ -32,7 +32,7 @@ impl Model for RulesSoFar {
     ghost invariant = { λ r. AreKept r.rules.items r.triples.keys r.leads.keys };
 }
 
-/// Puts a rule's `v` among the leads, unless it is empty or there. Wants no memory where there is room for one more.
+/// Puts a rule's `v` among the leads, unless it is empty or already there. Wants no memory where there is room for one more.
 fn add_lead(leads: &mut IndexSet<Word>, v: Word) -> Result<(), Memory>
     ensures ok { OnOk result (leads.new.keys ≡ with_v leads.old.keys v) }
     ensures room { 0 < spare leads.old → IsOk result }
@@ -66,7 +66,7 @@ impl RulesSoFar {
         rules
     }
 
-    /// How many different `v` that are not empty the rules have with one of this `v`.
+    /// How many different `v` that are not empty the rules have together with this `v`.
     fn leads_with(&self, v: &Word) -> usize
         ensures { result ≡ length (with_v (different_v self.now) v.now) }
     {

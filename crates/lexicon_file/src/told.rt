@@ -68,7 +68,7 @@ fn rising(order: Ordering) -> Result<(), TakeError>
     }
 }
 
-/// How the last pair compares with a new one; below it where there is none.
+/// How the last pair compares with a new one; `Less` where there is no pair yet.
 fn compare_last_pair(pairs: &[(Letter, Letter)], pair: &(Letter, Letter)) -> Ordering
     ensures { result ≡ compare_last_of compare_pairs pairs.now pair.now }
 {
@@ -78,7 +78,7 @@ fn compare_last_pair(pairs: &[(Letter, Letter)], pair: &(Letter, Letter)) -> Ord
     }
 }
 
-/// Whether after so many entries there is none more, or the entry's form or its stem is too long.
+/// Whether no entry may come after so many, or the entry's form or its stem is too long.
 fn passes_form_limits(lines: usize, entry: &Entry) -> bool
     ensures { result ≡ (nat_le MOST_FORM_LINES lines || nat_lt MOST_FORM_LETTERS (length entry.now.form) || nat_lt MOST_FORM_LETTERS (length entry.now.analysis.stem)) }
 {
@@ -225,7 +225,7 @@ impl Told {
         self.take_triple(u, v, w)
     }
 
-    /// How the last entry compares with a new one; below it where there is none.
+    /// How the last entry compares with a new one; `Less` where there is no entry yet.
     fn compare_last(&self, entry: &Entry) -> Ordering
         requires { may_follow self.now.last Form ≡ true }
         ensures { result ≡ compare_last_of compare_entries self.now.forms (text_entry entry.now) }
@@ -331,7 +331,7 @@ impl Told {
         self.take_kind(alloc, kind, rest)
     }
 
-    /// Takes the next line, whether ended by a line end or not.
+    /// Takes the next line, whether a line end comes after it or not.
     pub(crate) fn take_line(
         &mut self,
         alloc: Global,

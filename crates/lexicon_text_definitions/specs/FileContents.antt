@@ -53,7 +53,7 @@ are_tag_words words = false
 unfoldable pub is_tag_text : List ℕ → Bool
 is_tag_text text = are_tag_words (slice_split (λ byte. byte == 46) text)
 
--- how a new one compares with the last of those before it, which is below it where there is none
+-- how the last of these compares with a new one; below it where there is no last one
 abbrev pub compare_last : {A : Type 0} → (A → A → Ordering) → List A → A → Ordering
 compare_last compare [] new = Less
 compare_last compare (last ∷ []) new = compare last new
@@ -65,7 +65,7 @@ compare_last compare (first ∷ second ∷ rest) new = compare_last compare (sec
 abbrev pub has_triple : List ℕ → List ℕ → List ℕ → Rule → Bool
 has_triple u v w rule = bytes_eq rule.u u && bytes_eq rule.v v && bytes_eq rule.w w
 
--- these words, with a rule's v where it is not empty and none of them
+-- these words, with a rule's v after them unless it is empty or one of them
 abbrev pub with_v : List (List ℕ) → List ℕ → List (List ℕ)
 with_v words v = if is_empty v || list_any (bytes_eq v) words then words else words ++ v ∷ []
 

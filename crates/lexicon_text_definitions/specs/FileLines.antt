@@ -79,7 +79,7 @@ may_follow Form Form = true
 may_follow Form End = true
 may_follow last kind = false
 
--- a part of a rule has none of the marks `|` and `>`
+-- whether one of the marks `|` and `>`, which no part of a rule may have, stands in this part
 abbrev pub has_mark : List ℕ → Bool
 has_mark part = list_any (λ byte. byte == 124 || byte == 62) part
 

@@ -10,7 +10,7 @@ use Rattle.lexicon_text_definitions.specs.FileContents.{Told, nothing_told, lexi
 use Rattle.lexicon_text_definitions.specs.FileSteps.{Taken, take_line}
 
 -- What is read in lines, by computation alone: all that they tell; the first fault; or, at a grammar line, what decides.
--- There the text's own first fault is the line's, and where it has none what is read after it counts. That is left open
+-- There the text's own first fault is the line's, and where it has no fault, what is read after it counts. That is left open
 -- since a text is at fault by a number of states, which is not found by looking at its bytes.
 pub data Reading : Type 0 where
   Content : (told : Told) → Reading

@@ -32,7 +32,7 @@ From compare first branch = (first ≡ branch) ⊎ (compare first branch ≡ Les
 abbrev pub After : {Branch : Type 0} → (Branch → Branch → Ordering) → Branch → Branch → Type 0
 After compare last branch = compare last branch ≡ Less
 
--- none
+-- no branch
 abbrev pub Nothing : {Branch : Type 0} → Branch → Type 0
 Nothing branch = ⊥
 

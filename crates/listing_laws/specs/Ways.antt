@@ -16,7 +16,7 @@ abbrev pub IsBranch : {Configuration Branch : Type 0} → Ways Configuration Bra
 IsBranch {Configuration} ways at branch = ways.ends at branch ⊎ ((next : Configuration) × ways.leads at branch next)
 
 -- what is asked of ways: their order is total; branches of one configuration that compare as equal are the same; a branch
--- leads to one configuration at most; and none both ends and leads on
+-- leads to one configuration at most; and no branch both ends and leads on
 pub record AreOrderly {Configuration Branch : Type 0} (ways : Ways Configuration Branch) : Type 0 where
   pub total : IsTotalOrder ways.compare
   pub same : (at : Configuration) (left right : Branch) → IsBranch ways at left → IsBranch ways at right

@@ -9,7 +9,7 @@ use crate::searched::Searched;
 
 /// How a search moves on. At the start every path is still to come. Branches that begin no path may be passed over. The
 /// first branch left, if it leads on, is taken; if it ends, the path that ends there is the first that is wanted, and then
-/// the later ones are left. Where no branch is left the last frame is taken off; where there is none, nothing is wanted.
+/// the later ones are left. Where no branch is left the last frame is taken off; where no frame is left, no path is wanted.
 pub fn a_search_moves_on<S: Searched>()
     ensures starts { (start : S.Configuration) → StandsFor S.ways start (λ path. Unit {0}) [] start Every }
     ensures passes_over { AreOrderly S.ways → (start : S.Configuration) (frames : List (Frame S.Configuration S.Branch)) (top : S.Configuration)

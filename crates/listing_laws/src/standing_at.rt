@@ -30,7 +30,7 @@ pub fn first_branches_are_skipped<S: Searched>()
 {}
 
 /// What is to come on a stack that stands for a cursor is the listing above it. The first path above a cursor and the
-/// listing above that path are together the listing above the cursor; where there is none, that listing is empty.
+/// listing above that path are together the listing above the cursor; where no path is above, that listing is empty.
 pub fn what_is_to_come_is_the_listing<S: Searched>()
     ensures listing { (start : S.Configuration) (cursor : Cursor S.Branch) (frames : List (Frame S.Configuration S.Branch))
         (top : S.Configuration) (paths : List (List S.Branch))

@@ -34,7 +34,7 @@ pub fn is_lengthened(spelling: &[u8], next: u8) -> bool
     }
 }
 
-/// The code of the letter that the byte spells alone, 0 where it spells none.
+/// The code of the letter that the byte spells alone, or 0 where it spells no letter.
 #[tactic(auto, unfolding(more_scheme_definitions::specs::HarvardKyoto::harvard_kyoto_letter, more_scheme_definitions::specs::HarvardKyoto::harvard_kyoto_table))]
 fn single(byte: u8) -> u8
     ensures value { letter_with_code result ≡ harvard_kyoto_letter (byte ∷ []) }
@@ -80,7 +80,7 @@ fn single(byte: u8) -> u8
     }
 }
 
-/// The code of the letter that two bytes spell, 0 where they spell none.
+/// The code of the letter that two bytes spell, or 0 where they spell no letter.
 #[tactic(auto, unfolding(more_scheme_definitions::specs::HarvardKyoto::harvard_kyoto_letter, more_scheme_definitions::specs::HarvardKyoto::harvard_kyoto_table))]
 fn pair(first: u8, second: u8) -> u8
     ensures value { letter_with_code result ≡ harvard_kyoto_letter (first ∷ second ∷ []) }

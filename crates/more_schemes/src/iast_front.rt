@@ -48,7 +48,7 @@ pub fn is_lengthened(spelling: &[u8], next: u8) -> bool
     }
 }
 
-/// The code of the letter that the byte spells alone, 0 where it spells none.
+/// The code of the letter that the byte spells alone, or 0 where it spells no letter.
 #[tactic(auto, unfolding(more_scheme_definitions::proofs::IastTable::iast_bytes))]
 fn single(byte: u8) -> u8
     ensures value { letter_with_code result ≡ iast_letter (byte ∷ []) }
@@ -81,7 +81,7 @@ fn single(byte: u8) -> u8
     }
 }
 
-/// The code of the letter that two bytes spell, 0 where they spell none.
+/// The code of the letter that two bytes spell, or 0 where they spell no letter.
 #[tactic(auto, unfolding(more_scheme_definitions::proofs::IastTable::iast_bytes))]
 fn pair(first: u8, second: u8) -> u8
     ensures value { letter_with_code result ≡ iast_letter (first ∷ second ∷ []) }
@@ -106,7 +106,7 @@ fn pair(first: u8, second: u8) -> u8
     }
 }
 
-/// The code of the letter that three bytes spell, 0 where they spell none.
+/// The code of the letter that three bytes spell, or 0 where they spell no letter.
 #[tactic(auto, unfolding(more_scheme_definitions::proofs::IastTable::iast_bytes))]
 fn triple(first: u8, second: u8, third: u8) -> u8
     ensures value { letter_with_code result ≡ iast_letter (first ∷ second ∷ third ∷ []) }
@@ -126,7 +126,7 @@ fn triple(first: u8, second: u8, third: u8) -> u8
     }
 }
 
-/// The code of the letter that four bytes spell, 0 where they spell none.
+/// The code of the letter that four bytes spell, or 0 where they spell no letter.
 #[tactic(auto, unfolding(more_scheme_definitions::proofs::IastTable::iast_bytes))]
 fn quadruple(first: u8, second: u8, third: u8, fourth: u8) -> u8
     ensures value { letter_with_code result ≡ iast_letter (first ∷ second ∷ third ∷ fourth ∷ []) }

@@ -12,7 +12,7 @@ use std::alloc::Global;
 use unicode_normalization::to_nfc;
 
 /// The word that a text in Harvard-Kyoto spells: at each place the longest spelling is one letter, and a `_` between
-/// two spellings is passed over. `NotLetter` at the first byte where neither stands, counted from 0. The spelling `~`
+/// two spellings is passed over. `NotLetter` at the first byte where there is neither, counted from 0. The spelling `~`
 /// of code 15 is this project's own choice.
 #[tactic(auto, unfolding(more_scheme_definitions::specs::HarvardKyoto::word_of_harvard_kyoto))]
 pub fn read_hk(alloc: Global, text: &[u8]) -> Result<Word, SpellError>
@@ -25,7 +25,7 @@ pub fn read_hk(alloc: Global, text: &[u8]) -> Result<Word, SpellError>
 
 /// The word that a text in IAST spells. The text is composed first, to Unicode's form NFC, and then read as
 /// Harvard-Kyoto is. `NotUtf8` where the text is not UTF-8, and else `NotLetter` at the first byte of the composed text
-/// that is at fault. Capital letters are none.
+/// that is at fault. A capital letter is at fault.
 pub fn read_iast(alloc: Global, text: &[u8]) -> Result<Word, SpellError>
     requires { length text.now < 2 ^ 28 }
     ensures ok { IfOk result (λ word. word_of_iast text.now ≡ Ok word) }

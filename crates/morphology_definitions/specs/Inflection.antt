@@ -43,7 +43,7 @@ pub record IsInflected (row : Row) (stem : List ℕ) (entry : Entry) : Type 0 wh
 abbrev pub AreInflected : List Row → List ℕ → List Entry → Type 0
 AreInflected rows stem entries = AllZip (λ row entry. IsInflected row stem entry) rows entries
 
--- the rows of the class with this number; there are none where there is no such class
+-- the rows of the class; no rows where there is no such class
 abbrev pub rows_of_class : Option Class → List Row
 rows_of_class None = []
 rows_of_class (Some class) = class.rows

@@ -12,7 +12,7 @@ use std::random::RandomSource;
 /// How many links are followed from a name to its file, which is as many as Linux follows.
 const MOST_LINKS: u32 = 40;
 
-/// How many names are tried for a new file. Each is drawn from 2^64, so one is enough but for a folder that is made to
+/// How many names are tried for a new file. Each is drawn from 2^64, so one is enough, except in a folder that is made to
 /// refuse it.
 const MOST_NAMES: u32 = 16;
 
@@ -69,7 +69,7 @@ fn write_in_place<R: Files>(rt: &R, name: &str, bytes: &[u8]) -> Result<(), Refu
     write_bytes(&mut file, bytes)
 }
 
-/// Makes a file with the bytes where there is none, or where a link leads to none.
+/// Makes a file with the bytes where there is no file yet, or where a link leads to no file.
 fn make_file<R: Files + AllocGlobal + RandomSource>(
     rt: &R,
     name: &str,
@@ -226,7 +226,7 @@ fn sync_folder<R: Files>(rt: &R, folder: Path<'_>) {
     }
 }
 
-/// Writes all the bytes. A write that takes none is a fault.
+/// Writes all the bytes. A write that takes no byte is a fault.
 fn write_bytes<F: Write>(file: &mut F, bytes: &[u8]) -> Result<(), Refused>
     ensures { OnOk result (Appends (F.contents file.old) (F.contents file.new) bytes.now) }
 {

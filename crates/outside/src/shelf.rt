@@ -12,7 +12,7 @@ use std::fmt;
 /// Why a read of a shelf gave no bytes.
 #[derive(Clone, Copy, Debug, PartialEq, Eq)]
 pub enum ShelfError {
-    /// The shelf tells its files, and has none of this name.
+    /// The shelf tells its files, and has no file of this name.
     Missing,
     /// The device failed, and counted it.
     Failed,
@@ -55,7 +55,7 @@ pub trait Shelf {
     ghost failed_writes: { Self → ℕ };
 
     /// The first `most` bytes of the file, all of them where they are fewer. `Missing` only where the shelf tells
-    /// its files and has none of this name, `Failed` only where the count of failed reads rose, `Memory` for want
+    /// its files and has no file of this name, `Failed` only where the count of failed reads rose, `Memory` for want
     /// of memory. The files stay.
     fn read(&mut self, alloc: Global, name: &str, most: usize) -> Result<Vec<u8>, ShelfError>
         ensures value { IfOk result (λ bytes. AreFirstBytes (files self.old) name.now most bytes.items) }

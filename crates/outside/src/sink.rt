@@ -73,7 +73,7 @@ pub trait Sink {
         ensures limit { faults self.new ≤ 2 ^ 64 - 1 };
 }
 
-/// Writes all the bytes, in as many calls as the sink takes; none where there are no bytes. It stops at the sink's
+/// Writes all the bytes, in as many calls as the sink takes; where there are no bytes, in no call. It stops at the sink's
 /// first error, which it answers: the sink has then taken a prefix of them. `Failed` only where its count of faults
 /// rose.
 pub fn write_all<O: Sink>(out: &mut O, bytes: &[u8]) -> Result<(), WriteError>

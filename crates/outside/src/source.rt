@@ -27,8 +27,8 @@ pub trait Source {
     ghost faults: { Self → ℕ };
 
     /// Puts the next bytes at the front of `buf`, which has room for one at least, and answers how many; 0 is the
-    /// end of input. `Failed` only where the count of faults rose, and takes nothing. All of `buf` after the bytes
-    /// given stays, and after an error the whole of it.
+    /// end of input. `Failed` only where the count of faults rose; then no byte is taken. What comes after these
+    /// bytes in `buf` stays as it was, and so does all of `buf` after an error.
     fn read(&mut self, buf: &mut [u8]) -> Result<usize, Failed>
         requires { 0 < length buf.old }
         ensures bound { IfOk result (λ n. n ≤ length buf.new) }

@@ -2,7 +2,7 @@
 use Rattle.std.specs.Prelude.{ℕ, ◌+◌, Result, Ok, Err, List, [], ◌∷◌}
 use Rattle.csv.specs.Reading.{default_config, records, strip_bom}
 
--- the records of a file, each the list of its fields: none is a header, each may have any number of fields, nothing is
+-- the records of a file, each the list of its fields: no record is a header, each may have any number of fields, nothing is
 -- trimmed, and a byte order mark before the first is left out
 abbrev pub records_of : List ℕ → List (List (List ℕ))
 records_of bytes = records default_config (strip_bom bytes)

@@ -59,8 +59,8 @@ has_row name new class = has_name name class && list_any (is_same_row new) class
 abbrev pub with_last_row : Row → Class → Class
 with_last_row new class = record { name = class.name; rows = class.rows ++ new ∷ [] }
 
--- the classes with this row too: it is the last row of the class with this name, and where there is none it makes a new class,
--- the last of all
+-- the classes with this row too: it is the last row of the class with this name, and where no class has the name it makes a new
+-- class, the last of all
 abbrev pub with_row : List ℕ → Row → List Class → List Class
 with_row name new [] = record { name = name; rows = new ∷ [] } ∷ []
 with_row name new (class ∷ classes) =

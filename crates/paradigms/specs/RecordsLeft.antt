@@ -37,7 +37,7 @@ pub record IsReading (reader : Reader (Bor (List ℕ))) : Type 0 where
   pub left : bytes_left reader ≡ Some bytes
   pub few : length bytes ≤ MOST_FILE_BYTES
 
--- the fields were those of the first of the old records, and the new ones are the rest; or there was none
+-- the fields were those of the first of the old records, and the new ones are the rest; or there was no record
 abbrev pub IsNextOf : List (List (List ℕ)) → Bool → List (List ℕ) → List (List (List ℕ)) → Type 0
 IsNextOf old true fields new = old ≡ fields ∷ new
 IsNextOf old false fields new = old ≡ []

@@ -8,7 +8,7 @@ use lexicon_text_definitions::MOST_FILE_BYTES;
 use phoneme::Memory;
 use std::alloc::Global;
 
-/// A reader of the records of these bytes: none is a header, and they may differ in their number of fields.
+/// A reader of the records of these bytes. No record is a header, and records may differ in their number of fields.
 pub(crate) fn records_in(alloc: Global, bytes: &[u8]) -> Reader<&[u8]>
     requires { length bytes.now ≤ MOST_FILE_BYTES }
     ensures reading { IsReading result }

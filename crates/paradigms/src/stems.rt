@@ -71,7 +71,7 @@ fn has_long(stem: &Word, rows: &[Row]) -> bool
     rows.iter().any(|row| is_too_long(stem, row))
 }
 
-/// Whether the stem or some form of it is too long, or the record with this number is one too many, or so many forms are.
+/// Whether the stem or some form of it is too long, the record with this number is one too many, or there are too many forms.
 fn passes_limits(stem: &Word, rows: &[Row], number: u32, forms: usize) -> bool
     ensures { result ≡ (nat_lt MOST_FORM_LETTERS (length stem.now) || list_any (λ row. is_too_long_of stem.now (text_row row)) rows.now || nat_lt MOST_STEM_RECORDS number || nat_lt MOST_INFLECTIONS forms) }
 {

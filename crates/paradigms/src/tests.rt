@@ -150,7 +150,7 @@ fn table_faults_are_told_with_their_records(rt: HostRuntime) -> Result<(), Fail>
     Ok(())
 }
 
-/// Tables with a class of two rows, one that cuts two letters, one that cuts none, and one with a long ending.
+/// Tables with a class of two rows, one that cuts two letters, one that cuts no letter, and one with a long ending.
 const CLASSES: &[u8] =
     b"a,m.sg.nom,noun,,1,aH\na,m.sg.acc,noun,,1,am\nw,m.sg.nom,noun,,2,\nu,ind,ind,,0,\nl,ind,ind,,0,aaaaaaaaaaaaaaaa\n";
 

@@ -7,7 +7,7 @@ use latin_schemes::{SpellError, read_slp1};
 use phoneme::Word;
 use std::alloc::Global;
 
-/// The word that the bytes spell in SLP1, or the reason for which they spell none.
+/// The word that the bytes spell in SLP1. Refused for the given reason where they spell no word.
 pub(crate) fn read_word<W: Copy>(alloc: Global, text: &[u8], why: W) -> Result<Word, RecordError<W>>
     requires { length text.now < 2 ^ 32 }
     ensures { IsSpelled (word_of_slp1 text.now) why result }

@@ -4,7 +4,7 @@ use Rattle.std.specs.Prelude.{◌≡◌, ◌≢◌, ℕ, ◌<◌, ◌≤◌, ◌
 use Rattle.lexicon_definitions.specs.declared.limits.TheConstants.{MOST_GRAMMAR_STATES}
 use Rattle.lexicon_definitions.specs.Grammars.{Grammar, State, After, Accepts, IsStateAfter, IsLiveState, HaveSamePositions}
 
--- a state is its number, counted from 0, or the dead state, which is None; a numbered state ends words or not, and leads to
+-- a state is its number, counted from 0, or the dead state, which is None. A numbered state ends words or not, and leads to
 -- a state by each phase, by the phase's number
 pub record NumberedState : Type 0 where
   pub accepting : Bool

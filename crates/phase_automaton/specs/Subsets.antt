@@ -43,7 +43,7 @@ pub record AreStates (positions : List Position) (sets : List PositionSet) : Typ
 abbrev pub HasMoreSets : List Position → Type 0
 HasMoreSets positions = (sets : List PositionSet) × (MOST_GRAMMAR_STATES < length sets) × AreSets positions sets
 
--- the state stands for the set with these positions; the dead state stands for none
+-- the state stands for the set with these positions; the dead state stands for the empty set
 abbrev pub StandsFor : List PositionSet → Option ℕ → (ℕ → Type 0) → Type 0
 StandsFor sets None Has = (position : ℕ) → Has position → ⊥
 StandsFor sets (Some number) Has =
@@ -66,13 +66,13 @@ pub record IsSubsetMachine (positions : List Position) (ends : PositionSet) (mac
       → IsTrue (is_accepting machine (Some number))
       ↔ ((position : ℕ) × HasPosition (set_at sets number) position × HasPosition ends position)
 
--- the set is none of these, and not empty
+-- the set is not one of these, and not empty
 pub record IsNewSet (sets : List PositionSet) (set : PositionSet) : Type 0 where
   pub other : (i : ℕ) → i < length sets → set_at sets i ≢ set
   pub some : (position : ℕ) × HasPosition set position
 
--- the state that was found for a set, and the sets with it: none for the empty set, a number of theirs where they have it,
--- and otherwise the next number
+-- the state that was found for a set, and the sets with it: the dead state for the empty set, the set's number where it is one of
+-- them, and otherwise the next number
 abbrev pub FindsState : List PositionSet → List PositionSet → PositionSet → Option ℕ → Type 0
 FindsState old new set None = (new ≡ old) × ((position : ℕ) → HasPosition set position → ⊥)
 FindsState old new set (Some number) =

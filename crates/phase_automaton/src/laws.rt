@@ -14,7 +14,7 @@ pub fn grammar_text_spells_its_tree()
 {}
 
 /// A text that is written as some tree is, and in which each name is one that a phase may have, has no syntax fault. So a
-/// text has none exactly where it spells an expression with such names.
+/// text has no syntax fault exactly where it spells an expression with such names.
 pub fn spelled_texts_have_no_fault()
     ensures { (names : List (List ℕ)) (tree : Grammar) (text : List ℕ) → IsExpression names tree (tokens_of text)
         → All (λ name. IsPhaseName name.bytes) (names_from 0 text) → syntax_fault text ≡ None }

@@ -89,7 +89,7 @@ impl Level {
         }
     }
 
-    /// All of this level as one piece, or None where nothing was read.
+    /// All of this level as one piece, or `None` where nothing was read.
     pub(crate) fn finished(self, positions: &mut [Position]) -> Option<Piece>
         requires { length positions.old ≤ SET_BITS }
         ensures others { KeepsOthers positions.old positions.new self }

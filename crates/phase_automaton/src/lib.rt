@@ -7,7 +7,7 @@
 //!
 //! Laws: which state of the grammar a number stands for, and that every list of phases has one number
 //! (`numbers_stand_for_states`); lists are read phase by phase (`phases_are_read_one_by_one`); from each numbered state some
-//! list leads on to a word (`numbered_states_lead_on`), and from the dead one none does (`the_dead_state_stays_dead`); a text
+//! list leads on to a word (`numbered_states_lead_on`), and no list from the dead one (`the_dead_state_stays_dead`); a text
 //! has no syntax fault exactly where it is written as some tree is, with names that phases may have
 //! (`grammar_text_spells_its_tree`, `spelled_texts_have_no_fault`); an automaton may be shared among threads (`automata_are_shared`).
 //!

@@ -12,7 +12,7 @@ use super::walk::is_name_byte;
 use lexicon_definitions::{MOST_GRAMMAR_BYTES, MOST_PHASES};
 use std::alloc::Global;
 
-/// The name that a text begins with, or nothing where it begins with none.
+/// The name that a text begins with; empty where it begins with no name.
 fn first_name(text: &[u8]) -> &[u8]
     ensures { result.now ≡ first_name_of text.now }
 {
@@ -38,7 +38,7 @@ fn phase_of(names: &[String], name: &[u8]) -> Option<u32>
 }
 
 /// The positions of a text's names, after position 0, each with its phase and with nothing that follows yet. Refuses the
-/// first name that is that of no phase.
+/// first name that no phase has.
 pub(crate) fn read_positions(
     alloc: Global,
     text: &[u8],

@@ -59,7 +59,7 @@ impl Reader {
         Ok(())
     }
 
-    /// Reads a closing bracket. Where none is open, nothing changes.
+    /// Reads a closing bracket. Where no bracket is open, nothing changes.
     fn close(&mut self, positions: &mut [Position])
         requires { length positions.old ≤ SET_BITS }
         ensures count { length positions.new ≡ length positions.old }
@@ -103,7 +103,7 @@ impl Reader {
         Ok(())
     }
 
-    /// All that was read as one piece, or None where nothing was.
+    /// All that was read as one piece, or `None` where nothing was read.
     pub(crate) fn finish(self, positions: &mut [Position]) -> Option<Piece>
         requires { length positions.old ≤ SET_BITS }
         ensures { (all : List Position) (level : OpenLevel) → level.items ≢ [] → IsReader all positions.old self (level ∷ [])

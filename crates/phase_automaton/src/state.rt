@@ -35,7 +35,7 @@ impl State {
         State { number: None }
     }
 
-    /// The state's number, or None for the dead state.
+    /// The state's number, or `None` for the dead state.
     pub const fn number(self) -> Option<u8>
         ensures { result ≡ self }
     {

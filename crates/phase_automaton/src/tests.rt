@@ -16,7 +16,7 @@ fn make_names(alloc: Global, names: &[&str]) -> Result<Vec<String>, Fail>
     Ok(made)
 }
 
-/// The state after these phases, or None where one of them is not the automaton's.
+/// The state after these phases, or `None` where one of them is not the automaton's.
 fn state_after(automaton: &Automaton, phases: &[u32]) -> Option<State> {
     let mut state = automaton.start();
     for phase in phases {

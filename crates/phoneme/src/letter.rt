@@ -25,7 +25,7 @@ impl Model for Letter {
 }
 
 impl Letter {
-    /// The letter with the code `n`. `None` outside 1 to 50.
+    /// The letter with the code `n`. `None` where `n` is not from 1 to 50.
     pub fn new(n: u8) -> Option<Letter>
         ensures some { IsSome result ↔ IsLetter n }
         ensures value { IfSome result (λ letter. letter ≡ n) }

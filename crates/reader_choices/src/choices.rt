@@ -72,7 +72,7 @@ impl Choices {
         Ok(())
     }
 
-    /// Takes the newest choice off and answers its item; none exactly where there is no choice.
+    /// Takes the newest choice off and answers its item; `None` exactly where there is no choice.
     pub fn undo(&mut self) -> Option<Item>
         ensures some { IfSome result (λ item. (kept : Bool) × (self.old ≡ self.new ++ record { kept = kept; item = item } ∷ [])) }
         ensures none { IsNone result ↔ (self.old ≡ []) }
@@ -128,7 +128,7 @@ fn is_first_after(before: &[Step]) -> bool
     }
 }
 
-/// The letters that the rule of the last of these steps supplies, none where there is no such rule.
+/// The letters that the rule of the last of these steps supplies; no letters where there is no such rule.
 fn lead_after<'a>(rules: &'a RuleSet, before: &[Step]) -> &'a [Letter]
     requires { All (λ step. step.rule ≤ length rules.now.rules) before.now }
     ensures { result.now ≡ lead_after rules.now before.now }

@@ -20,7 +20,7 @@ use Rattle.summary_chart.specs.Charts.{CoversPlace, says_of}
 use Rattle.summary_chart.specs.PlaceWays.{IsChartOf}
 use Rattle.reader_session.specs.declared.reading.Reading.{Reading}
 
--- the cursor of the answer with these steps, and that before the first where there are none
+-- the cursor of the answer with these steps; the one before the first answer where there are no steps
 abbrev pub cursor_at_last : RuleSet → List ℕ → List ProgramStep → Cursor
 cursor_at_last rules letters [] = BeforeFirst
 cursor_at_last rules letters (step ∷ steps) = AtAnswer (steps_of rules letters (step ∷ steps))
@@ -40,7 +40,7 @@ state_with rules reading =
       summary = option_map (λ items. items.items) reading.summary;
     }
 
--- the state of a session that reads a line or none
+-- the state of a session that reads this, or no line yet
 abbrev pub state_of : RuleSet → Option Reading → State
 state_of rules None = opening
 state_of rules (Some reading) = state_with rules reading
@@ -69,12 +69,12 @@ pub record IsReading (searched : SearchedLexicon) (reading : Reading) : Type 0 w
   pub summary : (items : List Item) → option_map (λ items. items.items) reading.summary ≡ Some items
       → IsSummary searched.lexicon reading.line reading.choices items
 
--- the same of a line or none
+-- the same, where a line is read
 abbrev pub IsReadingOver : SearchedLexicon → Option Reading → Type 0
 IsReadingOver searched None = Unit {0}
 IsReadingOver searched (Some reading) = IsReading searched reading
 
--- such a reply was appended, after which the session goes on and reads this line or none
+-- such a reply was appended, after which the session goes on and reads this, or no line yet
 pub record GoesOn (searched : SearchedLexicon) (IsIt : Reply → Type 0) (before now : List ℕ) (reading : Option Reading) : Type 0 where
   pub reply : Reply
   pub is_it : IsIt reply

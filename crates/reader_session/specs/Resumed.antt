@@ -27,12 +27,12 @@ pub record IsResumedAt (searched : SearchedLexicon) (mark : Bookmark) (reading :
   pub is_cursor : IsCursorOfBookmark searched.lexicon mark cursor
   pub state : state_with searched.lexicon.rules reading ≡ after_resume mark cursor
 
--- the line is read on from the bookmark; or none is, and the bookmark is not one over the lexicon
+-- the line is read on from the bookmark; or nothing is read, and the bookmark is not one over the lexicon
 abbrev pub IsResumed : SearchedLexicon → Bookmark → Option Reading → Type 0
 IsResumed searched mark None = (cursor : Cursor) → IsCursorOfBookmark searched.lexicon mark cursor → ⊥
 IsResumed searched mark (Some reading) = (cursor : Cursor) × IsResumedAt searched mark reading cursor
 
--- these are the program's steps of the answer at which the search stands, none where it stands at none
+-- these are the program's steps of the answer at which the search stands; no steps where it stands at no answer
 abbrev pub IsLastOf : SearchValue → List ProgramStep → Type 0
 IsLastOf search [] = IsCurrent search None
 IsLastOf search (step ∷ steps) = IsCurrent search (Some (step ∷ steps))

@@ -28,7 +28,7 @@ fn open(reply: Result<Option<Reading>, Memory>) -> Result<(Option<Reading>, Afte
     Ok((reply?, After::Open))
 }
 
-/// Appends the reply to a request, and answers the line that is read then, or none, and whether the session goes on.
+/// Appends the reply to a request. Answers what is read after it, if a line is, and whether the session goes on.
 pub(crate) fn answer(
     alloc: Global,
     lexicon: &Lexicon,

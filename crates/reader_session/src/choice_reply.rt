@@ -45,8 +45,8 @@ fn choose(
     }
 }
 
-/// `keep K` and `reject K`: one choice more, of the item with this number, counted from 1, None where the number could not be
-/// read.
+/// `keep K` and `reject K`: one choice more, of the item with this number, counted from 1. The number is `None` where it could
+/// not be read.
 pub(crate) fn reply_to_choice(
     alloc: Global,
     lexicon: &Lexicon,

@@ -60,8 +60,8 @@ fn analyses_by_deltas(
     Ok(analyses)
 }
 
-/// The analyses, rising, of the form in the phase with this number, counted from 0. None where the phase has no such form, or the
-/// lexicon no such phase. Refused only for want of memory.
+/// The analyses, rising, of the form in the phase with this number, counted from 0. There are no analyses where the phase has no such
+/// form or the lexicon no such phase. Refused only for want of memory.
 pub(crate) fn analyses_of_form(
     alloc: Global,
     lexicon: &Lexicon,

@@ -8,7 +8,7 @@
 //!
 //! - `session`: where it ends with `Done` or `TooMuch`, it wrote all that the session of the input writes, and the session ends
 //!   so. An input of just the greatest length is served whole; of a longer one the complete lines within its first bytes are.
-//! - `prefix`: wherever it ends, a prefix of the replies to some first lines was written, which begins what the session writes
+//! - `prefix`: wherever it ends, a prefix of the replies to some first lines was written; it begins what the session writes
 //!   (`what_was_written_begins_the_session`).
 //! - `replies`: where a read fails, just the replies to all complete lines among the bytes taken were written.
 //! - `read_fault`, `write_fault`: a fault is answered only where the device counted one.

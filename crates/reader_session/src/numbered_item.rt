@@ -6,7 +6,7 @@ use derivation::Item;
 use phoneme::Memory;
 use std::alloc::Global;
 
-/// Why there is no item with a number: there is no summary, the summary has none of this number, or want of memory.
+/// Why there is no item with a number: there is no summary, the summary has no item of this number, or memory is wanting.
 #[derive(Clone, Copy, Debug, PartialEq, Eq)]
 pub(crate) enum NoItem {
     NoSummary,

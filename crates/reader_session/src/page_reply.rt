@@ -83,7 +83,7 @@ fn push_next_page(
     })
 }
 
-/// `page N`: the next answers, at most `count`, None where the number could not be read.
+/// `page N`: the next answers, at most `count`, which is `None` where the number could not be read.
 pub(crate) fn reply_with_page(
     alloc: Global,
     lexicon: &Lexicon,

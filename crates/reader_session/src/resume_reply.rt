@@ -31,7 +31,7 @@ fn has_phases(lexicon: &Lexicon, choices: &[Choice]) -> bool
         .all(|choice| (choice.item.phase as usize) < phases)
 }
 
-/// The choices, oldest first. None where there are too many, which a bookmark never has.
+/// The choices, oldest first. `None` where there are too many, which a bookmark never has.
 fn choices_of(alloc: Global, list: Vec<Choice>) -> Result<Option<Choices>, Memory>
     requires few { length list.items ≤ MOST_CHOICES }
     ensures ok { IfOk result (λ choices. choices ≡ Some list.items) }
@@ -47,7 +47,7 @@ fn choices_of(alloc: Global, list: Vec<Choice>) -> Result<Option<Choices>, Memor
     Ok(Some(choices))
 }
 
-/// The steps of the current answer of the search. None where it has none.
+/// The steps of the answer at which the search stands; no steps where it stands at no answer.
 fn last_steps<D: SearchGuide>(alloc: Global, search: &Search<D>) -> Result<Vec<Step>, Memory>
     ensures ok { IfOk result (λ last. IsLastOf search.now last.items) }
 {
@@ -57,7 +57,7 @@ fn last_steps<D: SearchGuide>(alloc: Global, search: &Search<D>) -> Result<Vec<S
     }
 }
 
-/// The line with these choices, read on at the answer with these keys. None where they are those of no answer.
+/// The line with these choices, read on at the answer with these keys. `None` where no answer has them.
 fn resume_at(
     alloc: Global,
     lexicon: &Lexicon,
@@ -90,7 +90,7 @@ fn resume_at(
     }))
 }
 
-/// The line of the bookmark with its choices, where its pages were left. None where the bookmark is not one over this lexicon.
+/// The line of the bookmark with its choices, where its pages were left. `None` where the bookmark is not one over this lexicon.
 fn resume(alloc: Global, lexicon: &Lexicon, mark: Bookmark) -> Result<Option<Reading>, Memory>
     requires mark { IsBookmark (bookmark_of mark) }
     ensures ok { IfOk result (IsResumed lexicon.now (bookmark_of mark)) }
@@ -110,7 +110,7 @@ fn resume(alloc: Global, lexicon: &Lexicon, mark: Bookmark) -> Result<Option<Rea
     resume_at(alloc, lexicon, line, choices, printed, keys.as_slice())
 }
 
-/// `resume B`: goes on from a bookmark over this lexicon, and refuses any other. None where the text is no bookmark.
+/// `resume B`: goes on from a bookmark over this lexicon, and refuses any other. `mark` is `None` where the text is no bookmark.
 pub(crate) fn reply_to_resume(
     alloc: Global,
     lexicon: &Lexicon,

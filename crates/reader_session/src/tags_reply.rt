@@ -27,8 +27,8 @@ fn push_tags_of(
     push_tags(alloc, output, analyses.as_slice())
 }
 
-/// `tags K`: the analyses of the form of the item with this number, counted from 1, in its phase. None where the number could
-/// not be read.
+/// `tags K`: the analyses of the form of the item with this number, counted from 1, in its phase. The number is `None` where it
+/// could not be read.
 pub(crate) fn reply_with_tags(
     alloc: Global,
     lexicon: &Lexicon,

@@ -14,7 +14,7 @@ use reader_choices::Choices;
 use std::alloc::Global;
 use text_line::{LineError, Scheme, read_line};
 
-/// `text SCHEME TEXT`: reads the line, or refuses it with its fault.
+/// `text SCHEME TEXT`: reads the line, or refuses the text with its fault.
 pub(crate) fn reply_to_text(
     alloc: Global,
     lexicon: &Lexicon,

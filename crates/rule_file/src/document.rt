@@ -149,7 +149,7 @@ fn are_texts(members: &Table) -> bool
     true
 }
 
-/// The table of the classes; `none`, which is empty, where the file has none.
+/// The table of the classes, or `none`, which is empty, where the file has no classes.
 pub(crate) fn classes_in<'a>(root: &'a Table, none: &'a Table) -> Result<&'a Table, RuleFault>
     requires { table_view none.now ≡ no_members }
     ensures ok { IfOk result (λ classes. as_classes (get_member (codes "classes") (table_view root.now)) ≡ Some (table_view classes.now)) }

@@ -119,7 +119,7 @@ fn is_well_formed(notation: &Notation<'_>) -> bool
     !has_marks && is_class_placed(notation.v.class, notation.w.class)
 }
 
-/// The notation that an entry is, where it is one.
+/// The parts of an entry that is written `[x]u|v>w`; `None` where it is written otherwise.
 pub(crate) fn notation_of(entry: &[u8]) -> Option<Notation<'_>>
     ensures { MatchOption result (notation_of_entry entry.now ≡ None) (λ notation. notation_of_entry entry.now ≡ Some (written notation)) }
 {

@@ -39,7 +39,7 @@ fn side_letters(alloc: Global, classes: &Table, side: &[u8]) -> Result<Option<Wo
     Ok(Some(word))
 }
 
-/// Puts the pair among the rising pairs, in its place, where it is none of them.
+/// Puts the pair in its place among the rising pairs, unless it is there.
 fn add_pair(pairs: &mut Vec<(Letter, Letter)>, pair: &(Letter, Letter)) -> Result<(), Memory>
     requires { IsStrictlySortedBy compare_pairs pairs.old.items }
     ensures { OnOk result (pairs.new.items ≡ with_element compare_pairs pairs.old.items pair.now) }
@@ -80,7 +80,7 @@ fn add_pairs(
     Ok(())
 }
 
-/// Puts the pairs that the entry stands for among the pairs; says whether it is one.
+/// Puts the pairs that the entry stands for among the pairs. False where it stands for no pairs.
 fn add_entry(
     alloc: Global,
     classes: &Table,

@@ -46,7 +46,7 @@ pairs_of_sides classes (Some sides) = pairs_with (side_letters classes sides.0) 
 unfoldable pub pairs_of : Members → List ℕ → Option (List (ℕ × ℕ))
 pairs_of classes entry = pairs_of_sides classes (cut 32 entry)
 
--- the pairs of one entry more, and then what follows; or the number of an entry that is none
+-- the pairs of one entry more, and then what follows; or the number of the entry, where it stands for no pairs
 abbrev pub with_pairs : List (ℕ × ℕ) → ℕ → Option (List (ℕ × ℕ)) → (List (ℕ × ℕ) → Result (List (ℕ × ℕ)) Fault)
     → Result (List (ℕ × ℕ)) Fault
 with_pairs pairs number None following = Err (Plain number)

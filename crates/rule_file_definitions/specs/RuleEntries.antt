@@ -34,7 +34,7 @@ abbrev pub rule_with : ℕ → Pattern → Option ℕ → Rule
 rule_with count pattern filling =
     unlimited_rule count (pattern.x ++ pattern.u) (filled pattern.v filling) (pattern.x ++ filled pattern.w filling)
 
--- each letter of the class in turn, or nothing where there is no class; none where the class is unknown
+-- each letter of the class in turn; None where the class is unknown
 abbrev pub some_fillings : Option (List ℕ) → Option (List (Option ℕ))
 some_fillings None = None
 some_fillings (Some letters) = Some (map Some letters)
@@ -52,7 +52,7 @@ abbrev pub is_long : Rule → Bool
 is_long rule =
     nat_lt MOST_RULE_LETTERS (length rule.u) || nat_lt MOST_RULE_LETTERS (length rule.v) || nat_lt MOST_RULE_LETTERS (length rule.w)
 
--- the rules, where each is strict and none is long
+-- the rules, where each is strict and no part of any is too long
 abbrev pub strict_and_short : List Rule → Result (List Rule) Why
 strict_and_short rules =
     if list_any is_not_strict rules then Err Strict else if list_any is_long rules then Err Long else Ok rules

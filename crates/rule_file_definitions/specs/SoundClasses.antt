@@ -13,7 +13,7 @@ use Rattle.rule_file_definitions.specs.RuleFileFaults.{Fault, Phase, Class}
 
 -- ---- phases
 
--- the name may come next after these: it is one, there is room for it, and it is none of them
+-- the name may come next after these: a phase may have it, there is room for it, and it is not one of them
 unfoldable pub may_come_next : List (List ℕ) → List ℕ → Bool
 may_come_next names name =
     is_phase_name name && nat_lt (length names) MOST_PHASES && not (list_any (bytes_eq name) names)
@@ -36,12 +36,12 @@ abbrev pub is_sound_class_name : List ℕ → Bool
 is_sound_class_name [] = false
 is_sound_class_name (byte ∷ bytes) = nat_le (length (byte ∷ bytes)) MOST_CLASS_NAME_LETTERS && list_all is_small_letter (byte ∷ bytes)
 
--- none of these letters is one of the earlier ones, and none comes again
+-- these letters differ from the earlier ones and from one another
 abbrev pub are_new : List ℕ → List ℕ → Bool
 are_new earlier [] = true
 are_new earlier (letter ∷ letters) = not (list_any (λ other. other == letter) earlier) && are_new (earlier ++ letter ∷ []) letters
 
--- the word, where it has a letter and none twice
+-- the word, where it has a letter and no letter twice
 abbrev pub different_letters : Reading → Option (List ℕ)
 different_letters (Ok (letter ∷ word)) = if are_new [] (letter ∷ word) then Some (letter ∷ word) else None
 different_letters reading = None
@@ -55,7 +55,8 @@ abbrev pub is_class : List ℕ → Data → Bool
 is_class name (string text) = is_sound_class_name name && is_some (class_letters text)
 is_class name held = false
 
--- the classes, the first of which has this number and which stand by rising name, or the number of the first that is none
+-- the members, which stand by rising name and are numbered from this number on, where each is a class; or the number of the first
+-- that is no class
 abbrev pub check_classes : Members → ℕ → Members → Result Members Fault
 check_classes all number no_members = Ok all
 check_classes all number (member name held rest) =

@@ -9,7 +9,7 @@ pub fn a_rule_file_is_read_in_one_way()
     ensures { (bytes : List ℕ) (left right : FileResult) → IsReadAs bytes left → IsReadAs bytes right → left ≡ right }
 {}
 
-/// What is read is a rule set within the limits, and none of its rules is limited to some phases.
+/// What is read is a rule set within the limits, and no rule of it is limited to some phases.
 pub fn what_is_read_is_a_rule_set()
     ensures set { (bytes : List ℕ) (set : RuleSet) → IsReadAs bytes (Ok set) → IsRuleSet set }
     ensures limits { (bytes : List ℕ) (set : RuleSet) → IsReadAs bytes (Ok set) → IsRuleSetWithinLimits set }

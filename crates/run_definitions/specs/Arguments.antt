@@ -75,7 +75,7 @@ abbrev pub HaveArguments : List (List ℕ) → List (List ℕ) → List FileWord
 HaveArguments words values arguments = given_by words ≡ Some (record { values = values; arguments = arguments })
 
 -- the words are those of the command of this name that takes such values of `--in` and such arguments: its name, and words that
--- give them, of which none is too long
+-- give them; and no word is too long
 pub record AreNamed (name : List ℕ) (Takes : List (List ℕ) → List FileWord → Type 0) (words : List (List ℕ)) : Type 0 where
   pub following : List (List ℕ)
   pub are : words ≡ name ∷ following

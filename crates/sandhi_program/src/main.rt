@@ -42,7 +42,7 @@ use std::env;
 use std::io::ErrorKind;
 use std::process::ExitCode;
 
-/// The words of the command line without the program's name; none where one of them is no UTF-8, which is no command.
+/// The words of the command line without the program's name. The list is empty, which is no command, where one of them is not UTF-8.
 fn words_of(rt: &HostRuntime) -> Result<Vec<String>, Memory> {
     match env::args(rt) {
         Ok(args) => Ok(args.skip(1).collect(rt.alloc())?),

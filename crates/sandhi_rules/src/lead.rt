@@ -43,7 +43,7 @@ impl Lead {
     }
 }
 
-/// Puts the lead of the rule into rising leads, unless it is there. A final rule has none.
+/// Puts the lead of the rule into rising leads, unless it is there. A final rule has no lead.
 pub fn add_lead(alloc: Global, leads: &mut Vec<Lead>, rule: &Rule) -> Result<(), Memory>
     requires { IsStrictlySortedBy compare_leads leads.old.items }
     ensures ok { OnOk result (leads.new.items ≡ with_lead leads.old.items rule.now.v rule.now.after) }
@@ -62,7 +62,7 @@ pub fn add_lead(alloc: Global, leads: &mut Vec<Lead>, rule: &Rule) -> Result<(),
     Ok(())
 }
 
-/// The place of the rule's lead among the leads, counted from 0; none for a final rule.
+/// The place of the rule's lead among the leads, counted from 0; `None` for a final rule.
 pub(crate) fn place_of_lead(leads: &[Lead], rule: &Rule) -> Option<u16>
     requires count { length leads.now ≤ MOST_LEADS }
     requires rising { IsStrictlySortedBy compare_leads leads.now }

@@ -97,7 +97,7 @@ impl RuleSet {
         self.rules.as_slice()
     }
 
-    /// The rule with this number, counted from 1; none for 0, which stands for no change.
+    /// The rule with this number, counted from 1; `None` for 0, which stands for no change.
     pub fn rule(&self, number: u32) -> Option<&Rule>
         requires { number ≤ length self.now.rules }
         ensures none { IsNone result ↔ (number ≡ 0) }
@@ -117,7 +117,7 @@ impl RuleSet {
         self.leads.as_slice()
     }
 
-    /// Where the lead of the rule with this number, counted from 1, stands in `leads`, counted from 0. None exactly for a
+    /// Where the lead of the rule with this number, counted from 1, stands in `leads`, counted from 0. `None` exactly for a
     /// final rule.
     pub fn lead_of(&self, rule: u32) -> Option<u16>
         requires some { 1 ≤ rule }

@@ -8,7 +8,7 @@ use Rattle.search_frames.specs.declared.frame.Frame.{Frame}
 use Rattle.search_frames.specs.declared.resumption.Resumption.{Resumption}
 use Rattle.search_frames.specs.Frames.{changes_at, step_of, frame_of, ChangesFrom}
 
--- the change may be made at the node: it is none, and a form ends there; or it is a choice
+-- the change may be made at the node: it is no change, and a form ends there; or it is a choice
 abbrev pub MayBeMade : AnnotatedTrie → ℕ → ℕ → Type 0
 MayBeMade tries node rule =
     ((rule ≡ 0) × ((row_of tries.trie.rows node).deltas ≢ [])) ⊎ Contains (choices_of tries node) rule

@@ -12,7 +12,7 @@ use Rattle.search_frames.specs.Frames.{step_of, frame_of}
 abbrev pub HasAtMostRules : AnnotatedTrie → ℕ → Type 0
 HasAtMostRules tries most = (node : ℕ) → node < length tries.trie.rows → length (choices_of tries node) ≤ most
 
--- the most steps at a node: a look for each choice and one that finds none left, and one for each key
+-- the most steps at a node: a look for each choice and one that finds no choice left, and one for each key
 abbrev pub steps_of_node : ℕ → ℕ
 steps_of_node most = 2 * (most + 1)
 

@@ -55,7 +55,7 @@ key_at stack level = key_of (step_of stack level)
 abbrev pub node_of : Resumption → ℕ → ℕ → ℕ
 node_of stack level taken = slice_index_or stack.nodes.items (level * NODES_OF_FRAME + taken) 0
 
--- the changes that are tried at a node: none, then each rule that is a choice there
+-- the changes that are tried at a node: 0, which is no change, then each rule that is a choice there
 abbrev pub changes_at : AnnotatedTrie → ℕ → List ℕ
 changes_at tries node = 0 ∷ choices_of tries node
 

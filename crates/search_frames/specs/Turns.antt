@@ -42,7 +42,7 @@ abbrev pub HasNoTurn : SearchedLexicon → Line → List Choice → ℕ → Resu
 HasNoTurn searched line choices level stack =
     (key : Key) → BeginsPath searched line choices (here_of searched stack level) key → IsUntried searched stack level key → ⊥
 
--- the frame was brought to a key, and the answer says what this key does; or there is none
+-- the frame was brought to a key, and the answer says what this key does; or there is no such key
 abbrev pub IsTurn : SearchedLexicon → Line → List Choice → ℕ → Resumption → Resumption → Turn → Type 0
 IsTurn searched line choices level old new turn.Nothing = HasNoTurn searched line choices level old
 IsTurn searched line choices level old new turn.Ends =

@@ -62,8 +62,8 @@ pub(crate) fn may_enter(rules: &RuleSet, line: &Line, place: &Configuration, ste
     }
 }
 
-/// How the form after the step is entered, whose rule is inner or none: unchanged after the last letter of the step's form, or
-/// with the lead of the rule.
+/// How the form after the step is entered. The step has an inner rule or no rule: with a rule the form is entered with its lead,
+/// else unchanged after the last letter of the step's form.
 pub(crate) fn entrance_after(
     rules: &RuleSet,
     line: &Line,

@@ -10,7 +10,7 @@ use outside::Steps;
 use phoneme::Line;
 
 /// Brings the frame at the level, counted from 0, to its next key: the first possible one that it has still to try. False where
-/// there is none.
+/// there is no such key.
 pub fn go_on<L>(
     lexicon: &Lexicon,
     line: &Line,

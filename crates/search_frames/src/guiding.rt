@@ -17,7 +17,7 @@ use outside::Steps;
 use phoneme::Line;
 use reader_choices::Choices;
 
-/// What the next key of a frame does: there is none; or it ends the line; or it leads on to another configuration.
+/// What the next key of a frame does: there is no such key; or it ends the line; or it leads on to another configuration.
 #[derive(Clone, Copy, Debug, PartialEq, Eq)]
 pub enum Turn {
     Nothing,

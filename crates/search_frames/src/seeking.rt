@@ -14,7 +14,7 @@ use outside::Steps;
 use phoneme::Line;
 use shared_trie::Node;
 
-/// The place after that of the change among those that may be made at the node. None where it is not one of them.
+/// The place after that of the change among those that may be made at the node. `None` where it is not one of them.
 fn place_after_change(lexicon: &Lexicon, node: Node, rule: u32) -> Option<u32>
     requires searched { IsSearchedLexicon lexicon.now }
     requires node { node < length lexicon.now.tries.trie.rows }

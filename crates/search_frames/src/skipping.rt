@@ -13,8 +13,8 @@ use outside::Steps;
 use phoneme::{Letter, Line};
 use shared_trie::Node;
 
-/// The place of the first change of the node, from the place `next` on, that is a rule whose `w` comes first among the letters. The
-/// place after the last change where there is none.
+/// The place of the first change of the node, from the place `next` on, that is a rule whose `w` comes first among the letters; or the
+/// place after the last change, where there is no such rule.
 fn written_from<L>(
     lexicon: &Lexicon,
     node: Node,
@@ -51,7 +51,7 @@ fn set_next(stack: &mut Resumption, level: usize, next: u32)
 }
 
 /// Leaves out the next keys of the frame at the level, counted from 0, up to one whose rule's `w` comes next in the line, or up to
-/// the last that takes as many letters. It leaves out none where no change was tried at the frame's node.
+/// the last that takes as many letters. It leaves out no key where no change was tried at the frame's node.
 pub fn skip_unwritten<L>(
     lexicon: &Lexicon,
     line: &Line,

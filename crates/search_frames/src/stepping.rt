@@ -20,8 +20,8 @@ pub(crate) struct Change {
     pub(crate) next: u32,
 }
 
-/// The first change from the place `next` on that may be made at the node: none, at place 0, where a form ends there, then the
-/// node's choices.
+/// The first change from the place `next` on that may be made at the node. At place 0 stands no change, which may be made where a form
+/// ends there; after it come the node's choices.
 pub(crate) fn change_from<L>(
     lexicon: &Lexicon,
     node: Node,
@@ -102,7 +102,7 @@ pub(crate) fn next_change<L>(
     true
 }
 
-/// Leaves the node with the most letters walked, or begins the next phase where none is left. False where there is no phase
+/// Leaves the node with the most letters walked, or begins the next phase where no node is left. False where there is no phase
 /// either.
 pub(crate) fn leave_node<L>(
     lexicon: &Lexicon,

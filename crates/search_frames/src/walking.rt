@@ -28,8 +28,8 @@ pub fn supplied_letters(rules: &RuleSet, entrance: Entrance) -> &[Letter]
     }
 }
 
-/// Where the word leads from the node. Takes a step for each letter, and no more than the longest word that leads somewhere has
-/// and one.
+/// Where the word leads from the node. Takes at most a step for each letter, and at most one step more than the longest word that
+/// leads somewhere has letters.
 fn walk_word<L>(store: &Store, node: Node, word: &[Letter], steps: &mut Steps<L>) -> Option<Node>
     requires there { node < length store.now.rows }
     requires short { (word : List ℕ) → IsSome (walk store.now.rows node word) → length word < NODES_OF_FRAME }
@@ -44,8 +44,8 @@ fn walk_word<L>(store: &Store, node: Node, word: &[Letter], steps: &mut Steps<L>
     Some(reached)
 }
 
-/// Puts the nodes to which the first letters lead from the node, none of them, one, two and so on as far as they lead, at the
-/// places from `base` on. Answers how many nodes these are.
+/// Walks from the node along the letters as far as they lead, and puts the node itself and those after one letter, two letters and so
+/// on at the places from `base` on. Answers how many nodes these are.
 fn walk_letters<L>(
     store: &Store,
     node: Node,
@@ -80,8 +80,8 @@ fn walk_letters<L>(
     walked as u32
 }
 
-/// Puts the nodes to which the lead and then the first letters lead from the root, none of them, one, two and so on as far as
-/// they lead, at the places from `base` on. Answers how many nodes these are.
+/// Walks from the root along the lead and then along the letters as far as they lead, and puts the node after the lead and those after
+/// one letter more, two letters more and so on at the places from `base` on. Answers how many nodes these are.
 fn walk_fronts<L>(
     store: &Store,
     root: Node,

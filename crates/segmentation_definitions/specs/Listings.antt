@@ -85,7 +85,7 @@ pub record IsPage (lexicon : Lexicon) (line : Line) (choices : List Choice) (cur
       → Contains page steps ⊎ ((length page ≡ count) × ComesAfter lexicon.rules page steps)
   pub left : IsTrue more ↔ ((steps : List Step) × IsAnswer lexicon line choices steps × IsAbove lexicon.rules cursor steps × ComesAfter lexicon.rules page steps)
 
--- the cursor at the last of these answers, or the given cursor where there is none
+-- the cursor at the last of these answers, or the given cursor where there is no answer
 abbrev pub cursor_after : Cursor → List (List Step) → Cursor
 cursor_after cursor [] = cursor
 cursor_after cursor (steps ∷ page) = cursor_after (AtAnswer steps) page

@@ -35,8 +35,8 @@ IsLast rules line_length p =
 abbrev pub next_rank : RuleSet → Placed → ℕ
 next_rank rules p = 2 * (p.at + p.taken + length (rule_after rules p.step).w) + after_lead p.step.rule
 
--- what the step alone tells of a kept item: at the step's rank it is the step's item; between this rank and that of the
--- next step, after a last step and before a first step there is none
+-- what the step alone tells of a kept item: at the step's rank it is the step's item; it has no rank between this one and that
+-- of the next step, none after a last step and none before a first step
 pub record AllowsKept (rules : RuleSet) (line_length : ℕ) (is_first : Bool) (p : Placed) (item : Item) : Type 0 where
   pub here : rank_of item ≡ rank_at p → item ≡ item_of p
   pub between : (IsLast rules line_length p → ⊥) → rank_at p < rank_of item → next_rank rules p ≤ rank_of item

@@ -10,7 +10,7 @@ abbrev pub key_count : Lexicon → ℕ → ℕ
 key_count lexicon letters = length lexicon.phases * (letters + 1) * (length lexicon.rules.rules + 1)
 
 -- no line with this many letters has more answers: an answer has at most twice as many keys, so at each of these places
--- there stands one of the keys or none
+-- there stands one of the keys or no key
 abbrev pub answer_bound : Lexicon → ℕ → ℕ
 answer_bound lexicon letters = (key_count lexicon letters + 1) ^ (2 * letters)
 
@@ -43,6 +43,6 @@ configuration_count letters leads = (letters + 1) * (51 + leads) * 32
 abbrev pub chart_bound : Lexicon → ℕ → ℕ → ℕ → ℕ
 chart_bound lexicon most letters leads = 3 * looks_at_one lexicon most * configuration_count letters leads
 
--- the most steps that one move to the next answer takes, also where there is none, under an exact guide
+-- the most steps that one move to the next answer takes under an exact guide, also where no answer is left
 abbrev pub advance_bound : Lexicon → ℕ → ℕ → ℕ
 advance_bound lexicon most letters = 12 * letters * looks_at_one lexicon most

@@ -7,7 +7,7 @@ ghost use Rattle.segmentation_definitions.specs.Answers.{KeepsBlanks, KeepsChoic
 ghost use Rattle.segmentation_definitions.specs.LocalTests.{KeepsBlanksLocally, AllAllow};
 
 /// Of a list of steps that derives the line's word, blanks are kept exactly where no blank stands strictly inside the
-/// letters that a step takes, and none stands after the beginning of the last step.
+/// letters that a step takes, and no blank stands after the beginning of the last step.
 pub fn blanks_are_local()
     ensures { (lexicon : Lexicon) (line : Line) (steps : List Step) → IsLexicon lexicon → IsLine line
         → Derives lexicon steps line.letters

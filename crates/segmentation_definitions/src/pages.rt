@@ -36,7 +36,7 @@ pub fn one_summary()
         → IsSummary lexicon line choices left → IsSummary lexicon line choices right → left ≡ right }
 {}
 
-/// Pages that follow one another from a cursor, up to one after which none is left, are together the listing above that
+/// Pages that follow one another from a cursor, up to one after which no answer is left, are together the listing above that
 /// cursor, whatever their sizes are; from before the first answer they are the whole listing.
 pub fn pages_make_the_listing()
     ensures { (lexicon : Lexicon) (line : Line) (choices : List Choice) (cursor : Cursor) (pages : List Page) (last : Page)

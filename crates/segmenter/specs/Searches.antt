@@ -52,13 +52,13 @@ pub record MovedOn (old new : SearchValue) : Type 0 where
   pub is : new ≡ record { searched = old.searched; line = old.line; choices = old.choices; cursor = AtAnswer answer }
   pub next : IsNext old.searched.lexicon old.line old.choices old.cursor answer
 
--- the search has come past the last answer: none was left
+-- the search has come past the last answer: no answer was left
 pub record HasEnded (old new : SearchValue) : Type 0 where
   pub is : new ≡ record { searched = old.searched; line = old.line; choices = old.choices; cursor = PastLast }
   pub none : (answer : List Step) → IsAnswer old.searched.lexicon old.line old.choices answer
       → IsAbove old.searched.lexicon.rules old.cursor answer → ⊥
 
--- these are the program's steps of the answer at which the search stands, or it stands at none
+-- these are the program's steps of the answer at which the search stands, or it stands at no answer
 abbrev pub IsCurrent : SearchValue → Option (List ProgramStep) → Type 0
 IsCurrent search None = (answer : List Step) → search.cursor ≡ AtAnswer answer → ⊥
 IsCurrent search (Some steps) =
@@ -86,7 +86,7 @@ pub record Skipped (depth : ℕ) (old new : SearchValue) : Type 0 where
   pub least : (other : List Step) → IsAnswer old.searched.lexicon old.line old.choices other → IsPastKeys old depth other
       → compare_answers old.searched.lexicon.rules answer other ≢ Greater
 
--- the search has come past the last answer: none that comes after it has other first keys
+-- the search has come past the last answer: no answer that comes after it has other first keys
 pub record HasSkippedAll (depth : ℕ) (old new : SearchValue) : Type 0 where
   pub is : new ≡ record { searched = old.searched; line = old.line; choices = old.choices; cursor = PastLast }
   pub none : (answer : List Step) → IsAnswer old.searched.lexicon old.line old.choices answer → IsPastKeys old depth answer → ⊥
@@ -96,7 +96,7 @@ abbrev pub AreNoKeys : SearchedLexicon → Line → List Choice → List Key →
 AreNoKeys searched line choices keys =
     (answer : List Step) → IsAnswer searched.lexicon line choices answer → keys_of searched.lexicon.rules answer ≡ keys → ⊥
 
--- the search stands at the answer with these keys, or before the first where there are none
+-- the search stands at the answer with these keys, or before the first where there are no keys
 abbrev pub StandsAtKeys : SearchValue → List Key → Type 0
 StandsAtKeys search [] = search.cursor ≡ BeforeFirst
 StandsAtKeys search (key ∷ keys) =

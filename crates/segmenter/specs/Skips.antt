@@ -47,7 +47,7 @@ pub record HasSkipped (searched : SearchedLexicon) (line : Line) (choices : List
   pub cursor : cursor_in new ≡ cursor.At
   pub least : HasLeastPast searched line choices depth old new
 
--- the stack has come past the last answer, since none is past these keys
+-- the stack has come past the last answer, since no answer is past these keys
 pub record HasSkippedOut (searched : SearchedLexicon) (line : Line) (choices : List Choice) (depth : ℕ) (old new : Resumption) : Type 0 where
   pub cursor : cursor_in new ≡ cursor.Past
   pub none : HasNonePast depth (value_of searched line choices old)

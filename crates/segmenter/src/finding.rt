@@ -18,7 +18,7 @@ use phoneme::Line;
 use reader_choices::Choices;
 use search_frames::{Configuration, Resumption, SearchGuide, ToTry, Turn, open_frame};
 
-/// Finds the first path from the configuration, with the frames from the level on. False where there is none.
+/// Finds the first path from the configuration, with the frames from the level on. False where there is no path.
 #[cycle(find)]
 pub(crate) fn find_first<D: SearchGuide, L>(
     lexicon: &Lexicon,
@@ -63,7 +63,7 @@ pub(crate) fn find_first<D: SearchGuide, L>(
 }
 
 /// Finds the first path from where the frame at the level stands that begins with a key that the frame has still to try. False
-/// where there is none. The caller says which keys these are, so that the guide need not find it out.
+/// where there is no such path. The caller says which keys these are, so that the guide need not find it out.
 #[cycle(find)]
 pub(crate) fn find_next<D: SearchGuide, L>(
     lexicon: &Lexicon,
@@ -110,7 +110,7 @@ pub(crate) fn find_next<D: SearchGuide, L>(
 }
 
 /// Finds the first path that comes after the keys along which the frames from the level on stand, and does not begin with all of
-/// them. False where there is none.
+/// them. False where there is no such path.
 #[cycle(later)]
 pub(crate) fn find_later<D: SearchGuide, L>(
     lexicon: &Lexicon,

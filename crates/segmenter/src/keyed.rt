@@ -47,7 +47,7 @@ fn stand_at_key(
     test_key(lexicon, line, choices, &place, &stack.step(level))
 }
 
-/// Goes from the configuration along the keys, with the frames from the level on. False where they are no path from there.
+/// Goes from the configuration along the keys, with the frames from the level on. False where the keys are no path from there.
 pub(crate) fn find_keys(
     lexicon: &Lexicon,
     line: &Line,

@@ -44,7 +44,7 @@ impl From<Memory> for ResumeError {
 }
 
 impl<'a, D: SearchGuide> Search<'a, D> {
-    /// A search that stands at the answer with these keys, or before the first answer where there are none. It is made from the
+    /// A search that stands at the answer with these keys, or before the first answer where no keys are given. It is made from the
     /// keys alone, and asks no guide.
     pub fn resume(
         alloc: Global,
@@ -69,9 +69,9 @@ impl<'a, D: SearchGuide> Search<'a, D> {
         Ok(Search::go_on(lexicon, line, choices, guide, stack))
     }
 
-    /// Moves past the first keys of the answer at which the search stands, as many as depth, all where it has fewer: to the first
-    /// later answer that has others. False where there is none; then the search stands past the last. Takes no memory, and no more
-    /// steps than `advance` may take.
+    /// Moves past the first keys of the answer at which the search stands, as many as `depth` or all where it has fewer: to the first
+    /// later answer whose first keys are others. False where there is no such answer; then the search stands past the last. Takes no
+    /// memory, and no more steps than `advance` may take.
     pub fn skip<L>(&mut self, depth: u32, steps: &mut Steps<L>) -> bool
         requires at { (answer : List Step) × (self.old.cursor ≡ AtAnswer answer) }
         requires depth { 1 ≤ depth }
@@ -91,8 +91,8 @@ impl<'a, D: SearchGuide> Search<'a, D> {
     }
 }
 
-/// Brings a stack that stands before the first answer to the one with these keys, and leaves it where there are none. False where
-/// they are those of no answer.
+/// Brings a stack that stands before the first answer to the answer with these keys; where no keys are given it stays. False where no
+/// answer has the keys.
 fn go_to_keys(
     lexicon: &Lexicon,
     line: &Line,
@@ -117,7 +117,7 @@ fn go_to_keys(
     true
 }
 
-/// Finds the least answer past the first keys of the one at which the stack stands. False where there is none.
+/// Finds the least answer past the first keys of the one at which the stack stands. False where there is no such answer.
 fn find_past<D: SearchGuide, L>(
     lexicon: &Lexicon,
     line: &Line,
@@ -143,8 +143,8 @@ fn find_past<D: SearchGuide, L>(
     find_later(lexicon, line, choices, guide, stack, 0, steps)
 }
 
-/// Moves the stack to the least answer past the first keys of the one at which it stands. False where there is none; then it
-/// stands past the last.
+/// Moves the stack to the least answer past the first keys of the one at which it stands. False where there is no such answer; then
+/// it stands past the last.
 fn skip_on<D: SearchGuide, L>(
     lexicon: &Lexicon,
     line: &Line,

@@ -92,9 +92,9 @@ impl<'a, D: SearchGuide> Search<'a, D> {
         }
     }
 
-    /// Moves to the next answer. False where none is left; then the search stands past the last. Takes no memory. Under a guide
-    /// that is known to be exact it takes at most twelve steps for each letter of the line, each phase, each of the at most 65
-    /// nodes on the way along a form and each choice at one and one more.
+    /// Moves to the next answer. False where no answer is left; then the search stands past the last. Takes no memory. Under a guide
+    /// that is known to be exact it takes at most twelve steps times the letters of the line, times the phases, times the at most 65
+    /// nodes on the way along a form, times one more than the most choices at a node.
     pub fn advance<L>(&mut self, steps: &mut Steps<L>) -> bool
         ensures moved { OnTrue result (MovedOn self.old self.new) }
         ensures ended { OnFalse result (HasEnded self.old self.new) }
@@ -110,7 +110,7 @@ impl<'a, D: SearchGuide> Search<'a, D> {
         )
     }
 
-    /// The steps of the answer at which the search stands. None before the first answer and past the last.
+    /// The steps of the answer at which the search stands. `None` before the first answer and past the last.
     pub fn current(&self) -> Option<&[Step]>
         ensures answer { MatchOption result (IsCurrent self.now None) (λ steps. IsCurrent self.now (Some steps.now)) }
     {
@@ -135,7 +135,7 @@ impl<'a, D: SearchGuide> Search<'a, D> {
     }
 }
 
-/// Finds the next answer after where the stack stands, and brings its frames there. False where none is left.
+/// Finds the next answer after where the stack stands, and brings its frames there. False where no answer is left.
 fn find_next_answer<D: SearchGuide, L>(
     lexicon: &Lexicon,
     line: &Line,
@@ -169,7 +169,7 @@ fn find_next_answer<D: SearchGuide, L>(
     }
 }
 
-/// Moves the stack to the next answer. False where none is left; then it stands past the last.
+/// Moves the stack to the next answer. False where no answer is left; then it stands past the last.
 fn move_on<D: SearchGuide, L>(
     lexicon: &Lexicon,
     line: &Line,

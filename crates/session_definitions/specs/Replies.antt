@@ -96,7 +96,7 @@ abbrev pub with_summary : State → Option (List Item) → (List Item → Reply)
 with_summary state None following = refused state (codes "no summary")
 with_summary state (Some items) following = following items
 
--- with an item; where the summary has none of this number the request is refused
+-- with an item; where the summary has no item of this number the request is refused
 abbrev pub with_item : State → Option Item → (Item → Reply) → Reply
 with_item state None following = refused state (codes "number")
 with_item state (Some item) following = following item

@@ -8,8 +8,8 @@ use Rattle.bookmark_definitions.specs.BookmarkReadings.{bookmark_of_text}
 pub use Rattle.session_definitions.specs.Numbers.{page_size_of, item_number_of}
 
 -- what a line asks for: a line of text to be read, a page, the summary, an item to be kept or rejected, the newest choice to
--- be taken back, the analyses of an item, a bookmark, to go on from one, or the end; None stands for what could not be
--- read: a scheme that is none, a number that is none, a text that is no bookmark
+-- be taken back, the analyses of an item, a bookmark, to go on from one, or the end. None stands for what could not be
+-- read: a word that is no scheme's name, a text that is no number, a text that is no bookmark
 pub data Request : Type 0 where
   Text : (scheme : Option Scheme) → (text : List ℕ) → Request
   Page : (count : Option ℕ) → Request
@@ -22,7 +22,7 @@ pub data Request : Type 0 where
   Quit : Request
   NoWord : Request
 
--- what comes after the first blank, and nothing where there is none
+-- what comes after the first blank, and nothing where there is no blank
 abbrev pub after_blank : Option (List ℕ) → List ℕ
 after_blank None = []
 after_blank (Some rest) = rest

@@ -8,8 +8,8 @@ use Rattle.segmentation_definitions.specs.Items.{Item, Choice}
 use Rattle.segmentation_definitions.specs.Listings.{Cursor, BeforeFirst, AtAnswer, PastLast, cursor_after, Key, keys_of}
 use Rattle.bookmark_definitions.specs.Bookmarks.{Bookmark}
 
--- a line of text or none, the reader's choices, oldest first, the number of answers printed, the last of these or before the
--- first, and the summary that was printed or none
+-- a line of text, if one was given; the reader's choices, oldest first; the number of answers printed; the cursor at the last of
+-- these, or before the first; and the summary, if it was printed
 pub record State : Type 0 where
   pub line : Option Line
   pub choices : List Choice
@@ -17,7 +17,7 @@ pub record State : Type 0 where
   pub cursor : Cursor
   pub summary : Option (List Item)
 
--- with this line or none and these choices, and nothing printed
+-- with this line, if there is one, and these choices, and nothing printed
 abbrev pub fresh : Option Line → List Choice → State
 fresh line choices =
     record { line = line; choices = choices; printed = 0; cursor = BeforeFirst; summary = None }
@@ -44,7 +44,7 @@ abbrev pub after_resume : Bookmark → Cursor → State
 after_resume mark cursor =
     record { line = Some mark.line; choices = mark.choices; printed = mark.printed; cursor = cursor; summary = None }
 
--- the keys of the last answer printed, none before the first
+-- the keys of the last answer printed; no keys before the first
 abbrev pub keys_at : RuleSet → Cursor → List Key
 keys_at rules BeforeFirst = []
 keys_at rules (AtAnswer steps) = keys_of rules steps

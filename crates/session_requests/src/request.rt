@@ -18,8 +18,8 @@ use session_definitions::MOST_PAGE;
 use std::alloc::Global;
 use text_line::{Scheme, count_up_to};
 
-/// What a line of a session asks for. None stands for what could not be read: another word than the name of a scheme, a text that
-/// is no number of this kind, a text that is no bookmark.
+/// What a line of a session asks for. `None` stands for what could not be read: a word that is no scheme's name, a text that is no
+/// number of this kind, or a text that is no bookmark.
 #[derive(Debug, Drop)]
 pub enum Request<'a> {
     /// `text SCHEME TEXT`: a line of text is to be read.
@@ -56,7 +56,7 @@ pub enum Request<'a> {
     NoWord,
 }
 
-/// The bookmark that the text is, where it is one.
+/// The bookmark that the text writes; `None` where it is the text of no bookmark.
 fn mark_of(alloc: Global, text: &[u8]) -> Result<Option<Bookmark>, Memory>
     ensures ok { IfOk result (λ mark. option_map bookmark_of mark ≡ bookmark_of_text text.now) }
     ensures sound { IfOk result (λ mark. IfSome mark (λ read. IsBookmark (bookmark_of read))) }

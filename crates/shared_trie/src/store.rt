@@ -68,7 +68,7 @@ impl Store {
         !self.row(node).deltas.is_empty()
     }
 
-    /// The deltas of the forms that end at the node, rising. None where no form ends there.
+    /// The deltas of the forms that end at the node, rising. There are no deltas where no form ends there.
     pub fn deltas(&self, node: Node) -> &[Delta]
         requires { node < length self.now.rows }
         ensures { map text_delta result.now ≡ (row_of self.now.rows node).deltas }

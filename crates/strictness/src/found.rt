@@ -14,7 +14,7 @@ pub(crate) struct Found {
 impl Found {
     ghost use Rattle.strictness.specs.Appending.{IsFull, Takes};
 
-    /// For a search that wants at most this many overlaps, none of which is found yet. Takes no memory.
+    /// For a search that wants at most this many overlaps and has found no overlap yet. Takes no memory.
     pub fn new(alloc: Global, most: usize) -> Found
         ensures overlaps { result.overlaps.items ≡ [] }
         ensures most { result.most ≡ most }

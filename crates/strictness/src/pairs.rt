@@ -45,7 +45,7 @@ fn add_of_rule(
 }
 
 /// Appends the first overlaps in the form, by rising rule before it, then by rising rule after it. The two rules have
-/// `MOST_RULE_LETTERS` letters each at most, so a form of twice as many has none.
+/// `MOST_RULE_LETTERS` letters each at most, so a form of twice as many letters has no overlap.
 pub(crate) fn add_of_form(
     alloc: Global,
     rules: &RuleSet,

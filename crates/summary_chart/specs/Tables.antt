@@ -51,12 +51,12 @@ set_of table index = slice_index_or table.sets.items index (record { bits = 0 })
 abbrev pub set_at : Table → ℕ → Entrance → StateSet
 set_at table at entrance = set_of table (index_in table at entrance)
 
--- the state is in the set; the dead state is in none
+-- the state is in the set; the dead state is in no set
 abbrev pub HasThisState : StateSet → Option ℕ → Type 0
 HasThisState set None = ⊥
 HasThisState set (Some number) = HasState set number
 
--- the number of a state is one of a set, as the dead state has none
+-- the state's number may stand in a set; the dead state has no number
 abbrev pub IsStateNumber : Option ℕ → Type 0
 IsStateNumber None = Unit {0}
 IsStateNumber (Some number) = number < 32

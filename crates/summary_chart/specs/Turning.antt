@@ -21,7 +21,7 @@ use Rattle.summary_chart.specs.Spreading.{GoesFurtherBy}
 abbrev pub IsFrom : Key → Key → Type 0
 IsFrom key other = (key ≡ other) ⊎ (compare_keys key other ≡ Less)
 
--- the key comes after the last one; where there is none, any key does
+-- the key comes after the last one; where there is no last one, any key does
 abbrev pub IsAfter : Option ProgramKey → Key → Type 0
 IsAfter None key = Unit {0}
 IsAfter (Some last) key = compare_keys (key_meant last) key ≡ Less

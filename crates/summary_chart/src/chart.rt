@@ -94,7 +94,7 @@ impl Chart {
 }
 
 impl Chart {
-    /// The ways from the place. None where the chart does not have it, so that no answer goes on from there.
+    /// The ways from the place. `None` where the chart does not have it, so that no answer goes on from there.
     pub(crate) fn ways_from(&self, place: &Configuration) -> Option<&[Way]>
         requires stops { AreStops self.now.stops (length self.now.ways) }
         requires covers { CoversPlace self.now.table place.now.at place.now.entrance place.now.state }

@@ -27,7 +27,7 @@ impl PlaceWays {
         &self.ways.as_slice()[stop.first..stop.end]
     }
 
-    /// The ways from the places at the index of the table. None where there is no stop.
+    /// The ways from the places at the index of the table. `None` where there is no stop.
     pub fn at(&self, index: usize) -> Option<&[Way]>
         requires stops { AreStops self.now.stops.items (length self.now.ways.items) }
         ensures found { MatchOption result (HasStopAt self.now.stops.items index → ⊥) (λ ways. AreWaysAt self.now.stops.items self.now.ways.items index ways.now) }

@@ -50,7 +50,7 @@ impl StateSet {
         self.bits == 0
     }
 
-    /// The state with the least number, and the set without it; None of an empty set.
+    /// The state with the least number, and the set without it; `None` where the set is empty.
     pub(crate) fn split_first(self) -> Option<(u8, StateSet)>
         ensures { MatchOption result ((number : ℕ) → HasState self number → ⊥) (λ split. IsSplitInto self split.0 split.1) }
     {

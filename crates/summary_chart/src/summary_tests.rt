@@ -212,7 +212,7 @@ static CASES: [(&[Form], &[u8], &[(bool, Row)], &[Row]); 6] = [
             (2, 1, 2, &[3, 32, 3]),
         ],
     ),
-    // ceti, where the form of the phase r is none: its way is dead
+    // ceti, where the phase r has no form: the way to it is dead
     (
         &[(0, &[22, 1]), (0, &[22, 2]), (1, &[3, 32, 3])],
         &[22, 10, 32, 3],

@@ -18,7 +18,7 @@ use reader_choices::Choices;
 use search_frames::{Configuration, LetterTest, Resumption, SearchGuide, ToTry, Turn, Way, go_to};
 use std::cmp::Ordering;
 
-/// Whether the key comes after the last one, which any key does where there is none.
+/// Whether the key comes after the last one. Where there is no last one, any key does.
 fn is_after(last: Option<Key>, key: Key) -> bool
     ensures { IsTrue result ↔ IsAfter last (key_meant key) }
 {

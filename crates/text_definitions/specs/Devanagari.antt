@@ -9,7 +9,7 @@ unfoldable pub devanagari_table : List ℕ
 devanagari_table =
     0x0905 ∷ 0x0906 ∷ 0x0907 ∷ 0x0908 ∷ 0x0909 ∷ 0x090A ∷ 0x090B ∷ 0x0960 ∷ 0x090C ∷ 0x090F ∷ 0x0910 ∷ 0x0913 ∷ 0x0914 ∷ 0x0902 ∷ 0x0901 ∷ 0x0903 ∷ 0x0915 ∷ 0x0916 ∷ 0x0917 ∷ 0x0918 ∷ 0x0919 ∷ 0x091A ∷ 0x091B ∷ 0x091C ∷ 0x091D ∷ 0x091E ∷ 0x091F ∷ 0x0920 ∷ 0x0921 ∷ 0x0922 ∷ 0x0923 ∷ 0x0924 ∷ 0x0925 ∷ 0x0926 ∷ 0x0927 ∷ 0x0928 ∷ 0x092A ∷ 0x092B ∷ 0x092C ∷ 0x092D ∷ 0x092E ∷ 0x092F ∷ 0x0930 ∷ 0x0932 ∷ 0x0935 ∷ 0x0936 ∷ 0x0937 ∷ 0x0938 ∷ 0x0939 ∷ 0x093D ∷ []
 
--- the signs of the vowels after a consonant, by code from 2; the vowel a has none
+-- the signs of the vowels after a consonant, by code from 2; the vowel a has no sign
 unfoldable pub devanagari_signs : List ℕ
 devanagari_signs = 0x093E ∷ 0x093F ∷ 0x0940 ∷ 0x0941 ∷ 0x0942 ∷ 0x0943 ∷ 0x0944 ∷ 0x0962 ∷ 0x0947 ∷ 0x0948 ∷ 0x094B ∷ 0x094C ∷ []
 
@@ -66,7 +66,7 @@ word_of_points place bare (point ∷ points) =
 unfoldable pub word_of_devanagari : List ℕ → Reading
 word_of_devanagari text = if is_utf8 text then word_of_points 0 false (chars text) else Err (NotUtf8 (utf8_valid_len text))
 
--- the sign of a vowel, of which a has none
+-- the sign of a vowel; the vowel a has no sign
 abbrev pub sign_of_vowel : ℕ → List ℕ
 sign_of_vowel vowel = if vowel == 1 then [] else slice_index devanagari_signs (vowel - 2) ∷ []
 

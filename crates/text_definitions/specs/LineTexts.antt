@@ -64,7 +64,7 @@ is_some_word (Ok []) = false
 is_some_word (Ok (letter ∷ word)) = true
 is_some_word (Err fault) = false
 
--- whether a letter's spelling begins the text; none has more than three bytes
+-- whether a letter's spelling begins the text; no spelling has more than three bytes
 abbrev pub letter_begins : Scheme → List ℕ → Bool
 letter_begins scheme text =
     is_some_word (word_of_text scheme (take 1 text)) || is_some_word (word_of_text scheme (take 2 text)) || is_some_word (word_of_text scheme (take 3 text))
@@ -117,7 +117,7 @@ fault_from place (NotLetter at) = NotLetter (place + at)
 fault_from place (LoneSign at) = LoneSign (place + at)
 fault_from place (NotUtf8 at) = NotUtf8 (place + at)
 
--- a blank between letters and letters, and none where there are no letters on one side
+-- a blank between letters and letters, and no blank where there are no letters on one side
 abbrev pub blank_between : List ℕ → List ℕ → List ℕ
 blank_between [] word = []
 blank_between (letter ∷ letters) [] = []

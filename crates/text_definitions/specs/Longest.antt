@@ -12,7 +12,7 @@ spelling_from code (entry ∷ table) bytes = if bytes_eq entry bytes then Some c
 abbrev pub spelling_of_letter : List (List ℕ) → ℕ → List ℕ
 spelling_of_letter table letter = slice_index_or table (letter - 1) []
 
--- the letter with the length of its spelling, or where there is none the other
+-- the letter with the length of its spelling, or where there is no letter the shorter one
 abbrev pub or_shorter : Option ℕ → ℕ → Option (ℕ × ℕ) → Option (ℕ × ℕ)
 or_shorter None len shorter = shorter
 or_shorter (Some letter) len shorter = Some (letter, len)

@@ -21,7 +21,7 @@ pub fn has_letter(alloc: Global, scheme: Scheme, text: &[u8]) -> Result<bool, Me
     Ok(false)
 }
 
-/// Whether a letter's spelling begins the text. None has more than three bytes.
+/// Whether a letter's spelling begins the text. No spelling has more than three bytes.
 fn letter_begins(alloc: Global, scheme: Scheme, text: &[u8]) -> Result<bool, Memory>
     requires { length text.now < 2 ^ 32 }
     ensures ok { IfOk result (λ found. found ≡ letter_begins (scheme_of scheme) text.now) }

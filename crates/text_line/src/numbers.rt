@@ -17,7 +17,7 @@ fn are_digits_up_to(most: usize, text: &[u8]) -> bool
     !text.is_empty() && text.len() <= most && are_digits(text)
 }
 
-/// The number that one digit or more, and at most so many, write in decimal; it may begin with 0. None where the text has others.
+/// The number that the text writes in decimal, with one digit up to `most` digits; it may begin with 0. `None` where the text is not such.
 pub fn digits_up_to(most: usize, text: &[u8]) -> Option<u64>
     requires { most ≤ 19 }
     ensures value { result ≡ (if typed.are_digits_up_to most text.now then Some (digits_value 10 text.now) else None) }

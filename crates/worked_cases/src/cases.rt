@@ -121,7 +121,7 @@ pub fn a_summary_has_each_item_once()
         ∷ []) }
 {}
 
-/// Pages of one answer: the first answer of `nAsti` with more after it, then the second with none, then an empty page.
+/// Pages of one answer: the first answer of `nAsti` with more after it, then the second with no answer after it, then an empty page.
 pub fn pages_follow_one_another()
     ensures first { IsPage naasti_lexicon (unbroken word_naasti) [] BeforeFirst 1
         ((step 0 word_na 1 ∷ step 0 word_asti 0 ∷ []) ∷ []) true }
