@@ -163,7 +163,7 @@ listed_full old now first_number before after number most answers so_far full = 
   ended = λ fewer. absurd (omega arith);
 }
 
--- none is left before so many are listed
+-- no answer is left before so many are listed
 pub listed_ended : (old now new : SearchValue) (first_number : ℕ) (before after : List ℕ) (number most : ℕ) (answers : List (List Step))
     → AreListed old now first_number before after number answers → length answers < most → HasEnded now new → HasListed old new most answers
 listed_ended old now new first_number before after number most answers so_far fewer ended =

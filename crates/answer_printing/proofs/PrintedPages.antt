@@ -1,4 +1,4 @@
--- Listed answers are a page: where all are listed none is left, and else what the search says next tells whether one is.
+-- Listed answers are a page: where all are listed no answer is left, and else what the search says next tells whether one is.
 use Rattle.std.proofs.Common.{◌≡◌, ◌↔◌, ℕ, ◌<◌, Bool, true, false, IsTrue, List, length, refl, subst}
 use Rattle.std.specs.Bool.{OnTrue, OnFalse}
 use Rattle.segmentation_definitions.specs.Derivations.{Step}
@@ -19,7 +19,7 @@ left_if now new true moved ended = (λ yes. (moved.answer, moved.next.answer, mo
 left_if now new false moved ended = (λ yes. absurd (cc (yes)), λ found. absurd (ended.none found.0 found.1 found.2))
 
 module _ (old now : SearchValue) (count : ℕ) (answers : List (List Step)) (listed : HasListed old now count answers) where
-  -- fewer answers than were asked for are a page after which none is left
+  -- fewer answers than were asked for are a page after which no answer is left
   pub page_ended : length answers < count → IsPage old.searched.lexicon old.line old.choices old.cursor count answers false
   page_ended fewer = page_if_ended old.searched.lexicon old.line old.choices old.cursor answers listed.first count listed.at_most (listed.ended fewer).none
 

@@ -1,5 +1,5 @@
--- Two lists place by place: put after others, with one element changed, at one place. So for the replies that were found: there is none
--- yet, one more is found, and others are put beside them.
+-- Two lists place by place: put after others, with one element changed, at one place. So for the replies that were found: at first there
+-- is no reply, then one more is found, and others are put beside them.
 use Rattle.std.proofs.Common.{◌≡◌, ℕ, zero, suc, ◌+◌, ◌<◌, List, Vec, Global, Option, Some, None, [], ◌∷◌, ◌++◌, length, get_or, slice_set, take, sym, ap, ◌∙◌, subst, refl, arith, add-one}
 use Rattle.std.specs.List.{AllZip}
 use Rattle.std.specs.Option.{option_or}

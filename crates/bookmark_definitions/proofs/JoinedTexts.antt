@@ -20,7 +20,7 @@ split_more mark first (next ∷ texts) h =
     slice_split_at (λ byte. eqb byte mark) first mark (join_with_byte mark (next ∷ texts)) (bytes_apart_from mark first h.0) (eq-eqb mark mark refl)
     ∙ ap (◌∷◌ first) (split_more mark next texts h.1)
 
--- where there is a text and none has the mark
+-- where there is a text and no text has the mark
 pub split_joined : (mark : ℕ) (texts : List (List ℕ)) → 0 < length texts → AreFree mark texts
     → slice_split (λ byte. eqb byte mark) (join_with_byte mark texts) ≡ texts
 split_joined mark [] some h = absurd (omega (arith, some))

@@ -1,4 +1,4 @@
--- Parts that are appended one after another, none of them empty, are joined by `,`: by induction on the parts so far.
+-- Parts that are appended one after another, and are not empty, are joined by `,`: by induction on the parts so far.
 use Rattle.std.proofs.Common.{◌≡◌, ℕ, ◌+◌, ◌<◌, List, [], ◌∷◌, ◌++◌, length, get_or, take, map, refl, sym, ◌∙◌, ap, arith, append_assoc}
 use Rattle.std.specs.List.{AllByRecursion, join_with_byte}
 use Rattle.std.proofs.lemmas.List.{map-append, take_more}

@@ -1,5 +1,5 @@
--- The words are the command's that takes what they give; or of none, since they are too many or too long or give nothing, or
--- no command of this name takes what they give.
+-- The words are those of the command that takes what they give; or they are no command's, since they are too many or too long or
+-- give nothing, or no command of this name takes what they give.
 use Rattle.std.proofs.Common.{◌≡◌, ℕ, ◌+◌, ◌-◌, ◌*◌, ◌^◌, ◌≤◌, List, [], ◌∷◌, length, Some, None, sym, ◌∙◌, ap, subst, arith}
 use Rattle.std.specs.List.{All}
 use Rattle.run_definitions.specs.declared.limits.TheConstants.{MOST_WORD_BYTES}

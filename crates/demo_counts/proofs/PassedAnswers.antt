@@ -56,7 +56,7 @@ passed_all old now count so_far =
       };
     }
 
--- none is left before so many are passed
+-- no answer is left before so many are passed
 pub passed_some : (old now new : SearchValue) (count passed : ℕ) → IsUnderWay old now passed → passed < count → HasEnded now new
     → HasPassed old new count passed
 passed_some old now new count passed so_far fewer ended =

@@ -64,7 +64,7 @@ different_from_pairs (x ∷ xs) h = (
   different_from_pairs xs (λ i j d below within. h (suc i) (suc j) d (omega arith) (omega arith)),
 )
 
--- different elements and others that are none of them
+-- different elements, and others that are not among them
 pub different_appended : {X : Type 0} (xs ys : List X) → AreDifferent xs → AreDifferent ys → ((x : X) → In x xs → In x ys → ⊥) → AreDifferent (xs ++ ys)
 different_appended [] ys dx dy apart = dy
 different_appended (x ∷ xs) ys dx dy apart = (

@@ -43,7 +43,7 @@ drawn_is_text seed = record {
       (and_from _ _ (vowel (seed_after seed 3)) (and_from _ _ (consonant (seed_after seed 4)) refl))));
 }
 
--- each of these is none of those before it, nor of the earlier ones
+-- each of these differs from those before it and from the earlier ones
 abbrev pub AreNewAfter : List (List ℕ) → List (List ℕ) → Type 0
 AreNewAfter earlier [] = Unit {0}
 AreNewAfter earlier (stem ∷ stems) = (list_any (bytes_eq stem) earlier ≡ false) × AreNewAfter (earlier ++ stem ∷ []) stems

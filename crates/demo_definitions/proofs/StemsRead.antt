@@ -1,4 +1,4 @@
--- The stem file is read as its stems: each passes every test of a record, since it has six letters and is none of those before it.
+-- The stem file is read as its stems: each passes every test of a record, since it has six letters and differs from those before it.
 use Rattle.std.proofs.Common.{◌≡◌, ℕ, suc, ◌+◌, ◌*◌, ◌<◌, ◌≤◌, true, false, Some, fold, Ok, List, [], ◌∷◌, ◌++◌, length, map, refl, sym, ◌∙◌, ap, inl, inr, arith, append_assoc, length-append}
 use Rattle.std.specs.Prelude.{codes}
 use Rattle.std.specs.List.{AllByRecursion, list_any, list_all, position}

@@ -21,7 +21,7 @@ use Rattle.demo_definitions.proofs.DrawnWords.{IsText, stem_at, ending_at}
 
 -- ---- letters that stay
 
--- the letter is none of s, z, r, f and F
+-- the letter is not s, z, r, f or F
 abbrev stays : ℕ → Bool
 stays letter = not (letter == 48) && not (letter == 47) && not (letter == 43) && not (letter == 7) && not (letter == 8)
 
@@ -40,7 +40,7 @@ at_any [] at h = refl
 at_any (letter ∷ word) zero h = (and_parts (stays letter) (list_all stays word) h).0
 at_any (letter ∷ word) (suc at) h = at_any word at (and_parts (stays letter) (list_all stays word) h).1
 
--- a letter that stays is none of them
+-- a letter that stays is not one of them
 is_not : (letter other : ℕ) → stays letter ≡ true → letter ≡ other → stays other ≡ false → ⊥
 is_not letter other h e changes =
     let same : stays other ≡ true = subst (λ (n : ℕ). stays n ≡ true) e h in

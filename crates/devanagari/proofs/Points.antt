@@ -63,7 +63,7 @@ foreign : (point : ℕ) → in_block point ≡ false → letter_or_sign (entry_f
 foreign point outside =
     ap (λ letter. letter_or_sign letter (entry_from 2 devanagari_signs point)) (no_letter point outside) ∙ ap (letter_or_sign None) (no_sign point outside)
 
--- a code point below the block is none of the tables
+-- a code point below the block stands in no table
 pub foreign_below : (point : ℕ) → point < 0x0900 → letter_or_sign (entry_from 1 devanagari_table point) (entry_from 2 devanagari_signs point) ≡ Foreign
 foreign_below point below = let outside : in_block point ≡ false = grind (arith, nat_tests) in foreign point outside
 

@@ -32,7 +32,7 @@ IsDotless-from_test [] h = λ k d lt. absurd (omega arith)
 IsDotless-from_test (byte ∷ bytes) h =
     All-cons (λ b. b ≢ 46) byte bytes (grind (arith, nat_tests)) (IsDotless-from_test bytes (grind (arith, nat_tests)))
 
--- a word of a table without dots has none
+-- a word of a table without dots has no dot
 pub IsOneOf-dotless : (words : List (List ℕ)) → are_dotless words ≡ true → (text : List ℕ) → IsOneOf words text → IsDotless text
 IsOneOf-dotless [] t text h = absurd h
 IsOneOf-dotless (word ∷ words) t text h =

@@ -91,7 +91,7 @@ compare_first (x ∷ w) (y ∷ w') r r' a a' s s' =
 pub record EndsWith (word rest : List ℕ) : Type 0 where
   pub ends : word ≡ [] → rest ≡ []
 
--- a word after a dot, or none, and what follows it
+-- a word after a dot and what follows it, or nothing
 compare_dotted : (w w' r r' : List ℕ) → is_above_dot w ≡ true → is_above_dot w' ≡ true → IsRest r → IsRest r' → EndsWith w r → EndsWith w' r'
     → compare_texts (dotted w r) (dotted w' r') ≡ ordering_then (compare_texts w w') (compare_texts r r')
 compare_dotted [] [] r r' a a' s s' e e' = rw (e.ends refl, e'.ends refl)

@@ -5,7 +5,7 @@ use Rattle.text_definitions.specs.Spellings.{letter_at, letter_of_byte, word_of_
 use Rattle.text_definitions.proofs.Tables.{passes_below, passes_at}
 use Rattle.latin_schemes.specs.Codes.{letter_by_code}
 
--- the two letters are one, or both are none
+-- the two letters are one, or there is neither
 abbrev pub is_same : Option ℕ → Option ℕ → Bool
 is_same None None = true
 is_same None (Some n) = false

@@ -87,7 +87,7 @@ pub collected_more : (count : ℕ) (all : List Entry) (lists new : List (List Fo
     → AreCollected count all lists left → left ≡ entry ∷ rest → new ≡ with_entry lists entry → AreCollected count all new rest
 collected_more count all lists new left rest entry c is put = put_in count all lists new entry rest (subst (AreCollected count all lists) is c) put
 
--- where none is left, the lists have just these
+-- where no entry is left, the lists have just these
 pub collected_at_end : (count : ℕ) (all : List Entry) (lists : List (List Form)) (left : List Entry) → AreCollected count all lists left → left ≡ []
     → HaveJust lists all
 collected_at_end count all lists left c none entry =

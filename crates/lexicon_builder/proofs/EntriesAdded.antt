@@ -88,7 +88,7 @@ has_cases form forms letters x h =
       | inr n ↦ inr (record { form = h.form; is_among = n; has_letters = h.has_letters; is_analyzed = h.is_analyzed })
     ]
 
--- no form has none
+-- where there are no forms, no form has the analysis
 has_none : (letters : List ℕ) (x : Analysis) → HasAnalysis [] letters x → ⊥
 has_none letters x h = not_Contains-nil h.form h.is_among
 

@@ -1,4 +1,4 @@
--- A text's first fault is told by its size and by the first fault of its bytes and names; only where it has none of these can
+-- A text's first fault is told by its size and by the first fault of its bytes and names; only where it has no such fault can
 -- it have too many states. By cases on both faults.
 use Rattle.std.proofs.Common.{◌≡◌, ℕ, Bool, true, false, nat_lt, Option, Some, None, List, length, refl, sym, ◌∙◌}
 use Rattle.lexicon_definitions.specs.GrammarFaults.{Fault, Long, Syntax, UnknownPhase, Places, States, fault_before_states, IsFirstFault, IsGrammarTextWithinLimits, first_fault_of, syntax_fault, first_unknown, names_from}

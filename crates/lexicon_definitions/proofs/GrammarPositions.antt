@@ -197,7 +197,7 @@ exchange_parts g from a b c d m l each left right le re lh rh =
         ∙ (ap (λ y. joined before ++ y) (sym (append_assoc front (m ∷ rest) (joined after)))
         ∙ sym (joined-append before ((front ++ m ∷ rest) ∷ after)))))
 
--- a position of the one side is none of the other
+-- a position of the one side is no position of the other
 sides_differ : (left right : Grammar) (from : ℕ) (m l : Mark) → m.position ≡ l.position → IsPositionOf left from m
     → IsPositionOf right (from + count_names left) l → ⊥
 sides_differ left right from m l e h k = omega (arith, e, h.1, k.0)

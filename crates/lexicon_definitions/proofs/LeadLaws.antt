@@ -27,7 +27,7 @@ compare_leads_exact left right e =
     let parts = equal_then_both (compare_words left.v right.v) (nat_cmp left.after right.after) e in
     same_lead left right (exact_bytes _ _ parts.0) (exact_unsigned _ _ parts.1)
 
--- a final rule adds none
+-- a final rule adds no lead
 pub with_lead_none : (leads : List Lead) (v : List ℕ) (after : ℕ) → v ≡ [] → with_lead leads v after ≡ leads
 with_lead_none leads [] after e = refl
 with_lead_none leads (letter ∷ v) after e = cc

@@ -142,6 +142,6 @@ last_compared lists last place at words letters analyses analysis entry h are_wo
     ∙ sym (compare_last-push compare_entries before (entry_with (0 + last) form.letters (text_analysis analysis)) entry)
     ∙ ap (λ lines. compare_last compare_entries lines entry) (sym is)
 
--- where there are none every entry may come
+-- where there are no entries, every entry may come
 pub none_compared : (lists : List (List Form)) (entry : Entry) → count_lines lists ≡ 0 → compare_last compare_entries (entries_from 0 lists) entry ≡ Less
 none_compared lists entry e = by_length (entries_from 0 lists) entry (sym (counted 0 lists) ∙ e)

@@ -40,7 +40,7 @@ pub stage_before_grammar : (last : lines.Kind) (told : Told) (automaton : Option
 stage_before_grammar lines.Phase told automaton lists phase f h = h
 stage_before_grammar last told automaton lists phase f h = absurd (cc)
 
--- no form before it, and none after it
+-- no form before it, and no form after it
 pub no_forms_told : (before after : List (List Form)) (count : ℕ) → before ≡ [] → after ≡ empty_lists count → entries_from 0 before ≡ entries_from 0 after
 no_forms_told before after count b a = ap (entries_from 0) b ∙ sym (ap (entries_from 0) a ∙ no_lines_at_first 0 count)
 

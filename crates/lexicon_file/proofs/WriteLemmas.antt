@@ -16,7 +16,7 @@ use Rattle.list_laws.proofs.Elements.{append_regrouped}
 two_texts : (a b : List (List ℕ)) → text_of_lines (a ++ b) ≡ text_of_lines a ++ text_of_lines b
 two_texts a b = flat_map-append _ a b
 
--- what stands for a form where there is none
+-- what stands for a form where there is no form
 no_form : Form
 no_form = record { letters = []; analyses = [] }
 

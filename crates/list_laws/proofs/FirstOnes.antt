@@ -72,7 +72,7 @@ module _ {X : Type 0} (R : X → X → Ordering) where
     left = λ is. let l = first.left is in (l.0, to l.0 l.1, l.2);
   }
 
-  -- where none is left, the first are all
+  -- where no element is left, the first are all
   pub all_from_first : (P : X → Type 0) (xs : List X) → AreFirst R P xs false → AreAll R P xs
   all_from_first P xs first = record {
     rising = first.rising;

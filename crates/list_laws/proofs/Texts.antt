@@ -19,7 +19,7 @@ none_by text (other ∷ texts) h =
     let apart : other ≢ text = λ e. let same = (bytes_eq-Decides text other).1 (sym e) in cc in
     (apart, none_by text texts parts.1)
 
--- none of these texts is this one
+-- this text is not one of these
 pub none_same : (text : List ℕ) (texts : List (List ℕ)) → list_any (bytes_eq text) texts ≡ false → All (λ other. other ≢ text) texts
 none_same text texts h = All-from_recursion (λ other. other ≢ text) texts (none_by text texts h)
 

@@ -1,5 +1,5 @@
 -- The first branches of a path are those of the frames that are kept and the one taken at the last of them. A path with these
--- first branches makes no later one there; and one that comes after and makes none there has them.
+-- first branches makes no later one there; and a path that comes after and makes no later one there has them.
 use Rattle.std.proofs.Common.{◌≡◌, ◌≢◌, ℕ, suc, min, inl, inr, List, [], ◌∷◌, ◌++◌, length, take, refl, sym, ap, subst, ◌∙◌, arith}
 use Rattle.std.specs.Cmp.Lexicographic.{slice_cmp}
 use Rattle.std.specs.declared.cmp.Ordering.{Ordering}

@@ -13,7 +13,7 @@ use Rattle.paradigms.specs.declared.record_error.RecordError.TheVariants.{Why, M
 use Rattle.paradigms.specs.Answers.{IsAnswer, IsTableFault, IsStemFault, table_error_of, stem_error_of, table_why, stem_why}
 use Rattle.paradigms.specs.RecordsLeft.{IsNextOf}
 
--- the first of the records that are left, and none of them
+-- the first of the records that are left; and the end, where no record is left
 pub next_of : (old left : List (List (List ℕ))) (fields : List (List ℕ)) (found : Bool) → found ≡ true → IsNextOf old found fields left → old ≡ fields ∷ left
 next_of old left fields found h next = subst (λ (found : Bool). IsNextOf old found fields left) h next
 

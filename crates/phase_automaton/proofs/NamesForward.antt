@@ -9,7 +9,7 @@ use Rattle.phase_automaton.specs.Names.{first_name, position_of_name}
 use Rattle.phase_automaton.proofs.PhaseNumbers.{any_from_position, none_from_position}
 use Rattle.std.proofs.lemmas.Bool.{cond-true, cond-false}
 
--- the names that begin in the rest of a text, at this place, where a name ends in front of it or none does
+-- the names that begin in the rest of a text, at this place, whether a name ends in front of it or not
 abbrev pub names_after : Bool → ℕ → List ℕ → List PlacedName
 names_after in_name at [] = []
 names_after true at (byte ∷ text) =

@@ -74,7 +74,7 @@ name_bytes (byte ∷ text) = bool_cases (is_name_byte byte)
     (λ n. rw (cond-true (is_name_byte byte) (byte ∷ first_name text) [] n, n) (name_bytes text))
     (λ n. rw (cond-false (is_name_byte byte) (byte ∷ first_name text) [] n) refl)
 
--- of a byte of a name where none has begun, that may stand
+-- of a byte of a name that may stand, where no name has begun
 letter_begins : (walk : Walk) (byte : ℕ) → is_name_byte byte ≡ true → nat_lt 0 walk.name_length ≡ false → may_stand walk byte ≡ true
     → is_small_letter byte ≡ true
 letter_begins walk byte n named m =

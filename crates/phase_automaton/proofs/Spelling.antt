@@ -28,7 +28,7 @@ record IsSpelling (names : List (List ℕ)) (in_name : Bool) (rest : List ℕ) (
   name_is_item : in_name ≡ true → walk.needs_item ≡ false
 
 -- ---- a symbol
--- what was read with a symbol more, of which a blank is none
+-- what was read with a symbol more; a blank is no symbol
 record Spelled (names : List (List ℕ)) (byte : ℕ) (levels : List OpenLevel) (done : List Token) : Type 0 where
   more : List Token
   spelled : LevelsSpell names (after_token names (symbol_of byte) levels) more

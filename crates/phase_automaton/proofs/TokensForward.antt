@@ -5,11 +5,11 @@ use Rattle.lexicon_definitions.specs.GrammarTexts.{is_name_byte, is_blank, begin
 use Rattle.phase_automaton.specs.Names.{first_name}
 use Rattle.phase_automaton.proofs.NamesForward.{bool_cases, no_name}
 
--- a byte that is none of a name, before these tokens
+-- a byte that may not stand in a name, before these tokens
 abbrev pub with_other_byte : ℕ → List Token → List Token
 with_other_byte byte tokens = cond (is_blank byte) tokens (symbol_of byte ∷ tokens)
 
--- the tokens that begin in the rest of a text, where a name ends in front of it or none does
+-- the tokens that begin in the rest of a text, whether a name ends in front of it or not
 abbrev pub tokens_after : Bool → List ℕ → List Token
 tokens_after in_name [] = []
 tokens_after true (byte ∷ text) =

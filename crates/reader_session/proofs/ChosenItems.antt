@@ -169,7 +169,7 @@ no_summary_for searched reading number following before after result none is_rea
     (λ items. with_item state (slice_get items (number - 1)) following)) none))
     bytes same_is
 
--- the same of a line or none and a number or none, where both are there
+-- the same, where there is a line and a number
 pub no_summary : {E : Type 0} (searched : SearchedLexicon) (old : Option Reading) (reading : Reading) (asked : Option ℕ) (number : ℕ)
     (request : Option ℕ → Request) (before after : List ℕ) (result : Result (Option Reading) E)
     → ((following : Option ℕ → State → Item → Reply) × ((k : ℕ) → IsReplyTo searched.lexicon (state_of searched.lexicon.rules (Some reading)) (request (Some k))

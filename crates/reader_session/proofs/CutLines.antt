@@ -1,5 +1,5 @@
 -- Lines are cut off one after another, and whatever comes after the bytes stays in what is left; a rest without a line end is one
--- line, or none where it is empty. So the lines that were cut off are the first of the input, in either case of its length.
+-- line, or no line where it is empty. So the lines that were cut off are the first of the input, in either case of its length.
 use Rattle.std.proofs.Common.{◌≡◌, ◌≢◌, ℕ, ◌+◌, ◌-◌, ◌<◌, ◌≤◌, Bool, true, false, cond, List, [], ◌∷◌, ◌++◌, length, take, refl, sym, ◌∙◌, ap, arith, append_assoc}
 use Rattle.std.proofs.lemmas.List.{append-nil, length-append}
 use Rattle.std.proofs.lemmas.List.Elements.{All-append}
@@ -54,7 +54,7 @@ cut_longer bytes left piece lines p = record {
 
 -- ---- what is left without a line end
 
--- a line without a line end, or none
+-- a line without a line end, or no line where nothing is left
 abbrev pub lines_left : List ℕ → List Line
 lines_left [] = []
 lines_left (byte ∷ bytes) = record { bytes = byte ∷ bytes; ended = false } ∷ []

@@ -23,7 +23,7 @@ use Rattle.reader_session.proofs.AnswerBounds.{keys_of_answer_within, few_keys_o
 abbrev pub bookmark_of : SearchedLexicon → Reading → Bookmark
 bookmark_of searched reading = bookmark_at searched.lexicon.rules (state_with searched.lexicon.rules reading) reading.line
 
--- where there are some of the one only if there are some of the other, there is none where there is none of the other
+-- where one number is above 0 only if the other is, it is 0 where the other is 0
 none_by : (one other : ℕ) → (0 < one → 0 < other) → other ≡ 0 → one ≡ 0
 none_by zero other only none = refl
 none_by (suc one) other only none = absurd (omega (arith, only (omega arith)))

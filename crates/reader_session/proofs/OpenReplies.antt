@@ -33,7 +33,7 @@ pub goes_on : {E : Type 0} (searched : SearchedLexicon) (IsIt : Reply → Type 0
 goes_on searched IsIt before now reply result is on =
     subst (λ r. IfOk r (Answered searched IsIt before now)) (sym is) (answered searched IsIt before now reply on)
 
--- a word that is none is refused
+-- a word that no request begins with is refused
 pub no_word : {E : Type 0} (searched : SearchedLexicon) (old : Option Reading) (before now : List ℕ) (reply : Result (Option Reading) E)
     → IsReadingOver searched old → OnOk reply (now ≡ before ++ output_line (codes "? " ++ codes "word"))
     → IfOk reply (λ same. same ≡ old)

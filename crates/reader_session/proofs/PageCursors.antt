@@ -54,7 +54,7 @@ module _ (lexicon : Lexicon) (line : Line) (choices : List Choice) where
     λ found. left_if.1 (found.0, found.1, (same found.0 found.1).1 found.2),
   )
 
-  -- where none is left the test is false
+  -- where no answer is left the test is false
   ended_false : (more : Bool) → IsTrue more ↔ HasLeftAt PastLast → more ≡ false
   ended_false true left_if = absurd (left_if.0 refl).2
   ended_false false left_if = refl

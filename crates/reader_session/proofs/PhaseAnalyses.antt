@@ -81,7 +81,7 @@ module _ (letters : List ℕ) where
       ]
       in go (bytes_eq form.letters letters)
 
-  -- there are none where no form has these letters
+  -- there are no analyses where no form has these letters
   pub none_among : (forms : List Form) → ((form : Form) → Contains forms form → form.letters ≡ letters → ⊥) → analyses_among forms letters ≡ []
   none_among [] none = refl
   none_among (form ∷ forms) none =
@@ -141,7 +141,7 @@ found_analyses forms letters deltas phase are =
     (Contains-with_elements analyses_total exact_analyses [] given analysis).1
     (inr (subst (Contains given) is.gives (Contains-map (analysis_by letters) deltas delta among))))
 
--- a form that leads nowhere is none of the forms
+-- letters that lead nowhere are no form's
 pub not_found : (rows : List Row) (forms : List Form) (letters : List ℕ) (root : ℕ) → IsNodeAfter rows forms [] root
     → walk rows root letters ≡ None → analyses_among forms letters ≡ []
 not_found rows forms letters root is walked =

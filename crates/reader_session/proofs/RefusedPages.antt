@@ -10,7 +10,7 @@ use Rattle.reader_session.specs.Readings.{IsReadingOver, GoesOn, state_of}
 use Rattle.reader_session.proofs.RefusedReplies.{if_refused}
 
 module _ {E : Type 0} (searched : SearchedLexicon) (old : Option Reading) (before now : List ℕ) (result : Result (Option Reading) E) where
-  -- a request about a line is refused where there is none
+  -- a request about a line is refused where there is no line
   without_line : (request : Request) → old ≡ None → IsReplyTo searched.lexicon opening request (refused opening (codes "no text"))
       → OnOk result (now ≡ before ++ output_line (codes "? " ++ codes "no text")) → IfOk result (λ same. same ≡ None)
       → IfOk result (GoesOn searched (IsReplyTo searched.lexicon (state_of searched.lexicon.rules old) request) before now)

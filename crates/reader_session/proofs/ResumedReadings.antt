@@ -79,7 +79,7 @@ no_cursor : (searched : SearchedLexicon) (line : Line) (choices : List Choice) (
 no_cursor searched line choices [] cursor some none is = absurd (some refl)
 no_cursor searched line choices (key ∷ keys) cursor some none is = none is.0 is.1 is.2
 
--- a bookmark with keys of no answer is none over the lexicon
+-- a bookmark with keys of no answer is not one over the lexicon
 pub none_resumed : (searched : SearchedLexicon) (line : Line) (choices : List Choice) (printed : ℕ) (keys : List ProgramKey)
     → keys ≢ [] → AreNoKeys searched line choices (keys_meant keys)
     → IsResumed searched (record { line = line; choices = choices; printed = printed; keys = keys_of keys }) None

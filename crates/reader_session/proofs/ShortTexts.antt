@@ -9,7 +9,7 @@ use Rattle.text_definitions.specs.Schemes.{Scheme}
 use Rattle.session_definitions.specs.Requests.{Request, Text, Page, Summary, Choose, Undo, Tags, Mark, Resume, Quit, NoWord, after_blank, page_size_of, item_number_of, alone, text_request, request_with, request_of}
 use Rattle.bookmark_definitions.specs.BookmarkReadings.{bookmark_of_text}
 
--- how long the text is that is to be read, 0 where there is none
+-- how long the text is that is to be read; 0 where there is no text
 abbrev pub text_length : Request → ℕ
 text_length (Text scheme text) = length text
 text_length (Page count) = 0

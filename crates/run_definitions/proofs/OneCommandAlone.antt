@@ -1,5 +1,5 @@
 -- Words of one command have its outcome and no other, since words are of one command; and a name is that of one command alone, so
--- words that begin with it are of this command or of none.
+-- words that begin with it are this command's or no command's.
 use Rattle.std.proofs.Common.{◌≡◌, ℕ, List, ◌∷◌, Option, Some, sym, ◌∙◌, ap, subst}
 use Rattle.std.specs.Prelude.{◌↔◌, Bool, false, true, codes}
 use Rattle.std.specs.Str.{bytes_eq}

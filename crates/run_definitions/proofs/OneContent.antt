@@ -1,4 +1,4 @@
--- A map of files has one value under a name, or none.
+-- A map of files has one value at most under a name.
 use Rattle.std.proofs.Common.{◌≡◌, ℕ, List, Some, None, sym, ◌∙◌}
 use Rattle.outside.specs.Files.{Files, contents_of}
 

@@ -1,4 +1,4 @@
--- The order of overlaps is total, so the first ones are told by which they are; one is left after both lists or after none.
+-- The order of overlaps is total, so the first ones are told by which they are; one is left after both lists or after neither.
 use Rattle.std.proofs.Common.{◌≡◌, ℕ, inl, inr, List, Bool, true, false, refl, sym, subst, arith}
 use Rattle.std.specs.Cmp.{IsTotalOrder}
 use Rattle.std.specs.List.{Contains}

@@ -27,7 +27,7 @@ module _ (words : List (List ℕ)) (command : Command) (are : AreWordsOf command
   pub writes_nothing : WriteNoFile words → (out : FileWord) → out_of command ≡ Some out → ⊥
   writes_nothing none out e = none out (command, are, e)
 
--- a command that writes no file has none to write
+-- a command that writes no file has no file to write
 pub writes_none : (command : Command) → ((out : FileWord) → out_of command ≡ Some out → ⊥) → out_of command ≡ None
 writes_none (Segment lex scheme text) none = refl
 writes_none (Check lex) none = refl

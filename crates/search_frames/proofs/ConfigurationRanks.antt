@@ -41,7 +41,7 @@ pub may_if_ends : (searched : SearchedLexicon) (line : Line) (choices : List Cho
 may_if_ends searched line choices here key ends =
     record { stands = ends.stands; final_rule = ends.final_rule; all = ends.all; blanks_before = ends.blanks_before }
 
--- no key both leads on and ends: without a rule, letters are left or not; and a rule has a v or none
+-- no key both leads on and ends: without a rule, letters are left or not; and a rule has a v or not
 pub not_both_ways : (searched : SearchedLexicon) (line : Line) (choices : List Choice) (here : NumberedConfiguration) (key : Key)
     → MayEndLine searched line choices here key → MayLeadOn searched line choices here key → ⊥
 not_both_ways searched line choices here key ends leads = elim (cases_lt 0 key.rule) [
@@ -75,7 +75,7 @@ form_letters searched line choices here key stands =
     (take key.taken (drop here.at line.letters)) (rule_of (rules_in searched) key.rule).u refl in
     omega (arith, taken, parts)
 
--- each key that leads on leads to where more is derived, or a rule supplied letters before and supplies none after
+-- each key that leads on leads to where more is derived, or a rule supplied letters before and supplies no letters after
 pub rank_rises : (searched : SearchedLexicon) (line : Line) (choices : List Choice) (here : NumberedConfiguration) (key : Key) → IsSearchedLexicon searched
     → LeadsOn searched line choices here key → rank here < rank (after searched line here key)
 rank_rises searched line choices here key is leads =

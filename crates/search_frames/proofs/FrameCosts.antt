@@ -26,7 +26,7 @@ from_change_within : (most next : ℕ) → steps_from_change most next ≤ steps
 from_change_within most zero = omega arith
 from_change_within most (suc before) = omega arith
 
--- none, where a form ends, takes no look
+-- no change, where a form ends, takes no look
 pub none_costs : (most next steps : ℕ) → next ≡ 0 → steps + 1 + steps_from_change most 1 ≤ steps + steps_from_change most next
 none_costs most next steps first =
     let before = later_change most 0 in
@@ -46,7 +46,7 @@ module _ (most next place steps now count : ℕ) (is_place : ((next ≡ 0) × (p
         omega (arith, after, here, looked, is, some, there, few)
   ]
 
-  -- and so does it to see that none is left
+  -- and so does it to see that no choice is left
   pub end_costs : now ≤ steps + steps_from_change most next
   end_costs = let some = from_change_some next in omega (arith, looked, some)
     where
@@ -129,7 +129,7 @@ module _ (searched : SearchedLexicon) (line : Line) (level most : ℕ) where
           let before = at_node in
           omega (arith, spent, later, here, before)
 
-      -- and to see that none is left was spent at the node
+      -- and to see that no choice is left was spent at the node
       pub node_costs : (steps now : ℕ) → now ≤ steps + steps_from_change most (frame_of old level).next
           → now + steps_after_node searched most old level ≤ steps + steps_left searched most old level
       node_costs steps now spent =

@@ -1,4 +1,4 @@
--- The loop of a turn over the keys of a frame: a key with which a path begins leads on or ends, so one that is refused begins none,
+-- The loop of a turn over the keys of a frame: a key with which a path begins leads on or ends, so one that is refused begins no path,
 -- nor does one that is left out since the w of its rule does not come next; all others are still to try as they were at first.
 use Rattle.std.proofs.Common.{◌≡◌, ℕ, ◌+◌, ◌<◌, ◌≤◌, ◌⊎◌, inl, inr, List, [], ◌∷◌, length, take, drop, refl, sym, ◌∙◌, ap, subst, arith}
 use Rattle.text_definitions.specs.Lines.{Line}

@@ -1,4 +1,4 @@
--- The changes at a node rise, since none is 0 and rules count from 1; so those from a place on begin with the one that stands
+-- The changes at a node rise, since no change is 0 and rules count from 1; so those from a place on begin with the one that stands
 -- there (`StepChoices`).
 use Rattle.std.proofs.Common.{◌≡◌, ◌≢◌, ℕ, zero, suc, ◌+◌, ◌-◌, ◌<◌, ◌≤◌, ◌⊎◌, ◌↔◌, inl, inr, Some, None, List, [], ◌∷◌, length, drop, refl, sym, ◌∙◌, ap, subst, add-one, arith}
 use Rattle.std.specs.Prelude.{slice_get}
@@ -50,11 +50,11 @@ module _ (rules : RuleSet) (tries : AnnotatedTrie) (node : ℕ) (are : AreChoice
       → Contains (drop place (changes_at tries node)) high
   made_later_there place low high there made less = later_there (changes_at tries node) place low high changes_rise there (made_among high made) less
 
-  -- one of the changes is none or a choice
+  -- one of the changes is no change or a choice
   pub among_choices : (other : ℕ) → Contains (changes_at tries node) other → 0 < other → Contains (choices_of tries node) other
   among_choices other among some = elim (Contains-cons_cases 0 (choices_of tries node) other among) [ inl e ↦ absurd (omega (arith, e, some)) | inr m ↦ m ]
 
-  -- none is made where a form ends there, and every choice comes after it
+  -- no change is made where a form ends there, and every choice comes after it
   pub none_first : (row_of tries.trie.rows node).deltas ≢ [] → IsChangeFrom tries node 0 0 1
   none_first ends =
       let at = first_from (changes_at tries node) 0 0 changes_rise refl in
@@ -81,7 +81,7 @@ module _ (rules : RuleSet) (tries : AnnotatedTrie) (node : ℕ) (are : AreChoice
     choice_from : (other : ℕ) → Contains (drop place (changes_at tries node)) other → Contains (drop (place - 1) (choices_of tries node)) other
     choice_from other among = subst (λ (numbers : List ℕ). Contains numbers other) (later_drop 0 (choices_of tries node) place some_place) among
 
-    -- a change from the place `next` on that is not none is one from the place on
+    -- a rule from the place `next` on is one from the place on
     from_place : (other : ℕ) → 0 < other → Contains (drop next (changes_at tries node)) other → Contains (drop place (changes_at tries node)) other
     from_place other some among = elim is_place [
       | inl both ↦
@@ -106,7 +106,7 @@ module _ (rules : RuleSet) (tries : AnnotatedTrie) (node : ℕ) (are : AreChoice
         (omega (arith, low), member.1)
 
     module _ (no_end : next ≡ 0 → (row_of tries.trie.rows node).deltas ≢ [] → ⊥) where
-      -- none is not made from the place `next` on
+      -- no change is not made from the place `next` on
       made_later : (other : ℕ) → MayBeMade tries node other → Contains (drop next (changes_at tries node)) other → 0 < other
       made_later other (inl (none, ends)) among = elim is_place [
         | inl both ↦ absurd (no_end both.0 ends)
@@ -131,12 +131,12 @@ module _ (rules : RuleSet) (tries : AnnotatedTrie) (node : ℕ) (are : AreChoice
             few = let above = choice_above found in omega (arith, above, few);
           }
 
-      -- where no choice stands at the place there is none from the place `next` on
+      -- where no choice stands at the place there is no choice from the place `next` on
       pub no_choice : slice_get (choices_of tries node) (place - 1) ≡ None → HasNoChangeFrom tries node next
       no_choice none other made among =
           none_from (choices_of tries node) (place - 1) other none (choice_from other (from_place other (made_later other made among) among))
 
-  -- every choice comes after none
+  -- every choice comes after no change
   pub after_none : (row_of tries.trie.rows node).deltas ≢ [] → IsPlaceAfter tries node 0 1
   after_none ends = let first = none_first ends in record { made = first.made; later = first.later }
 

@@ -36,7 +36,7 @@ there_or_later (first ∷ later) zero number other found among = elim (Contains-
 there_or_later (first ∷ later) (suc place) number other found among = there_or_later later place number other found among
 
 module _ (searched : SearchedLexicon) (letters : List ℕ) (node : ℕ) where
-  -- at first none is skipped
+  -- at first nothing is skipped
   pub skipped_none : (next : ℕ) → HasSkipped searched letters node next next
   skipped_none next = record { left = λ rule among. inl among; only = λ rule among. among }
 
@@ -78,7 +78,7 @@ abbrev pub frame_at : Resumption → ℕ → ℕ → Frame
 frame_at stack level next = record (frame_of stack level) { next = next }
 
 module _ (searched : SearchedLexicon) (line : Line) (level : ℕ) where
-  -- where nothing was done none is left out
+  -- where nothing was done no key is left out
   pub skipped_no_key : (stack : Resumption) → IsFrame searched line stack level → SkippedUnwritten searched line level stack stack
   skipped_no_key stack frame = record {
     frame = frame;

@@ -28,7 +28,7 @@ last_tells blanks at last rising is =
       λ all. le-leb last at (omega (arith, read 0, all (length blanks - 1) 0 within)),
     )
 
--- where none stands after the place, none stands inside what begins there
+-- where no blank stands after the place, no blank stands inside what begins there
 pub none_left : (blanks : List ℕ) (at end next : ℕ)
     → IsPartitionPoint (λ blank. leb blank at ≡ true) (λ blank. leb blank at ≡ false) blanks next → length blanks ≤ next
     → All (λ blank. at < blank → blank < end → ⊥) blanks

@@ -45,7 +45,7 @@ module _ (searched : SearchedLexicon) (line : Line) (place : Configuration) wher
       → IsPossible searched line (here_of searched stack 0) key
   possible_here stack here key possible = subst (λ (p : Configuration). IsPossible searched line (numbered_of searched p) key) (sym here) possible
 
-  -- a frame that has all to try has tried none
+  -- a frame that has all keys to try has tried no key
   pub none_tried : (stack : Resumption) → configuration_at stack 0 ≡ place → HasAllToTry searched line stack 0 → (key : Key) → IsTried searched line place stack key → ⊥
   none_tried stack here all key tried = tried.tried (all key (possible_here stack here key tried.possible))
 

@@ -51,7 +51,7 @@ one_rises : (key : Key) → IsStrictlySortedBy compare_keys (key ∷ [])
 one_rises key = sorted-cons compare_keys key [] (All-nil (λ other. compare_keys key other ≡ Less)) none_rise
 
 module _ (searched : SearchedLexicon) (line : Line) (choices : List Choice) (place : Configuration) where
-  -- at first there are none
+  -- at first there are no ways
   pub none_at_first : (stack : Resumption) (old : List Way) → configuration_at stack 0 ≡ place → HasAllToTry searched line stack 0
       → AppendsTried searched line choices place stack old old
   none_at_first stack old here all = record {
@@ -117,7 +117,7 @@ module _ (searched : SearchedLexicon) (line : Line) (choices : List Choice) (pla
       are = more way so_far.ways key_is is so_far.are;
     }
 
-    -- a key that is refused has none, nor have those that are then left out
+    -- a key that is refused has no way, nor have those that are then left out
     module _ (new : Resumption) (skipped : SkippedUnwritten searched line 0 mid new)
         (refused : MayNeither searched line choices (numbered_of searched place) (key_at mid 0)) where
       there : configuration_at mid 0 ≡ place

@@ -89,7 +89,7 @@ covered_length rules start lead (step ∷ steps) word rest covers =
 
 -- ---- a step in its place
 
--- the rule after a step: none, or one of the rules with u and w
+-- the rule after a step: no rule, or one of the rules with u and w
 pub data RuleAfter (rules : RuleSet) (step : Step) : Type 0 where
   Unchanged : step.rule ≡ 0 → IsUnchanged (rule_after rules step) → RuleAfter rules step
   Changed : IsRuleNumber rules step.rule → 0 < length (rule_after rules step).u → 0 < length (rule_after rules step).w → RuleAfter rules step

@@ -30,7 +30,7 @@ blank_join blanks [] q qs h = h
 blank_join blanks (p ∷ []) q qs h = h
 blank_join blanks (p ∷ second ∷ ps) q qs h = blank_join blanks (second ∷ ps) q qs h
 
--- steps after a first one are none of them first
+-- of steps after a first one, no step is first
 module _ (rules : RuleSet) (line_length : ℕ) (choices : List Choice) where
   allow_right : (is_first : Bool) (p : Placed) (ps qs : List Placed)
       → AllAllow rules line_length choices is_first ((p ∷ ps) ++ qs) → AllAllow rules line_length choices false qs

@@ -330,7 +330,7 @@ module _ (searched : SearchedLexicon) (line : Line) (choices : List Choice) (lev
             | inr goes ↦ λ greater. below xs goes.path later (sym (same_first key keys xs) ∙ greater)
           ])
 
-  -- none was found deeper: the frame's later keys are tried
+  -- no path was found deeper: the frame's later keys are tried
   module _ (mid : Resumption) (keeps : KeepsBefore (level + 1) old mid) (none : HasNoneBelow searched line choices here key rest) where
     kept : FrameKept level old mid
     kept = frame_kept level old mid keeps

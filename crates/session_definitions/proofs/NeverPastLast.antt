@@ -1,5 +1,5 @@
--- No reply leads past the last answer: a page leaves the session at an answer or where it was, a bookmark is one of an answer or of
--- none, and else the session stands before the first.
+-- No reply leads past the last answer: a page leaves the session at an answer or where it was, a bookmark has the keys of an answer
+-- or no keys, and else the session stands before the first.
 use Rattle.std.proofs.Common.{◌≡◌, List, [], ◌∷◌, subst, sym}
 use Rattle.text_definitions.specs.Lines.{Line}
 use Rattle.lexicon_definitions.specs.Lexicons.{Lexicon}

@@ -1,4 +1,4 @@
--- A line is cut at its first blank, or nowhere where it has none; what it asks for is told by the two parts.
+-- A line is cut at its first blank, or nowhere where it has no blank; what it asks for is told by the two parts.
 use Rattle.std.proofs.Common.{◌≡◌, ◌≢◌, ℕ, Some, None, List, ◌∷◌, ◌++◌, All, ap}
 use Rattle.lexicon_text_definitions.specs.FileLines.{parts_of, parts_or_all}
 use Rattle.list_laws.proofs.CutLaws.{not_cut, cut_as_parted}

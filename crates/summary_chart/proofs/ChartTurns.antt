@@ -160,7 +160,7 @@ module _ (searched : SearchedLexicon) (line : Line) (choices : List Choice) (cha
           further = subst (λ (p : Configuration). GoesFurtherBy searched line choices chart.table (numbered_of searched p) key) there further;
         }
 
-    -- so where no key after the last one goes further, there is none
+    -- so where no key after the last one goes further, there is no turn
     pub none_living : HasNoLiving searched line choices chart.table (numbered_of searched place) last → HasNoTurn searched line choices level old
     none_living none key begins untried =
         let is_living = living key begins untried in

@@ -59,7 +59,7 @@ IsItemAmongFirst searched line choices table place set ways count item =
     (key : Key) × IsAmongFirst count ways key × IsItemBy searched line choices table place.at place.entrance set key item
 
 module _ (searched : SearchedLexicon) (line : Line) (choices : List Choice) (table : Table) (place : Configuration) (set : StateSet) (ways : List Way) where
-  -- at first there is none
+  -- at first there is no item
   pub items_at_first : (items : List Item) → IsStrictlySortedBy compare_items items
       → AddsItems (IsItemAmongFirst searched line choices table place set ways 0) items items
   items_at_first items rising = adds_none (IsItemAmongFirst searched line choices table place set ways 0) items rising

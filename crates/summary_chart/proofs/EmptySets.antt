@@ -1,4 +1,4 @@
--- Sets that are empty from one index up to another: none yet, one more, and those of a part; and two such stretches side by side.
+-- Sets that are empty from one index up to another: no set yet, one more, and those of a part; and two such stretches side by side.
 use Rattle.std.proofs.Common.{◌≡◌, ℕ, ◌+◌, ◌-◌, ◌<◌, ◌≤◌, inl, inr, List, length, take, drop, slice_index_or, sym, ap, subst, ◌∙◌, arith}
 use Rattle.std.proofs.lemmas.Bool.{cases_lt}
 use Rattle.std.proofs.lemmas.List.{get_or-take, get_or-drop}

@@ -1,5 +1,5 @@
 -- Which states go further by one key, by some and by others, and by all that are possible: a key that ends the line or leads on
--- is possible, and none does both.
+-- is possible, and no key does both.
 use Rattle.std.proofs.Common.{◌≡◌, ◌⊎◌, inl, inr, ℕ, ◌↔◌, Some, List, refl, sym, ◌∙◌, subst}
 use Rattle.std.proofs.lemmas.Option.{same_Some}
 use Rattle.text_definitions.specs.Lines.{Line}
@@ -24,7 +24,7 @@ use Rattle.summary_chart.proofs.TablePlaces.{in_with}
 use Rattle.summary_chart.proofs.SpreadKeys.{led_place, leads_to_place}
 
 module _ (searched : SearchedLexicon) (line : Line) (choices : List Choice) (table : Table) (place : Configuration) (set : StateSet) where
-  -- from no state of the set does a key that is told go further, so none does
+  -- from no state of the set does a key that is told go further, so no key does
   pub further_nothing : (IsTold : Key → Type 0) (result : StateSet) → ((number : ℕ) → HasState result number → ⊥)
       → ((key : Key) (number : ℕ) → IsTold key → GoesFurtherBy searched line choices table (standing_with searched place.at place.entrance number) key → ⊥)
       → AreGoingFurther searched line choices table place.at place.entrance set IsTold result

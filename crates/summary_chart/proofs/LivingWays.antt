@@ -25,7 +25,7 @@ use Rattle.summary_chart.specs.Turning.{IsAfter, IsTestUnder, IsFirstLiving, Has
 -- ---- one way after another
 
 module _ (searched : SearchedLexicon) (line : Line) (choices : List Choice) (table : Table) (here : NumberedConfiguration) (last : Option ProgramKey) (ways : List Way) where
-  -- none of the ways before the index is after the last key and goes further
+  -- no way before the index is after the last key and goes further
   pub record HasNoneBefore (index : ℕ) : Type 0 where
     pub none : (place : ℕ) (default : Way) → place < index → IsAfter last (key_of_way (get_or ways place default))
         → GoesFurtherBy searched line choices table here (key_of_way (get_or ways place default)) → ⊥

@@ -14,7 +14,7 @@ use Rattle.summary_chart.specs.PlaceWays.{HasStopAt, compare_stops}
 abbrev pub past_stop : ℕ → Stop
 past_stop count = record { index = count; first = 0; end = 0 }
 
--- the index of the stop with this number, counted from 0, or how many sets there are where there is none
+-- the index of the stop with this number, counted from 0, or how many sets there are where there is no such stop
 abbrev pub limit_at : List Stop → ℕ → ℕ → ℕ
 limit_at stops count number = (slice_index_or stops number (past_stop count)).index
 

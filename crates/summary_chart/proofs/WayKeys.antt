@@ -1,4 +1,4 @@
--- The keys of the first ways of a list: none at first, one more with each turn of a loop, and at its end all of them. A key that
+-- The keys of the first ways of a list: at first no key, one more with each turn of a loop, and at its end all of them. A key that
 -- leads on or ends the line from some state is then one of them, since as the letters tell it may do so whatever the state.
 use Rattle.std.proofs.Common.{◌≡◌, ◌⊎◌, inl, inr, ℕ, ◌+◌, ◌<◌, ◌≤◌, ◌↔◌, List, [], ◌∷◌, ◌++◌, length, take, get_or, map, Contains, refl, sym, subst}
 use Rattle.std.proofs.lemmas.List.{take_more, take_all, map-append}

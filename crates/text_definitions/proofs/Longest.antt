@@ -38,7 +38,7 @@ module _ (front : List ℕ → Option (ℕ × ℕ)) where
       ∙ ap (λ t. with_letter found.0 (word_of_spellings front (place + found.1) 0 true t)) (drop-drop found.1 place text)
 
   module _ (never : (rest : List ℕ) → front (95 ∷ rest) ≡ None) where
-    -- what a place gives that is a separator between two spellings, or is none
+    -- what a place gives, whether it is a separator between two spellings or not
     at_byte : (text : List ℕ) (place : ℕ) (spelled : Bool) → place < length text → word_of_spellings front place 0 spelled (drop place text) ≡ word_at place (front (get_or text place 0 ∷ drop (place + 1) text)) (spelled && eqb (get_or text place 0) 95 && is_some (front (drop (place + 1) text))) (λ inside after. word_of_spellings front (place + 1) inside after (drop (place + 1) text))
     at_byte text place spelled below = at_drop_more (word_of_spellings front place 0 spelled) text place 0 below
 
@@ -58,7 +58,7 @@ module _ (front : List ℕ → Option (ℕ × ℕ)) where
         ∙ ap (λ f. word_at place None (is_some f) following) begins
         ∙ at_spelling text (place + 1) found false begins some fits
 
-    -- where none stands there, the place is at fault
+    -- where no spelling begins there, the place is at fault
     pub at_fault : (text : List ℕ) (place : ℕ) (spelled passed : Bool) → spelled && eqb (get_or text place 0) 95 ≡ passed → place < length text → front (drop (cond passed (place + 1) place) text) ≡ None → word_of_spellings front place 0 spelled (drop place text) ≡ Err (NotLetter place)
     at_fault text place spelled false sep below none =
         let following = λ (inside : ℕ) (after : Bool). word_of_spellings front (place + 1) inside after (drop (place + 1) text) in

@@ -28,7 +28,7 @@ module _ (front : List ℕ → Option (ℕ × ℕ)) (spelling : ℕ → List ℕ
       ∙ ap (λ t. with_letter n (word_of_spellings front (place + length (spelling n)) 0 true t)) (drop-append_seam (spelling n) rest)
       ∙ ap (with_letter n) reads
 
-  -- the same after a separator or after none
+  -- the same, whether it comes after a separator or not
   following_gap : (gap : Bool) (place n : ℕ) (word : List ℕ) → IsLetter n → AllByRecursion IsLetter word → ((p : ℕ) → word_of_spellings front p 0 true (spellings_of_word front spelling (Some n) word) ≡ Ok word) → word_of_spellings front place 0 true (cond gap [] (95 ∷ []) ++ spelling n ++ spellings_of_word front spelling (Some n) word) ≡ Ok (n ∷ word)
   following_gap true place n word l ls reads = first_letter place n word true l ls (reads _)
   following_gap false place n word l ls reads =

@@ -113,7 +113,7 @@ module _ (scheme : Scheme) where
   parts_of_digit (byte ∷ text) place more some e =
       parts_at_front (DigitMark more) place byte text e ∙ ap (λ ps. digit_at place (has_letter scheme (drop more text)) ∷ ps) (past_front place more text)
 
-  -- a text without letters has none after any of its bytes
+  -- a text without letters has no letter after any of its bytes
   pub no_letter_after : (count : ℕ) (text : List ℕ) → has_letter scheme text ≡ false → has_letter scheme (drop count text) ≡ false
   no_letter_after zero text h = h
   no_letter_after (suc count) [] h = h
@@ -240,6 +240,6 @@ module _ (scheme : Scheme) where
   pub letter_in_rest : (text : List ℕ) (place : ℕ) (found later : Bool) → found ≡ has_letter scheme (take (length text - place) (drop place text)) → found ≡ later → has_letter scheme (drop place text) ≡ later
   letter_in_rest text place found later is so = sym (is ∙ ap (has_letter scheme) (take_rest text place)) ∙ so
 
-  -- where there is no letter any more, there is none after so many bytes
+  -- where there is no letter any more, there is no letter after so many bytes
   pub still_none : (text : List ℕ) (place count : ℕ) → has_letter scheme (drop place text) ≡ false → has_letter scheme (drop (place + count) text) ≡ false
   still_none text place count h = ap (has_letter scheme) (sym (drop-drop count place text)) ∙ no_letter_after scheme count (drop place text) h

@@ -1,4 +1,4 @@
--- the group of one number more, and none where there is no such group
+-- the group of one number more, and nothing where there is no such group
 use Rattle.std.proofs.Common.{◌≡◌, ◌≤◌, ◌↔◌, ℕ, List, ◌++◌, length, take, get_or, sym, ◌∙◌, ap, subst, append-nil}
 use Rattle.std.specs.Prelude.{Contains}
 use Rattle.std.proofs.lemmas.List.{take_all, take_more}

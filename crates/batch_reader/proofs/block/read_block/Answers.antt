@@ -1,4 +1,4 @@
--- A line is read in each turn, which takes a byte at least; where there is none, no byte is left.
+-- A line is read in each turn, which takes a byte at least; where no line is read, no byte is left.
 use Rattle.std.proofs.Common.{length, ap, arith}
 use Rattle.text_line.specs.Values.{scheme_of}
 use Rattle.batch_reader.proofs.ReadLines.{read_on, block_read, none_read}

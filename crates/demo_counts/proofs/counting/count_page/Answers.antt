@@ -1,4 +1,4 @@
--- Fewer answers than were asked for are a page after which none is left; else the next move tells whether one is.
+-- Fewer answers than were asked for are a page after which no answer is left; else the next move tells whether one is.
 use Rattle.std.proofs.Common.{rules}
 use Rattle.demo_counts.proofs.PassedAnswers.{counted_fewer, counted_full}
 use Rattle.demo_counts.proofs.counting.count_page.Goals as goal

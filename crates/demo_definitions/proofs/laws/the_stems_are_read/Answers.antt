@@ -1,4 +1,4 @@
--- Each record is taken and has nine bytes, and the first stem that is drawn is none of those before it.
+-- Each record is taken and has nine bytes, and the first stem that is drawn differs from those before it.
 use Rattle.demo_definitions.proofs.StemsRead.{stems_read, some_spelled}
 use Rattle.demo_definitions.proofs.StemRecords.{short_file}
 use Rattle.demo_definitions.proofs.laws.the_stems_are_read.Goals as goal

@@ -1,4 +1,4 @@
--- By cases on the faults; that there is none is what being within the limits says.
+-- By cases on the faults; that there is no fault is what being within the limits says.
 use Rattle.lexicon_definitions.proofs.GrammarFaultCases.{one_first_fault}
 use Rattle.lexicon_definitions.proofs.grammar_laws.a_grammar_text_has_one_first_fault.Goals as goal
 

@@ -1,4 +1,4 @@
--- A read that found a record took the first of those that are left; one that found none was at the end.
+-- A read that found a record took the first of those that are left; a read that found no record was at the end.
 use Rattle.std.proofs.Common.{arith}
 use Rattle.csv.specs.Records.{fields_of}
 use Rattle.paradigms.proofs.RecordLemmas.{read_so, next_so, shorter_so}

@@ -32,7 +32,7 @@ loop-number-preserved c =
     more c.args.positions.now c.args.set c.loop-number.followers c.union_if-followers.result c.loop-number.number c.has.result
     _ c.has.ensures refl c.union_if-followers.ensures c.loop-number.invariant
 
--- a position past the end is followed by none
+-- a position past the end is followed by no position
 past_none : (positions : List Position) (earlier position : ℕ) → Follows positions earlier position → earlier < length positions
 past_none positions earlier position h = elim (cases_lt earlier (length positions)) [
   | inl below ↦ below

@@ -1,4 +1,4 @@
--- The words are those of a command, or of none; the run ended as the command did, or the words are refused.
+-- The words are a command's or no command's; the run ended as the command did, or the words are refused.
 use Rattle.std.proofs.Common.{refl, ap, ◌∙◌, inl, inr, map, string_bytes}
 use Rattle.outside.specs.Told.{bytes_after}
 use Rattle.std.specs.Prelude.{codes}

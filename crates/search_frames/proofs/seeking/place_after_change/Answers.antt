@@ -12,7 +12,7 @@ use Rattle.search_frames.proofs.StepChanges.{after_none, after_choice, choice_be
 use Rattle.search_frames.proofs.seeking.place_after_change.Goals as goal
 use Rattle.search_frames.proofs.seeking.place_after_change.Goals.{Then-eq}
 
--- the place after none, where a form ends at the node
+-- the place after no change, where a form ends at the node
 place_of_none : (rules : RuleSet) (tries : AnnotatedTrie) (node : ℕ) → AreChoices rules tries.trie.rows node (choices_of tries node)
     → (accepted : Bool) → (IsTrue accepted ↔ ((row_of tries.trie.rows node).deltas ≢ []))
     → MatchOption (then_some accepted 1) (MayBeMade tries node 0 → ⊥) (λ place. IsPlaceAfter tries node 0 place)

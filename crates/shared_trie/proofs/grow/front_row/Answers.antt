@@ -1,4 +1,4 @@
--- The form at the place has rising analyses, so its deltas are known; a longer form has none here.
+-- The form at the place has rising analyses, so its deltas are known; a longer form has no deltas here.
 use Rattle.std.proofs.Common.{◌≡◌, ℕ, List, [], ◌∷◌, length, map, get_or, refl, sym, ◌∙◌, ap, subst, arith}
 use Rattle.std.specs.Prelude.{◌↔◌, Contains}
 use Rattle.std.specs.List.Sorted.{IsStrictlySortedBy}

@@ -1,4 +1,4 @@
--- The set of the class's rows takes the row where the class has none like it.
+-- The set of the class's rows takes the row where the class has no such row.
 use Rattle.std.proofs.Common.{◌≡◌, length, map, arith, ap, Vec, Global, ℕ, slice_set, BuildHasherDefault, FoldHasher}
 use Rattle.indexmap.specs.declared.set.IndexSet.{IndexSet}
 use Rattle.paradigms.specs.declared.row.Row.{Row}

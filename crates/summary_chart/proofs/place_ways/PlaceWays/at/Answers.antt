@@ -1,4 +1,4 @@
--- The search among the rising stops finds the one at the index, or there is none (list_laws' `Searches`).
+-- The search among the rising stops finds the one at the index, or there is no such stop (list_laws' `Searches`).
 use Rattle.std.proofs.Common.{rules, ◌≡◌, ◌∙◌, ℕ, ◌<◌, List, length, get_or, Ok, Err, Contains, sym, ap, subst, map}
 use Rattle.std.specs.Ordering.{nat_cmp}
 use Rattle.std.specs.List.Sorted.{IsStrictlySortedBy, IsBinarySearchResult}
@@ -18,7 +18,7 @@ found_ways : (stops : List Stop) (ways found : List Way) (index number : ℕ) (s
 found_ways stops ways found index number stop low is search are =
     (stop, (number, low, is), ap (λ (s : Stop). s.index) (sym is) ∙ found_at nat_cmp_total exact_unsigned (λ (s : Stop). s.index) stops index (Ok number) search stop, are)
 
--- where the search finds none, there is none
+-- where the search finds no stop, there is no stop
 no_stop : (stops : List Stop) (index place : ℕ) → IsStrictlySortedBy compare_stops stops
     → IsBinarySearchResult (λ (s : Stop). nat_cmp s.index index) stops (Err place) → HasStopAt stops index → ⊥
 no_stop stops index place rising search (stop, there, is) =
