@@ -10,7 +10,7 @@ use Rattle.lexicon_definitions.specs.FormEntries.{Entry as TextEntry, IsListedPh
 abbrev pub text_entry : Entry → TextEntry
 text_entry entry = record { phase = entry.phase; letters = entry.form; analysis = text_analysis entry.analysis }
 
--- each phase is a rising list of forms with rising analyses, none of them too long; phases and lines have numbers of 32 bits
+-- each phase is a rising list of forms with rising analyses, and no form or stem is too long; phases and lines have numbers of 32 bits
 pub record AreFormLists (lists : List (List Form)) : Type 0 where
   pub each : All IsListedPhase lists
   pub phases : length lists < 2 ^ 32

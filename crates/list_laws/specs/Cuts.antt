@@ -6,7 +6,7 @@ abbrev pub before_parts : ℕ → Option (List ℕ × List ℕ) → Option (List
 before_parts byte None = None
 before_parts byte (Some parts) = Some (byte ∷ parts.0, parts.1)
 
--- what comes before and after the first of these bytes in a text
+-- what comes before the first mark in a text, and what comes after it
 abbrev pub cut : ℕ → List ℕ → Option (List ℕ × List ℕ)
 cut mark [] = None
 cut mark (byte ∷ text) = if byte == mark then Some ([], text) else before_parts byte (cut mark text)

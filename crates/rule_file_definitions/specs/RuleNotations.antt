@@ -98,7 +98,7 @@ abbrev pub notation_with_x : Option (List ℕ × List ℕ) → Option Notation
 notation_with_x None = None
 notation_with_x (Some (x, rest)) = notation_with_u x (cut 124 rest)
 
--- the notation that an entry is, where it is one
+-- the four parts of an entry that is written as a notation; None where it is written otherwise
 unfoldable pub notation_of : List ℕ → Option Notation
 notation_of entry = notation_with_x (cut_x entry)
 

@@ -25,7 +25,7 @@ pub record IsLexiconOf (rules : RuleSet) (classes : List Class) (stems : List St
 abbrev pub IsOversized : Lexicon → Type 0
 IsOversized lexicon = (MOST_FORM_LINES < count_lines lexicon.phases) ⊎ (MOST_FILE_BYTES < length (text_of lexicon))
 
--- the lexicon has neither
+-- the lexicon has not too many lines of forms, and its text not too many bytes
 pub record FitsFile (lexicon : Lexicon) : Type 0 where
   pub lines : count_lines lexicon.phases ≤ MOST_FORM_LINES
   pub bytes : length (text_of lexicon) ≤ MOST_FILE_BYTES

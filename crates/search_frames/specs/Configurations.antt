@@ -13,7 +13,7 @@ use Rattle.phase_automaton.specs.Automata.{start_state, next_state, is_accepting
 use Rattle.annotated_trie.specs.Searched.{SearchedLexicon}
 
 -- a configuration of a search between two forms: how many letters are derived, how the next form is entered, and the number of
--- the grammar's state, which a `Configuration` of the definitions tells by the cursors of the grammar
+-- the grammar's state, which a `Configuration` of the definitions tells by the positions of the grammar
 pub record NumberedConfiguration : Type 0 where
   pub at : ℕ
   pub entrance : Entrance

@@ -21,7 +21,7 @@ is_vowel letter = nat_le letter 13
 abbrev pub is_consonant : ℕ → Bool
 is_consonant letter = nat_le 17 letter && nat_le letter 49
 
--- what a code point is: one that joins or parts others and is passed over, the sign of no vowel, a letter, a vowel's sign, or none of these
+-- what a code point is: one that joins or parts others and is passed over, the virama, a letter, a vowel's sign, or anything else
 pub data PointKind : Type 0 where
   Joiner : PointKind
   Virama : PointKind
