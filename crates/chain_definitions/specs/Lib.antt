@@ -1,0 +1,5 @@
+pub mod Chains
+pub mod JoinedChains
+pub mod ChainFaults
+pub mod ChainTexts
+pub mod ChainReadings
