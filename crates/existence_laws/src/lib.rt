@@ -1,0 +1,2 @@
+//! What is defined as one at most is there.
+#![tactic(auto)]
