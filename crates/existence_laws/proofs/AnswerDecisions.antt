@@ -22,7 +22,7 @@ has_phase phases k = refuted (cases_eq (bit_and phases (2 ^ k)) 0)
 pub is_inner : (rule : Rule) → Decided (IsInner rule)
 is_inner rule = refuted (is_same_word rule.v [])
 
-is_rule_number : (rules : RuleSet) (number : ℕ) → Decided (IsRuleNumber rules number)
+pub is_rule_number : (rules : RuleSet) (number : ℕ) → Decided (IsRuleNumber rules number)
 is_rule_number rules number = both (is_below 0 number) (is_at_most number (length rules.rules))
 
 has_inner_rule : (rules : RuleSet) (step : Step) → Decided (HasInnerRule rules step)
@@ -74,7 +74,7 @@ meets rules step next =
 
 -- ---- derivations
 
-is_form : (lexicon : Lexicon) (phase : ℕ) (form : List ℕ) → Decided (IsForm lexicon phase form)
+pub is_form : (lexicon : Lexicon) (phase : ℕ) (form : List ℕ) → Decided (IsForm lexicon phase form)
 is_form lexicon phase form = is_element is_same_word (map (λ (f : Form). f.letters) (forms_of lexicon phase)) form
 
 are_forms : (lexicon : Lexicon) (steps : List Step) → Decided (AreForms lexicon steps)

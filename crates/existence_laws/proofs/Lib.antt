@@ -5,3 +5,5 @@ pub mod AnswerDecisions
 pub mod ListingsThere
 pub mod StateDecisions
 pub mod SessionsThere
+pub mod FilesThere
+pub mod OverlapsThere
