@@ -7,3 +7,5 @@ pub mod StateDecisions
 pub mod SessionsThere
 pub mod FilesThere
 pub mod OverlapsThere
+pub mod SourcesSound
+pub mod LexiconsThere
