@@ -9,3 +9,5 @@ pub mod FilesThere
 pub mod OverlapsThere
 pub mod SourcesSound
 pub mod LexiconsThere
+pub mod CommandsThere
+pub mod OutcomesThere
