@@ -1,11 +1,11 @@
 -- Whether steps are an answer is decided, step by step: what a step takes of the word is told by the length of its form.
-use Rattle.std.proofs.Common.{◌≡◌, ◌≢◌, inl, inr, ℕ, ◌+◌, ◌-◌, ◌≤◌, ◌⊎◌, Bool, true, false, List, [], ◌∷◌, ◌++◌, length, map, take, drop, refl, sym, ◌∙◌, ap, subst, arith, append_assoc, bit_and, ◌^◌, MatchBool}
-use Rattle.std.specs.List.{All, AllByRecursion, Contains}
+use Rattle.std.proofs.Common.{◌≡◌, inl, inr, ℕ, ◌+◌, Bool, true, false, List, [], ◌∷◌, ◌++◌, length, map, take, drop, refl, sym, ◌∙◌, ap, subst, arith, append_assoc, bit_and, ◌^◌, MatchBool}
+use Rattle.std.specs.List.{Contains}
 use Rattle.std.proofs.lemmas.Bool.{cases_eq}
 use Rattle.std.proofs.lemmas.List.{take_at, drop_at, same_from_push, length-append}
 use Rattle.text_definitions.specs.Lines.{Line}
-use Rattle.lexicon_definitions.specs.Rules.{Rule, IsInner, IsFinal, HasPhase}
-use Rattle.lexicon_definitions.specs.Lexicons.{Lexicon, RuleSet, Form, forms_of, IsForm, IsPlain, IsPhaseWord, tree_of}
+use Rattle.lexicon_definitions.specs.Rules.{Rule, IsInner, HasPhase}
+use Rattle.lexicon_definitions.specs.Lexicons.{Lexicon, RuleSet, Form, forms_of, IsForm, IsPlain, tree_of}
 use Rattle.lexicon_definitions.proofs.GrammarLists.{last_of}
 use Rattle.segmentation_definitions.specs.Derivations.{Step, rule_after, IsRuleNumber, IsPlainSeam, HasInnerRule, HasFinalRule, Meets, AreForms, AreJoined, EndsWell, Covers, Derives, phases_of}
 use Rattle.segmentation_definitions.specs.Items.{Placed, placed, taken_by, Item, items_of, Choice}

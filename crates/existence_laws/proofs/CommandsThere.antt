@@ -59,15 +59,18 @@ module _ {A : Type 0} (name : List ℕ) (Takes : A → List (List ℕ) → List 
   by_taken : (words : List (List ℕ)) (g : Gives name words) → Decided ((command : A) × Takes command g.given.values g.given.arguments)
       → Decided ((command : A) × AreNamed name (Takes command) words)
   by_taken words g (inl h) =
-      inl (h.0, record {
-        following = g.following;
-        are = g.are;
-        within_limit = g.within_limit;
-        values = g.given.values;
-        given = g.given.arguments;
-        have = g.have;
-        takes = h.1;
-      })
+      inl (
+        h.0,
+        record {
+          following = g.following;
+          are = g.are;
+          within_limit = g.within_limit;
+          values = g.given.values;
+          given = g.given.arguments;
+          have = g.have;
+          takes = h.1;
+        },
+      )
   by_taken words g (inr n) =
       inr (λ h.
       let e : g.given ≡ record { values = h.1.values; arguments = h.1.given } =
@@ -230,3 +233,6 @@ command_there words =
         none (Read lex) h = r (lex, h)
         none (Batch lex scheme file count) h = x ((lex, scheme, file, count), h)
         none (Demo number) h = d (number, h)
+
+pub command_or_none : (words : List (List ℕ)) → ((command : Command) × AreWordsOf command words) ⊎ AreOfNoCommand words
+command_or_none words = elim (command_there words) [ inl c ↦ inl c | inr none ↦ inr (λ command are. none (command, are)) ]

@@ -1,14 +1,14 @@
 -- What a file tells is there: its bytes are read by computing, and where a grammar asks, its first fault is decided.
-use Rattle.std.proofs.Common.{◌≡◌, ◌<◌, ◌≤◌, ◌⊎◌, inl, inr, ℕ, List, length, Option, Some, None, Result, Ok, Err, refl, arith}
+use Rattle.std.proofs.Common.{◌≡◌, ◌≤◌, ◌⊎◌, inl, inr, ℕ, List, length, Option, Some, None, Result, Ok, Err, refl, arith}
 use Rattle.outside.specs.Files.{Files, contents_of}
 use Rattle.lexicon_definitions.specs.GrammarFaults.{IsFirstFault, IsGrammarTextWithinLimits}
 use Rattle.lexicon_definitions.specs.GrammarFaults as grammars
 use Rattle.lexicon_text_definitions.specs.declared.limits.TheConstants.{MOST_FILE_BYTES}
 use Rattle.lexicon_text_definitions.specs.FileFaults as faults
-use Rattle.lexicon_text_definitions.specs.FileContents.{Told, lexicon_told}
+use Rattle.lexicon_text_definitions.specs.FileContents.{lexicon_told}
 use Rattle.lexicon_text_definitions.specs.FileReadings as lexicon_file
 use Rattle.lexicon_text_definitions.specs.FileReadings.{Reading, Content, Fault as FaultAt, Asks, fault_at, IsResult, reading_of}
-use Rattle.rule_file_definitions.specs.RuleFileFaults.{Fault, Grammar}
+use Rattle.rule_file_definitions.specs.RuleFileFaults.{Grammar}
 use Rattle.rule_file_definitions.specs.RuleFileReadings as rule_file
 use Rattle.rule_file_definitions.specs.RuleFileReadings.{IsDecided, read_before_grammar}
 use Rattle.run_definitions.specs.Ends as ends

@@ -1,16 +1,15 @@
 -- Whether a list of phases is a word of a grammar is decided: by recursion on the tree it is decided which marks begin a reading,
 -- end it and follow one another, and so phase by phase which positions come after a list.
-use Rattle.std.proofs.Common.{◌≡◌, inl, inr, ℕ, zero, suc, ◌+◌, ◌↔◌, List, [], ◌∷◌, ◌++◌, map, refl, sym, ap, subst, append_assoc}
+use Rattle.std.proofs.Common.{◌≡◌, inl, inr, ℕ, zero, suc, ◌+◌, List, [], ◌∷◌, ◌++◌, map, refl, sym, ap, subst, append_assoc}
 use Rattle.std.specs.List.{AllByRecursion, Contains}
 use Rattle.std.specs.Ordering.{nat_cmp}
-use Rattle.std.specs.List.Sorted.{IsStrictlyIncreasing}
 use Rattle.std.proofs.lemmas.Bool.{cases_eq}
 use Rattle.std.proofs.lemmas.Cmp.{nat_cmp_total}
 use Rattle.std.proofs.lemmas.Map.Lookups.{exact_unsigned}
 use Rattle.std.proofs.lemmas.List.{append-nil}
 use Rattle.std.proofs.lemmas.List.Elements.{Contains-append_left, Contains-append_right}
 use Rattle.list_laws.specs.Firsts.{AreAll}
-use Rattle.list_laws.proofs.Sorted.{Contains-first, Contains-later, not_Contains-nil, sorted_nil}
+use Rattle.list_laws.proofs.Sorted.{Contains-first}
 use Rattle.list_laws.proofs.FirstOnes.{one_in_all, Contains-map}
 use Rattle.lexicon_definitions.specs.Grammars.{Grammar, Name, Sequence, Either, AnyTimes, OnceOrMore, AtMostOnce, Accepts, Mark, count_names, Reads}
 use Rattle.lexicon_definitions.specs.GrammarMarks.{IsFirst, IsLast, IsPair, IsPositionIn, IsLink, IsFinal}
@@ -152,9 +151,9 @@ is_link g (suc before) phase position =
     told_by (λ h. (h.0, h.1.0, h.1.1.0, h.1.1.1.0, h.1.1.1.1, h.1.1.1.2)) (λ h. (h.0, (h.1, (h.2, (h.3, h.4, h.5)))))
     (one_has (λ (first : Mark). (second : Mark) × HasSecond first second)
     (λ first. one_has (HasSecond first)
-        (λ second. both (is_pair g 1 first second)
-            (all_three (cases_eq first.position (suc before)) (cases_eq second.phase phase) (cases_eq second.position position))) (marks_of g 1)
-        (λ second h. pair_second_within g first second h.0)) (marks_of g 1)
+    (λ second. both (is_pair g 1 first second)
+    (all_three (cases_eq first.position (suc before)) (cases_eq second.phase phase) (cases_eq second.position position))) (marks_of g 1)
+    (λ second h. pair_second_within g first second h.0)) (marks_of g 1)
     (λ first h. pair_first_within g first h.0 h.1.0))
   where
     HasSecond : Mark → Mark → Type 0
@@ -203,14 +202,14 @@ module _ (g : Grammar) where
       all_that_have nat_cmp_total (IsPositionIn g (phases ++ phase ∷ [])) (λ x y p q e. exact_unsigned x y e)
       (map (λ (mark : Mark). mark.position) (marks_of g 1))
       (λ position m. by_law (position_step g phases phase position)
-          (told_by (λ h. (h.0, h.1.0, h.1.1)) (λ h. (h.0, (h.1, h.2)))
-          (one_has (λ p. IsPositionIn g phases p × IsLink g p phase position) (λ p. both (is_in phases before p) (is_link g p phase position)) before.0
-          (λ p h. before.1.complete p h.0))))
+      (told_by (λ h. (h.0, h.1.0, h.1.1)) (λ h. (h.0, (h.1, h.2)))
+      (one_has (λ p. IsPositionIn g phases p × IsLink g p phase position) (λ p. both (is_in phases before p) (is_link g p phase position)) before.0
+      (λ p h. before.1.complete p h.0))))
       (λ position h.
-          let from = comes_from phases phase position h in
-          let is = linked g from.0 phase position from.2 in
-          subst (Contains (map (λ (mark : Mark). mark.position) (marks_of g 1))) is.position_is
-          (Contains-map (λ (mark : Mark). mark.position) (marks_of g 1) is.mark is.within))
+      let from = comes_from phases phase position h in
+      let is = linked g from.0 phase position from.2 in
+      subst (Contains (map (λ (mark : Mark). mark.position) (marks_of g 1))) is.position_is
+      (Contains-map (λ (mark : Mark). mark.position) (marks_of g 1) is.mark is.within))
 
   more_phases : (front rest : List ℕ) → Positions g front → Positions g (front ++ rest)
   more_phases front [] before = subst (Positions g) (sym (append-nil front)) before

@@ -1,10 +1,8 @@
 -- Entries that may stand in a lexicon have one: phase by phase the words of its entries, and word by word their analyses, are those
 -- of a finite list that have a decided property. So sources that are read have a lexicon.
-use Rattle.std.proofs.Common.{◌≡◌, ◌≢◌, ℕ, zero, suc, ◌+◌, ◌<◌, ◌≤◌, inl, inr, List, [], ◌∷◌, length, map, get_or, Ok, refl, sym, ◌∙◌, ap, subst, arith}
+use Rattle.std.proofs.Common.{◌≡◌, ℕ, zero, suc, ◌+◌, ◌<◌, inl, inr, List, [], ◌∷◌, length, map, get_or, Ok, refl, sym, ◌∙◌, ap, subst, arith}
 use Rattle.std.specs.List.{All, Contains}
-use Rattle.std.specs.List.Sorted.{IsStrictlySortedBy}
-use Rattle.std.specs.Ordering.{on}
-use Rattle.std.specs.declared.cmp.Ordering.TheVariants.{Less, Equal}
+use Rattle.std.specs.declared.cmp.Ordering.TheVariants.{Equal}
 use Rattle.std.proofs.lemmas.Bool.{cases_lt, cases_eq}
 use Rattle.std.proofs.lemmas.Cmp.{nat_list_cmp_total}
 use Rattle.std.proofs.lemmas.List.{get_or_past, get_or_default}
@@ -15,12 +13,12 @@ use Rattle.list_laws.proofs.Sorted.{not_Contains-nil, All-from_Contains}
 use Rattle.list_laws.proofs.Elements.{some_by_element}
 use Rattle.list_laws.proofs.FirstOnes.{Contains-map, Contains-map_cases, sorted-map}
 use Rattle.list_laws.proofs.Orderings.{equal_then_both}
-use Rattle.text_definitions.specs.Words.{IsWord, compare_words}
+use Rattle.text_definitions.specs.Words.{compare_words}
 use Rattle.lexicon_definitions.specs.Analyses.{Analysis, compare_analyses}
-use Rattle.lexicon_definitions.specs.FormEntries.{Entry, HasAnalysis, HasEntry}
-use Rattle.lexicon_definitions.specs.Lexicons.{RuleSet, Form, Lexicon, IsRuleSet, IsAnalysis, IsFormEntry, IsPhase, IsLexicon}
+use Rattle.lexicon_definitions.specs.FormEntries.{Entry, HasAnalysis}
+use Rattle.lexicon_definitions.specs.Lexicons.{RuleSet, Form, Lexicon, IsAnalysis, IsFormEntry, IsPhase}
 use Rattle.lexicon_definitions.proofs.FormsWithEntry.{analyses_total, by_letters}
-use Rattle.morphology_definitions.specs.Inflection.{Class, Stem, AreAllInflected}
+use Rattle.morphology_definitions.specs.Inflection.{Class, Stem}
 use Rattle.morphology_definitions.proofs.Inflections.{all_inflected-exists}
 use Rattle.paradigm_file_definitions.specs.TableFiles.{tables_of}
 use Rattle.paradigm_file_definitions.specs.StemFiles.{stems_of}

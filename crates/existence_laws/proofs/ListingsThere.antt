@@ -1,17 +1,16 @@
 -- An answer has at most twice as many steps as the line has letters, each of them one of finitely many, and it is decided which
 -- lists of these are answers: so the listing above a cursor is there, with it each page, and of its items the summary.
-use Rattle.std.proofs.Common.{◌≡◌, ◌≢◌, inl, inr, ℕ, suc, ◌+◌, ◌*◌, ◌≤◌, ◌⊎◌, ◌↔◌, Bool, true, false, IsTrue, List, [], ◌∷◌, length, map, take, drop, refl, sym, ap, subst, arith, Ordering}
+use Rattle.std.proofs.Common.{◌≡◌, ◌≢◌, inl, inr, ℕ, ◌+◌, ◌*◌, ◌≤◌, ◌↔◌, Bool, true, false, IsTrue, List, [], ◌∷◌, length, map, take, drop, refl, arith, Ordering}
 use Rattle.std.specs.List.{AllByRecursion, Contains, flat_map}
 use Rattle.std.specs.Ordering.{nat_cmp}
 use Rattle.std.specs.declared.cmp.Ordering.TheVariants.{Less, Equal, Greater}
 use Rattle.std.proofs.lemmas.Map.Lookups.{exact_unsigned, exact_bytes}
-use Rattle.list_laws.specs.Firsts.{AreAll}
 use Rattle.list_laws.proofs.FirstOnes.{Contains-map}
 use Rattle.list_laws.proofs.Orderings.{equal_then_both}
 use Rattle.text_definitions.specs.Words.{compare_words}
 use Rattle.text_definitions.specs.Lines.{Line}
 use Rattle.lexicon_definitions.specs.Lexicons.{Lexicon, RuleSet, Form, forms_of, IsForm, IsLexicon}
-use Rattle.segmentation_definitions.specs.Derivations.{Step, AreForms, AreJoined, EndsWell, IsRuleNumber, Derives, Meets}
+use Rattle.segmentation_definitions.specs.Derivations.{Step, AreForms, AreJoined, EndsWell, Meets}
 use Rattle.segmentation_definitions.specs.Items.{Item, items_of, after_lead, Choice}
 use Rattle.segmentation_definitions.specs.Answers.{IsAnswer}
 use Rattle.segmentation_definitions.specs.Listings.{compare_answers, compare_items, Cursor, BeforeFirst, AtAnswer, PastLast, IsAbove, IsListingAbove, IsPage, IsItemOfAnswer, IsSummary}
@@ -20,7 +19,7 @@ use Rattle.segmentation_definitions.proofs.ItemOrder.{compare_items_total}
 use Rattle.segmentation_definitions.proofs.KeyLists.{compare_answers_total, compare_key_lists_exact, same_steps}
 use Rattle.segmentation_definitions.proofs.Listings.{same_as_front}
 use Rattle.segmentation_definitions.proofs.RisingRanks.{steps_bounded}
-use Rattle.existence_laws.proofs.Decisions.{Decided, told_by, both}
+use Rattle.existence_laws.proofs.Decisions.{Decided, both}
 use Rattle.existence_laws.proofs.FiniteLists.{numbers_below, Contains-numbers_below, Contains-flat_map, Contains-flat_map_cases, lists_up_to, Contains-lists_up_to, all_that_have}
 use Rattle.existence_laws.proofs.AnswerDecisions.{is_answer}
 

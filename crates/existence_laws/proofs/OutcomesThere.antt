@@ -1,17 +1,16 @@
 -- Each command has an outcome, from what its files tell, and the page, the session or the lexicon that is there; and so has a run,
 -- whose words are those of a command or of none.
-use Rattle.std.proofs.Common.{◌≡◌, ◌<◌, ◌≤◌, ◌⊎◌, ℕ, ◌+◌, ◌++◌, inl, inr, Bool, List, [], ◌∷◌, length, Option, Some, None, Result, Ok, Err, refl, sym, ◌∙◌, ap, subst, arith}
+use Rattle.std.proofs.Common.{◌≡◌, ℕ, ◌+◌, ◌++◌, inl, inr, List, [], ◌∷◌, length, Option, Some, Result, Ok, Err, refl, sym, ◌∙◌, subst, arith}
 use Rattle.std.specs.Prelude.{codes}
-use Rattle.outside.specs.Files.{Files, contents_of}
+use Rattle.outside.specs.Files.{Files}
 use Rattle.text_definitions.specs.Lines.{Line}
-use Rattle.text_definitions.specs.Schemes.{Scheme, Slp1}
+use Rattle.text_definitions.specs.Schemes.{Scheme}
 use Rattle.text_definitions.specs.LineTexts.{LineFault, line_of_text}
 use Rattle.lexicon_definitions.specs.Lexicons.{RuleSet, Lexicon, IsLexicon}
 use Rattle.lexicon_definitions.specs.Limits.{count_lines}
 use Rattle.lexicon_text_definitions.specs.declared.limits.TheConstants.{MOST_FILE_BYTES}
 use Rattle.lexicon_text_definitions.specs.FileLines as file
 use Rattle.lexicon_text_definitions.specs.FileLines.{lines_of_bytes}
-use Rattle.lexicon_text_definitions.specs.FileReadings as lexicon_file
 use Rattle.lexicon_text_definitions.specs.LexiconTexts.{text_of}
 use Rattle.lexicon_text_definitions.proofs.WholeTexts.{read_text}
 use Rattle.lexicon_definitions.specs.declared.limits.TheConstants.{MOST_FORM_LINES}
@@ -31,24 +30,24 @@ use Rattle.demo_definitions.proofs.LinesRead.{line_read}
 use Rattle.run_definitions.specs.declared.limits.TheConstants.{CHECK_OVERLAPS, SEGMENT_PAGE}
 use Rattle.run_definitions.specs.Arguments.{FileWord}
 use Rattle.run_definitions.specs.Commands.{Command, Segment, Check, Build, Read, Batch, Demo, AreWordsOf}
-use Rattle.run_definitions.specs.Ends as ends
 use Rattle.run_definitions.specs.Ends.{Outcome, Done, ReadFault, BadFile, BadText, AnyFault, Rules, Tables, Stems, outcome_over}
 use Rattle.run_definitions.specs.Refusals.{file_refusal, text_refusal, usage_outcome}
 use Rattle.run_definitions.specs.LexiconTells as lexicons
 use Rattle.run_definitions.specs.LexiconTells.{FileTells, DoesTell}
 use Rattle.run_definitions.specs.SourceTells as sources
 use Rattle.run_definitions.specs.SourceTells.{SourceTells, DoesTellSource, IsOutcomeAfter}
-use Rattle.run_definitions.specs.SourceLexicons.{IsLexiconOf, IsOversized, FitsFile}
-use Rattle.run_definitions.specs.SegmentOutcomes.{IsPageOutcome, IsListedOutcome, OfText, OfPage, IsOutcomeWith, IsSegmentOutcome}
+use Rattle.run_definitions.specs.SourceLexicons.{IsOversized}
+use Rattle.run_definitions.specs.SegmentOutcomes.{IsListedOutcome, OfText, OfPage, IsOutcomeWith, IsSegmentOutcome}
 use Rattle.run_definitions.specs.Overlaps.{printed_check}
 use Rattle.run_definitions.specs.CheckOutcomes.{IsCheckOutcomeWith, IsCheckOutcome}
 use Rattle.run_definitions.specs.BuildOutcomes.{AreTables, AreStems, RulesTell, TablesTell, StemsTell, lexicon_fault, built_outcome, IsWrittenOutcome, IsLexiconOutcome, IsStemsOutcome, IsTablesOutcome, IsBuildOutcome}
 use Rattle.run_definitions.specs.BuildOutcomes as build
-use Rattle.run_definitions.specs.ReadOutcomes.{end_with, IsToldWhereServed, AreReadWords, IsSessionOutcome, IsReadOutcomeWith, IsReadOutcome}
+use Rattle.run_definitions.specs.ReadOutcomes.{end_with, IsToldWhereServed, IsReadOutcomeWith, IsReadOutcome}
 use Rattle.run_definitions.specs.BatchOutcomes as batch
 use Rattle.run_definitions.specs.BatchOutcomes.{IsLineReply, numbered_reply, AreNumberedReplies, IsAnyText, no_text_fault, TextTells, IsRepliesOutcome, IsTextOutcome, IsBatchOutcomeWith, IsBatchOutcome}
-use Rattle.run_definitions.specs.DemoOutcomes.{DemoCounts, IsDemoLexicon, AreDemoCounts, printed_demo, IsDemoOutcome}
-use Rattle.run_definitions.specs.Outcomes.{IsOutcomeOf, IsOutcome, OfNoCommand, OfCommand}
+use Rattle.run_definitions.specs.DemoOutcomes.{DemoCounts, IsDemoLexicon, printed_demo, IsDemoOutcome}
+use Rattle.run_definitions.specs.Outcomes.{IsOutcomeOf, IsOutcome, IsSoFar, OfNoCommand, OfCommand, OfNone, OfOne}
+use Rattle.run_definitions.proofs.SoFar.{all_is_so_far}
 use Rattle.existence_laws.proofs.Decisions.{is_below}
 use Rattle.existence_laws.proofs.ListingsThere.{page_there}
 use Rattle.existence_laws.proofs.SessionsThere.{session_there}
@@ -299,4 +298,14 @@ pub outcome_there : (words : List (List ℕ)) (files : Files) (input : Option (L
 outcome_there words files input told = elim (command_there words) [
   | inl c ↦ let outcome = of_command words files input told c.0 c.1 in (outcome.0, OfCommand c.0 c.1 outcome.1)
   | inr none ↦ (usage_outcome files, OfNoCommand (λ command are. none (command, are)) refl)
+]
+
+-- all of its output is what it may have come to write
+pub so_far_there : (words : List (List ℕ)) (files : Files) (input : Option (List ℕ)) → IsToldWhereServed words files input
+    → (output : List ℕ) × IsSoFar words files input output
+so_far_there words files input told = elim (command_there words) [
+  | inl c ↦
+      let outcome = of_command words files input told c.0 c.1 in
+      (outcome.0.output, OfOne c.0 c.1 (all_is_so_far c.0 files input outcome.0 outcome.1))
+  | inr none ↦ ((usage_outcome files).output, OfNone (λ command are. none (command, are)) refl)
 ]

@@ -1,11 +1,11 @@
 -- The first overlaps of a lexicon are there: an overlap has one of finitely many phases, forms and rules, and each of its facts is
 -- decided; the first ones are the front of all.
-use Rattle.std.proofs.Common.{◌≡◌, ◌≢◌, ℕ, ◌+◌, ◌<◌, ◌≤◌, ◌↔◌, inl, inr, Bool, true, false, IsTrue, List, [], ◌∷◌, ◌++◌, length, map, take, drop, refl, sym, ◌∙◌, ap, subst, arith, Ordering}
+use Rattle.std.proofs.Common.{◌≡◌, ◌≢◌, ℕ, ◌+◌, ◌≤◌, ◌↔◌, inl, inr, Bool, true, false, List, [], ◌∷◌, ◌++◌, length, map, take, drop, refl, sym, subst, arith, Ordering}
 use Rattle.std.specs.List.{Contains, flat_map}
 use Rattle.std.specs.List.Sorted.{IsStrictlySortedBy}
 use Rattle.std.specs.Cmp.{IsTotalOrder}
 use Rattle.std.specs.Ordering.{nat_cmp}
-use Rattle.std.specs.declared.cmp.Ordering.TheVariants.{Less, Equal}
+use Rattle.std.specs.declared.cmp.Ordering.TheVariants.{Equal}
 use Rattle.std.proofs.lemmas.Bool.{cases_eq}
 use Rattle.std.proofs.lemmas.List.{take-append-drop, length-take, length-drop}
 use Rattle.std.proofs.lemmas.Map.Lookups.{exact_unsigned, exact_bytes}
@@ -15,8 +15,8 @@ use Rattle.list_laws.proofs.Elements.{some_element, some_by_element}
 use Rattle.list_laws.proofs.FirstOnes.{Contains-map}
 use Rattle.list_laws.proofs.Orderings.{equal_then_both}
 use Rattle.text_definitions.specs.Words.{compare_words}
-use Rattle.lexicon_definitions.specs.Lexicons.{Lexicon, RuleSet, Form, rule_of, forms_of, IsForm}
-use Rattle.segmentation_definitions.specs.Derivations.{IsOverlap, IsRuleNumber}
+use Rattle.lexicon_definitions.specs.Lexicons.{Lexicon, Form, rule_of, forms_of}
+use Rattle.segmentation_definitions.specs.Derivations.{IsRuleNumber}
 use Rattle.segmentation_definitions.proofs.Coverings.{phase_within}
 use Rattle.run_definitions.specs.Overlaps.{Overlap, IsOverlapOf, compare_overlaps, AreFirstOverlaps}
 use Rattle.run_definitions.proofs.OneOverlapList.{compare_overlaps_total}
@@ -116,9 +116,9 @@ module _ (lexicon : Lexicon) where
       (λ o. (((o.of_phase, o.inner), (o.rule, o.precedes)), ((o.follows, o.begins), (o.ends, o.longer))))
       (both
       (both (both (is_form lexicon overlap.phase overlap.form) (both (is_rule_number lexicon.rules overlap.before) (is_inner before)))
-          (both (is_rule_number lexicon.rules overlap.after) (has_phase before.after overlap.phase)))
+      (both (is_rule_number lexicon.rules overlap.after) (has_phase before.after overlap.phase)))
       (both (both (has_phase after.before overlap.phase) (begins_with before.v overlap.form))
-          (both (ends_with overlap.form after.u) (is_below (length overlap.form) (length (before.v ++ after.u))))))
+      (both (ends_with overlap.form after.u) (is_below (length overlap.form) (length (before.v ++ after.u))))))
 
   -- ---- and finitely many
 

@@ -7,7 +7,7 @@ use Rattle.text_definitions.specs.Lines.{Line}
 use Rattle.lexicon_definitions.specs.Lexicons.{Lexicon, IsLexicon}
 use Rattle.lexicon_text_definitions.specs.FileLines as file
 use Rattle.segmentation_definitions.specs.Derivations.{Step}
-use Rattle.segmentation_definitions.specs.Items.{Item, Choice}
+use Rattle.segmentation_definitions.specs.Items.{Choice}
 use Rattle.segmentation_definitions.specs.Answers.{IsAnswer}
 use Rattle.segmentation_definitions.specs.Listings.{Cursor, BeforeFirst, AtAnswer, Key, keys_of}
 use Rattle.segmentation_definitions.specs.PrintedAnswers.{output_line, next_number, printed_page}
@@ -65,7 +65,7 @@ module _ (lexicon : Lexicon) (is : IsLexicon lexicon) where
       told_by (λ h. (h.1.0, record { phases = h.0; keys = h.1.1 })) (λ h. (h.1.phases, (h.0, h.1.keys)))
       (both
       (holds_of_all (λ (choice : Choice). choice.item.phase < length lexicon.phases)
-          (λ choice. is_below choice.item.phase (length lexicon.phases)) mark.choices)
+      (λ choice. is_below choice.item.phase (length lexicon.phases)) mark.choices)
       (has_keys mark.line mark.choices mark.keys))
 
   resume_reply_there : (state : State) (mark : Bookmark) → (reply : Reply) × IsResumeReply lexicon state mark reply

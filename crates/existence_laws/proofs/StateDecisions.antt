@@ -2,15 +2,13 @@
 -- longer each, until there are enough of them or none leads to a state that is not there. Then these are all the states.
 use Rattle.std.proofs.Common.{◌≡◌, ◌≢◌, ℕ, zero, suc, ◌+◌, ◌<◌, ◌≤◌, ◌⊎◌, inl, inr, Bool, true, false, List, [], ◌∷◌, ◌++◌, length, map, AllPairs, Some, None, Option, refl, sym, ◌∙◌, ap, subst, arith, append_assoc}
 use Rattle.std.specs.List.{All, AllByRecursion, Contains}
-use Rattle.std.specs.List.Sorted.{IsStrictlyIncreasing}
 use Rattle.std.proofs.lemmas.List.{append-nil, length-map}
-use Rattle.std.proofs.lemmas.List.Elements.{All-contains}
 use Rattle.std.proofs.lemmas.Map.Keys.{IsStrictlyIncreasing-from_sorted}
 use Rattle.list_laws.proofs.Sorted.{Contains-first, Contains-later, Contains-cons_cases, not_Contains-nil, All-from_Contains}
 use Rattle.list_laws.proofs.FirstOnes.{Contains-map, Contains-map_cases}
 use Rattle.list_laws.proofs.Elements.{Pairwise, pairs_from_recursion}
 use Rattle.lexicon_definitions.specs.declared.limits.TheConstants.{MOST_GRAMMAR_STATES}
-use Rattle.lexicon_definitions.specs.Grammars.{Grammar, Accepts, Mark, State, Opening, After, IsStateAfter, IsLiveState, HaveSamePositions}
+use Rattle.lexicon_definitions.specs.Grammars.{Grammar, Accepts, Mark, State, Opening, After, IsStateAfter, IsLiveState}
 use Rattle.lexicon_definitions.specs.GrammarMarks.{IsPositionIn}
 use Rattle.lexicon_definitions.specs.GrammarTexts.{grammar_of}
 use Rattle.lexicon_definitions.specs.GrammarFaults.{IsStateOf, HasMoreStates, Fault, Long, Syntax, UnknownPhase, Places, States, first_fault_of, fault_before_states, IsFirstFault, IsGrammarTextWithinLimits}
@@ -19,7 +17,7 @@ use Rattle.lexicon_definitions.proofs.GrammarStates.{same_positions_same_state}
 use Rattle.lexicon_definitions.proofs.GrammarSteps.{position_step, live_position, same_positions}
 use Rattle.demo_definitions.proofs.DifferentElements.{In, AreDifferent, contains_from_in, in_from_contains, different_are_few, different_from_pairs}
 use Rattle.existence_laws.proofs.Decisions.{Decided, told_by, refuted, both, is_below, is_same_word, is_element, holds_of_some}
-use Rattle.existence_laws.proofs.GrammarDecisions.{marks_of, Linked, linked, positions_after}
+use Rattle.existence_laws.proofs.GrammarDecisions.{marks_of, linked, positions_after}
 
 -- ---- different elements differ in pairs
 
@@ -130,7 +128,7 @@ module _ (g : Grammar) where
       holds_of_some (HasNext lists)
       (λ phases. holds_of_some (IsNew lists phases)
       (λ phase. both (is_live (state_at (phases ++ phase ∷ [])))
-          (refuted (is_element is_same_state (states_of lists) (state_at (phases ++ phase ∷ []))))) phases_in) lists
+      (refuted (is_element is_same_state (states_of lists) (state_at (phases ++ phase ∷ []))))) phases_in) lists
 
   -- a phase after which there is a live state is one of the grammar's
   phase_within : (phases : List ℕ) (phase : ℕ) → IsLiveState (state_at (phases ++ phase ∷ [])) → Contains phases_in phase
@@ -224,8 +222,8 @@ module _ (g : Grammar) where
     omega (arith, length-map lists state_at, long),
     pairs_apart (states_of lists) distinct.different,
     All-from_Contains (IsStateOf g) (states_of lists) (λ state m.
-    let at = Contains-map_cases state_at lists state m in
-    subst (IsStateOf g) at.2 (at.0, (state_after at.0).1, distinct.live at.0 at.1)),
+        let at = Contains-map_cases state_at lists state m in
+        subst (IsStateOf g) at.2 (at.0, (state_after at.0).1, distinct.live at.0 at.1)),
   )
 
   few_states : (lists : List (List ℕ)) (count : ℕ) → AreDistinct lists → (HaveNext lists → ⊥) → length lists ≤ count → HasMoreStates g count → ⊥
