@@ -1,0 +1,13 @@
+pub mod Decisions
+pub mod FiniteLists
+pub mod GrammarDecisions
+pub mod AnswerDecisions
+pub mod ListingsThere
+pub mod StateDecisions
+pub mod SessionsThere
+pub mod FilesThere
+pub mod OverlapsThere
+pub mod SourcesSound
+pub mod LexiconsThere
+pub mod CommandsThere
+pub mod OutcomesThere
