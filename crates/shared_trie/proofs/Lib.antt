@@ -8,3 +8,6 @@ pub mod Partial
 pub mod NextLetters
 pub mod RunSteps
 pub mod Roots
+pub mod LetterLists
+pub mod PackedRows
+pub mod SetPlaces

@@ -1,4 +1,6 @@
 pub mod Growth
 pub mod Heights
+pub mod LetterSets
+pub mod Packed
 pub mod Runs
 pub mod Views

@@ -3,6 +3,7 @@ ghost use Rattle.lexicon_definitions.specs.Limits.{count_lines};
 ghost use Rattle.lexicon_definitions.specs.Tries.{IsTrieOf};
 
 use super::Store;
+use super::growing::Growing;
 use form_lists::FormLists;
 use lexicon_definitions::{MOST_FORM_LINES, MOST_PHASES};
 use phoneme::Memory;
@@ -15,9 +16,9 @@ pub fn build(alloc: Global, lists: &FormLists) -> Result<Store, Memory>
     requires lines { count_lines lists.now ≤ MOST_FORM_LINES }
     ensures ok { IfOk result (λ store. IsTrieOf store lists.now) }
 {
-    let mut store = Store::new(alloc);
+    let mut trie = Growing::new(alloc);
     for phase in 0..lists.phases() {
-        store.add_phase(alloc, lists, phase)?;
+        trie.add_phase(alloc, lists, phase)?;
     }
-    Ok(store)
+    trie.pack(alloc)
 }

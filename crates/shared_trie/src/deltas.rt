@@ -36,3 +36,14 @@ fn sort_deltas(deltas: &mut [Delta])
 {
     deltas.sort_unstable_by(|left, right| left.compare(right));
 }
+
+/// The same deltas, in memory of their own.
+pub(crate) fn copy_deltas(alloc: Global, deltas: &[Delta]) -> Result<Vec<Delta>, Memory>
+    ensures { IfOk result (λ copied. copied.items ≡ deltas.now) }
+{
+    let mut copied = Vec::with_capacity(alloc, deltas.len())?;
+    for delta in deltas {
+        copied.push(delta.copy(alloc)?)?;
+    }
+    Ok(copied)
+}

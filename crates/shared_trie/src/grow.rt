@@ -8,15 +8,16 @@ ghost use Rattle.shared_trie.specs.Growth.{Grows};
 ghost use Rattle.shared_trie.specs.Runs.{HasOwnDelta, IsNodeFor, IsRootFor, IsRun, word_at, words_of};
 ghost use Rattle.shared_trie.specs.Views.{text_row};
 
+use super::Node;
 use super::deltas::to_deltas;
+use super::growing::Growing;
 use super::row::Row;
-use super::{Node, Store};
 use form_lists::FormLists;
 use lexicon_definitions::MOST_FORM_LETTERS;
 use phoneme::{Letter, Memory, Word};
 use std::alloc::Global;
 
-impl Store {
+impl Growing {
     /// Adds the nodes of the phase's forms, and makes the one that stands for all of them the next root.
     pub(crate) fn add_phase(
         &mut self,

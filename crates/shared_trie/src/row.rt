@@ -1,5 +1,4 @@
 ghost use Rattle.std.specs.Prelude.{◌≡◌, []};
-ghost use Rattle.lexicon_definitions.specs.Tries.{child_among};
 
 use super::Node;
 use form_tags::Delta;
@@ -24,14 +23,4 @@ impl Row {
             children: Vec::new(alloc),
         }
     }
-}
-
-/// Where the letter leads among these children.
-pub(crate) fn find_child(children: &[(Letter, Node)], letter: Letter) -> Option<Node>
-    ensures { result ≡ child_among children.now letter }
-{
-    children
-        .iter()
-        .find(|child| child.0 == letter)
-        .map(|child| child.1)
 }

@@ -1,42 +1,36 @@
-ghost use Rattle.std.specs.Prelude.{◌≡◌, ◌≢◌, ℕ, ◌+◌, ◌<◌, ◌^◌, ◌↔◌, [], ◌∷◌, ◌++◌, length, map, slice_index, IsTrue, IfOk, IfSome, OnOk};
+ghost use Rattle.std.specs.Prelude.{◌≡◌, ◌≢◌, ℕ, ◌+◌, ◌<◌, ◌^◌, ◌↔◌, [], length, map, slice_index, IsTrue, IfSome};
 ghost use Rattle.form_tags.specs.Analyses.{text_delta};
-ghost use Rattle.lexicon_definitions.specs.Tries.{IsHeight, IsRow, IsTrie, child_in, row_of};
-ghost use Rattle.shared_trie.specs.Growth.{Grows, HasRow};
-ghost use Rattle.shared_trie.specs.Views.{text_row};
+ghost use Rattle.lexicon_definitions.specs.Tries.{IsHeight, IsTrie, child_in, row_of};
+ghost use Rattle.shared_trie.specs.Heights.{AreHeights};
 
 use super::Node;
-use super::row::{Row, find_child};
-use super::rows::intern;
+use super::node_table::NodeTable;
 use form_tags::Delta;
-use indexmap::IndexSet;
 use outside::Steps;
-use phoneme::{Letter, Memory};
-use std::alloc::Global;
+use phoneme::Letter;
 use std::marker::Model;
 
 /// The nodes of a trie with shared subtrees, each a row, and a root for each phase (Huet 2005). No two rows are the same,
 /// so no two nodes stand for the same suffixes, and each child has a smaller number than its parent.
 #[derive(Drop)]
 pub struct Store {
-    /// The place of a row is the number of its node.
-    rows: IndexSet<Row>,
+    table: NodeTable,
     heights: Vec<u32>,
     roots: Vec<Node>,
 }
 
 impl Model for Store {
-    ghost use Rattle.std.specs.Prelude.{◌<◌, ◌^◌, length, map};
+    ghost use Rattle.std.specs.Prelude.{◌<◌, ◌^◌, length};
     ghost use Rattle.lexicon_definitions.specs.Tries.{Trie, IsTrie};
     ghost use Rattle.shared_trie.specs.Heights.{AreHeights};
-    ghost use Rattle.shared_trie.specs.Views.{trie_with, text_row};
 
     ghost Value = { Trie };
 
-    ghost view = { λ s. trie_with s.rows.keys s.roots.items };
+    ghost view = { λ s. record { rows = s.table; roots = s.roots.items } };
 
-    ghost invariant = { λ s. IsTrie (trie_with s.rows.keys s.roots.items)
-        × (length s.rows.keys < 2 ^ 32)
-        × AreHeights (map text_row s.rows.keys) s.heights.items };
+    ghost invariant = { λ s. IsTrie (record { rows = s.table; roots = s.roots.items })
+        × (length s.table < 2 ^ 32)
+        × AreHeights s.table s.heights.items };
 }
 
 impl Store {
@@ -57,7 +51,7 @@ impl Store {
         ensures steps { steps.new ≡ steps.old + 1 }
     {
         steps.tick();
-        find_child(self.row(node).children.as_slice(), letter)
+        self.table.child(node, letter)
     }
 
     /// Whether a form ends at the node.
@@ -65,7 +59,7 @@ impl Store {
         requires { node < length self.now.rows }
         ensures { IsTrue result ↔ ((row_of self.now.rows node).deltas ≢ []) }
     {
-        !self.row(node).deltas.is_empty()
+        self.table.accepts(node)
     }
 
     /// The deltas of the forms that end at the node, rising. There are no deltas where no form ends there.
@@ -73,7 +67,7 @@ impl Store {
         requires { node < length self.now.rows }
         ensures { map text_delta result.now ≡ (row_of self.now.rows node).deltas }
     {
-        self.row(node).deltas.as_slice()
+        self.table.deltas(node)
     }
 
     /// The letters that lead on from the node, rising, each with the node to which it leads. Takes one step for each, and one
@@ -83,7 +77,7 @@ impl Store {
         ensures value { result.now ≡ (row_of self.now.rows node).children }
         ensures steps { steps.new ≡ steps.old + length result.now + 1 }
     {
-        let children = self.row(node).children.as_slice();
+        let children = self.table.children(node);
         steps.tick();
         for _child in children {
             steps.tick();
@@ -104,7 +98,7 @@ impl Store {
         ensures value { result ≡ length self.now.rows }
         ensures trie { IsTrie self.now }
     {
-        self.rows.len() as u32
+        self.table.len()
     }
 
     /// The node with this number, counted from 0.
@@ -115,46 +109,17 @@ impl Store {
         Node::new(number)
     }
 
-    /// A store without nodes and phases. Takes no memory.
-    pub(crate) fn new(alloc: Global) -> Store
-        ensures value { result ≡ record { rows = []; roots = [] } }
-        ensures trie { IsTrie result }
+    /// The store with these parts.
+    pub(crate) fn new(table: NodeTable, heights: Vec<u32>, roots: Vec<Node>) -> Store
+        requires trie { IsTrie (record { rows = table; roots = roots.items }) }
+        requires size { length table < 2 ^ 32 }
+        requires heights { AreHeights table heights.items }
+        ensures { result ≡ record { rows = table; roots = roots.items } }
     {
         Store {
-            rows: IndexSet::new(alloc),
-            heights: Vec::new(alloc),
-            roots: Vec::new(alloc),
+            table,
+            heights,
+            roots,
         }
-    }
-
-    /// The node with this row, which is added where no node has it.
-    pub(crate) fn intern(&mut self, row: Row) -> Result<Node, Memory>
-        requires room { length self.old.rows + 1 < 2 ^ 32 }
-        requires row { IsRow self.old.rows (length self.old.rows) (text_row row) }
-        ensures trie { IsTrie self.new }
-        ensures grown { Grows 1 self.old.rows self.new.rows }
-        ensures roots { self.new.roots ≡ self.old.roots }
-        ensures ok { IfOk result (HasRow self.new.rows (text_row row)) }
-    {
-        intern(&mut self.rows, &mut self.heights, row)
-    }
-
-    /// Makes the node the root of the next phase.
-    pub(crate) fn push_root(&mut self, root: Node) -> Result<(), Memory>
-        requires { root < length self.old.rows }
-        ensures trie { IsTrie self.new }
-        ensures rows { self.new.rows ≡ self.old.rows }
-        ensures roots { OnOk result (self.new.roots ≡ self.old.roots ++ root ∷ []) }
-    {
-        self.roots.push(root)?;
-        Ok(())
-    }
-
-    fn row(&self, node: Node) -> &Row
-        requires { node < length self.now.rows }
-        ensures value { text_row result.now ≡ row_of self.now.rows node }
-        ensures trie { IsTrie self.now }
-    {
-        &self.rows.as_slice()[node.number() as usize]
     }
 }

@@ -8,8 +8,8 @@ use Rattle.shared_trie.proofs.building.build.Given as goal
 abbrev pub invariant-loop-phase : goal.invariant-loop-phase
 invariant-loop-phase l =
     record {
-      trie : IsTrie l.store;
-      count : length l.store.roots ≡ l.phase;
-      each : (k : ℕ) → k < l.phase → IsRootFor l.store.rows (slice_index_or l.lists k []) (slice_index_or l.store.roots k 0);
-      few : length l.store.rows ≤ sum_by length (take l.phase l.lists) * 65 + l.phase;
+      trie : IsTrie l.trie;
+      count : length l.trie.roots ≡ l.phase;
+      each : (k : ℕ) → k < l.phase → IsRootFor l.trie.rows (slice_index_or l.lists k []) (slice_index_or l.trie.roots k 0);
+      few : length l.trie.rows ≤ sum_by length (take l.phase l.lists) * 65 + l.phase;
     }

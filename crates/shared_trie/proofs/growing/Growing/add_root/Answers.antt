@@ -7,7 +7,7 @@ use Rattle.shared_trie.specs.Runs.{IsRootFor}
 use Rattle.shared_trie.specs.Views.{text_row}
 use Rattle.form_tags.specs.Analyses.{text_delta}
 use Rattle.shared_trie.proofs.Roots.{IsRow-empty, IsNodeAfter-none}
-use Rattle.shared_trie.proofs.store.Store.add_root.Goals as goal
+use Rattle.shared_trie.proofs.growing.Growing.add_root.Goals as goal
 use Rattle.std.proofs.lemmas.Result.{IfOk-weaker}
 
 pub intern-requires-clause-row : goal.intern-requires-clause-row

@@ -14,8 +14,8 @@ use Rattle.shared_trie.proofs.NextLetters.{longer_word, Grows-none, Grows-two, G
 use Rattle.shared_trie.proofs.Partial.{IsPartial, IsPartial-append, IsPartial-after_first, IsPartial-first, IsRow-partial, IsNodeFor-partial}
 use Rattle.text_definitions.specs.Letters.{IsLetter}
 use Rattle.shared_trie.proofs.RunSteps.{IsNext, next_after, next_deep, next_run, next_partial}
-use Rattle.shared_trie.proofs.store.Store.+add_node.Goals as goal
-use Rattle.shared_trie.proofs.store.Store.+add_node.Goals.{then-len-depth, else-len-depth}
+use Rattle.shared_trie.proofs.growing.Growing.+add_node.Goals as goal
+use Rattle.shared_trie.proofs.growing.Growing.+add_node.Goals.{then-len-depth, else-len-depth}
 use Rattle.std.proofs.lemmas.Result.{IfOk-weaker}
 
 -- the depth is the length of the front

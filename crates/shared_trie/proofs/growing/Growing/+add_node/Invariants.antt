@@ -5,7 +5,7 @@ use Rattle.shared_trie.specs.Growth.{Grows}
 use Rattle.shared_trie.specs.Runs.{word_at, words_of}
 use Rattle.shared_trie.specs.Views.{text_row}
 use Rattle.shared_trie.proofs.Partial.{IsPartial}
-use Rattle.shared_trie.proofs.store.Store.+add_node.Given as goal
+use Rattle.shared_trie.proofs.growing.Growing.+add_node.Given as goal
 
 abbrev pub decreases-add_node : goal.decreases-add_node
 decreases-add_node l = 65 - l.depth

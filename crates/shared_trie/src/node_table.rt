@@ -1,0 +1,123 @@
+ghost use Rattle.std.specs.Prelude.{◌≡◌, ◌≢◌, ◌+◌, ◌*◌, ◌<◌, ◌^◌, ◌↔◌, ℕ, [], ◌∷◌, ◌++◌, length, map, IsTrue, OnOk};
+ghost use Rattle.std.specs.Ordering.{nat_cmp, on};
+ghost use Rattle.std.specs.List.Sorted.{IsStrictlySortedBy};
+ghost use Rattle.form_tags.specs.Analyses.{text_delta};
+ghost use Rattle.lexicon_definitions.specs.Tries.{child_in, row_of};
+
+use super::Node;
+use super::delta_lists::number_list;
+use super::letter_set::LetterSet;
+use super::packed_node::{PackedNode, letters_of};
+use form_tags::Delta;
+use indexmap::IndexSet;
+use phoneme::{Letter, Memory};
+use std::alloc::Global;
+use std::marker::Model;
+
+/// The rows of nodes, packed: small nodes in one array, the children of all in another, and each list of deltas once.
+#[derive(Drop)]
+pub(crate) struct NodeTable {
+    nodes: Vec<PackedNode>,
+    children: Vec<(Letter, Node)>,
+    lists: IndexSet<Vec<Delta>>,
+}
+
+impl Model for NodeTable {
+    ghost use Rattle.std.specs.Prelude.{List, map};
+    ghost use Rattle.lexicon_definitions.specs.Tries.{Row};
+    ghost use Rattle.shared_trie.specs.Packed.{ArePacked, row_with};
+
+    ghost Value = { List Row };
+
+    ghost view = { λ t. map (row_with t.children.items t.lists.keys) t.nodes.items };
+
+    ghost invariant = { λ t. ArePacked t.children.items t.lists.keys t.nodes.items };
+}
+
+impl NodeTable {
+    /// A table without nodes. Takes no memory.
+    pub(crate) fn new(alloc: Global) -> NodeTable
+        ensures { result ≡ [] }
+    {
+        NodeTable {
+            nodes: Vec::new(alloc),
+            children: Vec::new(alloc),
+            lists: IndexSet::new(alloc),
+        }
+    }
+
+    /// Adds a node with these deltas and children after all others.
+    pub(crate) fn push(
+        &mut self,
+        deltas: Vec<Delta>,
+        children: &[(Letter, Node)],
+    ) -> Result<(), Memory>
+        requires rising { IsStrictlySortedBy (on (λ (child : ℕ × ℕ). child.0) nat_cmp) children.now }
+        requires room { 64 * (length self.old + 1) < 2 ^ 32 }
+        ensures ok { OnOk result (self.new ≡ self.old ++ record { deltas = map text_delta deltas.items; children = children.now } ∷ []) }
+    {
+        self.nodes.reserve(1)?;
+        self.children.reserve(children.len())?;
+        let node = PackedNode {
+            letters: letters_of(children),
+            first: self.children.len() as u32,
+            list: number_list(&mut self.lists, deltas)?,
+        };
+        // There is room for both, so that no want of memory comes between them.
+        let Ok(()) = self.children.extend_from_slice(children) else {
+            unreachable!();
+        };
+        let Ok(()) = self.nodes.push(node) else {
+            unreachable!();
+        };
+        Ok(())
+    }
+
+    /// The number of nodes.
+    pub(crate) fn len(&self) -> u32
+        requires { length self.now < 2 ^ 32 }
+        ensures { result ≡ length self.now }
+    {
+        self.nodes.len() as u32
+    }
+
+    /// The children of the node, rising by their letters.
+    pub(crate) fn children(&self, node: Node) -> &[(Letter, Node)]
+        requires { node < length self.now }
+        ensures { result.now ≡ (row_of self.now node).children }
+    {
+        let packed = &self.nodes[node.number() as usize];
+        let first = packed.first as usize;
+        &self.children[first..first + packed.letters.len() as usize]
+    }
+
+    /// Where the letter leads from the node.
+    pub(crate) fn child(&self, node: Node, letter: Letter) -> Option<Node>
+        requires { node < length self.now }
+        ensures { result ≡ child_in self.now node letter }
+    {
+        let packed = &self.nodes[node.number() as usize];
+        let place = packed.letters.place_of(letter)?;
+        Some(self.children[packed.first as usize + place as usize].1)
+    }
+
+    /// The deltas of the node, rising.
+    pub(crate) fn deltas(&self, node: Node) -> &[Delta]
+        requires { node < length self.now }
+        ensures { map text_delta result.now ≡ (row_of self.now node).deltas }
+    {
+        let list = self.nodes[node.number() as usize].list;
+        if list == 0 {
+            return &[];
+        }
+        self.lists.as_slice()[list as usize - 1].as_slice()
+    }
+
+    /// Whether the node has deltas.
+    pub(crate) fn accepts(&self, node: Node) -> bool
+        requires { node < length self.now }
+        ensures { IsTrue result ↔ ((row_of self.now node).deltas ≢ []) }
+    {
+        self.nodes[node.number() as usize].list != 0
+    }
+}
