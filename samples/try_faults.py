@@ -7,7 +7,6 @@
 files may not grow past a limit, and the disk is full (where this user may mount one; else it is said that this was not tried).
 After each of these the file must be one of the two whole texts. The last line is `N passed, N failed`.
 """
-import argparse
 import os
 import random
 import resource
@@ -15,63 +14,38 @@ import shutil
 import signal
 import stat
 import subprocess
-import sys
-import tempfile
 import threading
 import time
-from pathlib import Path
 
-SAMPLES = Path(__file__).resolve().parent
-SOURCES = ("rules.toml", "tables.csv", "stems.csv")
+from trial import Trial, arguments_of, become_nobody, try_all
+
 WROTE_NOT = 4
-NOBODY = 65534
 
 
-class Trial:
+class Writing(Trial):
     """A folder with sources of two lexicons, and what the program makes of them."""
 
     def __init__(self, program, folder):
-        self.program = program
-        self.folder = folder
-        self.passed = 0
-        self.failed = 0
-        for source in SOURCES:
-            shutil.copy(SAMPLES / source, folder / source)
+        super().__init__(program, folder)
         whole = (folder / "stems.csv").read_text(encoding="utf-8").splitlines(keepends=True)
         (folder / "fewer.csv").write_text("".join(whole[:-1]), encoding="utf-8")
         self.texts = {}
         for stems in ("stems.csv", "fewer.csv"):
-            self.build(stems, "made.lex")
-            self.texts[stems] = (folder / "made.lex").read_bytes()
-        self.seconds = self.time_of_build()
+            self.build(stems)
+            self.texts[stems] = self.bytes_of("made.lex")
+        begun = time.monotonic()
+        self.build("stems.csv", "timed.lex")
+        self.seconds = time.monotonic() - begun
 
     def words(self, stems, out):
         return [self.program, "build", "rules.toml", "tables.csv", stems, str(out)]
 
-    def build(self, stems, out, **more):
-        return subprocess.run(self.words(stems, out), cwd=self.folder, capture_output=True, **more)
-
-    def time_of_build(self):
-        begun = time.monotonic()
-        self.build("stems.csv", "timed.lex")
-        return time.monotonic() - begun
-
     def is_whole(self, out):
-        return (self.folder / out).read_bytes() in self.texts.values()
-
-    def leftovers(self):
-        return [name for name in os.listdir(self.folder) if name.startswith(".sandhi-")]
+        return self.bytes_of(out) in self.texts.values()
 
     def clear(self):
         for name in self.leftovers():
             os.remove(self.folder / name)
-
-    def tell(self, what, holds, more=""):
-        if holds:
-            self.passed += 1
-        else:
-            self.failed += 1
-        print(f"{'ok' if holds else 'FAILED'}: {what}{more}")
 
 
 def try_kills(trial, count):
@@ -144,7 +118,7 @@ def try_full_disk(trial):
     disk.mkdir()
     mounted = subprocess.run(["mount", "-t", "tmpfs", "-o", "size=48k", "tmpfs", str(disk)], capture_output=True)
     if mounted.returncode != 0:
-        print("not tried: a full disk, since no disk may be mounted here")
+        trial.tell_not_tried("a full disk", "no disk may be mounted here")
         return
     try:
         first = trial.build("stems.csv", "disk/out.lex")
@@ -192,33 +166,28 @@ def try_permissions(trial):
     before = (closed / "out.lex").read_bytes()
     os.chmod(closed / "out.lex", 0o666)
     os.chmod(closed, 0o555)
-    as_user = (lambda: os.setuid(NOBODY)) if os.getuid() == 0 else None
-    os.chmod(trial.folder, 0o755)
-    ended = trial.build("stems.csv", "closed/out.lex", preexec_fn=as_user)
+    ended = trial.build("stems.csv", "closed/out.lex", preexec_fn=become_nobody)
     trial.tell("a folder that may not be written", ended.returncode == WROTE_NOT and (closed / "out.lex").read_bytes() == before)
     os.chmod(closed, 0o777)
     os.chmod(closed / "out.lex", 0o444)
-    ended = trial.build("stems.csv", "closed/out.lex", preexec_fn=as_user)
+    ended = trial.build("stems.csv", "closed/out.lex", preexec_fn=become_nobody)
     trial.tell("a file that may not be written", ended.returncode == WROTE_NOT and (closed / "out.lex").read_bytes() == before)
 
 
 def main():
-    arguments = argparse.ArgumentParser(description=__doc__.splitlines()[0])
-    arguments.add_argument("program")
+    arguments = arguments_of(__doc__)
     arguments.add_argument("--kills", type=int, default=40)
     arguments.add_argument("--reads", type=int, default=400)
     given = arguments.parse_args()
-    with tempfile.TemporaryDirectory() as name:
-        trial = Trial(os.path.abspath(given.program), Path(name))
-        try_kills(trial, given.kills)
-        try_readers(trial, given.reads)
-        try_limit(trial)
-        try_full_disk(trial)
-        try_names(trial)
-        try_permissions(trial)
-    print(f"{trial.passed} passed, {trial.failed} failed")
-    return 1 if trial.failed else 0
+    try_all(given, [
+        lambda trial: try_kills(trial, given.kills),
+        lambda trial: try_readers(trial, given.reads),
+        try_limit,
+        try_full_disk,
+        try_names,
+        try_permissions,
+    ], Writing)
 
 
 if __name__ == "__main__":
-    sys.exit(main())
+    main()

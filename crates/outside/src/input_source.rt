@@ -1,22 +1,26 @@
 ghost use Rattle.std.specs.Prelude.{◌≡◌, ◌<◌, ◌≤◌, length, take, drop, None, OnErr, IfOk};
 ghost use Rattle.std.specs.Io.KnownBytes.{Consumes, Keeps, IsAtEnd};
 
+use super::retrying::read_some;
 use super::{Failed, Source};
-use std::io::{Input, Read};
+use std::io::{self, Read};
 use std::marker::Model;
+use std::rt::Clock;
 
 /// The greatest number of bytes that one read of the input asks for.
 const PIECE: usize = 8192;
 
-/// Standard input as a source. It doesn't tell the bytes left, and each `Err` of the input is a fault. Contracts see
-/// it as its count of faults.
+/// Standard input as a source. It doesn't tell the bytes left, and each `Err` of the input is a fault, of which it keeps the
+/// last for whoever tells a person. Contracts see it as its count of faults.
 #[derive(Drop)]
-pub struct InputSource<R> {
+pub struct InputSource<'a, C, R> {
+    clock: &'a C,
     reader: R,
     faults: u64,
+    last_fault: Option<io::Error>,
 }
 
-impl<R> Model for InputSource<R> {
+impl<'a, C, R> Model for InputSource<'a, C, R> {
     ghost use Rattle.std.specs.Prelude.{ℕ, ◌-◌, ◌^◌, ◌≤◌};
 
     ghost Value = { ℕ };
@@ -26,35 +30,45 @@ impl<R> Model for InputSource<R> {
     ghost invariant = { λ s. s.faults ≤ 2 ^ 64 - 1 };
 }
 
-impl<R> InputSource<R> {
-    /// The standard input that the runtime gives, with no fault so far.
-    pub fn new<I: Input<Reader = R>>(rt: &I) -> InputSource<R>
+impl<'a, C: Clock, R: Read> InputSource<'a, C, R> {
+    /// A source of what the reader gives, with no fault so far. Where a read would have blocked it waits by the clock.
+    pub fn new(clock: &'a C, reader: R) -> InputSource<'a, C, R>
         ensures { result ≡ 0 }
     {
         InputSource {
-            reader: rt.reader(),
+            clock,
+            reader,
             faults: 0,
+            last_fault: None,
         }
+    }
+
+    /// What the system said of the last read that failed, for a message to a person; `None` where none did.
+    pub fn last_fault(&self) -> Option<io::Error> {
+        self.last_fault
     }
 }
 
-impl<R: Read> Source for InputSource<R> {
+impl<'a, C: Clock, R: Read> Source for InputSource<'a, C, R> {
     ghost left = { λ _. None };
 
     ghost faults = { λ s. s };
 
     fn read(&mut self, buf: &mut [u8]) -> Result<usize, Failed> {
-        let answer = read_piece(&mut self.reader, buf);
-        if answer.is_err() {
-            self.faults = self.faults.saturating_add(1);
+        match read_piece(self.clock, &mut self.reader, buf) {
+            Ok(count) => Ok(count),
+            Err(cause) => {
+                self.last_fault = Some(cause);
+                self.faults = self.faults.saturating_add(1);
+                Err(Failed)
+            }
         }
-        answer
     }
 }
 
-/// The next bytes of the reader, in one read. std's `read` says nothing of its buffer after the bytes that it gives, so
+/// The next bytes of the reader. std's `read` says nothing of its buffer after the bytes that it gives, so
 /// it gets one of its own.
-fn read_piece<R: Read>(reader: &mut R, buf: &mut [u8]) -> Result<usize, Failed>
+fn read_piece<C: Clock, R: Read>(clock: &C, reader: &mut R, buf: &mut [u8]) -> io::Result<usize>
     requires { 0 < length buf.old }
     ensures bound { IfOk result (λ n. n ≤ length buf.new) }
     ensures bytes { IfOk result (λ n. Consumes (R.remaining reader.old) (R.remaining reader.new) (take n buf.new)) }
@@ -65,9 +79,7 @@ fn read_piece<R: Read>(reader: &mut R, buf: &mut [u8]) -> Result<usize, Failed>
 {
     let mut piece = [0u8; PIECE];
     let wanted = PIECE.min(buf.len());
-    let Ok(count) = reader.read(&mut piece[..wanted]) else {
-        return Err(Failed);
-    };
+    let count = read_some(clock, reader, &mut piece[..wanted])?;
     buf[..count].copy_from_slice(&piece[..count]);
     Ok(count)
 }

@@ -16,7 +16,8 @@
 //! - `Steps::new` and `Steps::tick` give 0 and one more.
 //!
 //! The adapters tell no bytes, so no public clause shows what they do with those of a real file or stream. Their private
-//! functions are proved over any reader and any writer, and tests show the rest.
+//! functions are proved over any reader and any writer, and tests show the rest. They try again what a signal interrupted
+//! or what would have blocked, and keep their last fault, of which no clause speaks, for a message to a person.
 #![tactic(auto)]
 
 mod disk_shelf;
@@ -26,7 +27,9 @@ mod memory_shelf;
 mod memory_sink;
 mod memory_source;
 mod output_sink;
+mod refused;
 mod replacing;
+mod retrying;
 mod schedule;
 mod shelf;
 mod sink;
@@ -35,13 +38,14 @@ mod steps;
 #[cfg(test)]
 mod tests;
 
-pub use disk_shelf::DiskShelf;
+pub use disk_shelf::{DiskFault, DiskShelf};
 pub use gate::{Gate, NoGate};
 pub use input_source::InputSource;
 pub use memory_shelf::MemoryShelf;
 pub use memory_sink::MemorySink;
 pub use memory_source::MemorySource;
 pub use output_sink::OutputSink;
+pub use replacing::are_one_file;
 pub use shelf::{Shelf, ShelfError};
 pub use sink::{Sink, WriteError, write_all};
 pub use source::{Failed, Source};

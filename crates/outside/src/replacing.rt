@@ -1,13 +1,15 @@
 ghost use Rattle.std.specs.Prelude.{OnOk};
 ghost use Rattle.std.specs.Io.KnownBytes.{Appends};
 
-use super::WriteError;
-use std::alloc::{AllocError, AllocGlobal, Global};
+use super::refused::Refused;
+use super::retrying::write_some;
+use std::alloc::{AllocGlobal, Global};
 use std::fs::{self, Files, Metadata, OpenFile, OpenOptions, Permissions};
 use std::io::{self, ErrorKind, Write};
 use std::os::unix::fs::{MetadataExt, OpenOptionsExt};
 use std::path::{Path, PathBuf};
 use std::random::RandomSource;
+use std::rt::Clock;
 
 /// How many links are followed from a name to its file, which is as many as Linux follows.
 const MOST_LINKS: u32 = 40;
@@ -22,55 +24,29 @@ const OWNER_ALONE: u32 = 0o600;
 /// Standard output, as a name of a file.
 const STANDARD_OUTPUT: &str = "/proc/self/fd/1";
 
-/// Why a file was not written.
-enum Refused {
-    Failed,
-    Memory,
-}
-
-impl From<AllocError> for Refused {
-    fn from(_refused: AllocError) -> Refused {
-        Refused::Memory
-    }
-}
-
-impl From<io::Error> for Refused {
-    fn from(error: io::Error) -> Refused {
-        match error.kind() {
-            ErrorKind::OutOfMemory => Refused::Memory,
-            _ => Refused::Failed,
-        }
-    }
-}
-
 /// Puts the bytes under the name, whose regular file is replaced by a whole new one or stays as it was, whatever happens.
 /// What is there and is no regular file, as a device or a pipe, is written in place.
-pub(crate) fn write_file<R: Files + AllocGlobal + RandomSource>(
+pub(crate) fn write_file<R: Files + AllocGlobal + RandomSource + Clock>(
     rt: &R,
     name: &str,
     bytes: &[u8],
-) -> Result<(), WriteError> {
-    let written = match fs::metadata(rt, name) {
+) -> Result<(), Refused> {
+    match fs::metadata(rt, name) {
         Ok(found) if !found.is_file() => write_in_place(rt, name, bytes),
         Ok(found) => replace_file(rt, name, &found, bytes),
         Err(error) if error.kind() == ErrorKind::NotFound => make_file(rt, name, bytes),
         Err(error) => Err(Refused::from(error)),
-    };
-    match written {
-        Ok(()) => Ok(()),
-        Err(Refused::Memory) => Err(WriteError::Memory),
-        Err(Refused::Failed) => Err(WriteError::Failed),
     }
 }
 
 /// Writes the bytes to what is there under the name.
-fn write_in_place<R: Files>(rt: &R, name: &str, bytes: &[u8]) -> Result<(), Refused> {
+fn write_in_place<R: Files + Clock>(rt: &R, name: &str, bytes: &[u8]) -> Result<(), Refused> {
     let mut file = fs::create(rt, name)?;
-    write_bytes(&mut file, bytes)
+    write_bytes(rt, &mut file, bytes)
 }
 
 /// Makes a file with the bytes where there is no file yet, or where a link leads to no file.
-fn make_file<R: Files + AllocGlobal + RandomSource>(
+fn make_file<R: Files + AllocGlobal + RandomSource + Clock>(
     rt: &R,
     name: &str,
     bytes: &[u8],
@@ -81,7 +57,7 @@ fn make_file<R: Files + AllocGlobal + RandomSource>(
 
 /// Replaces the regular file under the name. Refused where the user may not write it, where it is standard output, and
 /// where the name is that of a descriptor: a file that is open may not be taken from who holds it.
-fn replace_file<R: Files + AllocGlobal + RandomSource>(
+fn replace_file<R: Files + AllocGlobal + RandomSource + Clock>(
     rt: &R,
     name: &str,
     found: &Metadata,
@@ -89,18 +65,36 @@ fn replace_file<R: Files + AllocGlobal + RandomSource>(
 ) -> Result<(), Refused> {
     let path = path_of(rt, name)?;
     if is_standard_output(rt, found) {
-        return Err(Refused::Failed);
+        return Err(in_use("standard output goes to it"));
     }
     let _may_be_written = OpenOptions::new().write(true).open(rt, &path)?;
     put_file(rt, &path, Some(found.permissions()), bytes)
 }
 
+/// The refusal of a file that someone holds open.
+fn in_use(why: &str) -> Refused {
+    Refused::Failed(io::Error::new(ErrorKind::ResourceBusy, why))
+}
+
 /// Whether the file is the one to which standard output goes.
 fn is_standard_output<R: Files>(rt: &R, found: &Metadata) -> bool {
     match fs::metadata(rt, STANDARD_OUTPUT) {
-        Ok(output) => output.dev() == found.dev() && output.ino() == found.ino(),
+        Ok(output) => is_same(&output, found),
         Err(_unknown) => false,
     }
+}
+
+/// Whether two names are those of one file on the disk, whatever links lead there. False where either is not there.
+pub fn are_one_file<R: Files>(rt: &R, left: &str, right: &str) -> bool {
+    match (fs::metadata(rt, left), fs::metadata(rt, right)) {
+        (Ok(left), Ok(right)) => is_same(&left, &right),
+        _ => false,
+    }
+}
+
+/// Whether what was found under two names is one file.
+fn is_same(left: &Metadata, right: &Metadata) -> bool {
+    left.dev() == right.dev() && left.ino() == right.ino()
 }
 
 /// The path of the file itself, to which the links under the name lead, whether it is there or not. Refused where they
@@ -110,7 +104,7 @@ fn path_of<R: Files + AllocGlobal>(rt: &R, name: &str) -> Result<PathBuf<Global>
     for _ in 0..MOST_LINKS {
         let folder = fs::canonicalize(rt, folder_of(path.as_path()))?;
         if is_folder_of_descriptors(folder.as_str()) {
-            return Err(Refused::Failed);
+            return Err(in_use("the name is that of an open file"));
         }
         match fs::read_link(rt, &path) {
             Ok(link) => {
@@ -120,7 +114,7 @@ fn path_of<R: Files + AllocGlobal>(rt: &R, name: &str) -> Result<PathBuf<Global>
             Err(_no_link) => return Ok(path),
         }
     }
-    Err(Refused::Failed)
+    Err(Refused::from(io::Error::from(ErrorKind::FilesystemLoop)))
 }
 
 /// The folder in which the path's last part is named.
@@ -138,7 +132,7 @@ fn is_folder_of_descriptors(folder: &str) -> bool {
 
 /// Writes the bytes to a new file in the same folder, gives it the permissions, and puts it in the path's place. Where
 /// this fails the new file goes.
-fn put_file<R: Files + AllocGlobal + RandomSource>(
+fn put_file<R: Files + AllocGlobal + RandomSource + Clock>(
     rt: &R,
     path: &PathBuf<Global>,
     permissions: Option<Permissions>,
@@ -167,7 +161,7 @@ fn put_file<R: Files + AllocGlobal + RandomSource>(
 }
 
 /// A new file in the folder, under a name at which nothing stands, and its path.
-fn open_new<R: Files + AllocGlobal + RandomSource>(
+fn open_new<R: Files + AllocGlobal + RandomSource + Clock>(
     rt: &R,
     folder: Path<'_>,
     is_private: bool,
@@ -182,10 +176,18 @@ fn open_new<R: Files + AllocGlobal + RandomSource>(
         match options.open(rt, &path) {
             Ok(file) => return Ok((file, path)),
             Err(error) if error.kind() == ErrorKind::AlreadyExists => {}
-            Err(error) => return Err(Refused::from(error)),
+            Err(error) => return Err(no_new_file(error)),
         }
     }
-    Err(Refused::Failed)
+    Err(no_new_file(io::Error::from(ErrorKind::AlreadyExists)))
+}
+
+/// The refusal of a new file that could not be made.
+fn no_new_file(error: io::Error) -> Refused {
+    match error.kind() {
+        ErrorKind::OutOfMemory => Refused::Memory,
+        _ => Refused::NoNewFile(error),
+    }
 }
 
 /// A path in the folder whose name is drawn: `.sandhi-` and sixteen hexadecimal digits.
@@ -201,7 +203,7 @@ fn new_path<R: AllocGlobal + RandomSource>(
 }
 
 /// Gives the file its permissions, then its bytes, brings them to the disk, and renames the file.
-fn fill_and_rename<R: Files>(
+fn fill_and_rename<R: Files + Clock>(
     rt: &R,
     file: &mut R::File,
     from: Path<'_>,
@@ -212,7 +214,7 @@ fn fill_and_rename<R: Files>(
     if let Some(permissions) = permissions {
         file.set_permissions(permissions)?;
     }
-    write_bytes(file, bytes)?;
+    write_bytes(rt, file, bytes)?;
     file.sync_all()?;
     fs::rename(rt, from, to)?;
     Ok(())
@@ -227,15 +229,13 @@ fn sync_folder<R: Files>(rt: &R, folder: Path<'_>) {
 }
 
 /// Writes all the bytes. A write that takes no byte is a fault.
-fn write_bytes<F: Write>(file: &mut F, bytes: &[u8]) -> Result<(), Refused>
+fn write_bytes<C: Clock, F: Write>(clock: &C, file: &mut F, bytes: &[u8]) -> Result<(), Refused>
     ensures { OnOk result (Appends (F.contents file.old) (F.contents file.new) bytes.now) }
 {
     let mut taken = 0;
     while taken < bytes.len() {
-        match file.write(&bytes[taken..]) {
-            Ok(count) if count > 0 => taken += count,
-            _ => return Err(Refused::Failed),
-        }
+        let count = write_some(clock, file, &bytes[taken..])?;
+        taken += count;
     }
     Ok(())
 }

@@ -1,14 +1,18 @@
 ghost use Rattle.std.specs.Prelude.{◌≡◌, ◌+◌};
 
+mod scripted_clock;
 mod scripted_input;
 mod scripted_printer;
 
 use super::*;
 use phoneme::Memory;
+use scripted_clock::ScriptedClock;
 use scripted_input::ScriptedInput;
 use scripted_printer::ScriptedPrinter;
 use std::alloc::Global;
 use std::fs;
+use std::io::{self, ErrorKind, Input};
+use std::rt::Files;
 use std::test::Fail;
 
 fn read_of<H: Shelf>(
@@ -27,6 +31,10 @@ fn write_of<H: Shelf>(shelf: &mut H, name: &str, bytes: &[u8]) -> Result<(), Wri
 fn next_of<'b, I: Source>(source: &mut I, buf: &'b mut [u8; 4]) -> Result<&'b [u8], Failed> {
     let count = source.read(buf)?;
     Ok(&buf[..count])
+}
+
+fn kind_of(fault: Option<io::Error>) -> Option<ErrorKind> {
+    Some(fault?.kind())
 }
 
 fn as_text(found: &Result<Vec<u8>, ShelfError>) -> Result<&[u8], ShelfError> {
@@ -106,13 +114,23 @@ fn a_source_and_a_sink_in_pieces(rt: HostRuntime) -> Result<(), Fail> {
     Ok(())
 }
 
-// A fault loses nothing: what comes after it is what would have come without it.
+// A fault loses nothing: what comes after it is what would have come without it. What a signal interrupted is tried again at
+// once, and what would have blocked after 10 milliseconds; neither is a fault.
 #[test]
 fn streams_that_fail_in_between(rt: HostRuntime) -> Result<(), Fail> {
     let input = ScriptedInput {
-        reads: &[Some(b"deva"), None, Some(b"dat")],
+        reads: &[
+            Ok(b"deva"),
+            Err(ErrorKind::Other),
+            Err(ErrorKind::WouldBlock),
+            Err(ErrorKind::Interrupted),
+            Err(ErrorKind::WouldBlock),
+            Ok(b"dat"),
+        ],
+        ends: true,
     };
-    let mut source = InputSource::new(&input);
+    let clock = ScriptedClock::new();
+    let mut source = InputSource::new(&clock, input);
     for wanted in [
         Ok(b"deva".as_slice()),
         Err(Failed),
@@ -121,32 +139,67 @@ fn streams_that_fail_in_between(rt: HostRuntime) -> Result<(), Fail> {
     ] {
         assert_eq!(rt; next_of(&mut source, &mut [0; 4]), wanted);
     }
+    assert_eq!(rt; clock.slept(), 20);
+    assert_eq!(rt; kind_of(source.last_fault()), Some(ErrorKind::Other));
 
-    let printer = ScriptedPrinter::new(rt.alloc(), &[Some(4), None, Some(2), Some(0)]);
+    let printer = ScriptedPrinter::new(
+        rt.alloc(),
+        &[
+            Ok(4),
+            Err(ErrorKind::Other),
+            Err(ErrorKind::WouldBlock),
+            Ok(2),
+            Err(ErrorKind::Interrupted),
+            Ok(0),
+        ],
+    );
     let mut out = OutputSink::new(&printer);
-    for (bytes, wanted) in [
-        (b"devadatta".as_slice(), Err(WriteError::Failed)),
-        (b"datta".as_slice(), Err(WriteError::Failed)),
-        (b"tta".as_slice(), Ok(())),
+    for (bytes, wanted, cause) in [
+        (
+            b"devadatta".as_slice(),
+            Err(WriteError::Failed),
+            ErrorKind::Other,
+        ),
+        (
+            b"datta".as_slice(),
+            Err(WriteError::Failed),
+            ErrorKind::WriteZero,
+        ),
+        (b"tta".as_slice(), Ok(()), ErrorKind::WriteZero),
     ] {
         assert_eq!(rt; write_all(&mut out, bytes), wanted);
+        assert_eq!(rt; kind_of(out.last_fault()), Some(cause));
     }
     assert_eq!(rt; printer.into_taken().as_slice(), b"devadatta".as_slice());
     Ok(())
 }
 
-// The shelf on the disk reads and writes in pieces of 65,536 bytes. No clause can see the bytes of a real file, so this
+// An input that only blocks is a fault after a day.
+#[test]
+fn a_stream_that_blocks_for_a_day(rt: HostRuntime) {
+    let input = ScriptedInput {
+        reads: &[],
+        ends: false,
+    };
+    let clock = ScriptedClock::new();
+    let mut source = InputSource::new(&clock, input);
+    assert_eq!(rt; next_of(&mut source, &mut [0; 4]), Err(Failed));
+    assert_eq!(rt; clock.slept(), 86_400_000);
+    assert_eq!(rt; kind_of(source.last_fault()), Some(ErrorKind::TimedOut));
+}
+
+// The shelf on the disk reads and writes in pieces of 8,192 bytes. No clause can see the bytes of a real file, so this
 // shows that no piece is left out, and that a read stops at the byte that is asked for.
 #[test]
 fn a_file_of_three_pieces(rt: HostRuntime) -> Result<(), Fail> {
     let alloc = rt.alloc();
     let mut bytes = Vec::new(alloc);
-    for place in 0..150_000_u32 {
+    for place in 0..20_000_u32 {
         bytes.push((place % 251) as u8)?;
     }
     let mut shelf = DiskShelf::new(&rt);
     assert_eq!(rt; write_of(&mut shelf, "pieces", &bytes), Ok(()));
-    for most in [65_535, 65_536, 65_537, 131_072, 150_000, 200_000] {
+    for most in [8_191, 8_192, 8_193, 16_384, 20_000, 30_000] {
         let found = read_of(&mut shelf, alloc, "pieces", most)?;
         let wanted = &bytes[..most.min(bytes.len())];
         assert!(rt; found.as_slice() == wanted, "{most}");
@@ -185,25 +238,44 @@ fn steps_take_no_bytes(rt: HostRuntime) -> Result<(), Fail> {
     Ok(())
 }
 
+/// The last fault of the shelf is of this name, with a cause of this kind.
+fn kept_fault<R: Files>(shelf: &DiskShelf<'_, R>, name: &str, cause: ErrorKind) -> bool {
+    let Some(fault) = shelf.last_fault() else {
+        return false;
+    };
+    match &fault.name {
+        Some(kept) => kept.as_str() == name && fault.cause.kind() == cause,
+        None => false,
+    }
+}
+
 // Faults are a name that can't be opened, a folder, which opens and can't be read, and a device that is full. A test
 // has no input.
 #[test]
 fn files_and_streams_of_the_machine(rt: HostRuntime) -> Result<(), Fail> {
     let alloc = rt.alloc();
     let mut shelf = DiskShelf::new(&rt);
-    for name in ["no/such/file", "."] {
+    for (name, cause) in [
+        ("no/such/file", ErrorKind::NotFound),
+        (".", ErrorKind::IsADirectory),
+    ] {
         assert_eq!(rt;
             read_of(&mut shelf, alloc, name, 9).err(),
             Some(ShelfError::Failed),
             "{name}"
         );
+        assert!(rt; kept_fault(&shelf, name, cause), "{name}");
     }
-    for name in ["no/such/file", "/dev/full"] {
+    for (name, cause) in [
+        ("no/such/file", ErrorKind::NotFound),
+        ("/dev/full", ErrorKind::StorageFull),
+    ] {
         assert_eq!(rt;
             write_of(&mut shelf, name, b"x"),
             Err(WriteError::Failed),
             "{name}"
         );
+        assert!(rt; kept_fault(&shelf, name, cause), "{name}");
     }
     for (bytes, most, wanted) in [
         (b"devadatta".as_slice(), 9, b"devadatta".as_slice()),
@@ -217,11 +289,14 @@ fn files_and_streams_of_the_machine(rt: HostRuntime) -> Result<(), Fail> {
             "{most}"
         );
     }
+    assert!(rt; are_one_file(&rt, "lines", "./lines"));
+    assert!(rt; !are_one_file(&rt, "lines", "."));
     fs::remove_file(&rt, "lines")?;
+    assert!(rt; !are_one_file(&rt, "lines", "lines"));
 
     assert_eq!(rt; write_all(&mut OutputSink::new(&rt), b"written\n"), Ok(()));
     assert_eq!(rt;
-        next_of(&mut InputSource::new(&rt), &mut [0; 4]),
+        next_of(&mut InputSource::new(&rt, rt.reader()), &mut [0; 4]),
         Ok(b"".as_slice())
     );
     Ok(())

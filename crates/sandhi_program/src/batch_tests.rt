@@ -57,18 +57,16 @@ static BATCHES: [(&str, &str, &str, &str, u8); 12] = [
     (CETI, "ceti\n", "batch/l/slp1/f/9/9", "usage\n", 2),
 ];
 
-/// What `batch` ends with and writes over the files `l` and `f`, in which these calls of the shelf and of the sink fail.
+/// What `batch` ends with and writes over the files `l` and `f`.
 fn batch_over<R: Threads + Sync + AllocGlobal, G: Gate + Sync>(
     rt: &R,
     words: &str,
     lexicon: &str,
     text: &str,
-    failing_calls: Vec<u64>,
-    failing_writes: Vec<u64>,
     gate: &G,
 ) -> Result<(Status, MemorySink), Fail> {
     let alloc = rt.alloc();
-    let mut shelf = MemoryShelf::new(alloc, failing_calls);
+    let mut shelf = MemoryShelf::new(alloc, Vec::new(alloc));
     shelf.put("l", lexicon.as_bytes())?;
     shelf.put("f", text.as_bytes())?;
     let mut all = Vec::new(alloc);
@@ -76,24 +74,15 @@ fn batch_over<R: Threads + Sync + AllocGlobal, G: Gate + Sync>(
         all.push(String::from_str(alloc, word)?)?;
     }
     let mut source = MemorySource::new(Vec::new(alloc), 1, Vec::new(alloc));
-    let mut sink = MemorySink::new(alloc, 4_096, failing_writes);
+    let mut sink = MemorySink::new(alloc, 4_096, Vec::new(alloc));
     let status = run(rt, alloc, &all, &mut shelf, &mut source, &mut sink, gate);
     Ok((status, sink))
 }
 
 #[test]
 fn the_lines_of_a_text_are_answered_in_order(rt: HostRuntime) -> Result<(), Fail> {
-    let alloc = rt.alloc();
     for (lexicon, text, words, output, exit) in &BATCHES {
-        let (status, sink) = batch_over(
-            &rt,
-            words,
-            lexicon,
-            text,
-            Vec::new(alloc),
-            Vec::new(alloc),
-            &NoGate,
-        )?;
+        let (status, sink) = batch_over(&rt, words, lexicon, text, &NoGate)?;
         assert_eq!(rt; sink.bytes(), output.as_bytes());
         assert_eq!(rt; status.exit_code(), *exit);
     }
@@ -113,45 +102,9 @@ fn lines_are_numbered_on_from_block_to_block(rt: HostRuntime) -> Result<(), Fail
         output.push_str(format!(in alloc; "line {number}\nend\n")?.as_str())?;
     }
     let words = "batch/l/slp1/f/1";
-    let (status, sink) = batch_over(
-        &rt,
-        words,
-        CETI,
-        text.as_str(),
-        Vec::new(alloc),
-        Vec::new(alloc),
-        &NoGate,
-    )?;
+    let (status, sink) = batch_over(&rt, words, CETI, text.as_str(), &NoGate)?;
     assert_eq!(rt; sink.bytes(), output.as_bytes());
     assert!(rt; status == Status::Done);
-    Ok(())
-}
-
-/// The call of the shelf and the write of the sink that fail, counted from 1, and the status.
-static FAULTS: [(u64, u64, Status); 3] = [
-    (1, 9, Status::ReadFault),
-    (2, 9, Status::ReadFault),
-    (9, 1, Status::WriteFault),
-];
-
-#[test]
-fn after_a_fault_nothing_is_written(rt: HostRuntime) -> Result<(), Fail> {
-    let alloc = rt.alloc();
-    for (failing_call, failing_write, expected) in &FAULTS {
-        let calls = vec![in alloc; *failing_call]?;
-        let writes = vec![in alloc; *failing_write]?;
-        let (status, sink) = batch_over(
-            &rt,
-            "batch/l/slp1/f/1",
-            NASTI,
-            "nAsti\n",
-            calls,
-            writes,
-            &NoGate,
-        )?;
-        assert!(rt; status == *expected);
-        assert_eq!(rt; sink.bytes().len(), 0);
-    }
     Ok(())
 }
 
@@ -190,15 +143,7 @@ fn two_lines_are_answered_at_once(rt: HostRuntime) -> Result<(), Fail> {
         met: AtomicBool::new(false),
     };
     let words = "batch/l/slp1/f/9";
-    let (status, _sink) = batch_over(
-        &rt,
-        words,
-        NASTI,
-        "nAsti\nnAsti\n",
-        Vec::new(alloc),
-        Vec::new(alloc),
-        &gate,
-    )?;
+    let (status, _sink) = batch_over(&rt, words, NASTI, "nAsti\nnAsti\n", &gate)?;
     assert!(rt; status == Status::Done);
     assert!(rt; gate.met.load(Ordering::SeqCst));
     Ok(())

@@ -5,14 +5,14 @@ use std::process::Abort;
 use std::test::Fail;
 use std::thread::Threads;
 
-const RULES: &str =
+pub(super) const RULES: &str =
     "phases = [\"noun\", \"ind\"]\ngrammar = \"(ind | noun)+\"\nplain = [\"a <k>\"]\nrules = [\"a|i>e\"]\n[classes]\nk = \"kc\"\n";
 
-const TABLES: &str = "a,m.sg.ins,noun,,1,ena\nu,ind,ind,,0,\n";
+pub(super) const TABLES: &str = "a,m.sg.ins,noun,,1,ena\nu,ind,ind,,0,\n";
 
-const STEMS: &str = "nara,a\niti,u\n";
+pub(super) const STEMS: &str = "nara,a\niti,u\n";
 
-const LEXICON: &str =
+pub(super) const LEXICON: &str =
     "slx 1\nphase noun\nphase ind\ngrammar (ind | noun)+\nplain a k\nplain a c\nrule a|i>e\nform noun nareRa nara m.sg.ins\nform ind iti iti ind\nend\n";
 
 /// One phase, and neither plain pairs nor rules.
@@ -330,17 +330,15 @@ struct Left {
     sink: MemorySink,
 }
 
-/// A run over the sources, in which these calls of the shelf and of the sink fail.
+/// A run over the sources.
 fn run_over<R: Threads + Sync + AllocGlobal>(
     rt: &R,
     words: &str,
     sources: &Sources,
-    failing_calls: Vec<u64>,
-    failing_writes: Vec<u64>,
 ) -> Result<Left, Fail> {
     let alloc = rt.alloc();
     let (rules, tables, stems) = sources;
-    let mut shelf = MemoryShelf::new(alloc, failing_calls);
+    let mut shelf = MemoryShelf::new(alloc, Vec::new(alloc));
     shelf.put("r", rules.as_bytes())?;
     shelf.put("-r", rules.as_bytes())?;
     shelf.put("t", tables.as_bytes())?;
@@ -351,7 +349,7 @@ fn run_over<R: Threads + Sync + AllocGlobal>(
         all.push(String::from_str(alloc, word)?)?;
     }
     let mut source = MemorySource::new(Vec::new(alloc), 1, Vec::new(alloc));
-    let mut sink = MemorySink::new(alloc, 7, failing_writes);
+    let mut sink = MemorySink::new(alloc, 7, Vec::new(alloc));
     let status = run(rt, alloc, &all, &mut shelf, &mut source, &mut sink, &NoGate);
     Ok(Left {
         status,
@@ -370,9 +368,8 @@ fn holds(shelf: &MemoryShelf, name: &str, text: &str) -> bool {
 
 #[test]
 fn a_lexicon_is_written_and_then_its_forms_are_counted(rt: HostRuntime) -> Result<(), Fail> {
-    let alloc = rt.alloc();
     for (words, sources, output, name, lexicon) in &BUILT {
-        let left = run_over(&rt, words, sources, Vec::new(alloc), Vec::new(alloc))?;
+        let left = run_over(&rt, words, sources)?;
         assert_eq!(rt; left.sink.bytes(), output.as_bytes());
         assert_eq!(rt; left.status.exit_code(), 0);
         assert!(rt; holds(&left.shelf, name, lexicon));
@@ -382,9 +379,8 @@ fn a_lexicon_is_written_and_then_its_forms_are_counted(rt: HostRuntime) -> Resul
 
 #[test]
 fn sources_are_refused_in_their_lines_and_nothing_is_written(rt: HostRuntime) -> Result<(), Fail> {
-    let alloc = rt.alloc();
     for (words, sources, output, exit) in &REFUSED {
-        let left = run_over(&rt, words, sources, Vec::new(alloc), Vec::new(alloc))?;
+        let left = run_over(&rt, words, sources)?;
         assert_eq!(rt; left.sink.bytes(), output.as_bytes());
         assert_eq!(rt; left.status.exit_code(), *exit);
         assert!(rt; holds(&left.shelf, "o", BEFORE));
@@ -394,43 +390,17 @@ fn sources_are_refused_in_their_lines_and_nothing_is_written(rt: HostRuntime) ->
 
 #[test]
 fn a_refused_source_is_named_by_its_place(rt: HostRuntime) -> Result<(), Fail> {
-    let alloc = rt.alloc();
     for (words, place) in [
         ("build/t/t/s/o", 1),
         ("build/--/-r/s/t/o", 3),
         ("build/r/t/r/o", 3),
     ] {
         let sources = (RULES, TABLES, STEMS);
-        let left = run_over(&rt, words, &sources, Vec::new(alloc), Vec::new(alloc))?;
+        let left = run_over(&rt, words, &sources)?;
         let Status::BadFile { word, .. } = left.status else {
             panic!(rt; "not refused");
         };
         assert_eq!(rt; word, place);
-    }
-    Ok(())
-}
-
-/// The call of the shelf and the write of the sink that fail, counted from 1, the status, and what the file holds then.
-static FAULTS: [(u64, u64, Status, &str); 5] = [
-    (1, 9, Status::ReadFault, BEFORE),
-    (2, 9, Status::ReadFault, BEFORE),
-    (3, 9, Status::ReadFault, BEFORE),
-    (4, 9, Status::WriteFault, BEFORE),
-    (9, 1, Status::WriteFault, LEXICON),
-];
-
-#[test]
-fn after_a_fault_the_file_is_written_or_stays(rt: HostRuntime) -> Result<(), Fail> {
-    let alloc = rt.alloc();
-    let sources = (RULES, TABLES, STEMS);
-    for (failing_call, failing_write, expected, file) in &FAULTS {
-        let calls = vec![in alloc; *failing_call]?;
-        let writes = vec![in alloc; *failing_write]?;
-        let left = run_over(&rt, "build/r/t/s/o", &sources, calls, writes)?;
-        assert!(rt; left.status == *expected);
-        assert_eq!(rt; left.sink.bytes().len(), 0);
-        assert!(rt; holds(&left.shelf, "o", file));
-        assert!(rt; holds(&left.shelf, "s", STEMS));
     }
     Ok(())
 }

@@ -20,11 +20,17 @@ mod demo;
 #[cfg(test)]
 mod demo_tests;
 mod ending;
+mod escaped;
+mod explanation;
+#[cfg(test)]
+mod hostile_tests;
 mod lexicon_error;
+mod notes;
 mod read;
 #[cfg(test)]
 mod read_tests;
 mod reading;
+mod ready_reader;
 mod refusal;
 mod run;
 mod segment;
@@ -33,14 +39,19 @@ mod source_refusal;
 mod status;
 #[cfg(test)]
 mod tests;
+mod usage;
 
+use explanation::{Explanation, LastFaults};
+use notes::tell_before;
 use outside::{DiskShelf, InputSource, NoGate, OutputSink};
 use phoneme::Memory;
+use ready_reader::ReadyReader;
 use run::run;
 use status::Status;
 use std::env;
-use std::io::ErrorKind;
+use std::io::{ErrorKind, Input};
 use std::process::ExitCode;
+use usage::tell_usage;
 
 /// The words of the command line without the program's name. The list is empty, which is no command, where one of them is not UTF-8.
 fn words_of(rt: &HostRuntime) -> Result<Vec<String>, Memory> {
@@ -51,22 +62,40 @@ fn words_of(rt: &HostRuntime) -> Result<Vec<String>, Memory> {
     }
 }
 
-fn main(rt: HostRuntime) -> ExitCode {
-    let status = match words_of(&rt) {
-        Ok(words) => run(
-            &rt,
-            rt.alloc(),
-            &words,
-            &mut DiskShelf::new(&rt),
-            &mut InputSource::new(&rt),
-            &mut OutputSink::new(&rt),
-            &NoGate,
-        ),
-        Err(Memory) => Status::Memory,
-    };
-    if let Some(explanation) = status.explanation() {
-        // Nobody is left to tell where standard error fails too.
-        let _ = eprintln!(rt; "{explanation}");
+/// Tells a person on standard error what the output alone doesn't say of how the run ended.
+fn tell_after(rt: &impl Eprint, words: &[String], status: Status, faults: &LastFaults<'_>) {
+    if status == Status::Usage {
+        tell_usage(rt, words);
     }
+    if let Some(explanation) = Explanation::of(status, faults) {
+        // Nobody is left to tell where standard error fails too.
+        let _ = eprintln!(rt; "sandhi: {explanation}");
+    }
+}
+
+fn main(rt: HostRuntime) -> ExitCode {
+    let Ok(words) = words_of(&rt) else {
+        let _ = eprintln!(rt; "sandhi: {}", Explanation::Memory);
+        return ExitCode::from(Status::Memory.exit_code());
+    };
+    let mut shelf = DiskShelf::new(&rt);
+    let mut out = OutputSink::new(&rt);
+    let is_session = tell_before(&rt, &words);
+    let mut input = InputSource::new(&rt, ReadyReader::new(&rt, rt.reader(), !is_session));
+    let status = run(
+        &rt,
+        rt.alloc(),
+        &words,
+        &mut shelf,
+        &mut input,
+        &mut out,
+        &NoGate,
+    );
+    let faults = LastFaults {
+        disk: shelf.last_fault(),
+        input: input.last_fault(),
+        output: out.last_fault(),
+    };
+    tell_after(&rt, &words, status, &faults);
     ExitCode::from(status.exit_code())
 }

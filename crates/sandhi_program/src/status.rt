@@ -63,20 +63,4 @@ impl Status {
             Status::TooMuch => 7,
         }
     }
-
-    /// What a person is told on standard error, where the output alone says little; for the other statuses it is enough.
-    pub fn explanation(self) -> Option<&'static str> {
-        match self {
-            Status::Memory => Some("there was not enough memory"),
-            Status::Usage => Some(
-                "the commands are:\n  segment [--in SCHEME] LEX TEXT    (SCHEME is slp1, wx, velthuis or devanagari; without it slp1)\n  check LEX\n  build RULES TABLES STEMS OUT\n  read LEX    (a reading session: one command a line on standard input)\n  batch LEX SCHEME FILE N    (the first N answers, 1 to 1000, for each line of FILE)\n  demo NUMBER    (counts the answers of an input that is made from the number)\nWords after `--` are never options.",
-            ),
-            Status::ReadFault => Some("a file is not there, or it or the input could not be read"),
-            Status::WriteFault => Some(
-                "the output could not be written, or the file OUT that `build` makes, which then stays as it was",
-            ),
-            Status::TooMuch => Some("the input of a session may have 16777216 bytes"),
-            Status::Done | Status::BadFile { .. } | Status::BadText { .. } => None,
-        }
-    }
 }

@@ -187,11 +187,9 @@ fn run_over<R: Threads + Sync + AllocGlobal>(
     rt: &R,
     words: &str,
     lexicon: &[u8],
-    failing_reads: Vec<u64>,
-    failing_writes: Vec<u64>,
 ) -> Result<(Status, MemorySink), Fail> {
     let alloc = rt.alloc();
-    let mut shelf = MemoryShelf::new(alloc, failing_reads);
+    let mut shelf = MemoryShelf::new(alloc, Vec::new(alloc));
     shelf.put("l", lexicon)?;
     shelf.put("-x", lexicon)?;
     let mut all = Vec::new(alloc);
@@ -201,9 +199,17 @@ fn run_over<R: Threads + Sync + AllocGlobal>(
         }
     }
     let mut source = MemorySource::new(Vec::new(alloc), 1, Vec::new(alloc));
-    let mut sink = MemorySink::new(alloc, 7, failing_writes);
+    let mut sink = MemorySink::new(alloc, 7, Vec::new(alloc));
     let status = run(rt, alloc, &all, &mut shelf, &mut source, &mut sink, &NoGate);
     Ok((status, sink))
+}
+
+/// The text so many times.
+pub(super) fn push_times(text: &mut String, times: u32, part: &str) -> Result<(), Fail> {
+    for _ in 0..times {
+        text.push_str(part)?;
+    }
+    Ok(())
 }
 
 /// A run without faults of the devices writes this and ends so.
@@ -214,8 +220,7 @@ fn ends_with<R: Threads + Sync + AllocGlobal + Abort>(
     output: &[u8],
     exit: u8,
 ) -> Result<(), Fail> {
-    let alloc = rt.alloc();
-    let (status, sink) = run_over(rt, words, lexicon, Vec::new(alloc), Vec::new(alloc))?;
+    let (status, sink) = run_over(rt, words, lexicon)?;
     assert_eq!(rt; sink.bytes(), output);
     assert_eq!(rt; status.exit_code(), exit);
     Ok(())
@@ -239,13 +244,12 @@ fn words_files_and_texts_are_refused_in_their_lines(rt: HostRuntime) -> Result<(
 
 #[test]
 fn a_refused_file_is_named_by_its_place(rt: HostRuntime) -> Result<(), Fail> {
-    let alloc = rt.alloc();
     for (words, place) in [
         ("check/l", 1),
         ("check/--/-x", 2),
         ("segment/--in/wx/l/a", 3),
     ] {
-        let (status, _) = run_over(&rt, words, b"", Vec::new(alloc), Vec::new(alloc))?;
+        let (status, _) = run_over(&rt, words, b"")?;
         let Status::BadFile { word, .. } = status else {
             panic!(rt; "not refused");
         };
@@ -255,42 +259,10 @@ fn a_refused_file_is_named_by_its_place(rt: HostRuntime) -> Result<(), Fail> {
 }
 
 #[test]
-fn a_cut_or_damaged_lexicon_is_refused_at_its_line(rt: HostRuntime) -> Result<(), Fail> {
-    let alloc = rt.alloc();
-    let whole = CETI.as_bytes();
-    let mut line = 1u32;
-    for (place, byte) in whole.iter().enumerate() {
-        let cut = format!(in alloc; "bad file l line {line}: NoEnd\n")?;
-        ends_with(&rt, "segment/l/ceti", &whole[..place], cut.as_bytes(), 5)?;
-        let mut damaged = Vec::from_slice(alloc, whole)?;
-        damaged[place] = 0xFF;
-        let why = if place + 1 == whole.len() {
-            "NoEnd"
-        } else {
-            "NotUtf8"
-        };
-        let refusal = format!(in alloc; "bad file l line {line}: {why}\n")?;
-        ends_with(
-            &rt,
-            "segment/l/ceti",
-            damaged.as_slice(),
-            refusal.as_bytes(),
-            5,
-        )?;
-        if *byte == b'\n' {
-            line = line.saturating_add(1);
-        }
-    }
-    Ok(())
-}
-
-#[test]
 fn a_line_has_1000_letters_at_most(rt: HostRuntime) -> Result<(), Fail> {
     let alloc = rt.alloc();
     let mut words = String::from_str(alloc, "segment/l/")?;
-    for _ in 0..1_000 {
-        words.push_str("a")?;
-    }
+    push_times(&mut words, 1_000, "a")?;
     ends_with(&rt, words.as_str(), CETI.as_bytes(), b"end\n", 0)?;
     words.push_str("a")?;
     ends_with(
@@ -300,21 +272,4 @@ fn a_line_has_1000_letters_at_most(rt: HostRuntime) -> Result<(), Fail> {
         b"bad text too long\n",
         6,
     )
-}
-
-#[test]
-fn after_a_fault_a_prefix_is_written(rt: HostRuntime) -> Result<(), Fail> {
-    for (failing_reads, failing_writes, output, expected) in [
-        (1, 9, "", Status::ReadFault),
-        (9, 1, "", Status::WriteFault),
-        (9, 2, "1: ca[w", Status::WriteFault),
-    ] {
-        let alloc = rt.alloc();
-        let reads = vec![in alloc; failing_reads]?;
-        let writes = vec![in alloc; failing_writes]?;
-        let (status, sink) = run_over(&rt, "segment/l/ceti", CETI.as_bytes(), reads, writes)?;
-        assert!(rt; status == expected, "{output}");
-        assert_eq!(rt; sink.bytes(), output.as_bytes());
-    }
-    Ok(())
 }

@@ -7,9 +7,9 @@ use Rattle.outside.proofs.replacing.write_bytes.Goals as goal
 
 pub loop-taken-preserved : goal.loop-taken-preserved
 loop-taken-preserved g c =
-    let next = rw (take_rest c.args.bytes.now c.loop-taken.taken) at c.in-Ok.ensures.bytes in
-    let bound = rw (take_rest c.args.bytes.now c.loop-taken.taken, length-drop) at c.in-Ok.ensures.bound in
+    let next = rw (take_rest c.args.bytes.now c.loop-taken.taken) at c.in_ok-count.ensures.bytes in
+    let bound = rw (take_rest c.args.bytes.now c.loop-taken.taken, length-drop) at c.in_ok-count.ensures.bound in
     record {
       within = omega arith;
-      bytes = rw (take-add c.loop-taken.taken c.in-Ok.count c.args.bytes.now) (Appends-trans _ _ _ _ _ c.loop-taken.invariant.bytes next);
+      bytes = rw (take-add c.loop-taken.taken c.in_ok-count.count c.args.bytes.now) (Appends-trans _ _ _ _ _ c.loop-taken.invariant.bytes next);
     }

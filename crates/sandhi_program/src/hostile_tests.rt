@@ -1,0 +1,364 @@
+ghost use Rattle.std.specs.Prelude.{◌<◌, None};
+
+use super::build_tests::{LEXICON, RULES, STEMS, TABLES};
+use super::run::run;
+use super::status::Status;
+use super::tests::{CETI, NASTI, push_times};
+use outside::{Failed, MemoryShelf, MemorySink, MemorySource, NoGate, Sink, Source, WriteError};
+use std::process::Abort;
+use std::sync::atomic::{AtomicU64, Ordering};
+use std::test::Fail;
+use std::thread::Threads;
+
+const PAGED: &str = "text slp1 nAsti\npage 1\npage 1\npage 1\n";
+
+const PAGED_OUT: &str =
+    "ok\n1: na[word] (a|a>A) asti[word]\nmore\n2: na[word] (a|A>A) Asti[word]\nend\nend\n";
+
+/// Which call of the shelf, of the source and of the sink fails, counted from 1, where 0 is none, and how many bytes the two
+/// streams give and take a call.
+#[derive(Clone, Copy)]
+struct Faults {
+    shelf: u64,
+    source: u64,
+    sink: u64,
+    piece: usize,
+}
+
+const fn shelf(call: u64) -> Faults {
+    Faults {
+        shelf: call,
+        source: 0,
+        sink: 0,
+        piece: 4_096,
+    }
+}
+
+const fn source(call: u64) -> Faults {
+    Faults {
+        shelf: 0,
+        source: call,
+        sink: 0,
+        piece: 4_096,
+    }
+}
+
+const fn sink(call: u64, piece: usize) -> Faults {
+    Faults {
+        shelf: 0,
+        source: 0,
+        sink: call,
+        piece,
+    }
+}
+
+/// The words with a `/` between them, what fails, the exit status, what is written, and what OUT has, where it is there.
+static FAULTS: [(&str, Faults, u8, &str, Option<&str>); 20] = [
+    ("build/r/t/s/o", shelf(1), 3, "", None),
+    ("build/r/t/s/o", shelf(2), 3, "", None),
+    ("build/r/t/s/o", shelf(3), 3, "", None),
+    ("build/r/t/s/o", shelf(4), 4, "", None),
+    ("build/r/t/s/o", sink(1, 7), 4, "", Some(LEXICON)),
+    ("build/r/t/s/o", sink(2, 3), 4, "for", Some(LEXICON)),
+    ("read/l7", shelf(1), 3, "", None),
+    ("read/l7", source(1), 3, "", None),
+    ("read/l7", source(2), 3, PAGED_OUT, None),
+    ("read/l7", sink(2, 4_096), 4, "ok\n", None),
+    ("read/l7", sink(0, 1), 0, PAGED_OUT, None),
+    ("batch/l7/slp1/f/1", shelf(1), 3, "", None),
+    ("batch/l7/slp1/f/1", shelf(2), 3, "", None),
+    ("batch/l7/slp1/f/1", sink(1, 4_096), 4, "", None),
+    ("segment/l1/ceti", shelf(1), 3, "", None),
+    ("segment/l1/ceti", sink(1, 7), 4, "", None),
+    ("segment/l1/ceti", sink(2, 7), 4, "1: ca[w", None),
+    ("check/l1", shelf(1), 3, "", None),
+    ("check/l1", sink(2, 7), 4, "phases ", None),
+    ("demo/0", sink(1, 7), 4, "", None),
+];
+
+/// The words, as they are written with a `/` between them.
+fn words_of<R: AllocGlobal>(rt: &R, text: &str) -> Result<Vec<String>, Fail> {
+    let alloc = rt.alloc();
+    let mut words = Vec::new(alloc);
+    for word in text.split('/') {
+        words.push(String::from_str(alloc, word)?)?;
+    }
+    Ok(words)
+}
+
+/// A shelf with lexicons, the sources of one, and a text, of which this call fails.
+fn shelf_of<R: AllocGlobal>(rt: &R, failing: u64) -> Result<MemoryShelf, Fail> {
+    let mut shelf = MemoryShelf::new(rt.alloc(), vec![in rt.alloc(); failing]?);
+    for (name, text) in [
+        ("l1", CETI),
+        ("l7", NASTI),
+        ("r", RULES),
+        ("t", TABLES),
+        ("s", STEMS),
+        ("f", "nAsti\n"),
+    ] {
+        shelf.put(name, text.as_bytes())?;
+    }
+    Ok(shelf)
+}
+
+/// Whether the file of this name has this text, or is not there.
+fn holds(shelf: &MemoryShelf, name: &str, text: Option<&str>) -> bool {
+    match (shelf.get(name), text) {
+        (Some(bytes), Some(text)) => bytes == text.as_bytes(),
+        (None, None) => true,
+        _ => false,
+    }
+}
+
+#[test]
+fn devices_fail_at_each_call(rt: HostRuntime) -> Result<(), Fail> {
+    let alloc = rt.alloc();
+    for (words, faults, exit, output, out) in &FAULTS {
+        let piece = faults.piece.max(1);
+        let mut shelf = shelf_of(&rt, faults.shelf)?;
+        let input = PAGED.as_bytes().to_vec(alloc)?;
+        let mut source = MemorySource::new(input, piece, vec![in alloc; faults.source]?);
+        let mut sink = MemorySink::new(alloc, piece, vec![in alloc; faults.sink]?);
+        let words = words_of(&rt, words)?;
+        let status = run(
+            &rt,
+            alloc,
+            &words,
+            &mut shelf,
+            &mut source,
+            &mut sink,
+            &NoGate,
+        );
+        assert_eq!(rt; status.exit_code(), *exit);
+        assert_eq!(rt; sink.bytes(), output.as_bytes());
+        assert!(rt; holds(&shelf, "o", *out));
+        assert!(rt; holds(&shelf, "s", Some(STEMS)));
+    }
+    Ok(())
+}
+
+/// The words over one file `l` and an input write this and end so.
+fn ends_with<R: Threads + Sync + AllocGlobal + Abort>(
+    rt: &R,
+    words: &str,
+    file: &[u8],
+    input: Vec<u8>,
+    output: &[u8],
+    exit: u8,
+) -> Result<(), Fail> {
+    let alloc = rt.alloc();
+    let mut shelf = MemoryShelf::new(alloc, Vec::new(alloc));
+    shelf.put("l", file)?;
+    let mut source = MemorySource::new(input, 65_536, Vec::new(alloc));
+    let mut sink = MemorySink::new(alloc, 65_536, Vec::new(alloc));
+    let words = words_of(rt, words)?;
+    let status = run(
+        rt,
+        alloc,
+        &words,
+        &mut shelf,
+        &mut source,
+        &mut sink,
+        &NoGate,
+    );
+    assert_eq!(rt; sink.bytes(), output);
+    assert_eq!(rt; status.exit_code(), exit);
+    Ok(())
+}
+
+/// What comes first in the input of a session, how many equal bytes come after it and which, what comes last, what is
+/// written, and the exit status.
+static INPUTS: [(&str, usize, u8, &str, &str, u8); 6] = [
+    (
+        "",
+        65_537,
+        b'a',
+        "\npage 1\n",
+        "? long line\n? no text\n",
+        0,
+    ),
+    ("page 1\r\n", 0, b'a', "hello", "? no text\n? word\n", 0),
+    ("quit\n", 16_777_216, b'\n', "", "bye\n", 0),
+    ("quit\n", 16_777_216, b'a', "", "bye\n", 0),
+    (
+        "page 1\n",
+        16_777_209,
+        b'a',
+        "",
+        "? no text\n? long line\n",
+        0,
+    ),
+    ("page 1\n", 16_777_210, b'a', "", "? no text\n", 7),
+];
+
+fn inputs_that_are_long_or_cut<R: Threads + Sync + AllocGlobal + Abort>(
+    rt: &R,
+) -> Result<(), Fail> {
+    let alloc = rt.alloc();
+    for (first, count, byte, last, output, exit) in &INPUTS {
+        let mut input = first.as_bytes().to_vec(alloc)?;
+        input.extend_from_slice(&vec![in alloc; *byte; *count]?)?;
+        input.extend_from_slice(last.as_bytes())?;
+        ends_with(
+            rt,
+            "read/l",
+            NASTI.as_bytes(),
+            input,
+            output.as_bytes(),
+            *exit,
+        )?;
+    }
+    Ok(())
+}
+
+/// A grammar of nothing but brackets is refused, of as many bytes as a grammar may have and of one more.
+fn grammars_of_brackets<R: Threads + Sync + AllocGlobal + Abort>(rt: &R) -> Result<(), Fail> {
+    let alloc = rt.alloc();
+    for count in [1_024, 1_025] {
+        let mut file = String::from_str(alloc, "slx 1\nphase word\ngrammar ")?;
+        push_times(&mut file, count, "(")?;
+        file.push_str("\nend\n")?;
+        ends_with(
+            rt,
+            "check/l",
+            file.as_bytes(),
+            Vec::new(alloc),
+            b"bad file l line 3: Grammar\n",
+            5,
+        )?;
+    }
+    Ok(())
+}
+
+/// A lexicon file that is cut at a byte, or of which a byte is damaged, is refused at the line of the byte.
+fn files_that_are_cut_or_damaged<R: Threads + Sync + AllocGlobal + Abort>(
+    rt: &R,
+) -> Result<(), Fail> {
+    let alloc = rt.alloc();
+    let whole = CETI.as_bytes();
+    let mut line = 1u32;
+    for (place, byte) in whole.iter().enumerate() {
+        let cut = format!(in alloc; "bad file l line {line}: NoEnd\n")?;
+        let empty = Vec::new(alloc);
+        ends_with(rt, "check/l", &whole[..place], empty, cut.as_bytes(), 5)?;
+        let mut damaged = Vec::from_slice(alloc, whole)?;
+        damaged[place] = 0xFF;
+        let why = if place + 1 == whole.len() {
+            "NoEnd"
+        } else {
+            "NotUtf8"
+        };
+        let refusal = format!(in alloc; "bad file l line {line}: {why}\n")?;
+        let empty = Vec::new(alloc);
+        ends_with(
+            rt,
+            "check/l",
+            damaged.as_slice(),
+            empty,
+            refusal.as_bytes(),
+            5,
+        )?;
+        if *byte == b'\n' {
+            line = line.saturating_add(1);
+        }
+    }
+    Ok(())
+}
+
+/// A source that gives a line `hello` in each of three calls, and fails where the reply to a line before is not written yet.
+#[derive(Drop)]
+struct PromptSource<'a> {
+    lines: MemorySource,
+    given: u64,
+    replies: &'a AtomicU64,
+    faults: u64,
+}
+
+impl<'a> Source for PromptSource<'a> {
+    ghost left = { λ _. None };
+
+    ghost faults = { λ s. s.faults };
+
+    fn read(&mut self, buf: &mut [u8]) -> Result<usize, Failed> {
+        let more_faults = self.faults.saturating_add(1);
+        if self.replies.load(Ordering::SeqCst) < self.given {
+            self.faults = more_faults;
+            return Err(Failed);
+        }
+        match self.lines.read(buf) {
+            Ok(count) => {
+                self.given = self.given.saturating_add(1);
+                Ok(count)
+            }
+            Err(Failed) => {
+                self.faults = more_faults;
+                Err(Failed)
+            }
+        }
+    }
+}
+
+/// A sink that counts the lines that it took.
+#[derive(Drop)]
+struct CountingSink<'a> {
+    inner: MemorySink,
+    lines: &'a AtomicU64,
+}
+
+impl<'a> Sink for CountingSink<'a> {
+    ghost written = { λ _. None };
+
+    ghost faults = { λ s. s.inner.faults };
+
+    fn write(&mut self, bytes: &[u8]) -> Result<usize, WriteError> {
+        let count = self.inner.write(bytes)?;
+        for byte in &bytes[..count] {
+            if *byte == b'\n' {
+                self.lines.fetch_add(1, Ordering::SeqCst);
+            }
+        }
+        Ok(count)
+    }
+}
+
+/// Each reply of a session is written before the next line is read.
+fn a_source_that_waits_for_replies<R: Threads + Sync + AllocGlobal + Abort>(
+    rt: &R,
+) -> Result<(), Fail> {
+    let alloc = rt.alloc();
+    let mut shelf = shelf_of(rt, 0)?;
+    let words = words_of(rt, "read/l7")?;
+    let replies = AtomicU64::new(0);
+    let lines = "hello\nhello\nhello\n".as_bytes().to_vec(alloc)?;
+    let mut source = PromptSource {
+        lines: MemorySource::new(lines, 6, Vec::new(alloc)),
+        given: 0,
+        replies: &replies,
+        faults: 0,
+    };
+    let mut sink = CountingSink {
+        inner: MemorySink::new(alloc, 4_096, Vec::new(alloc)),
+        lines: &replies,
+    };
+    let status = run(
+        rt,
+        alloc,
+        &words,
+        &mut shelf,
+        &mut source,
+        &mut sink,
+        &NoGate,
+    );
+    assert!(rt; status == Status::Done);
+    assert_eq!(rt; sink.inner.bytes(), b"? word\n? word\n? word\n".as_slice());
+    Ok(())
+}
+
+#[test]
+fn inputs_and_files_are_long_cut_or_damaged(rt: HostRuntime) -> Result<(), Fail> {
+    inputs_that_are_long_or_cut(&rt)?;
+    grammars_of_brackets(&rt)?;
+    files_that_are_cut_or_damaged(&rt)?;
+    a_source_that_waits_for_replies(&rt)
+}

@@ -1,0 +1,48 @@
+/// The name of each command, its line of usage, and what a person may want to know of it.
+static COMMANDS: [(&str, &str); 6] = [
+    (
+        "segment",
+        "segment [--in SCHEME] LEX TEXT    (SCHEME is slp1, wx, velthuis or devanagari; without it slp1)",
+    ),
+    ("check", "check LEX"),
+    (
+        "build",
+        "build RULES TABLES STEMS OUT    (OUT is replaced, also where it is one of the three)",
+    ),
+    (
+        "read",
+        "read LEX    (a reading session: one command a line on standard input)",
+    ),
+    (
+        "batch",
+        "batch LEX SCHEME FILE N    (the first N answers, 1 to 1000, for each line of FILE)",
+    ),
+    (
+        "demo",
+        "demo NUMBER    (counts the answers of an input that is made from the number)",
+    ),
+];
+
+/// Tells a person the commands, a line each. Where the first word is the name of a command its line comes first; the others
+/// always come in the same order.
+pub fn tell_usage(rt: &impl Eprint, words: &[String]) {
+    let meant = match words.first() {
+        Some(word) => word.as_str(),
+        None => "",
+    };
+    let mut before = "usage:";
+    for (name, line) in &COMMANDS {
+        if *name == meant {
+            // Nobody is left to tell where standard error fails too; so here and below.
+            let _ = eprintln!(rt; "{before} sandhi {line}");
+            before = "      ";
+        }
+    }
+    for (name, line) in &COMMANDS {
+        if *name != meant {
+            let _ = eprintln!(rt; "{before} sandhi {line}");
+            before = "      ";
+        }
+    }
+    let _ = eprintln!(rt; "Words after `--` are never options.");
+}
