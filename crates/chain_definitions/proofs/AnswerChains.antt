@@ -47,7 +47,7 @@ w_is_word rules (suc number) set h = elim h [
   | inr within ↦ (rule_at_number rules (suc number) set within).w_is_word
 ]
 
-form_is_word : (lexicon : Lexicon) (phase : ℕ) (form : List ℕ) → IsLexicon lexicon → IsForm lexicon phase form → IsWord form
+pub form_is_word : (lexicon : Lexicon) (phase : ℕ) (form : List ℕ) → IsLexicon lexicon → IsForm lexicon phase form → IsWord form
 form_is_word lexicon phase form is of_phase =
     All-contains IsWord (map (λ (f : Form). f.letters) (forms_of lexicon phase)) form
     (All-map IsWord (λ (f : Form). f.letters) (forms_of lexicon phase)
@@ -67,7 +67,7 @@ taken_is_word form v taken u e word =
     All-from_recursion IsLetter taken
     (end_by v taken (front_by (v ++ taken) u (subst (AllByRecursion IsLetter) e (recursion_from_All IsLetter form word))))
 
-number_if_first : (rules : RuleSet) (step : Step) (steps : List Step) → AreJoined rules (step ∷ steps) → EndsWell rules (step ∷ steps)
+pub number_if_first : (rules : RuleSet) (step : Step) (steps : List Step) → AreJoined rules (step ∷ steps) → EndsWell rules (step ∷ steps)
     → (step.rule ≡ 0) ⊎ IsRuleNumber rules step.rule
 number_if_first rules step [] joined ends = elim ends [ inl none ↦ inl none | inr final ↦ inr final.0 ]
 number_if_first rules step (next ∷ steps) joined ends = elim joined.0 [ inl plain ↦ inl plain.0 | inr inner ↦ inr inner.0.0 ]

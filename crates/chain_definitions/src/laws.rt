@@ -1,9 +1,10 @@
-ghost use Rattle.std.specs.Prelude.{◌≡◌, ◌⊎◌, ℕ, true, List, [], Result};
+ghost use Rattle.std.specs.Prelude.{◌≡◌, ◌⊎◌, ℕ, true, List, [], Result, Ok};
 ghost use Rattle.text_definitions.specs.Lines.{Line, IsLine};
 ghost use Rattle.lexicon_definitions.specs.Lexicons.{Lexicon, IsLexicon};
 ghost use Rattle.segmentation_definitions.specs.Derivations.{Step, Derives};
 ghost use Rattle.segmentation_definitions.specs.Items.{Choice};
 ghost use Rattle.segmentation_definitions.specs.Answers.{IsAnswer};
+ghost use Rattle.segmentation_definitions.specs.PrintedAnswers.{printed_steps};
 ghost use Rattle.chain_definitions.specs.Chains.{IsChain};
 ghost use Rattle.chain_definitions.specs.ChainFaults.{Fault};
 ghost use Rattle.chain_definitions.specs.ChainReadings.{IsChainRead};
@@ -13,6 +14,19 @@ ghost use Rattle.chain_definitions.specs.JoinedChains.{Joined, Text, IsFirstOver
 pub fn a_text_is_read_in_one_way()
     ensures { (lexicon : Lexicon) (text : List ℕ) (left right : Result (List Step) Fault)
         → IsChainRead lexicon text left → IsChainRead lexicon text right → left ≡ right }
+{}
+
+/// What is read in a text is a chain, and the text is that of its printed steps, which is a printed answer without its number.
+pub fn what_is_read_is_a_chain()
+    ensures chain { (lexicon : Lexicon) (text : List ℕ) (steps : List Step) → IsChainRead lexicon text (Ok steps) → IsChain lexicon steps }
+    ensures text { (lexicon : Lexicon) (text : List ℕ) (steps : List Step) → IsChainRead lexicon text (Ok steps)
+        → text ≡ printed_steps lexicon.rules steps }
+{}
+
+/// A chain is read back from its printed steps.
+pub fn a_chain_is_read_back()
+    ensures { (lexicon : Lexicon) (steps : List Step) → IsLexicon lexicon → IsChain lexicon steps
+        → IsChainRead lexicon (printed_steps lexicon.rules steps) (Ok steps) }
 {}
 
 /// A chain has a first overlap, or it derives a word. It is joined to one thing at most: to one word, or to its first overlap.

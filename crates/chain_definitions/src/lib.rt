@@ -5,6 +5,6 @@
 mod laws;
 
 pub use laws::{
-    a_chain_overlaps_or_derives_one_word, a_text_is_read_in_one_way, answers_are_joined_again,
-    what_is_joined_is_an_answer,
+    a_chain_is_read_back, a_chain_overlaps_or_derives_one_word, a_text_is_read_in_one_way,
+    answers_are_joined_again, what_is_joined_is_an_answer, what_is_read_is_a_chain,
 };
