@@ -3,6 +3,7 @@ ghost use Rattle.sandhi_program.specs.Headline.{exit_status};
 
 use latin_schemes::SpellFault;
 use lexicon_file::FileFault;
+use more_schemes::ConvertFault;
 use paradigms::{StemFault, TableFault};
 use rule_file::RuleFault;
 
@@ -36,6 +37,7 @@ pub enum AnyFault {
     Rules(RuleFault),
     Tables(TableFault),
     Stems(StemFault),
+    Spelling(ConvertFault),
 }
 
 /// Why a text is refused: its first fault of spelling, or else that it has no letter or too many.
@@ -69,7 +71,7 @@ impl Status {
         match self {
             Status::Memory => Some("there was not enough memory"),
             Status::Usage => Some(
-                "the commands are:\n  segment [--in SCHEME] LEX TEXT    (SCHEME is slp1, wx, velthuis or devanagari; without it slp1)\n  check LEX\n  build RULES TABLES STEMS OUT\n  read LEX    (a reading session: one command a line on standard input)\n  batch LEX SCHEME FILE N    (the first N answers, 1 to 1000, for each line of FILE)\n  demo NUMBER    (counts the answers of an input that is made from the number)\nWords after `--` are never options.",
+                "the commands are:\n  segment [--in SCHEME] LEX TEXT    (SCHEME is slp1, wx, velthuis or devanagari; without it slp1)\n  check LEX\n  build RULES TABLES STEMS OUT\n  read LEX    (a reading session: one command a line on standard input)\n  batch LEX SCHEME FILE N    (the first N answers, 1 to 1000, for each line of FILE)\n  convert FROM TO FILE OUT    (a text from scheme to scheme: slp1, wx, velthuis, devanagari, iast or hk)\n  demo NUMBER    (counts the answers of an input that is made from the number)\nWords after `--` are never options.",
             ),
             Status::ReadFault => Some("a file is not there, or it or the input could not be read"),
             Status::WriteFault => Some(
