@@ -1,11 +1,12 @@
 -- The program's commands and what it reads in words, as the definitions name them.
 use Rattle.std.specs.Prelude.{map}
 use Rattle.text_line.specs.Values.{scheme_of}
+use Rattle.more_schemes.specs.Values.{any_scheme_of}
 use Rattle.run_definitions.specs.Arguments as arguments
 use Rattle.run_definitions.specs.Commands as defined
 use Rattle.command_words.specs.declared.placed_word.PlacedWord.{PlacedWord}
 use Rattle.command_words.specs.declared.command.Command.{Command}
-use Rattle.command_words.specs.declared.command.Command.TheVariants.{Segment, Check, Build, Read, Batch, Demo}
+use Rattle.command_words.specs.declared.command.Command.TheVariants.{Segment, Check, Build, Read, Batch, Demo, Convert}
 use Rattle.command_words.specs.declared.given.Given.{Given}
 use Rattle.command_words.specs.declared.arguments.NextWord.{NextWord}
 use Rattle.command_words.specs.declared.arguments.NextWord.TheVariants.{Any, Value, Argument}
@@ -22,6 +23,8 @@ command_meant (Build words) =
     defined.Build (word_meant words.rules) (word_meant words.tables) (word_meant words.stems) (word_meant words.out)
 command_meant (Read lex) = defined.Read (word_meant lex)
 command_meant (Demo number) = defined.Demo number
+command_meant (Convert words) =
+    defined.Convert (any_scheme_of words.input) (any_scheme_of words.output) (word_meant words.file) (word_meant words.out)
 command_meant (Batch words) = defined.Batch (word_meant words.lex) (scheme_of words.scheme) (word_meant words.file) words.count
 
 -- what a next word may be

@@ -7,9 +7,11 @@ ghost use Rattle.command_words.specs.Meant.{command_meant, given_meant};
 
 use super::batch_words::BatchWords;
 use super::build_words::BuildWords;
+use super::convert_words::ConvertWords;
 use super::demo_number::demo_number_of;
 use super::given::{Given, given_of};
 use super::placed_word::PlacedWord;
+use more_schemes::AnyScheme;
 use phoneme::Memory;
 use run_definitions::MOST_WORD_BYTES;
 use session_definitions::MOST_PAGE;
@@ -41,6 +43,8 @@ pub enum Command<'a> {
     Demo {
         number: u64,
     },
+    /// The two schemes, the text file, and the file to write.
+    Convert(ConvertWords<'a>),
 }
 
 /// Whether no word is too long.
@@ -165,6 +169,28 @@ fn demo_with<'a>(given: &Given<'a>) -> Option<Command<'a>>
     }
 }
 
+/// `convert` with what is given.
+fn convert_with<'a>(given: &Given<'a>) -> Option<Command<'a>>
+    ensures some { IfSome result (λ command. (name_of_command (command_meant command) ≡ codes "convert")
+        × Takes (command_meant command) (given_meant given.now).values (given_meant given.now).arguments) }
+    ensures none { IfNone result ((command : DefinedCommand) → name_of_command command ≡ codes "convert"
+        → Takes command (given_meant given.now).values (given_meant given.now).arguments → ⊥) }
+{
+    match (given.values.as_slice(), given.arguments.as_slice()) {
+        ([], [input, output, file, out]) => {
+            let input = AnyScheme::named(input.name.as_bytes())?;
+            let output = AnyScheme::named(output.name.as_bytes())?;
+            Some(Command::Convert(ConvertWords {
+                input,
+                output,
+                file: *file,
+                out: *out,
+            }))
+        }
+        _ => None,
+    }
+}
+
 /// The command of this name that takes what is given.
 fn command_with<'a>(name: &str, given: &Given<'a>) -> Option<Command<'a>>
     ensures some { IfSome result (λ command. (name.now ≡ name_of_command (command_meant command))
@@ -179,6 +205,7 @@ fn command_with<'a>(name: &str, given: &Given<'a>) -> Option<Command<'a>>
         "read" => read_with(given),
         "batch" => batch_with(given),
         "demo" => demo_with(given),
+        "convert" => convert_with(given),
         _ => None,
     }
 }

@@ -1,1 +1,3 @@
 pub mod Schemes
+pub mod Values
+pub mod Runs

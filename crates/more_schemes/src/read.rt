@@ -68,7 +68,7 @@ fn next_spelling(text: &[u8], at: usize) -> usize
 }
 
 /// The word that the text spells in the scheme.
-fn read_spellings(alloc: Global, scheme: Scheme, text: &[u8]) -> Result<Word, SpellError>
+pub(crate) fn read_spellings(alloc: Global, scheme: Scheme, text: &[u8]) -> Result<Word, SpellError>
     requires { length text.now < 2 ^ 32 }
     ensures ok { IfOk result (λ word. word_of_spellings (front_in scheme) 0 0 false text.now ≡ Ok word) }
     ensures fault { IfErr result (λ error. IsFaultOf error (word_of_spellings (front_in scheme) 0 0 false text.now)) }

@@ -5,6 +5,7 @@ pub mod OneSourceLexicon
 pub mod OneBuildOutcome
 pub mod OneBatchOutcome
 pub mod OneDemoOutcome
+pub mod OneConvertOutcome
 pub mod OneOutcome
 pub mod BatchSoFar
 pub mod SoFar

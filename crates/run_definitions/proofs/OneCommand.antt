@@ -3,9 +3,11 @@ use Rattle.std.proofs.Common.{◌≡◌, ℕ, List, [], ◌∷◌, Option, Some,
 use Rattle.std.specs.Prelude.{◌==◌, if◌then◌else◌, codes, slice_index, option_map}
 use Rattle.std.specs.Str.{bytes_eq}
 use Rattle.text_definitions.specs.Schemes.{Scheme, Slp1, Wx, Velthuis, Devanagari, name_of_scheme}
+use Rattle.conversion_definitions.specs.AnySchemes as any
+use Rattle.conversion_definitions.specs.AnySchemes.{AnyScheme, name_of_any_scheme}
 use Rattle.session_definitions.specs.Numbers.{page_size_of}
 use Rattle.run_definitions.specs.Arguments.{Given, given_by}
-use Rattle.run_definitions.specs.Commands.{Command, Segment, Check, Build, Read, Batch, Demo, FileWord, demo_number_of, GiveScheme, name_of_command, Takes, AreWordsOf}
+use Rattle.run_definitions.specs.Commands.{Command, Segment, Check, Build, Read, Batch, Demo, Convert, FileWord, demo_number_of, GiveScheme, name_of_command, Takes, AreWordsOf}
 
 -- schemes are told by the first byte of their names
 scheme_begun : List ℕ → Scheme
@@ -18,6 +20,21 @@ named_back Slp1 = refl
 named_back Wx = refl
 named_back Velthuis = refl
 named_back Devanagari = refl
+
+-- and so are the six of `convert`
+any_scheme_begun : List ℕ → AnyScheme
+any_scheme_begun name =
+    if slice_index name 0 == 115 then any.Slp1 else (if slice_index name 0 == 119 then any.Wx else (if slice_index name 0 == 118 then any.Velthuis
+    else (if slice_index name 0 == 100 then any.Devanagari else (if slice_index name 0 == 105 then any.Iast else any.HarvardKyoto))))
+
+any_named_back : (scheme : AnyScheme) → any_scheme_begun (name_of_any_scheme scheme) ≡ scheme
+unfolding any_scheme_begun
+any_named_back any.Slp1 = refl
+any_named_back any.Wx = refl
+any_named_back any.Velthuis = refl
+any_named_back any.Devanagari = refl
+any_named_back any.Iast = refl
+any_named_back any.HarvardKyoto = refl
 
 scheme_given : List (List ℕ) → Scheme
 scheme_given [] = Slp1
@@ -55,17 +72,22 @@ demo_from : List FileWord → Option Command
 demo_from [] = None
 demo_from (word ∷ others) = option_map Demo (demo_number_of word.name)
 
+convert_from : List FileWord → Option Command
+convert_from (first ∷ second ∷ file ∷ out ∷ others) = Some (Convert (any_scheme_begun first.name) (any_scheme_begun second.name) file out)
+convert_from arguments = None
+
 command_from : List ℕ → List (List ℕ) → List FileWord → Option Command
 command_from name values arguments =
     if bytes_eq name (codes "segment") then segment_from values arguments
     else (if bytes_eq name (codes "check") then check_from arguments
     else (if bytes_eq name (codes "build") then build_from arguments
     else (if bytes_eq name (codes "read") then read_from arguments
-    else (if bytes_eq name (codes "batch") then batch_from arguments else demo_from arguments))))
+    else (if bytes_eq name (codes "batch") then batch_from arguments
+    else (if bytes_eq name (codes "convert") then convert_from arguments else demo_from arguments)))))
 
 read_back : (command : Command) (values : List (List ℕ)) (arguments : List FileWord) → Takes command values arguments
     → command_from (name_of_command command) values arguments ≡ Some command
-unfolding command_from segment_from check_from build_from read_from batch_from demo_from
+unfolding command_from segment_from check_from build_from read_from batch_from convert_from demo_from
 read_back (Segment lex scheme text) values arguments takes =
     ap (segment_from values) takes.1.1 ∙ ap (λ s. Some (Segment lex s text)) (given_back values scheme takes.0)
 read_back (Check lex) values arguments takes = ap check_from takes.1
@@ -76,6 +98,13 @@ read_back (Batch lex scheme file count) values arguments takes =
     ap batch_from is.are ∙ ap (option_map (λ n. Batch lex (scheme_begun is.named.name) file n)) is.counts
     ∙ ap (λ name. Some (Batch lex (scheme_begun name) file count)) is.names ∙ ap (λ s. Some (Batch lex s file count)) (named_back scheme)
 read_back (Demo number) values arguments takes = let is = takes.1 in ap demo_from is.are ∙ ap (option_map Demo) is.is
+read_back (Convert from to file out) values arguments takes =
+    let is = takes.1 in
+    ap convert_from is.are
+    ∙ ap (λ name. Some (Convert (any_scheme_begun name) (any_scheme_begun is.second.name) file out)) is.names_from
+    ∙ ap (λ s. Some (Convert s (any_scheme_begun is.second.name) file out)) (any_named_back from)
+    ∙ ap (λ name. Some (Convert from (any_scheme_begun name) file out)) is.names_to
+    ∙ ap (λ s. Some (Convert from s file out)) (any_named_back to)
 
 -- words are those of one command
 pub one_command : (words : List (List ℕ)) (left right : Command) → AreWordsOf left words → AreWordsOf right words → left ≡ right

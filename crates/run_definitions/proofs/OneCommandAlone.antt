@@ -5,6 +5,7 @@ use Rattle.std.specs.Prelude.{◌↔◌, Bool, false, true, codes}
 use Rattle.std.specs.Str.{bytes_eq}
 use Rattle.outside.specs.Files.{Files}
 use Rattle.text_definitions.specs.Schemes.{Scheme}
+use Rattle.conversion_definitions.specs.AnySchemes.{AnyScheme}
 use Rattle.run_definitions.specs.Arguments.{FileWord}
 use Rattle.run_definitions.specs.Ends.{Outcome}
 use Rattle.run_definitions.specs.Refusals.{usage_outcome}
@@ -20,7 +21,9 @@ use Rattle.run_definitions.specs.BatchOutcomes as batch
 use Rattle.run_definitions.specs.BatchOutcomes.{IsBatchRun}
 use Rattle.run_definitions.specs.DemoOutcomes as demo
 use Rattle.run_definitions.specs.DemoOutcomes.{IsDemoRun}
-use Rattle.run_definitions.specs.Commands.{Command, Segment, Check, Build, Read, Batch, Demo, name_of_command, AreWordsOf, AreOfNoCommand, out_of, DoWrite, ReadsInput, DoReadInput}
+use Rattle.run_definitions.specs.ConvertOutcomes as convert
+use Rattle.run_definitions.specs.ConvertOutcomes.{IsConvertRun}
+use Rattle.run_definitions.specs.Commands.{Command, Segment, Check, Build, Read, Batch, Demo, Convert, name_of_command, AreWordsOf, AreOfNoCommand, out_of, DoWrite, ReadsInput, DoReadInput}
 use Rattle.run_definitions.specs.Outcomes.{IsOutcome, IsOutcomeOf, OfNoCommand, OfCommand, IsSoFar, IsSoFarOf, OfNone, OfOne}
 use Rattle.run_definitions.proofs.OneCommand.{one_command}
 
@@ -89,6 +92,7 @@ only_segment P own (Build rules tables stems out) e = absurd (not_both (ap (is_n
 only_segment P own (Read lex) e = absurd (not_both (ap (is_named (codes "segment")) e))
 only_segment P own (Batch lex scheme file count) e = absurd (not_both (ap (is_named (codes "segment")) e))
 only_segment P own (Demo number) e = absurd (not_both (ap (is_named (codes "segment")) e))
+only_segment P own (Convert from to file out) e = absurd (not_both (ap (is_named (codes "segment")) e))
 
 only_check : (P : Command → Type 0) → ((lex : FileWord) → P (Check lex))
     → (command : Command) → name_of_command command ≡ codes "check" → P command
@@ -98,6 +102,7 @@ only_check P own (Build rules tables stems out) e = absurd (not_both (ap (is_nam
 only_check P own (Read lex) e = absurd (not_both (ap (is_named (codes "check")) e))
 only_check P own (Batch lex scheme file count) e = absurd (not_both (ap (is_named (codes "check")) e))
 only_check P own (Demo number) e = absurd (not_both (ap (is_named (codes "check")) e))
+only_check P own (Convert from to file out) e = absurd (not_both (ap (is_named (codes "check")) e))
 
 only_build : (P : Command → Type 0) → ((rules tables stems out : FileWord) → P (Build rules tables stems out))
     → (command : Command) → name_of_command command ≡ codes "build" → P command
@@ -107,6 +112,7 @@ only_build P own (Build rules tables stems out) e = own rules tables stems out
 only_build P own (Read lex) e = absurd (not_both (ap (is_named (codes "build")) e))
 only_build P own (Batch lex scheme file count) e = absurd (not_both (ap (is_named (codes "build")) e))
 only_build P own (Demo number) e = absurd (not_both (ap (is_named (codes "build")) e))
+only_build P own (Convert from to file out) e = absurd (not_both (ap (is_named (codes "build")) e))
 
 only_read : (P : Command → Type 0) → ((lex : FileWord) → P (Read lex))
     → (command : Command) → name_of_command command ≡ codes "read" → P command
@@ -116,6 +122,7 @@ only_read P own (Build rules tables stems out) e = absurd (not_both (ap (is_name
 only_read P own (Read lex) e = own lex
 only_read P own (Batch lex scheme file count) e = absurd (not_both (ap (is_named (codes "read")) e))
 only_read P own (Demo number) e = absurd (not_both (ap (is_named (codes "read")) e))
+only_read P own (Convert from to file out) e = absurd (not_both (ap (is_named (codes "read")) e))
 
 only_batch : (P : Command → Type 0) → ((lex : FileWord) (scheme : Scheme) (file : FileWord) (count : ℕ) → P (Batch lex scheme file count))
     → (command : Command) → name_of_command command ≡ codes "batch" → P command
@@ -125,6 +132,7 @@ only_batch P own (Build rules tables stems out) e = absurd (not_both (ap (is_nam
 only_batch P own (Read lex) e = absurd (not_both (ap (is_named (codes "batch")) e))
 only_batch P own (Batch lex scheme file count) e = own lex scheme file count
 only_batch P own (Demo number) e = absurd (not_both (ap (is_named (codes "batch")) e))
+only_batch P own (Convert from to file out) e = absurd (not_both (ap (is_named (codes "batch")) e))
 
 only_demo : (P : Command → Type 0) → ((number : ℕ) → P (Demo number))
     → (command : Command) → name_of_command command ≡ codes "demo" → P command
@@ -134,6 +142,17 @@ only_demo P own (Build rules tables stems out) e = absurd (not_both (ap (is_name
 only_demo P own (Read lex) e = absurd (not_both (ap (is_named (codes "demo")) e))
 only_demo P own (Batch lex scheme file count) e = absurd (not_both (ap (is_named (codes "demo")) e))
 only_demo P own (Demo number) e = own number
+only_demo P own (Convert from to file out) e = absurd (not_both (ap (is_named (codes "demo")) e))
+
+only_convert : (P : Command → Type 0) → ((from to : AnyScheme) (file out : FileWord) → P (Convert from to file out))
+    → (command : Command) → name_of_command command ≡ codes "convert" → P command
+only_convert P own (Segment lex scheme text) e = absurd (not_both (ap (is_named (codes "convert")) e))
+only_convert P own (Check lex) e = absurd (not_both (ap (is_named (codes "convert")) e))
+only_convert P own (Build rules tables stems out) e = absurd (not_both (ap (is_named (codes "convert")) e))
+only_convert P own (Read lex) e = absurd (not_both (ap (is_named (codes "convert")) e))
+only_convert P own (Batch lex scheme file count) e = absurd (not_both (ap (is_named (codes "convert")) e))
+only_convert P own (Demo number) e = absurd (not_both (ap (is_named (codes "convert")) e))
+only_convert P own (Convert from to file out) e = own from to file out
 
 -- the command has the first word as its name
 named : (words : List (List ℕ)) (name : List ℕ) (following : List (List ℕ)) (command : Command) → words ≡ name ∷ following
@@ -227,3 +246,17 @@ module _ (words following : List (List ℕ)) (files : Files) (input : Option (Li
 
   pub demo_run_alone : words ≡ codes "demo" ∷ following → IsOutcome words files input outcome ↔ IsDemoRun words files outcome
   demo_run_alone e = (demo_run e, of_demo_run e)
+
+  convert_run : words ≡ codes "convert" ∷ following → IsOutcome words files input outcome → IsConvertRun words files outcome
+  convert_run e (OfNoCommand none is) = convert.OfOthers (λ from to file out are. none (Convert from to file out) are) is
+  convert_run e (OfCommand command are is) =
+      only_convert (λ c. AreWordsOf c words → IsOutcomeOf c files input outcome → IsConvertRun words files outcome)
+      (λ from to file out. convert.OfWords from to file out) command (named words (codes "convert") following command e are) are is
+
+  of_convert_run : words ≡ codes "convert" ∷ following → IsConvertRun words files outcome → IsOutcome words files input outcome
+  of_convert_run e (convert.OfWords from to file out are is) = OfCommand (Convert from to file out) are is
+  of_convert_run e (convert.OfOthers none is) =
+      OfNoCommand (λ command are. only_convert (λ c. AreWordsOf c words → ⊥) none command (named words (codes "convert") following command e are) are) is
+
+  pub convert_run_alone : words ≡ codes "convert" ∷ following → IsOutcome words files input outcome ↔ IsConvertRun words files outcome
+  convert_run_alone e = (convert_run e, of_convert_run e)

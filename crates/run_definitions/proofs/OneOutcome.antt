@@ -12,7 +12,7 @@ use Rattle.segmentation_definitions.proofs.Listings.{same_page}
 use Rattle.session_definitions.specs.Sessions.{IsSession}
 use Rattle.session_definitions.proofs.OneSession.{one_session}
 use Rattle.run_definitions.specs.declared.limits.TheConstants.{CHECK_OVERLAPS, SEGMENT_PAGE}
-use Rattle.run_definitions.specs.Commands.{Command, Segment, Check, Build, Read, Batch, Demo, FileWord}
+use Rattle.run_definitions.specs.Commands.{Command, Segment, Check, Build, Read, Batch, Demo, Convert, FileWord}
 use Rattle.run_definitions.specs.Ends as ends
 use Rattle.run_definitions.specs.Ends.{Outcome, Done, Large, outcome_over}
 use Rattle.run_definitions.specs.Refusals.{text_refusal}
@@ -24,6 +24,7 @@ use Rattle.run_definitions.specs.ReadOutcomes.{end_with, IsSessionOutcome, IsRea
 use Rattle.run_definitions.specs.BatchOutcomes.{IsBatchOutcomeWith, IsBatchOutcome}
 use Rattle.run_definitions.proofs.OneBatchOutcome.{one_text_outcome}
 use Rattle.run_definitions.proofs.OneDemoOutcome.{one_demo_outcome}
+use Rattle.run_definitions.proofs.OneConvertOutcome.{one_convert_outcome}
 use Rattle.run_definitions.proofs.OneBuildOutcome.{one_build_outcome}
 use Rattle.run_definitions.proofs.OneCommand.{one_command}
 use Rattle.run_definitions.proofs.OneContent.{same_bytes, not_missing}
@@ -166,6 +167,7 @@ module _ (one : (bytes : List ℕ) (left right : FileResult) → IsReadAs bytes 
   one_outcome_of (Read lex) files input a b p q = one_read_outcome lex files input a b p q
   one_outcome_of (Batch lex scheme file count) files input a b p q = one_batch_outcome lex scheme file count files a b p q
   one_outcome_of (Demo number) files input a b p q = one_demo_outcome number files a b p q
+  one_outcome_of (Convert from to file out) files input a b p q = one_convert_outcome from to file out files a b p q
 
   -- and so has a run
   pub one_outcome : (words : List (List ℕ)) (files : Files) (input : Option (List ℕ)) (a b : Outcome)

@@ -1,6 +1,7 @@
 -- The words of a run, and the commands that they are (own).
 use Rattle.std.specs.Prelude.{◌≡◌, ℕ, List, [], ◌∷◌, codes, Option, None, Some}
 use Rattle.text_definitions.specs.Schemes.{Scheme}
+use Rattle.conversion_definitions.specs.AnySchemes.{AnyScheme}
 use Rattle.run_definitions.specs.Arguments.{AreNamed}
 pub use Rattle.run_definitions.specs.Arguments.{FileWord}
 pub use Rattle.run_definitions.specs.SchemeNames.{GiveScheme}
@@ -9,6 +10,7 @@ use Rattle.run_definitions.specs.CheckOutcomes.{TakesCheck}
 use Rattle.run_definitions.specs.BuildOutcomes.{TakesBuild}
 use Rattle.run_definitions.specs.ReadOutcomes.{TakesRead}
 use Rattle.run_definitions.specs.BatchOutcomes.{TakesBatch}
+use Rattle.run_definitions.specs.ConvertOutcomes.{TakesConvert}
 use Rattle.run_definitions.specs.DemoOutcomes.{TakesDemo}
 pub use Rattle.run_definitions.specs.DemoOutcomes.{demo_number_of}
 
@@ -20,6 +22,7 @@ pub data Command : Type 0 where
   Read : (lex : FileWord) → Command
   Batch : (lex : FileWord) → (scheme : Scheme) → (file : FileWord) → (count : ℕ) → Command
   Demo : (number : ℕ) → Command
+  Convert : (from to : AnyScheme) → (file out : FileWord) → Command
 
 -- the files that the command reads, in their order
 abbrev pub files_of : Command → List FileWord
@@ -29,6 +32,7 @@ files_of (Build rules tables stems out) = rules ∷ tables ∷ stems ∷ []
 files_of (Read lex) = lex ∷ []
 files_of (Batch lex scheme file count) = lex ∷ file ∷ []
 files_of (Demo number) = []
+files_of (Convert from to file out) = file ∷ []
 
 -- the file that the command writes, where it writes one
 abbrev pub out_of : Command → Option FileWord
@@ -38,6 +42,7 @@ out_of (Build rules tables stems out) = Some out
 out_of (Read lex) = None
 out_of (Batch lex scheme file count) = None
 out_of (Demo number) = None
+out_of (Convert from to file out) = Some out
 
 -- the command reads the input
 abbrev pub ReadsInput : Command → Type 0
@@ -47,6 +52,7 @@ ReadsInput (Build rules tables stems out) = ⊥
 ReadsInput (Read lex) = Unit {0}
 ReadsInput (Batch lex scheme file count) = ⊥
 ReadsInput (Demo number) = ⊥
+ReadsInput (Convert from to file out) = ⊥
 
 -- the first word of a command
 abbrev pub name_of_command : Command → List ℕ
@@ -56,6 +62,7 @@ name_of_command (Build rules tables stems out) = codes "build"
 name_of_command (Read lex) = codes "read"
 name_of_command (Batch lex scheme file count) = codes "batch"
 name_of_command (Demo number) = codes "demo"
+name_of_command (Convert from to file out) = codes "convert"
 
 -- these values of `--in` and these arguments are the command's
 abbrev pub Takes : Command → List (List ℕ) → List FileWord → Type 0
@@ -65,6 +72,7 @@ Takes (Build rules tables stems out) values arguments = TakesBuild rules tables 
 Takes (Read lex) values arguments = TakesRead lex values arguments
 Takes (Batch lex scheme file count) values arguments = TakesBatch lex scheme file count values arguments
 Takes (Demo number) values arguments = TakesDemo number values arguments
+Takes (Convert from to file out) values arguments = TakesConvert from to file out values arguments
 
 -- the words are those of the command
 abbrev pub AreWordsOf : Command → List (List ℕ) → Type 0

@@ -7,14 +7,17 @@ use Rattle.rule_file_definitions.specs.RuleFileFaults as rule_file
 use Rattle.paradigm_file_definitions.specs.Records as records
 use Rattle.paradigm_file_definitions.specs.TableFaults.{TableWhy}
 use Rattle.paradigm_file_definitions.specs.StemFaults.{StemWhy}
+use Rattle.conversion_definitions.specs.Conversions.{ConversionFault}
 
--- why a file is refused: it is too large, or it has this fault as a lexicon file, a rule file, a table file or a stem file
+-- why a file is refused: it is too large, or it has this fault as a lexicon file, a rule file, a table file, a stem file, or a text
+-- in a scheme
 pub data AnyFault : Type 0 where
   Large : AnyFault
   Lexicon : (fault : FileFault) → AnyFault
   Rules : (fault : rule_file.Fault) → AnyFault
   Tables : (fault : records.Fault TableWhy) → AnyFault
   Stems : (fault : records.Fault StemWhy) → AnyFault
+  Spelling : (fault : ConversionFault) → AnyFault
 
 -- how a run ends, where no device fails and memory is found; a refused file is told by the place of its name among the
 -- words, counted from 0; the input of a session may be too long

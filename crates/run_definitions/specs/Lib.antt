@@ -12,5 +12,6 @@ pub mod BuildOutcomes
 pub mod DemoOutcomes
 pub mod ReadOutcomes
 pub mod BatchOutcomes
+pub mod ConvertOutcomes
 pub mod Commands
 pub mod Outcomes

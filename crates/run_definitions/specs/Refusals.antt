@@ -11,7 +11,7 @@ use Rattle.rule_file_definitions.specs.RuleFileFaults as rule_file
 use Rattle.paradigm_file_definitions.specs.TableFaults as table
 use Rattle.paradigm_file_definitions.specs.StemFaults as stem
 use Rattle.run_definitions.specs.Ends as ends
-use Rattle.run_definitions.specs.Ends.{AnyFault, Large, Lexicon, Rules, Tables, Stems, Outcome, outcome_over}
+use Rattle.run_definitions.specs.Ends.{AnyFault, Large, Lexicon, Rules, Tables, Stems, Spelling, Outcome, outcome_over}
 
 -- what words of no command do: `usage` is written
 abbrev pub usage_outcome : Files → Outcome
@@ -75,7 +75,8 @@ rules_refusal (rule_file.Grammar fault) = codes ": Grammar"
 abbrev pub record_refusal : ℕ → List ℕ → List ℕ
 record_refusal number why = codes " record " ++ decimal number ++ codes ": " ++ why
 
--- `bad file NAME: Large`; `bad file NAME line N: WHY` of a lexicon file; and so on of the others
+-- `bad file NAME: Large`; `bad file NAME line N: WHY` of a lexicon file; `bad file NAME line N: spelling AT` of a text; and so on
+-- of the others
 abbrev pub file_refusal : List ℕ → AnyFault → List ℕ
 file_refusal name Large = output_line (codes "bad file " ++ name ++ codes ": Large")
 file_refusal name (Lexicon fault) =
@@ -85,6 +86,8 @@ file_refusal name (Tables fault) =
     output_line (codes "bad file " ++ name ++ record_refusal fault.number (name_of_table_why fault.why))
 file_refusal name (Stems fault) =
     output_line (codes "bad file " ++ name ++ record_refusal fault.number (name_of_stem_why fault.why))
+file_refusal name (Spelling fault) =
+    output_line (codes "bad file " ++ name ++ codes " line " ++ decimal fault.line ++ codes ": spelling " ++ decimal (place_of fault.fault))
 
 -- `bad text spelling AT`, `bad text no letters` or `bad text too long`
 abbrev pub text_refusal : LineFault → List ℕ

@@ -10,7 +10,9 @@ ghost use Rattle.run_definitions.specs.BuildOutcomes.{AreBuildWords, IsBuildOutc
 ghost use Rattle.run_definitions.specs.ReadOutcomes.{AreReadWords, IsReadOutcome, IsReadRun, IsReadSoFar};
 ghost use Rattle.run_definitions.specs.BatchOutcomes.{AreBatchWords, IsBatchOutcome, IsBatchRun, IsBatchSoFar};
 ghost use Rattle.run_definitions.specs.DemoOutcomes.{AreDemoWords, IsDemoOutcome, IsDemoRun};
-ghost use Rattle.run_definitions.specs.Commands.{Command, Segment, Check, Build, Read, Batch, Demo};
+ghost use Rattle.conversion_definitions.specs.AnySchemes.{AnyScheme};
+ghost use Rattle.run_definitions.specs.ConvertOutcomes.{AreConvertWords, IsConvertOutcome, IsConvertRun};
+ghost use Rattle.run_definitions.specs.Commands.{Command, Segment, Check, Build, Read, Batch, Demo, Convert};
 ghost use Rattle.run_definitions.specs.Commands.{name_of_command, AreWordsOf, DoWrite, WriteNoFile, DoReadInput};
 ghost use Rattle.run_definitions.specs.Outcomes.{IsOutcome, IsSoFar};
 
@@ -102,6 +104,21 @@ pub fn demo_alone()
         ↔ ((outcome : Outcome) × IsDemoOutcome number files outcome × (output ≡ outcome.output)) }
     ensures writes { (number : ℕ) (words : List (List ℕ)) → AreDemoWords number words → WriteNoFile words }
     ensures input { (number : ℕ) (words : List (List ℕ)) → AreDemoWords number words → DoReadInput words → ⊥ }
+{}
+
+/// The outcomes of a run whose first word is `convert` are just those that the definitions of `convert` alone give; so is what it may have
+/// come to write where it stops.
+pub fn convert_alone()
+    ensures words { (from to : AnyScheme) (file out : FileWord) (words : List (List ℕ)) → AreConvertWords from to file out words ↔ AreWordsOf (Convert from to file out) words }
+    ensures run { (words following : List (List ℕ)) (files : Files) (input : Option (List ℕ)) (outcome : Outcome)
+        → words ≡ codes "convert" ∷ following → IsOutcome words files input outcome ↔ IsConvertRun words files outcome }
+    ensures outcome { (from to : AnyScheme) (file out : FileWord) (words : List (List ℕ)) (files : Files) (input : Option (List ℕ)) (outcome : Outcome)
+        → AreConvertWords from to file out words → IsOutcome words files input outcome ↔ IsConvertOutcome from to file out files outcome }
+    ensures so_far { (from to : AnyScheme) (file out : FileWord) (words : List (List ℕ)) (files : Files) (input : Option (List ℕ)) (output : List ℕ)
+        → AreConvertWords from to file out words → IsSoFar words files input output
+        ↔ ((outcome : Outcome) × IsConvertOutcome from to file out files outcome × (output ≡ outcome.output)) }
+    ensures writes { (from to : AnyScheme) (file out : FileWord) (words : List (List ℕ)) (other : FileWord) → AreConvertWords from to file out words → DoWrite words other → other ≡ out }
+    ensures input { (from to : AnyScheme) (file out : FileWord) (words : List (List ℕ)) → AreConvertWords from to file out words → DoReadInput words → ⊥ }
 {}
 
 /// A run whose first word is the name of no command, or that has no word, is refused with `usage`.

@@ -11,6 +11,8 @@ ghost use Rattle.run_definitions.specs.SourceLexicons.{IsLexiconOf};
 ghost use Rattle.run_definitions.specs.Outcomes.{Outcome, IsOutcome, IsSoFar};
 ghost use Rattle.run_definitions.specs.ReadOutcomes.{IsReadOutcome};
 ghost use Rattle.run_definitions.specs.BatchOutcomes.{IsBatchOutcome};
+ghost use Rattle.conversion_definitions.specs.AnySchemes.{AnyScheme};
+ghost use Rattle.run_definitions.specs.ConvertOutcomes.{IsConvertOutcome};
 ghost use Rattle.run_definitions.specs.SegmentOutcomes.{IsSegmentOutcome};
 
 /// Words are those of one command at most.
@@ -58,6 +60,12 @@ pub fn read_has_one_outcome()
 pub fn batch_has_one_outcome()
     ensures { (lex : FileWord) (scheme : Scheme) (file : FileWord) (count : ℕ) (files : Files) (left right : Outcome)
         → IsBatchOutcome lex scheme file count files left → IsBatchOutcome lex scheme file count files right → left ≡ right }
+{}
+
+/// With two schemes, a text file and a file to write, `convert` has one outcome at most over the same files.
+pub fn convert_has_one_outcome()
+    ensures { (from to : AnyScheme) (file out : FileWord) (files : Files) (left right : Outcome)
+        → IsConvertOutcome from to file out files left → IsConvertOutcome from to file out files right → left ≡ right }
 {}
 
 /// A run has one outcome at most: these words over these files and this input write one output, leave one set of files,

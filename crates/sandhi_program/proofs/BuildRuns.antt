@@ -33,14 +33,14 @@ told_bytes files told name bytes e read = subst (λ (f : Option Files). AreRead 
 
 module _ {A Fault : Type 0} (is_read : List ℕ → Result A Fault → Type 0) (named : Fault → ends.AnyFault) (files : Option Files) (told : Files)
     (name bytes : List ℕ) (told_files : files ≡ Some told) (read : AreRead files name bytes) where
-  told_held : (held : A) → HoldsSource is_read bytes held → DoesTellSource is_read named told name (Holds held)
+  pub told_held : (held : A) → HoldsSource is_read bytes held → DoesTellSource is_read named told name (Holds held)
   told_held held h =
       let (content, there, e) = first_content told name (MOST_FILE_BYTES + 1) bytes (told_bytes files told name bytes told_files read) in
       let low = within content bytes e h.within in
       let same = whole content bytes e low in
       IsSound content there low held (subst (λ b. is_read b (Ok held)) (sym same) h.read) refl
 
-  told_refused : (why : ends.AnyFault) → IsRefusedSource is_read named bytes why → DoesTellSource is_read named told name (Refused why)
+  pub told_refused : (why : ends.AnyFault) → IsRefusedSource is_read named bytes why → DoesTellSource is_read named told name (Refused why)
   told_refused why (TooLarge high w) =
       let (content, there, e) = first_content told name (MOST_FILE_BYTES + 1) bytes (told_bytes files told name bytes told_files read) in
       IsLarge content there (longer content bytes e high) (ap Refused w)

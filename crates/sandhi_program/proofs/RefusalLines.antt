@@ -11,6 +11,13 @@ pub fault_line : (name number why : List ℕ)
 fault_line name number why =
     ap (λ rest. codes "bad file " ++ rest) (sym (six_regrouped name (codes " line ") number (codes ": ") why (10 ∷ [])))
 
+-- of a text: its line and the place
+pub spelling_line : (name number place : List ℕ)
+    → codes "bad file " ++ (name ++ (codes " line " ++ (number ++ (codes ": spelling " ++ (place ++ codes "\n")))))
+    ≡ (codes "bad file " ++ name ++ codes " line " ++ number ++ codes ": spelling " ++ place) ++ 10 ∷ []
+spelling_line name number place =
+    ap (λ rest. codes "bad file " ++ rest) (sym (six_regrouped name (codes " line ") number (codes ": spelling ") place (10 ∷ [])))
+
 -- of a source file: what is said after its name
 pub source_line : (name rest : List ℕ) → codes "bad file " ++ (name ++ (rest ++ codes "\n")) ≡ (codes "bad file " ++ name ++ rest) ++ 10 ∷ []
 source_line name rest = ap (λ r. codes "bad file " ++ r) (sym (append_assoc name rest (10 ∷ [])))

@@ -1,5 +1,5 @@
 -- The first fault that a reader of source files answers is why the file is refused.
-use Rattle.std.proofs.Common.{ℕ, ◌≤◌, List, length, Err, refl}
+use Rattle.std.proofs.Common.{ℕ, ◌≤◌, List, length, Err, refl, ap}
 use Rattle.lexicon_text_definitions.specs.declared.limits.TheConstants.{MOST_FILE_BYTES}
 use Rattle.morphology_definitions.specs.Inflection.{Class}
 use Rattle.rule_file_definitions.specs.RuleFileReadings.{IsReadAs}
@@ -15,7 +15,14 @@ use Rattle.paradigms.specs.declared.errors.StemError.{StemError}
 use Rattle.paradigms.specs.declared.errors.StemError.TheVariants as stems
 use Rattle.run_definitions.specs.Ends as ends
 use Rattle.run_definitions.specs.BuildOutcomes.{AreTables, AreStems}
-use Rattle.sandhi_program.specs.Refusals.{error_of_rules, error_of_tables, error_of_stems}
+use Rattle.lexicon_text_definitions.specs.FileLines.{lines_of_bytes}
+use Rattle.conversion_definitions.specs.AnySchemes.{AnyScheme}
+use Rattle.conversion_definitions.specs.Conversions.{converted_text}
+use Rattle.more_schemes.specs.declared.convert_error.ConvertError.{ConvertError}
+use Rattle.more_schemes.specs.declared.convert_error.ConvertError.TheVariants as conversion
+use Rattle.more_schemes.specs.Values.{conversion_fault, IsConvertFaultOf}
+use Rattle.run_definitions.specs.ConvertOutcomes.{with_count, IsConversion}
+use Rattle.sandhi_program.specs.Refusals.{error_of_rules, error_of_tables, error_of_stems, error_of_conversion}
 use Rattle.sandhi_program.specs.Sources.{Faulty}
 use Rattle.sandhi_program.specs.SourceErrors.{IsSourceError}
 
@@ -33,3 +40,9 @@ pub stems_error : (classes : List Class) (bytes : List ℕ) (error : StemError) 
     → IsStemFault (stems_of classes bytes) error → IsSourceError (AreStems classes) ends.Stems bytes (error_of_stems error)
 stems_error classes bytes (stems.Fault fault) low read = Faulty low (record { number = fault.number; why = stem_why fault.why }) read refl
 stems_error classes bytes stems.Memory low read = tt
+
+pub conversion_error : (from to : AnyScheme) (bytes : List ℕ) (error : ConvertError) → length bytes ≤ MOST_FILE_BYTES
+    → IsConvertFaultOf error (converted_text from to bytes) → IsSourceError (IsConversion from to) ends.Spelling bytes (error_of_conversion error)
+conversion_error from to bytes (conversion.Fault fault) low read =
+    Faulty low (conversion_fault fault) (ap (with_count (length (lines_of_bytes bytes))) read) refl
+conversion_error from to bytes conversion.Memory low read = tt

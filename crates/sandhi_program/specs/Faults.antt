@@ -8,10 +8,11 @@ use Rattle.latin_schemes.specs.Faults as spelling
 use Rattle.lexicon_file.specs.Contents as files
 use Rattle.rule_file.specs.Faults as rules
 use Rattle.paradigms.specs.Answers.{table_why, stem_why}
+use Rattle.more_schemes.specs.Values.{conversion_fault}
 use Rattle.sandhi_program.specs.declared.status.Status.{Status}
 use Rattle.sandhi_program.specs.declared.status.Status.TheVariants.{Done, Memory, Usage, ReadFault, WriteFault, BadFile, BadText, TooMuch}
 use Rattle.sandhi_program.specs.declared.status.AnyFault.{AnyFault}
-use Rattle.sandhi_program.specs.declared.status.AnyFault.TheVariants.{Large, Lexicon, Rules, Tables, Stems}
+use Rattle.sandhi_program.specs.declared.status.AnyFault.TheVariants.{Large, Lexicon, Rules, Tables, Stems, Spelling}
 use Rattle.sandhi_program.specs.declared.status.TextFault.{TextFault}
 use Rattle.sandhi_program.specs.declared.status.TextFault.TheVariants.{Spell, NoLetters, TooLong}
 
@@ -22,6 +23,7 @@ file_fault (Lexicon fault) = ends.Lexicon (files.fault_of fault)
 file_fault (Rules fault) = ends.Rules (rules.fault_of fault)
 file_fault (Tables fault) = ends.Tables (record { number = fault.number; why = table_why fault.why })
 file_fault (Stems fault) = ends.Stems (record { number = fault.number; why = stem_why fault.why })
+file_fault (Spelling fault) = ends.Spelling (conversion_fault fault)
 
 abbrev pub text_fault : TextFault → LineFault
 text_fault (Spell fault) = texts.Misspelled (spelling.fault_of fault)

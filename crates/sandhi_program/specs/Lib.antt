@@ -8,6 +8,7 @@ pub mod Refusals
 pub mod SegmentErrors
 pub mod Segments
 pub mod Checks
+pub mod Conversions
 pub mod Batches
 pub mod Demos
 pub mod Sessions

@@ -10,6 +10,8 @@ use Rattle.paradigms.specs.declared.errors.TableError.TheVariants as tables
 use Rattle.paradigms.specs.declared.errors.StemError.{StemError}
 use Rattle.paradigms.specs.declared.errors.StemError.TheVariants as stems
 use Rattle.paradigms.specs.declared.errors.StemWhy.TheVariants.{Limit}
+use Rattle.more_schemes.specs.declared.convert_error.ConvertError.{ConvertError}
+use Rattle.more_schemes.specs.declared.convert_error.ConvertError.TheVariants as conversion
 use Rattle.lexicon_builder.specs.declared.error.BuildError.{BuildError}
 use Rattle.lexicon_builder.specs.declared.error.BuildError.TheVariants as built
 use Rattle.sandhi_program.specs.declared.status.AnyFault.TheVariants as any
@@ -52,6 +54,11 @@ error_of_tables tables.Memory = source.Memory
 abbrev pub error_of_stems : StemError → SourceError
 error_of_stems (stems.Fault fault) = source.Fault (any.Stems fault)
 error_of_stems stems.Memory = source.Memory
+
+-- a fault of a text
+abbrev pub error_of_conversion : ConvertError → SourceError
+error_of_conversion (conversion.Fault fault) = source.Fault (any.Spelling fault)
+error_of_conversion conversion.Memory = source.Memory
 
 -- a lexicon that is too large, as a fault of the stem file that no record has
 abbrev pub error_of_lexicon : BuildError → SourceError

@@ -10,6 +10,7 @@ ghost use Rattle.sandhi_program.specs.SourceErrors.{IsSourceError, IsLimitError}
 use super::status::AnyFault;
 use lexicon_builder::{BuildError, build_lexicon, lexicon_text};
 use lexicon_text_definitions::MOST_FILE_BYTES;
+use more_schemes::ConvertError;
 use paradigms::{
     StemError, StemFault, StemWhy, Stems, TableError, Tables, read_stems, read_tables,
 };
@@ -70,6 +71,19 @@ impl From<StemError> for SourceError {
         match refused {
             StemError::Fault(fault) => SourceError::Fault(AnyFault::Stems(fault)),
             StemError::Memory => SourceError::Memory,
+        }
+    }
+}
+
+impl From<ConvertError> for SourceError {
+    ghost use Rattle.sandhi_program.specs.Refusals.{error_of_conversion};
+
+    ghost from_gives = { λ refused e. e ≡ error_of_conversion refused };
+
+    fn from(refused: ConvertError) -> SourceError {
+        match refused {
+            ConvertError::Fault(fault) => SourceError::Fault(AnyFault::Spelling(fault)),
+            ConvertError::Memory => SourceError::Memory,
         }
     }
 }

@@ -16,6 +16,7 @@ mod build;
 #[cfg(test)]
 mod build_tests;
 mod check;
+mod convert;
 mod demo;
 #[cfg(test)]
 mod demo_tests;

@@ -29,7 +29,8 @@ fn name_of(why: FileWhy) -> &'static str
     }
 }
 
-/// `bad file NAME: Large`, `bad file NAME line N: WHY` of a lexicon file, and so on of the source files.
+/// `bad file NAME: Large`, `bad file NAME line N: WHY` of a lexicon file, and so on of the source files; `bad file NAME line N:
+/// spelling AT` of a text.
 pub(crate) fn print_file_refusal(
     alloc: Global,
     name: &str,
@@ -55,6 +56,11 @@ pub(crate) fn print_file_refusal(
         AnyFault::Stems(fault) => {
             let rest = record_refusal(alloc, fault.number, name_of_stem_why(fault.why))?;
             Ok(format!(in alloc; "bad file {name}{rest}\n")?)
+        }
+        AnyFault::Spelling(fault) => {
+            let line = fault.line;
+            let at = fault.fault.place();
+            Ok(format!(in alloc; "bad file {name} line {line}: spelling {at}\n")?)
         }
     }
 }

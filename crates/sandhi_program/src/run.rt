@@ -18,6 +18,7 @@ ghost use Rattle.sandhi_program.specs.RepliedSoFar.{IsRepliedTo};
 
 use super::batch::run_batch;
 use super::check::run_check;
+use super::convert::run_convert;
 use super::demo::run_demo;
 use super::ending::finish;
 use super::read::run_read;
@@ -57,6 +58,7 @@ fn run_command<R: Threads + Sync, H: Shelf, I: Source, O: Sink, G: Gate + Sync>(
         Command::Read { lex } => run_read(alloc, lex, shelf, input, out),
         Command::Batch(words) => run_batch(rt, alloc, words, shelf, out, gate),
         Command::Demo { number } => run_demo(rt, alloc, *number, out),
+        Command::Convert(words) => run_convert(alloc, words, shelf, out),
     }
 }
 

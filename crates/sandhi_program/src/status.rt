@@ -3,6 +3,7 @@ ghost use Rattle.sandhi_program.specs.Headline.{exit_status};
 
 use latin_schemes::SpellFault;
 use lexicon_file::FileFault;
+use more_schemes::ConvertFault;
 use paradigms::{StemFault, TableFault};
 use rule_file::RuleFault;
 
@@ -36,6 +37,7 @@ pub enum AnyFault {
     Rules(RuleFault),
     Tables(TableFault),
     Stems(StemFault),
+    Spelling(ConvertFault),
 }
 
 /// Why a text is refused: its first fault of spelling, or else that it has no letter or too many.

@@ -1,5 +1,5 @@
 /// The name of each command, its line of usage, and what a person may want to know of it.
-static COMMANDS: [(&str, &str); 6] = [
+static COMMANDS: [(&str, &str); 7] = [
     (
         "segment",
         "segment [--in SCHEME] LEX TEXT    (SCHEME is slp1, wx, velthuis or devanagari; without it slp1)",
@@ -16,6 +16,10 @@ static COMMANDS: [(&str, &str); 6] = [
     (
         "batch",
         "batch LEX SCHEME FILE N    (the first N answers, 1 to 1000, for each line of FILE)",
+    ),
+    (
+        "convert",
+        "convert FROM TO FILE OUT    (a text from scheme to scheme: slp1, wx, velthuis, devanagari, iast or hk)",
     ),
     (
         "demo",

@@ -4,7 +4,7 @@ use Rattle.std.specs.Fmt.{decimal}
 use Rattle.lexicon_file.specs.Faults.{why_of}
 use Rattle.rule_file.specs.Faults.{fault_of}
 use Rattle.run_definitions.specs.Refusals.{name_of_why, rules_refusal}
-use Rattle.sandhi_program.proofs.RefusalLines.{large_line, fault_line, source_line}
+use Rattle.sandhi_program.proofs.RefusalLines.{large_line, fault_line, spelling_line, source_line}
 use Rattle.sandhi_program.proofs.refusal.print_file_refusal.Goals as goal
 
 pub returns-in_ok-format-in-Large : goal.returns-in_ok-format-in-Large
@@ -31,4 +31,16 @@ returns-in_ok-format-in-Rules c =
       ok = rw c.in-Rules.is
           (told ∙ ap (λ rest. codes "bad file " ++ (name ++ (rest ++ codes "\n"))) c.in_ok-rest-in-Rules.ensures.ok
           ∙ source_line name (rules_refusal (fault_of c.in-Rules.fault)));
+    }
+
+pub returns-in_ok-format-in-Spelling : goal.returns-in_ok-format-in-Spelling
+returns-in_ok-format-in-Spelling c =
+    let name = c.args.name.now in
+    let number = decimal c.in-Spelling.fault.line in
+    let told : string_bytes c.in_ok-format-in-Spelling.field-0 ≡ codes "bad file " ++ (name ++ (codes " line " ++ (number ++ (codes ": spelling " ++ (decimal c.place-at.result ++ codes "\n"))))) =
+    c.in_ok-format-in-Spelling.ensures.ok in
+    record {
+      ok = rw c.in-Spelling.is
+          (told ∙ ap (λ place. codes "bad file " ++ (name ++ (codes " line " ++ (number ++ (codes ": spelling " ++ (decimal place ++ codes "\n")))))) c.place-at.ensures
+          ∙ spelling_line name number (decimal (place_of c.in-Spelling.fault.fault)));
     }

@@ -24,3 +24,6 @@ returns-in-Batch-clause-ran g c = rw c.in-Batch.is (elim c.run_batch.ensures [
 
 pub returns-in-Demo-clause-ran : goal.returns-in-Demo-clause-ran
 returns-in-Demo-clause-ran g c = rw c.in-Demo.is (Apart refl (c.run_demo.ensures _ _ _))
+
+pub returns-in-Convert-clause-ran : goal.returns-in-Convert-clause-ran
+returns-in-Convert-clause-ran g c = rw c.in-Convert.is (Apart refl c.run_convert.ensures)

@@ -1,0 +1,3 @@
+pub mod AnySchemes
+pub mod Marks
+pub mod Conversions
