@@ -3,7 +3,8 @@
 //!
 //! Proved: contracts see an `Annotated` as the trie and the choices of each node. `annotate` gives each node just the rules that
 //! are its choices, rising (`ok`); `choice_count`, `choice` and `most_choices` read them. `choice` takes one step (`steps`). A
-//! `Lexicon` is always that of its rules, forms and automaton, which is its invariant (`searched` of `rules`).
+//! `Lexicon` is always that of its rules, forms and automaton, which is its invariant (`searched` of `rules`); threads may
+//! share it (`lexicons_are_shared`).
 #![tactic(auto)]
 
 mod annotated;
@@ -12,6 +13,7 @@ mod groups;
 mod lexicon;
 mod node_choices;
 mod node_suffixes;
+mod sharing;
 mod suffixes;
 #[cfg(test)]
 mod tests;
@@ -19,3 +21,4 @@ mod tests;
 pub use annotated::Annotated;
 pub use annotating::annotate;
 pub use lexicon::Lexicon;
+pub use sharing::lexicons_are_shared;

@@ -7,6 +7,9 @@
 //! some lines, in their order, and each is the page that the line has when it is answered alone (`ok`); it is refused only for want
 //! of memory.
 //!
+//! A law beside them: under a chart each move of a search is within the bound that `advance` and `skip` of `segmenter` state
+//! (`moves_under_a_chart_are_bounded`).
+//!
 //! That two lines are answered at once is only tested, by a gate at which the worker of the first line waits for that of the second.
 //! No clause speaks of the gate, of the workers, of the order in which they take lines, or of time.
 #![tactic(auto)]
@@ -14,6 +17,7 @@
 mod answering;
 mod batch;
 mod block;
+mod bounded_moves;
 mod line_fault;
 mod printing;
 mod replier;
@@ -22,3 +26,4 @@ mod tests;
 
 pub use answering::read_all;
 pub use batch::Batch;
+pub use bounded_moves::moves_under_a_chart_are_bounded;

@@ -3,13 +3,15 @@
 //!
 //! Proved: `Choices::keep`, `reject`, `undo` and `list` are those of a list of at most `MOST_CHOICES` choices, and a refusal
 //! leaves it as it was; `Choices::allows` is the local test, which holds of every step exactly where the choices are kept
-//! (`allowed_steps_keep_the_choices`), and `Choices::allows_entered` the same of a step whose lead is given.
+//! (`allowed_steps_keep_the_choices`), and `Choices::allows_entered` the same of a step whose lead is given. Threads may share
+//! choices (`choices_are_shared`).
 #![tactic(auto)]
 
 mod allowing;
 mod choices;
 mod error;
 mod laws;
+mod sharing;
 #[cfg(test)]
 mod tests;
 
@@ -17,3 +19,4 @@ pub use choices::Choices;
 pub use derivation::Choice;
 pub use error::ChoiceError;
 pub use laws::allowed_steps_keep_the_choices;
+pub use sharing::choices_are_shared;

@@ -5,7 +5,7 @@
 //! Proved: a chart is a guide of a search that never says false of what stands in an answer (`guide` of `Chart::build`), and says
 //! true of nothing else (`exact`), made within the stated number of steps (`steps`). As a `SearchGuide` it brings a frame to its next
 //! key that goes further (the clauses of `SearchGuide::turn`), and what is known of it there makes it exact (`charts_are_exact`). Its summary has the item of each step of some answer, once and in order,
-//! and nothing else (`ok` of `Chart::summary`), and takes no step (`steps`).
+//! and nothing else (`ok` of `Chart::summary`), and takes no step (`steps`). Threads may share a chart (`charts_are_shared`).
 #![tactic(auto)]
 
 mod chart;
@@ -15,6 +15,7 @@ mod items;
 mod laws;
 mod passes;
 mod place_ways;
+mod sharing;
 mod spreading;
 mod state_set;
 mod state_steps;
@@ -28,3 +29,4 @@ mod turning;
 
 pub use chart::Chart;
 pub use laws::charts_are_exact;
+pub use sharing::charts_are_shared;
