@@ -31,6 +31,7 @@ LISTS = {
     "read": [(RUN, "ReadOutcomes", "IsReadRun"), (RUN, "ReadOutcomes", "IsReadSoFar"), (RUN, "ReadOutcomes", "IsToldWhereServed")],
     "batch": [(RUN, "BatchOutcomes", "IsBatchRun"), (RUN, "BatchOutcomes", "IsBatchSoFar")],
     "demo": [(RUN, "DemoOutcomes", "IsDemoRun")],
+    "convert": [(RUN, "ConvertOutcomes", "IsConvertRun")],
     "the headline": [
         (PROGRAM, "Headline", "WroteAll"),
         (PROGRAM, "Headline", "WrotePrefix"),

@@ -1,3 +1,7 @@
 pub mod SchemeSteps
 pub mod Entries
 pub mod ComposedTexts
+pub mod MarkFronts
+pub mod ConversionSteps
+pub mod RunFaults
+pub mod ConvertedLines
