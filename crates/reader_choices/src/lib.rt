@@ -10,8 +10,6 @@ mod allowing;
 mod choices;
 mod error;
 mod laws;
-#[cfg(test)]
-mod tests;
 
 pub use choices::Choices;
 pub use derivation::Choice;
