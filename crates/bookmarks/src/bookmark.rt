@@ -1,7 +1,7 @@
 use derivation::{Choice, Key};
 use phoneme::Line;
 
-/// A position in the listing of a line (own): the line, the reader's choices, oldest first, how many answers were printed, and
+/// A cursor in the listing of a line (own): the line, the reader's choices, oldest first, how many answers were printed, and
 /// the keys of the last of these. There are no keys where no answer was printed.
 #[derive(Debug, Drop)]
 pub struct Bookmark {

@@ -1,4 +1,4 @@
-//! Bookmarks: a position in the listing of a line's answers, kept as one short text, from which a reader goes on another day.
+//! Bookmarks: a cursor in the listing of a line's answers, kept as one short text, from which a reader goes on another day.
 //!
 //! Proved: `print_bookmark` gives the text of a bookmark (`ok`), and `read_bookmark` the bookmark that a text is read as (`ok`);
 //! it answers `Form` only where the text is that of no bookmark (`form`). Otherwise both are refused only for want of memory. By the laws
@@ -14,8 +14,6 @@ mod numbers;
 mod parts;
 mod printing;
 mod reading;
-#[cfg(test)]
-mod tests;
 mod words;
 
 pub use bookmark::Bookmark;

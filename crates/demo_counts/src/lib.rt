@@ -10,8 +10,6 @@ mod counts;
 mod draws;
 mod sources;
 mod stems;
-#[cfg(test)]
-mod tests;
 mod text;
 
 pub use counts::{DemoCounts, count_demo};

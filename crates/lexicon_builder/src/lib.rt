@@ -12,8 +12,6 @@ mod building;
 mod collecting;
 mod error;
 mod laws;
-#[cfg(test)]
-mod tests;
 
 pub use building::{build_lexicon, lexicon_text};
 pub use error::BuildError;

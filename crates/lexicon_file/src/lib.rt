@@ -13,8 +13,6 @@ mod kind;
 mod reading;
 mod rules_so_far;
 mod take_error;
-#[cfg(test)]
-mod tests;
 mod told;
 mod words;
 mod writing;

@@ -23,8 +23,6 @@ mod stem;
 mod stem_fields;
 mod stems;
 mod tables;
-#[cfg(test)]
-mod tests;
 mod words;
 
 pub use errors::{StemError, StemFault, StemWhy, TableError, TableFault, TableWhy};

@@ -12,8 +12,6 @@ mod choices;
 mod error;
 mod laws;
 mod sharing;
-#[cfg(test)]
-mod tests;
 
 pub use choices::Choices;
 pub use derivation::Choice;

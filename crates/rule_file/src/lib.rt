@@ -19,8 +19,6 @@ mod phases;
 mod plain;
 mod reading;
 mod rules_so_far;
-#[cfg(test)]
-mod tests;
 
 pub use contents::RuleFile;
 pub use error::{RuleError, RuleFault, RuleWhy};

@@ -31,8 +31,6 @@ mod sharing;
 mod skipping;
 mod stepping;
 mod testing;
-#[cfg(test)]
-mod tests;
 mod walking;
 mod ways;
 

@@ -7,7 +7,5 @@
 mod cutting;
 mod item_number;
 mod request;
-#[cfg(test)]
-mod tests;
 
 pub use request::{Request, read_request};

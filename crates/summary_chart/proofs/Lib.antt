@@ -27,4 +27,3 @@ mod CollectedItems
 mod AnswerItems
 mod TableItems
 mod SummarySteps
-mod SummaryRuleSets

@@ -5,4 +5,3 @@ pub mod Charts
 pub mod PlaceWays
 pub mod Summaries
 pub mod Turning
-pub mod SummaryRules

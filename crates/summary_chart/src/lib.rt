@@ -20,11 +20,7 @@ mod spreading;
 mod state_set;
 mod state_steps;
 mod summary;
-#[cfg(test)]
-mod summary_tests;
 mod table;
-#[cfg(test)]
-mod tests;
 mod turning;
 
 pub use chart::Chart;
