@@ -6,19 +6,30 @@ use std::rt::Clock;
 use std::thread;
 use std::time::Duration;
 
-/// How many milliseconds a call rests that would have blocked, before it is tried again.
-const PAUSE: u64 = 10;
+/// How many milliseconds a call rests that would have blocked, before it is tried again in the first second.
+const SHORT_PAUSE: u64 = 1;
+
+/// How many pauses are short.
+const SHORT_PAUSES: u32 = 1_000;
+
+/// How many milliseconds it rests after that.
+const LONG_PAUSE: u64 = 250;
 
 /// How often a call is tried: with a pause after each, for a day.
-const MOST_TRIES: u32 = 8_640_000;
+const MOST_TRIES: u32 = 346_596;
 
-/// Whether a call that failed so is tried again: at once where a signal interrupted it, and after a pause where it would have
-/// blocked, as on a pipe whose other user made it not block.
-fn may_try_again<C: Clock>(clock: &C, error: &io::Error) -> bool {
+/// Whether a call that failed so, with so many tries before it, is tried again: at once where a signal interrupted it, and
+/// after a pause where it would have blocked, as on a pipe whose other user made it not block.
+fn may_try_again<C: Clock>(clock: &C, error: &io::Error, tries: u32) -> bool {
     match error.kind() {
         ErrorKind::Interrupted => true,
         ErrorKind::WouldBlock => {
-            thread::sleep(clock, Duration::from_millis(PAUSE));
+            let pause = if tries < SHORT_PAUSES {
+                SHORT_PAUSE
+            } else {
+                LONG_PAUSE
+            };
+            thread::sleep(clock, Duration::from_millis(pause));
             true
         }
         _ => false,
@@ -36,11 +47,11 @@ pub(crate) fn read_some<C: Clock, F: Read>(
     ensures end { IfOk result (λ n. n ≡ 0 → 0 < length buf.old → IsAtEnd (F.remaining reader.new)) }
     ensures unchanged { OnErr result (Keeps (F.remaining reader.old) (F.remaining reader.new)) }
 {
-    for _ in 0..MOST_TRIES {
+    for tries in 0..MOST_TRIES {
         match reader.read(buf) {
             Ok(count) => return Ok(count),
             Err(error) => {
-                if !may_try_again(clock, &error) {
+                if !may_try_again(clock, &error, tries) {
                     return Err(error);
                 }
             }
@@ -59,12 +70,12 @@ pub(crate) fn write_some<C: Clock, F: Write>(
     ensures bound { IfOk result (λ n. n ≤ length bytes.now) }
     ensures bytes { IfOk result (λ n. Appends (F.contents writer.old) (F.contents writer.new) (take n bytes.now)) }
 {
-    for _ in 0..MOST_TRIES {
+    for tries in 0..MOST_TRIES {
         match writer.write(bytes) {
             Ok(0) => return Err(io::Error::from(ErrorKind::WriteZero)),
             Ok(count) => return Ok(count),
             Err(error) => {
-                if !may_try_again(clock, &error) {
+                if !may_try_again(clock, &error, tries) {
                     return Err(error);
                 }
             }

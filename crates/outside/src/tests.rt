@@ -115,7 +115,7 @@ fn a_source_and_a_sink_in_pieces(rt: HostRuntime) -> Result<(), Fail> {
 }
 
 // A fault loses nothing: what comes after it is what would have come without it. What a signal interrupted is tried again at
-// once, and what would have blocked after 10 milliseconds; neither is a fault.
+// once, and what would have blocked after a millisecond; neither is a fault.
 #[test]
 fn streams_that_fail_in_between(rt: HostRuntime) -> Result<(), Fail> {
     let input = ScriptedInput {
@@ -139,7 +139,7 @@ fn streams_that_fail_in_between(rt: HostRuntime) -> Result<(), Fail> {
     ] {
         assert_eq!(rt; next_of(&mut source, &mut [0; 4]), wanted);
     }
-    assert_eq!(rt; clock.slept(), 20);
+    assert_eq!(rt; clock.slept(), 2);
     assert_eq!(rt; kind_of(source.last_fault()), Some(ErrorKind::Other));
 
     let printer = ScriptedPrinter::new(
