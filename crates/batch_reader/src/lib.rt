@@ -14,7 +14,6 @@
 mod answering;
 mod batch;
 mod block;
-mod line_fault;
 mod printing;
 mod replier;
 #[cfg(test)]

@@ -2,6 +2,7 @@ use super::run::run;
 use super::status::Status;
 use super::tests::{CETI, NASTI};
 use outside::{Gate, MemoryShelf, MemorySink, MemorySource, NoGate};
+use std::alloc::Global;
 use std::process::Abort;
 use std::sync::atomic::{AtomicBool, Ordering};
 use std::test::Fail;
@@ -57,18 +58,33 @@ static BATCHES: [(&str, &str, &str, &str, u8); 12] = [
     (CETI, "ceti\n", "batch/l/slp1/f/9/9", "usage\n", 2),
 ];
 
-/// What `batch` ends with and writes over the files `l` and `f`, in which these calls of the shelf and of the sink fail.
+/// The calls of the shelf and the writes of the sink that fail, counted from 1.
+#[derive(Drop)]
+struct Failing {
+    calls: Vec<u64>,
+    writes: Vec<u64>,
+}
+
+/// No call and no write.
+fn none_failing(alloc: Global) -> Failing {
+    Failing {
+        calls: Vec::new(alloc),
+        writes: Vec::new(alloc),
+    }
+}
+
+/// What `batch` ends with and writes over the files `l` and `f`, where these calls and writes fail.
 fn batch_over<R: Threads + Sync + AllocGlobal, G: Gate + Sync>(
     rt: &R,
     words: &str,
     lexicon: &str,
     text: &str,
-    failing_calls: Vec<u64>,
-    failing_writes: Vec<u64>,
+    failing: Failing,
     gate: &G,
 ) -> Result<(Status, MemorySink), Fail> {
     let alloc = rt.alloc();
-    let mut shelf = MemoryShelf::new(alloc, failing_calls);
+    let Failing { calls, writes } = failing;
+    let mut shelf = MemoryShelf::new(alloc, calls);
     shelf.put("l", lexicon.as_bytes())?;
     shelf.put("f", text.as_bytes())?;
     let mut all = Vec::new(alloc);
@@ -76,7 +92,7 @@ fn batch_over<R: Threads + Sync + AllocGlobal, G: Gate + Sync>(
         all.push(String::from_str(alloc, word)?)?;
     }
     let mut source = MemorySource::new(Vec::new(alloc), 1, Vec::new(alloc));
-    let mut sink = MemorySink::new(alloc, 4_096, failing_writes);
+    let mut sink = MemorySink::new(alloc, 4_096, writes);
     let status = run(rt, alloc, &all, &mut shelf, &mut source, &mut sink, gate);
     Ok((status, sink))
 }
@@ -85,15 +101,7 @@ fn batch_over<R: Threads + Sync + AllocGlobal, G: Gate + Sync>(
 fn the_lines_of_a_text_are_answered_in_order(rt: HostRuntime) -> Result<(), Fail> {
     let alloc = rt.alloc();
     for (lexicon, text, words, output, exit) in &BATCHES {
-        let (status, sink) = batch_over(
-            &rt,
-            words,
-            lexicon,
-            text,
-            Vec::new(alloc),
-            Vec::new(alloc),
-            &NoGate,
-        )?;
+        let (status, sink) = batch_over(&rt, words, lexicon, text, none_failing(alloc), &NoGate)?;
         assert_eq!(rt; sink.bytes(), output.as_bytes());
         assert_eq!(rt; status.exit_code(), *exit);
     }
@@ -118,8 +126,7 @@ fn lines_are_numbered_on_from_block_to_block(rt: HostRuntime) -> Result<(), Fail
         words,
         CETI,
         text.as_str(),
-        Vec::new(alloc),
-        Vec::new(alloc),
+        none_failing(alloc),
         &NoGate,
     )?;
     assert_eq!(rt; sink.bytes(), output.as_bytes());
@@ -145,8 +152,7 @@ fn after_a_fault_nothing_is_written(rt: HostRuntime) -> Result<(), Fail> {
             "batch/l/slp1/f/1",
             NASTI,
             "nAsti\n",
-            calls,
-            writes,
+            Failing { calls, writes },
             &NoGate,
         )?;
         assert!(rt; status == *expected);
@@ -195,8 +201,7 @@ fn two_lines_are_answered_at_once(rt: HostRuntime) -> Result<(), Fail> {
         words,
         NASTI,
         "nAsti\nnAsti\n",
-        Vec::new(alloc),
-        Vec::new(alloc),
+        none_failing(alloc),
         &gate,
     )?;
     assert!(rt; status == Status::Done);

@@ -9,6 +9,7 @@
 //! `write_fault_files`); and what stays (`failed_writes`, `failed_reads`, `unused_shelf`, `input`, `unread_input`).
 #![tactic(auto)]
 
+mod any_error;
 mod batch;
 #[cfg(test)]
 mod batch_tests;
@@ -20,7 +21,6 @@ mod demo;
 #[cfg(test)]
 mod demo_tests;
 mod ending;
-mod lexicon_error;
 mod read;
 #[cfg(test)]
 mod read_tests;

@@ -1,10 +1,10 @@
 ghost use Rattle.std.specs.Prelude.{◌≡◌};
 ghost use Rattle.sandhi_program.specs.Headline.{exit_status};
 
-use latin_schemes::SpellFault;
 use lexicon_file::FileFault;
 use paradigms::{StemFault, TableFault};
 use rule_file::RuleFault;
+use text_line::TextFault;
 
 /// How a run ended, and with which fault.
 #[derive(Clone, Copy, Debug, PartialEq, Eq)]
@@ -36,14 +36,6 @@ pub enum AnyFault {
     Rules(RuleFault),
     Tables(TableFault),
     Stems(StemFault),
-}
-
-/// Why a text is refused: its first fault of spelling, or else that it has no letter or too many.
-#[derive(Clone, Copy, Debug, PartialEq, Eq)]
-pub enum TextFault {
-    Spell(SpellFault),
-    NoLetters,
-    TooLong,
 }
 
 impl Status {
