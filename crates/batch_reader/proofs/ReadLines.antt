@@ -5,13 +5,16 @@ use Rattle.text_definitions.specs.Schemes.{Scheme}
 use Rattle.text_definitions.specs.LineTexts.{line_of_text}
 use Rattle.lexicon_text_definitions.specs.FileLines as file
 use Rattle.lexicon_text_definitions.specs.FileLines.{lines_of_bytes}
-use Rattle.batch_reader.specs.declared.line_fault.LineFault.{LineFault}
+use Rattle.text_line.specs.Values.{text_fault, fault_of_error, IsLineFaultOf}
+use Rattle.text_line.specs.declared.line_error.LineError.{LineError}
+use Rattle.text_line.specs.declared.text_fault.TextFault.{TextFault}
+use Rattle.text_line.proofs.FaultsTold.{fault_told}
 use Rattle.batch_reader.specs.declared.block.Block.{Block}
-use Rattle.batch_reader.specs.Blocks.{fault_meant, AreRead, HasReadBlock}
+use Rattle.batch_reader.specs.Blocks.{AreRead, HasReadBlock}
 
 -- a line with a fault more
-pub fault_more : (scheme : Scheme) (texts : List file.Line) (faults : List (Option LineFault)) (lines : List Line) (text : file.Line) (fault : LineFault)
-    → line_of_text scheme text.bytes ≡ Err (fault_meant fault) → AreRead scheme texts faults lines
+pub fault_more : (scheme : Scheme) (texts : List file.Line) (faults : List (Option TextFault)) (lines : List Line) (text : file.Line) (fault : TextFault)
+    → line_of_text scheme text.bytes ≡ Err (text_fault fault) → AreRead scheme texts faults lines
     → AreRead scheme (texts ++ text ∷ []) (faults ++ Some fault ∷ []) lines
 fault_more scheme [] [] lines text fault e p = (e, p)
 fault_more scheme [] (first ∷ faults) lines text fault e p = absurd p
@@ -21,7 +24,7 @@ fault_more scheme (first ∷ texts) (None ∷ faults) [] text fault e p = absurd
 fault_more scheme (first ∷ texts) (None ∷ faults) (line ∷ lines) text fault e (q, p) = (q, fault_more scheme texts faults lines text fault e p)
 
 -- a line that is answered more
-pub line_more : (scheme : Scheme) (texts : List file.Line) (faults : List (Option LineFault)) (lines : List Line) (text : file.Line) (line : Line)
+pub line_more : (scheme : Scheme) (texts : List file.Line) (faults : List (Option TextFault)) (lines : List Line) (text : file.Line) (line : Line)
     → line_of_text scheme text.bytes ≡ Ok line → AreRead scheme texts faults lines
     → AreRead scheme (texts ++ text ∷ []) (faults ++ None ∷ []) (lines ++ line ∷ [])
 line_more scheme [] [] lines text line e p =
@@ -33,7 +36,7 @@ line_more scheme (first ∷ texts) (None ∷ faults) [] text line e p = absurd p
 line_more scheme (first ∷ texts) (None ∷ faults) (other ∷ lines) text line e (q, p) = (q, line_more scheme texts faults lines text line e p)
 
 -- each line has its reading
-pub as_many : (scheme : Scheme) (texts : List file.Line) (faults : List (Option LineFault)) (lines : List Line) → AreRead scheme texts faults lines
+pub as_many : (scheme : Scheme) (texts : List file.Line) (faults : List (Option TextFault)) (lines : List Line) → AreRead scheme texts faults lines
     → length faults ≡ length texts
 as_many scheme [] [] lines p = refl
 as_many scheme [] (first ∷ faults) lines p = absurd p
@@ -78,20 +81,28 @@ module _ (scheme : Scheme) (bytes : List ℕ) where
   }
 
 -- the same of what was appended
-pub fault_read_after : (scheme : Scheme) (texts : List file.Line) (faults new_faults : List (Option LineFault)) (lines new_lines : List Line)
-    (text : file.Line) (fault : LineFault) → new_faults ≡ faults ++ Some fault ∷ [] → new_lines ≡ lines
-    → line_of_text scheme text.bytes ≡ Err (fault_meant fault) → AreRead scheme texts faults lines
+fault_read_after : (scheme : Scheme) (texts : List file.Line) (faults new_faults : List (Option TextFault)) (lines new_lines : List Line)
+    (text : file.Line) (fault : TextFault) → new_faults ≡ faults ++ Some fault ∷ [] → new_lines ≡ lines
+    → line_of_text scheme text.bytes ≡ Err (text_fault fault) → AreRead scheme texts faults lines
     → AreRead scheme (texts ++ text ∷ []) new_faults new_lines
 fault_read_after scheme texts faults new_faults lines new_lines text fault e f is p =
-    subst (λ (fs : List (Option LineFault)). AreRead scheme (texts ++ text ∷ []) fs new_lines) (sym e)
+    subst (λ (fs : List (Option TextFault)). AreRead scheme (texts ++ text ∷ []) fs new_lines) (sym e)
     (subst (λ (ls : List Line). AreRead scheme (texts ++ text ∷ []) (faults ++ Some fault ∷ []) ls) (sym f) (fault_more scheme texts faults lines text fault is p))
 
-pub line_read_after : (scheme : Scheme) (texts : List file.Line) (faults new_faults : List (Option LineFault)) (lines new_lines : List Line)
+pub error_read_after : (scheme : Scheme) (texts : List file.Line) (faults new_faults : List (Option TextFault)) (lines new_lines : List Line)
+    (text : file.Line) (error : LineError) (fault : TextFault) → Ok fault ≡ fault_of_error error → new_faults ≡ faults ++ Some fault ∷ []
+    → new_lines ≡ lines → IsLineFaultOf error (line_of_text scheme text.bytes) → AreRead scheme texts faults lines
+    → AreRead scheme (texts ++ text ∷ []) new_faults new_lines
+error_read_after scheme texts faults new_faults lines new_lines text error fault carries e f is p =
+    fault_read_after scheme texts faults new_faults lines new_lines text fault e f
+    (fault_told error fault (line_of_text scheme text.bytes) carries is) p
+
+pub line_read_after : (scheme : Scheme) (texts : List file.Line) (faults new_faults : List (Option TextFault)) (lines new_lines : List Line)
     (text : file.Line) (line : Line) → new_faults ≡ faults ++ None ∷ [] → new_lines ≡ lines ++ line ∷ []
     → line_of_text scheme text.bytes ≡ Ok line → AreRead scheme texts faults lines
     → AreRead scheme (texts ++ text ∷ []) new_faults new_lines
 line_read_after scheme texts faults new_faults lines new_lines text line e f is p =
-    subst (λ (fs : List (Option LineFault)). AreRead scheme (texts ++ text ∷ []) fs new_lines) (sym e)
+    subst (λ (fs : List (Option TextFault)). AreRead scheme (texts ++ text ∷ []) fs new_lines) (sym e)
     (subst (λ (ls : List Line). AreRead scheme (texts ++ text ∷ []) (faults ++ None ∷ []) ls) (sym f) (line_more scheme texts faults lines text line is p))
 
 -- at first no line is read
@@ -99,7 +110,7 @@ pub none_read : (scheme : Scheme) (bytes : List ℕ) (block : Block) → block.f
 none_read scheme bytes block e f = record {
   lines = [];
   cut = refl;
-  read = subst (λ (fs : List (Option LineFault)). AreRead scheme [] fs block.lines.items) (sym e) f;
+  read = subst (λ (fs : List (Option TextFault)). AreRead scheme [] fs block.lines.items) (sym e) f;
   many = refl;
   fit = omega arith;
 }

@@ -10,11 +10,12 @@ use Rattle.segmentation_definitions.specs.PrintedAnswers.{output_line}
 use Rattle.session_definitions.specs.Replies.{why_no_line}
 use Rattle.run_definitions.specs.BatchOutcomes.{IsLineReply, OfFault, OfPage, numbered_reply, AreNumberedReplies}
 use Rattle.batch_reader.specs.Replies.{AreReplies}
-use Rattle.batch_reader.specs.declared.line_fault.LineFault.{LineFault}
-use Rattle.batch_reader.specs.Blocks.{fault_meant, AreRead, HasRepliedTo}
+use Rattle.text_line.specs.Values.{text_fault}
+use Rattle.text_line.specs.declared.text_fault.TextFault.{TextFault}
+use Rattle.batch_reader.specs.Blocks.{AreRead, HasRepliedTo}
 
 -- what completes the replies to these lines from this number on, after those that were appended
-pub record IsLeft (lexicon : Lexicon) (scheme : Scheme) (count first number : ℕ) (all : List file.Line) (faults : List (Option LineFault))
+pub record IsLeft (lexicon : Lexicon) (scheme : Scheme) (count first number : ℕ) (all : List file.Line) (faults : List (Option TextFault))
     (pages : List (List ℕ)) (before now : List ℕ) : Type 0 where
   pub lines : List file.Line
   pub answered : List Line
@@ -26,13 +27,13 @@ pub record IsLeft (lexicon : Lexicon) (scheme : Scheme) (count first number : �
       → AreNumberedReplies lexicon scheme count first all (done ++ tail)
 
 -- the same whatever the lexicon, the scheme and the lines are
-abbrev pub HasRepliedSoFar : ℕ → ℕ → List (Option LineFault) → List (List ℕ) → List (Option LineFault) → List (List ℕ) → List ℕ → List ℕ → Type 0
+abbrev pub HasRepliedSoFar : ℕ → ℕ → List (Option TextFault) → List (List ℕ) → List (Option TextFault) → List (List ℕ) → List ℕ → List ℕ → Type 0
 HasRepliedSoFar first number all_faults all_pages faults pages before now =
     (lexicon : Lexicon) (scheme : Scheme) (count : ℕ) (lines : List file.Line) (answered : List Line)
     → AreRead scheme lines all_faults answered → AreReplies lexicon count answered all_pages
     → IsLeft lexicon scheme count first number lines faults pages before now
 
-pub none_replied : (number : ℕ) (faults : List (Option LineFault)) (pages : List (List ℕ)) (before : List ℕ)
+pub none_replied : (number : ℕ) (faults : List (Option TextFault)) (pages : List (List ℕ)) (before : List ℕ)
     → HasRepliedSoFar number number faults pages faults pages before before
 none_replied number faults pages before lexicon scheme count lines answered read are = record {
   lines = lines;
@@ -45,7 +46,7 @@ none_replied number faults pages before lexicon scheme count lines answered read
 }
 
 -- all of it
-pub all_replied : (first number : ℕ) (all_faults : List (Option LineFault)) (all_pages pages : List (List ℕ)) (before now : List ℕ)
+pub all_replied : (first number : ℕ) (all_faults : List (Option TextFault)) (all_pages pages : List (List ℕ)) (before now : List ℕ)
     → HasRepliedSoFar first number all_faults all_pages [] pages before now → HasRepliedTo first all_faults all_pages before now
 all_replied first number all_faults all_pages pages before now so_far lexicon scheme count lines answered read are =
     let left = so_far lexicon scheme count lines answered read are in
@@ -66,9 +67,9 @@ module _ (lexicon : Lexicon) (scheme : Scheme) (count first number : ℕ) (all :
       (completes (numbered_reply number reply ++ tail) (reply, tail, is, refl, p))
 
   -- a line with a fault
-  fault_next : (fault : LineFault) (faults : List (Option LineFault)) (pages : List (List ℕ)) (before now after line reply : List ℕ)
+  fault_next : (fault : TextFault) (faults : List (Option TextFault)) (pages : List (List ℕ)) (before now after line reply : List ℕ)
       → IsLeft lexicon scheme count first number all (Some fault ∷ faults) pages before now
-      → line ≡ output_line (codes "line " ++ decimal number) → reply ≡ output_line (codes "? " ++ why_no_line (fault_meant fault))
+      → line ≡ output_line (codes "line " ++ decimal number) → reply ≡ output_line (codes "? " ++ why_no_line (text_fault fault))
       → after ≡ (now ++ line) ++ reply → IsLeft lexicon scheme count first (number + 1) all faults pages before after
   fault_next fault faults pages before now after line reply left line_is reply_is appended = go left.lines left.answered left.read left.are left.completes
     where
@@ -84,11 +85,11 @@ module _ (lexicon : Lexicon) (scheme : Scheme) (count first number : ℕ) (all :
         done = left.done ++ numbered_reply number reply;
         appended = appended ∙ ap (λ (l : List ℕ). (now ++ l) ++ reply) line_is ∙ append_assoc now (output_line (codes "line " ++ decimal number)) reply
             ∙ ap (λ (n : List ℕ). n ++ numbered_reply number reply) left.appended ∙ append_assoc before left.done (numbered_reply number reply);
-        completes = λ tail p. appended_next text texts reply left.done tail (OfFault (fault_meant fault) e reply_is) completes p;
+        completes = λ tail p. appended_next text texts reply left.done tail (OfFault (text_fault fault) e reply_is) completes p;
       }
 
   -- a line that is answered: its page is the next of the pages
-  page_next : (faults : List (Option LineFault)) (pages others : List (List ℕ)) (before now after line : List ℕ)
+  page_next : (faults : List (Option TextFault)) (pages others : List (List ℕ)) (before now after line : List ℕ)
       → IsLeft lexicon scheme count first number all (None ∷ faults) pages before now
       → line ≡ output_line (codes "line " ++ decimal number)
       → ((page : List ℕ) (later : List (List ℕ)) → pages ≡ page ∷ later → (after ≡ (now ++ line) ++ page) × (others ≡ later))
@@ -114,16 +115,16 @@ module _ (lexicon : Lexicon) (scheme : Scheme) (count first number : ℕ) (all :
             completes = λ tail p. appended_next text texts page left.done tail (OfPage one is.answers is.more e is.page is.printed) completes p;
           }
 
-module _ (first number : ℕ) (all_faults : List (Option LineFault)) (all_pages : List (List ℕ)) where
-  pub fault_replied : (fault : LineFault) (faults : List (Option LineFault)) (pages : List (List ℕ)) (before now after line reply : List ℕ)
+module _ (first number : ℕ) (all_faults : List (Option TextFault)) (all_pages : List (List ℕ)) where
+  pub fault_replied : (fault : TextFault) (faults : List (Option TextFault)) (pages : List (List ℕ)) (before now after line reply : List ℕ)
       → HasRepliedSoFar first number all_faults all_pages (Some fault ∷ faults) pages before now
-      → line ≡ output_line (codes "line " ++ decimal number) → reply ≡ output_line (codes "? " ++ why_no_line (fault_meant fault))
+      → line ≡ output_line (codes "line " ++ decimal number) → reply ≡ output_line (codes "? " ++ why_no_line (text_fault fault))
       → after ≡ (now ++ line) ++ reply → HasRepliedSoFar first (number + 1) all_faults all_pages faults pages before after
   fault_replied fault faults pages before now after line reply so_far line_is reply_is appended lexicon scheme count lines answered read are =
       fault_next lexicon scheme count first number lines fault faults pages before now after line reply (so_far lexicon scheme count lines answered read are)
       line_is reply_is appended
 
-  pub page_replied : (faults : List (Option LineFault)) (pages others : List (List ℕ)) (before now after line : List ℕ)
+  pub page_replied : (faults : List (Option TextFault)) (pages others : List (List ℕ)) (before now after line : List ℕ)
       → HasRepliedSoFar first number all_faults all_pages (None ∷ faults) pages before now
       → line ≡ output_line (codes "line " ++ decimal number)
       → ((page : List ℕ) (later : List (List ℕ)) → pages ≡ page ∷ later → (after ≡ (now ++ line) ++ page) × (others ≡ later))
@@ -132,11 +133,11 @@ module _ (first number : ℕ) (all_faults : List (Option LineFault)) (all_pages 
       page_next lexicon scheme count first number lines faults pages others before now after line (so_far lexicon scheme count lines answered read are) line_is takes
 
 -- the next line, whichever of both it is
-pub replied_next : (first number index : ℕ) (all_faults : List (Option LineFault)) (all_pages pages others : List (List ℕ)) (fault none : Option LineFault)
+pub replied_next : (first number index : ℕ) (all_faults : List (Option TextFault)) (all_pages pages others : List (List ℕ)) (fault none : Option TextFault)
     (before now after : List ℕ) → index < length all_faults → fault ≡ get_or all_faults index none
     → HasRepliedSoFar first number all_faults all_pages (drop index all_faults) pages before now
-    → ((why : LineFault) → fault ≡ Some why
-    → (after ≡ (now ++ output_line (codes "line " ++ decimal number)) ++ output_line (codes "? " ++ why_no_line (fault_meant why))) × (others ≡ pages))
+    → ((why : TextFault) → fault ≡ Some why
+    → (after ≡ (now ++ output_line (codes "line " ++ decimal number)) ++ output_line (codes "? " ++ why_no_line (text_fault why))) × (others ≡ pages))
     → (fault ≡ None → (page : List ℕ) (later : List (List ℕ)) → pages ≡ page ∷ later
     → (after ≡ (now ++ output_line (codes "line " ++ decimal number)) ++ page) × (others ≡ later))
     → HasRepliedSoFar first (number + 1) all_faults all_pages (drop (index + 1) all_faults) others before after
@@ -144,16 +145,16 @@ replied_next first number index all_faults all_pages pages others fault none bef
     go fault refl
   where
     cut : drop index all_faults ≡ fault ∷ drop (index + 1) all_faults
-    cut = rw add-one (drop-cons all_faults index none low ∙ ap (λ (x : Option LineFault). x ∷ drop (suc index) all_faults) (sym is))
+    cut = rw add-one (drop-cons all_faults index none low ∙ ap (λ (x : Option TextFault). x ∷ drop (suc index) all_faults) (sym is))
 
-    go : (same : Option LineFault) → fault ≡ same → HasRepliedSoFar first (number + 1) all_faults all_pages (drop (index + 1) all_faults) others before after
+    go : (same : Option TextFault) → fault ≡ same → HasRepliedSoFar first (number + 1) all_faults all_pages (drop (index + 1) all_faults) others before after
     go (Some why) e =
         let (appended, kept) = on_fault why e in
-        let here : drop index all_faults ≡ Some why ∷ drop (index + 1) all_faults = cut ∙ ap (λ (x : Option LineFault). x ∷ drop (index + 1) all_faults) e in
+        let here : drop index all_faults ≡ Some why ∷ drop (index + 1) all_faults = cut ∙ ap (λ (x : Option TextFault). x ∷ drop (index + 1) all_faults) e in
         subst (λ (ps : List (List ℕ)). HasRepliedSoFar first (number + 1) all_faults all_pages (drop (index + 1) all_faults) ps before after) (sym kept)
         (fault_replied first number all_faults all_pages why (drop (index + 1) all_faults) pages before now after _ _
-        (subst (λ (fs : List (Option LineFault)). HasRepliedSoFar first number all_faults all_pages fs pages before now) here so_far) refl refl appended)
+        (subst (λ (fs : List (Option TextFault)). HasRepliedSoFar first number all_faults all_pages fs pages before now) here so_far) refl refl appended)
     go None e =
-        let here : drop index all_faults ≡ None ∷ drop (index + 1) all_faults = cut ∙ ap (λ (x : Option LineFault). x ∷ drop (index + 1) all_faults) e in
+        let here : drop index all_faults ≡ None ∷ drop (index + 1) all_faults = cut ∙ ap (λ (x : Option TextFault). x ∷ drop (index + 1) all_faults) e in
         page_replied first number all_faults all_pages (drop (index + 1) all_faults) pages others before now after _
-        (subst (λ (fs : List (Option LineFault)). HasRepliedSoFar first number all_faults all_pages fs pages before now) here so_far) refl (on_page e)
+        (subst (λ (fs : List (Option TextFault)). HasRepliedSoFar first number all_faults all_pages fs pages before now) here so_far) refl (on_page e)

@@ -2,31 +2,23 @@
 use Rattle.std.specs.Prelude.{◌≡◌, ℕ, ◌+◌, ◌<◌, ◌≤◌, List, [], ◌∷◌, ◌++◌, length, Option, Some, None, Ok, Err}
 use Rattle.text_definitions.specs.Lines.{Line}
 use Rattle.text_definitions.specs.Schemes.{Scheme}
-use Rattle.text_definitions.specs.LineTexts as texts
 use Rattle.text_definitions.specs.LineTexts.{line_of_text}
 use Rattle.lexicon_definitions.specs.Lexicons.{Lexicon}
 use Rattle.lexicon_text_definitions.specs.FileLines as file
 use Rattle.lexicon_text_definitions.specs.FileLines.{lines_of_bytes}
-use Rattle.latin_schemes.specs.Faults as spelling
 use Rattle.run_definitions.specs.BatchOutcomes.{AreNumberedReplies}
 use Rattle.batch_reader.specs.Replies.{AreReplies}
 use Rattle.batch_reader.specs.declared.block.Block.{Block}
-use Rattle.batch_reader.specs.declared.line_fault.LineFault.{LineFault}
-use Rattle.batch_reader.specs.declared.line_fault.LineFault.TheVariants.{Spell, NoLetters, TooLong}
-
--- the fault of a text, as the definitions name it
-abbrev pub fault_meant : LineFault → texts.LineFault
-fault_meant (Spell fault) = texts.Misspelled (spelling.fault_of fault)
-fault_meant NoLetters = texts.NoLetters
-fault_meant TooLong = texts.TooLong
+use Rattle.text_line.specs.Values.{text_fault}
+use Rattle.text_line.specs.declared.text_fault.TextFault.{TextFault}
 
 -- the lines of the text are read so, one after another: each has this fault, or is the next of the lines that are answered
-abbrev pub AreRead : Scheme → List file.Line → List (Option LineFault) → List Line → Type 0
+abbrev pub AreRead : Scheme → List file.Line → List (Option TextFault) → List Line → Type 0
 AreRead scheme [] [] lines = lines ≡ []
 AreRead scheme [] (fault ∷ faults) lines = ⊥
 AreRead scheme (text ∷ texts) [] lines = ⊥
 AreRead scheme (text ∷ texts) (Some fault ∷ faults) lines =
-    (line_of_text scheme text.bytes ≡ Err (fault_meant fault)) × AreRead scheme texts faults lines
+    (line_of_text scheme text.bytes ≡ Err (text_fault fault)) × AreRead scheme texts faults lines
 AreRead scheme (text ∷ texts) (None ∷ faults) [] = ⊥
 AreRead scheme (text ∷ texts) (None ∷ faults) (line ∷ lines) =
     (line_of_text scheme text.bytes ≡ Ok line) × AreRead scheme texts faults lines
@@ -40,7 +32,7 @@ pub record HasReadBlock (scheme : Scheme) (bytes : List ℕ) (block : Block) (re
   pub shorter : 0 < length bytes → length rest < length bytes
 
 -- whatever lines are read so, and whatever lexicon gives them these pages, the replies to them were appended
-abbrev pub HasRepliedTo : ℕ → List (Option LineFault) → List (List ℕ) → List ℕ → List ℕ → Type 0
+abbrev pub HasRepliedTo : ℕ → List (Option TextFault) → List (List ℕ) → List ℕ → List ℕ → Type 0
 HasRepliedTo number faults pages before after =
     (lexicon : Lexicon) (scheme : Scheme) (count : ℕ) (lines : List file.Line) (answered : List Line)
     → AreRead scheme lines faults answered → AreReplies lexicon count answered pages

@@ -128,35 +128,26 @@ fn complete<G: Gate>(
     Ok(replies)
 }
 
-/// The printed page of each line, at most `count` answers a page: reply `i` is that of line `i`. Workers, one for each processor and at
-/// least 2, answer the lines side by side by the runtime's join; each takes the next line that no worker has taken, until all are taken.
-/// Just before a worker begins line `i`, counted from 0, it passes the gate with `i`. The texts are those of the lexicon's rules, so that
-/// a caller with many lists of lines makes them once. Refused only for want of memory.
+/// The printed page of each line, as the replier gives it: reply `i` is that of line `i`. Workers, one for each processor and at least
+/// 2, answer the lines side by side by the runtime's join; each takes the next line that no worker has taken, until all are taken.
+/// Just before a worker begins line `i`, counted from 0, it passes the gate with `i`. Refused only for want of memory.
 pub(crate) fn read_all_with<R: Threads + Sync, G: Gate + Sync>(
     rt: &R,
     alloc: Global,
-    lexicon: &Lexicon,
-    texts: &RuleTexts<'_>,
+    replier: &Replier<'_, G>,
     lines: &[Line],
-    count: u32,
-    gate: &G,
 ) -> Result<Vec<Vec<u8>>, Memory>
-    requires texts { texts.now ≡ lexicon.now.lexicon.rules }
-    ensures ok { IfOk result (λ replies. AreReplies lexicon.now.lexicon count lines.now (map (λ reply. reply.items) replies.items)) }
+    ensures ok { IfOk result (λ replies. AreReplies replier.now.lexicon.now.lexicon replier.now.count lines.now (map (λ reply. reply.items) replies.items)) }
 {
-    let replier = Replier {
-        lexicon,
-        texts,
-        count,
-        gate,
-    };
     let next = AtomicUsize::new(0);
     let workers = count_of_workers(rt).min(lines.len());
-    let mut found = find_by_workers(rt, alloc, &replier, lines, &next, workers)?;
-    complete(alloc, &replier, lines, &mut found)
+    let mut found = find_by_workers(rt, alloc, replier, lines, &next, workers)?;
+    complete(alloc, replier, lines, &mut found)
 }
 
-/// What `read_all_with` gives with the texts of the lexicon's rules, which are made first.
+/// The printed page of each line, at most `count` answers a page: reply `i` is that of line `i`. The lines are answered as
+/// `read_all_with` answers them, with the texts of the lexicon's rules, which are made first; whoever has many lists of lines takes
+/// a `Batch`. Refused only for want of memory.
 pub fn read_all<R: Threads + Sync, G: Gate + Sync>(
     rt: &R,
     alloc: Global,
@@ -168,5 +159,11 @@ pub fn read_all<R: Threads + Sync, G: Gate + Sync>(
     ensures ok { IfOk result (λ replies. AreReplies lexicon.now.lexicon count lines.now (map (λ reply. reply.items) replies.items)) }
 {
     let texts = RuleTexts::new(alloc, lexicon.rules())?;
-    read_all_with(rt, alloc, lexicon, &texts, lines, count, gate)
+    let replier = Replier {
+        lexicon,
+        texts: &texts,
+        count,
+        gate,
+    };
+    read_all_with(rt, alloc, &replier, lines)
 }

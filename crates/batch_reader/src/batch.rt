@@ -10,6 +10,7 @@ ghost use Rattle.batch_reader.specs.Serving.{WroteReplies, WroteFirstReplies};
 use super::answering::read_all_with;
 use super::block::{Block, read_block};
 use super::printing::push_replies;
+use super::replier::Replier;
 use annotated_trie::Lexicon;
 use answer_printing::RuleTexts;
 use outside::{Gate, Sink, WriteError, write_all};
@@ -43,16 +44,14 @@ impl<'a, G: Gate + Sync> Batch<'a, G> {
         ensures { IfOk result (λ output. (texts : List TextLine) → AreRead (scheme_of self.now.scheme) texts block.now.faults.items block.now.lines.items
             → AreNumberedReplies self.now.lexicon.now.lexicon (scheme_of self.now.scheme) self.now.count number texts output.items) }
     {
+        let replier = Replier {
+            lexicon: self.lexicon,
+            texts: rule_texts,
+            count: self.count,
+            gate: self.gate,
+        };
         let lines = block.lines.as_slice();
-        let pages = read_all_with(
-            rt,
-            alloc,
-            self.lexicon,
-            rule_texts,
-            lines,
-            self.count,
-            self.gate,
-        )?;
+        let pages = read_all_with(rt, alloc, &replier, lines)?;
         let mut output = Vec::new(alloc);
         push_replies(
             alloc,

@@ -3,11 +3,10 @@ ghost use Rattle.lexicon_text_definitions.specs.FileLines.{Line as TextLine};
 ghost use Rattle.text_line.specs.Values.{scheme_of};
 ghost use Rattle.batch_reader.specs.Blocks.{AreRead, HasReadBlock};
 
-use super::line_fault::LineFault;
 use lexicon_file::first_line;
 use phoneme::{Line, Memory};
 use std::alloc::Global;
-use text_line::{LineError, Scheme, read_line};
+use text_line::{Scheme, TextFault, read_line};
 
 /// A block has at most this many lines of the text.
 pub(crate) const BLOCK_LINES: usize = 64;
@@ -16,7 +15,7 @@ pub(crate) const BLOCK_LINES: usize = 64;
 #[derive(Drop)]
 pub(crate) struct Block {
     /// The fault of each of them, or `None` for a line that is answered.
-    pub faults: Vec<Option<LineFault>>,
+    pub faults: Vec<Option<TextFault>>,
     /// The lines that are answered, in their order.
     pub lines: Vec<Line>,
 }
@@ -33,7 +32,7 @@ impl Block {
     }
 
     /// Adds the fault of a line.
-    fn push_fault(&mut self, fault: LineFault) -> Result<(), Memory>
+    fn push_fault(&mut self, fault: TextFault) -> Result<(), Memory>
         ensures faults { OnOk result (self.new.faults.items ≡ self.old.faults.items ++ Some fault ∷ []) }
         ensures lines { OnOk result (self.new.lines.items ≡ self.old.lines.items) }
     {
@@ -42,7 +41,7 @@ impl Block {
     }
 
     /// Adds the line that is read in the bytes, or their fault.
-    #[tactic(auto, using(crate::proofs::ReadLines::line_read_after, crate::proofs::ReadLines::fault_read_after))]
+    #[tactic(auto, using(crate::proofs::ReadLines::line_read_after, crate::proofs::ReadLines::error_read_after))]
     fn push(&mut self, alloc: Global, scheme: Scheme, bytes: &[u8]) -> Result<(), Memory>
         requires { length bytes.now < 2 ^ 32 }
         ensures { OnOk result ((texts : List TextLine) (ended : Bool) → AreRead (scheme_of scheme) texts self.old.faults.items self.old.lines.items
@@ -50,10 +49,7 @@ impl Block {
     {
         match read_line(alloc, scheme, bytes) {
             Ok(line) => self.push_line(line),
-            Err(LineError::Spell(fault)) => self.push_fault(LineFault::Spell(fault)),
-            Err(LineError::NoLetters) => self.push_fault(LineFault::NoLetters),
-            Err(LineError::TooLong) => self.push_fault(LineFault::TooLong),
-            Err(LineError::Memory) => Err(Memory),
+            Err(error) => self.push_fault(error.fault()?),
         }
     }
 }

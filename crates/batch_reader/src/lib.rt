@@ -18,7 +18,6 @@ mod answering;
 mod batch;
 mod block;
 mod bounded_moves;
-mod line_fault;
 mod printing;
 mod replier;
 #[cfg(test)]

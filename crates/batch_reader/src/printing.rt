@@ -2,12 +2,13 @@ ghost use Rattle.std.specs.Prelude.{◌≡◌, ◌+◌, ◌^◌, ◌<◌, ◌++�
 ghost use Rattle.std.specs.Fmt.{decimal};
 ghost use Rattle.segmentation_definitions.specs.PrintedAnswers.{output_line};
 ghost use Rattle.session_definitions.specs.Replies.{why_no_line};
-ghost use Rattle.batch_reader.specs.Blocks.{fault_meant, HasRepliedTo};
+ghost use Rattle.text_line.specs.Values.{text_fault};
+ghost use Rattle.batch_reader.specs.Blocks.{HasRepliedTo};
 
-use super::line_fault::LineFault;
 use answer_printing::{push_misspelling, push_refusal};
 use phoneme::Memory;
 use std::alloc::Global;
+use text_line::TextFault;
 
 /// Appends `line I`.
 fn push_number(alloc: Global, output: &mut Vec<u8>, number: u64) -> Result<(), Memory>
@@ -18,13 +19,13 @@ fn push_number(alloc: Global, output: &mut Vec<u8>, number: u64) -> Result<(), M
 }
 
 /// Appends `?` and why a text is no line.
-fn push_fault(alloc: Global, output: &mut Vec<u8>, fault: LineFault) -> Result<(), Memory>
-    ensures { OnOk result (output.new.items ≡ output.old.items ++ output_line (codes "? " ++ why_no_line (fault_meant fault))) }
+fn push_fault(alloc: Global, output: &mut Vec<u8>, fault: TextFault) -> Result<(), Memory>
+    ensures { OnOk result (output.new.items ≡ output.old.items ++ output_line (codes "? " ++ why_no_line (text_fault fault))) }
 {
     match fault {
-        LineFault::Spell(fault) => push_misspelling(alloc, output, fault),
-        LineFault::NoLetters => push_refusal(output, "no letters"),
-        LineFault::TooLong => push_refusal(output, "too long"),
+        TextFault::Spell(fault) => push_misspelling(alloc, output, fault),
+        TextFault::NoLetters => push_refusal(output, "no letters"),
+        TextFault::TooLong => push_refusal(output, "too long"),
     }
 }
 
@@ -48,11 +49,11 @@ fn push_reply<'a>(
     alloc: Global,
     output: &mut Vec<u8>,
     number: u64,
-    fault: &Option<LineFault>,
+    fault: &Option<TextFault>,
     pages: &'a [Vec<u8>],
 ) -> Result<&'a [Vec<u8>], Memory>
-    ensures fault { IfOk result (λ left. (why : LineFault) → fault.now ≡ Some why
-        → (output.new.items ≡ (output.old.items ++ output_line (codes "line " ++ decimal number)) ++ output_line (codes "? " ++ why_no_line (fault_meant why)))
+    ensures fault { IfOk result (λ left. (why : TextFault) → fault.now ≡ Some why
+        → (output.new.items ≡ (output.old.items ++ output_line (codes "line " ++ decimal number)) ++ output_line (codes "? " ++ why_no_line (text_fault why)))
         × (map (λ page. page.items) left.now ≡ map (λ page. page.items) pages.now)) }
     ensures page { IfOk result (λ left. fault.now ≡ None → (page : List ℕ) (later : List (List ℕ)) → map (λ p. p.items) pages.now ≡ page ∷ later
         → (output.new.items ≡ (output.old.items ++ output_line (codes "line " ++ decimal number)) ++ page)
@@ -74,7 +75,7 @@ pub(crate) fn push_replies(
     alloc: Global,
     output: &mut Vec<u8>,
     number: u64,
-    faults: &[Option<LineFault>],
+    faults: &[Option<TextFault>],
     pages: &[Vec<u8>],
 ) -> Result<(), Memory>
     requires { number + length faults.now < 2 ^ 64 }

@@ -1,21 +1,14 @@
 -- The order of overlaps is total, so the first ones are told by which they are; one is left after both lists or after neither.
 use Rattle.std.proofs.Common.{◌≡◌, ℕ, inl, inr, List, Bool, true, false, refl, sym, subst, arith}
-use Rattle.std.specs.Cmp.{IsTotalOrder}
 use Rattle.std.specs.List.{Contains}
 use Rattle.std.specs.declared.cmp.Ordering.TheVariants.{Less}
-use Rattle.std.proofs.lemmas.Cmp.{nat_cmp_total, nat_list_cmp_total, then_total, on_total}
 use Rattle.std.proofs.lemmas.List.Elements.{All-contains}
 use Rattle.lexicon_definitions.specs.Lexicons.{Lexicon}
 use Rattle.list_laws.specs.Firsts.{ComesAfter}
 use Rattle.list_laws.proofs.Sorted.{same_fronts, not_Less-itself}
-use Rattle.run_definitions.specs.Overlaps.{Overlap, IsOverlapOf, compare_overlaps, AreFirstOverlaps}
-
--- the order of overlaps is total
-pub compare_overlaps_total : IsTotalOrder compare_overlaps
-compare_overlaps_total =
-    then_total (on_total (λ (o : Overlap). o.phase) nat_cmp_total)
-    (then_total (on_total (λ (o : Overlap). o.form) nat_list_cmp_total)
-    (then_total (on_total (λ (o : Overlap). o.before) nat_cmp_total) (on_total (λ (o : Overlap). o.after) nat_cmp_total)))
+use Rattle.segmentation_definitions.specs.Overlaps.{Overlap, IsOverlap, compare_overlaps}
+use Rattle.segmentation_definitions.proofs.OverlapOrder.{compare_overlaps_total}
+use Rattle.run_definitions.specs.Overlaps.{AreFirstOverlaps}
 
 same_list : (lexicon : Lexicon) (most : ℕ) (left right : List Overlap) (left_more right_more : Bool)
     → AreFirstOverlaps lexicon most left left_more → AreFirstOverlaps lexicon most right right_more → left ≡ right
@@ -31,7 +24,7 @@ not_after_itself overlaps x m after =
 
 -- where an overlap is left after a list, one is left after each
 left_after : (lexicon : Lexicon) (most : ℕ) (overlaps : List Overlap) (more : Bool) → AreFirstOverlaps lexicon most overlaps more
-    → (x : Overlap) → IsOverlapOf lexicon x → ComesAfter compare_overlaps overlaps x → more ≡ true
+    → (x : Overlap) → IsOverlap lexicon x → ComesAfter compare_overlaps overlaps x → more ≡ true
 left_after lexicon most overlaps more l x is after =
     elim (l.first.complete x is) [ inl m ↦ absurd (not_after_itself overlaps x m after) | inr (e, b) ↦ e ]
 

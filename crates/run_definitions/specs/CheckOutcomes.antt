@@ -7,7 +7,8 @@ use Rattle.run_definitions.specs.Arguments.{FileWord, AreNamed}
 use Rattle.run_definitions.specs.Ends.{Outcome, Done, ReadFault, BadFile, outcome_over}
 use Rattle.run_definitions.specs.Refusals.{file_refusal, usage_outcome}
 use Rattle.run_definitions.specs.LexiconTells.{FileTells, NotThere, Refused, Holds, DoesTell}
-use Rattle.run_definitions.specs.Overlaps.{Overlap, AreFirstOverlaps, printed_check}
+use Rattle.segmentation_definitions.specs.Overlaps.{Overlap}
+use Rattle.run_definitions.specs.Overlaps.{AreFirstOverlaps, printed_check}
 
 -- ---- the words
 

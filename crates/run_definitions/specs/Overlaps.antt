@@ -1,38 +1,17 @@
 -- The first overlaps of a lexicon, whether one is left after them, and how they are printed (own).
 use Rattle.std.specs.Prelude.{◌≡◌, ℕ, ◌≤◌, Bool, true, List, [], ◌∷◌, ◌++◌, length, codes}
 use Rattle.std.specs.Fmt.{decimal}
-use Rattle.std.specs.declared.cmp.Ordering.{Ordering}
-use Rattle.std.specs.Ordering.{nat_cmp, ordering_then}
 use Rattle.list_laws.specs.Firsts.{AreFirst}
-use Rattle.text_definitions.specs.Words.{compare_words}
 use Rattle.text_definitions.specs.Slp1.{slp1_of_word}
 use Rattle.lexicon_definitions.specs.Rules.{printed_rule}
 use Rattle.lexicon_definitions.specs.Lexicons.{Lexicon, RuleSet, rule_of}
 use Rattle.lexicon_definitions.specs.Limits.{count_lines}
-use Rattle.segmentation_definitions.specs.Derivations.{IsOverlap}
+use Rattle.segmentation_definitions.specs.Overlaps.{Overlap, IsOverlap, compare_overlaps}
 use Rattle.segmentation_definitions.specs.PrintedAnswers.{name_of, output_line, printed_rest}
-
--- a form of a phase, and the numbers of the rules before and after it
-pub record Overlap : Type 0 where
-  pub phase : ℕ
-  pub form : List ℕ
-  pub before : ℕ
-  pub after : ℕ
-
--- it is an overlap of the lexicon
-abbrev pub IsOverlapOf : Lexicon → Overlap → Type 0
-IsOverlapOf lexicon overlap = IsOverlap lexicon overlap.phase overlap.form overlap.before overlap.after
-
--- overlaps are ordered by phase, then by form, then by the rule before, then by the rule after
-abbrev pub compare_overlaps : Overlap → Overlap → Ordering
-compare_overlaps left right =
-    ordering_then (nat_cmp left.phase right.phase)
-    (ordering_then (compare_words left.form right.form)
-    (ordering_then (nat_cmp left.before right.before) (nat_cmp left.after right.after)))
 
 -- these are the first overlaps of the lexicon, at most so many, and where more is true others are left after that many
 pub record AreFirstOverlaps (lexicon : Lexicon) (most : ℕ) (overlaps : List Overlap) (more : Bool) : Type 0 where
-  pub first : AreFirst compare_overlaps (IsOverlapOf lexicon) overlaps more
+  pub first : AreFirst compare_overlaps (IsOverlap lexicon) overlaps more
   pub at_most : length overlaps ≤ most
   pub full : more ≡ true → length overlaps ≡ most
 

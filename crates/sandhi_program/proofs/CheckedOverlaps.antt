@@ -6,85 +6,58 @@ use Rattle.std.specs.List.{All, Contains}
 use Rattle.std.specs.List.Sorted.{IsStrictlySortedBy}
 use Rattle.std.specs.declared.cmp.Ordering.TheVariants.{Less}
 use Rattle.std.proofs.lemmas.Bool.{cases_lt}
-use Rattle.std.proofs.lemmas.List.{length-map, length-drop, take-append-drop, get_or_past}
-use Rattle.std.proofs.lemmas.List.Elements.{All-map, All-take, All-from_recursion, recursion_from_All}
-use Rattle.std.proofs.lemmas.Map.Keys.{sorted_head, sorted_tail}
+use Rattle.std.proofs.lemmas.List.{length-drop, take-append-drop, get_or_past}
+use Rattle.std.proofs.lemmas.List.Elements.{All-take}
 use Rattle.list_laws.specs.Firsts.{ComesAfter}
 use Rattle.list_laws.proofs.Sorted.{Contains-first, Contains-from_take, Contains-from_drop, Contains-parts, All-from_Contains, not_Contains-nil, sorted_front, following_front}
-use Rattle.list_laws.proofs.FirstOnes.{Contains-map, Contains-map_cases}
 use Rattle.lexicon_definitions.specs.Lexicons.{Lexicon, Form}
 use Rattle.strictness.specs.Overlaps as found
-use Rattle.strictness.specs.declared.overlap.Overlap.{Overlap as ProgramOverlap}
-use Rattle.strictness.proofs.OverlapOrder.{compare_overlaps_total}
-use Rattle.run_definitions.specs.Overlaps.{Overlap, IsOverlapOf, compare_overlaps, AreFirstOverlaps}
-use Rattle.sandhi_program.specs.Checks.{overlap_of, CanBePrinted}
+use Rattle.segmentation_definitions.specs.Overlaps.{Overlap, IsOverlap, compare_overlaps}
+use Rattle.segmentation_definitions.proofs.OverlapOrder.{compare_overlaps_total}
+use Rattle.run_definitions.specs.Overlaps.{AreFirstOverlaps}
+use Rattle.sandhi_program.specs.Checks.{CanBePrinted}
 
--- the overlap of the program that is this one
-abbrev program_overlap : Overlap → ProgramOverlap
-program_overlap x = record { phase = x.phase; form = x.form; before = x.before; after = x.after }
-
-rising_images : (xs : List ProgramOverlap) → IsStrictlySortedBy found.compare_overlaps xs
-    → IsStrictlySortedBy compare_overlaps (map overlap_of xs)
-unfolding IsStrictlySortedBy
-rising_images [] s = tt
-rising_images (x ∷ xs) s =
-    let head = All-from_recursion (λ y. found.compare_overlaps x y ≡ Less) xs (sorted_head found.compare_overlaps x xs s) in (
-      recursion_from_All (λ y. compare_overlaps (overlap_of x) y ≡ Less) (map overlap_of xs)
-          (All-map (λ y. compare_overlaps (overlap_of x) y ≡ Less) overlap_of xs head),
-      rising_images xs (sorted_tail found.compare_overlaps x xs s),
-    )
-
-module _ (lexicon : Lexicon) (most : ℕ) (xs : List ProgramOverlap) (more : Bool) (a : found.AreFirstOverlaps lexicon (most + 1) xs)
+module _ (lexicon : Lexicon) (most : ℕ) (xs : List Overlap) (more : Bool) (a : found.AreFirstOverlaps lexicon (most + 1) xs)
     (tells : IsTrue more ↔ (most < length xs)) where
-  cut_rises : IsStrictlySortedBy found.compare_overlaps (take most xs ++ drop most xs)
-  cut_rises = subst (IsStrictlySortedBy found.compare_overlaps) (sym (take-append-drop most xs)) a.rising
+  cut_rises : IsStrictlySortedBy compare_overlaps (take most xs ++ drop most xs)
+  cut_rises = subst (IsStrictlySortedBy compare_overlaps) (sym (take-append-drop most xs)) a.rising
 
   -- what is left after the first ones comes after them
-  dropped_after : (x : ProgramOverlap) → Contains (drop most xs) x → ComesAfter compare_overlaps (map overlap_of (take most xs)) (overlap_of x)
-  dropped_after x m =
-      All-map (λ y. compare_overlaps y (overlap_of x) ≡ Less) overlap_of (take most xs)
-      (following_front compare_overlaps_total (take most xs) (drop most xs) x cut_rises m)
+  dropped_after : (x : Overlap) → Contains (drop most xs) x → ComesAfter compare_overlaps (take most xs) x
+  dropped_after x m = following_front compare_overlaps_total (take most xs) (drop most xs) x cut_rises m
 
   -- where one is left there is more
-  is_more : (x : ProgramOverlap) → Contains (drop most xs) x → more ≡ true
+  is_more : (x : Overlap) → Contains (drop most xs) x → more ≡ true
   is_more x (k, l, e) = tells.1 (omega (arith, length-drop most xs))
 
-  complete : (x : ProgramOverlap) → found.IsOverlapOf lexicon x
-      → Contains (map overlap_of (take most xs)) (overlap_of x) ⊎ ((more ≡ true) × ComesAfter compare_overlaps (map overlap_of (take most xs)) (overlap_of x))
+  complete : (x : Overlap) → IsOverlap lexicon x
+      → Contains (take most xs) x ⊎ ((more ≡ true) × ComesAfter compare_overlaps (take most xs) x)
   complete x p =
       elim (a.first x p) [
-        | inl m ↦ elim (Contains-parts most xs x m) [
-          | inl n ↦ inl (Contains-map overlap_of (take most xs) x n)
-          | inr n ↦ inr (is_more x n, dropped_after x n)
-        ]
-        | inr (full, after) ↦ inr (
-          tells.1 (omega arith),
-          All-map (λ y. compare_overlaps y (overlap_of x) ≡ Less) overlap_of (take most xs)
-              (All-take (λ y. found.compare_overlaps y x ≡ Less) most xs after),
-        )
+        | inl m ↦ elim (Contains-parts most xs x m) [ inl n ↦ inl n | inr n ↦ inr (is_more x n, dropped_after x n) ]
+        | inr (full, after) ↦ inr (tells.1 (omega arith), All-take (λ y. compare_overlaps y x ≡ Less) most xs after)
       ]
 
-  left : more ≡ true → (x : Overlap) × IsOverlapOf lexicon x × ComesAfter compare_overlaps (map overlap_of (take most xs)) x
+  left : more ≡ true → (x : Overlap) × IsOverlap lexicon x × ComesAfter compare_overlaps (take most xs) x
   left t = go (drop most xs) refl (omega (arith, length-drop most xs, tells.0 t))
     where
-      go : (rest : List ProgramOverlap) → drop most xs ≡ rest → 0 < length rest
-          → (x : Overlap) × IsOverlapOf lexicon x × ComesAfter compare_overlaps (map overlap_of (take most xs)) x
+      go : (rest : List Overlap) → drop most xs ≡ rest → 0 < length rest
+          → (x : Overlap) × IsOverlap lexicon x × ComesAfter compare_overlaps (take most xs) x
       go [] e l = absurd (omega arith)
       go (x ∷ rest) e l =
           let m = subst (λ list. Contains list x) (sym e) (Contains-first x rest) in
-          (overlap_of x, a.only x (Contains-from_drop most xs x m), dropped_after x m)
+          (x, a.only x (Contains-from_drop most xs x m), dropped_after x m)
 
-  pub first_of_more : AreFirstOverlaps lexicon most (map overlap_of (take most xs)) more
+  pub first_of_more : AreFirstOverlaps lexicon most (take most xs) more
   first_of_more = record {
     first = record {
-      rising = rising_images (take most xs) (sorted_front compare_overlaps_total (take most xs) (drop most xs) cut_rises);
-      only = λ y m. let (x, n, e) = Contains-map_cases overlap_of (take most xs) y m in
-          subst (IsOverlapOf lexicon) e (a.only x (Contains-from_take most xs x n));
-      complete = λ y p. complete (program_overlap y) p;
+      rising = sorted_front compare_overlaps_total (take most xs) (drop most xs) cut_rises;
+      only = λ x m. a.only x (Contains-from_take most xs x m);
+      complete = complete;
       left = left;
     };
-    at_most = omega (arith, length-map (take most xs) overlap_of, length-take most xs);
-    full = λ t. omega (arith, length-map (take most xs) overlap_of, length-take most xs, tells.0 t);
+    at_most = omega (arith, length-take most xs);
+    full = λ t. omega (arith, length-take most xs, tells.0 t);
   }
 
 -- a phase that has a form is a phase of the lexicon
@@ -98,12 +71,12 @@ phase_within lists phase word m =
     ]
 
 -- overlaps can be printed
-pub can_be_printed : (lexicon : Lexicon) (xs : List ProgramOverlap) (most : ℕ) (more : Bool)
-    → length lexicon.phases ≡ length lexicon.rules.names → AreFirstOverlaps lexicon most (map overlap_of xs) more
+pub can_be_printed : (lexicon : Lexicon) (xs : List Overlap) (most : ℕ) (more : Bool)
+    → length lexicon.phases ≡ length lexicon.rules.names → AreFirstOverlaps lexicon most xs more
     → All (CanBePrinted lexicon.rules) xs
 can_be_printed lexicon xs most more count a =
     All-from_Contains (CanBePrinted lexicon.rules) xs (λ x m.
-    let o = a.first.only (overlap_of x) (Contains-map overlap_of xs x m) in
+    let o = a.first.only x m in
     record {
       phase = omega (arith, phase_within lexicon.phases x.phase x.form o.of_phase);
       before = o.inner.0;

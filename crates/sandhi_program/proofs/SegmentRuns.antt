@@ -4,7 +4,7 @@ use Rattle.text_definitions.specs.Schemes.{Scheme}
 use Rattle.outside.specs.Files.{Files, contents_of}
 use Rattle.run_definitions.specs.Commands.{FileWord}
 use Rattle.run_definitions.specs.Ends as ends
-use Rattle.run_definitions.specs.Ends.{Outcome, outcome_over}
+use Rattle.run_definitions.specs.Ends.{outcome_over}
 use Rattle.run_definitions.specs.SegmentOutcomes as outcomes
 use Rattle.run_definitions.specs.LexiconTells.{DoesTell, NotThere, Refused, Holds, IsMissing, IsLarge, IsFaulty, IsLexicon}
 use Rattle.run_definitions.specs.SegmentOutcomes.{IsSegmentOutcome}
@@ -15,7 +15,8 @@ use Rattle.sandhi_program.specs.declared.status.Status.{Status}
 use Rattle.sandhi_program.specs.declared.status.Status.TheVariants.{Done, Usage, BadFile, BadText}
 use Rattle.sandhi_program.specs.declared.status.AnyFault.{AnyFault}
 use Rattle.sandhi_program.specs.declared.status.AnyFault.TheVariants.{Large, Lexicon as OfLexicon, Rules, Tables, Stems}
-use Rattle.sandhi_program.specs.Faults.{Tells, file_fault, text_fault}
+use Rattle.text_line.specs.Values.{text_fault}
+use Rattle.sandhi_program.specs.Faults.{Tells, file_fault}
 use Rattle.sandhi_program.specs.RunEnds.{HasOutcome}
 use Rattle.sandhi_program.specs.Segments.{IsRefusedFile, Writes}
 use Rattle.sandhi_program.specs.Segments as segments

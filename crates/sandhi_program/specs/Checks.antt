@@ -4,10 +4,10 @@ use Rattle.lexicon_definitions.specs.Lexicons.{Lexicon, RuleSet}
 use Rattle.lexicon_text_definitions.specs.declared.limits.TheConstants.{MOST_FILE_BYTES}
 use Rattle.lexicon_text_definitions.specs.FileReadings.{IsReadAs}
 use Rattle.segmentation_definitions.specs.Derivations.{IsRuleNumber}
-use Rattle.strictness.specs.declared.overlap.Overlap.{Overlap as ProgramOverlap}
+use Rattle.segmentation_definitions.specs.Overlaps.{Overlap}
 use Rattle.run_definitions.specs.declared.limits.TheConstants.{CHECK_OVERLAPS}
 use Rattle.run_definitions.specs.Commands.{FileWord}
-use Rattle.run_definitions.specs.Overlaps.{Overlap, AreFirstOverlaps, printed_check}
+use Rattle.run_definitions.specs.Overlaps.{AreFirstOverlaps, printed_check}
 use Rattle.run_definitions.specs.Refusals.{file_refusal}
 use Rattle.sandhi_program.specs.declared.status.Status.{Status}
 use Rattle.sandhi_program.specs.declared.status.Status.TheVariants.{Done, BadFile}
@@ -15,12 +15,8 @@ use Rattle.sandhi_program.specs.declared.status.AnyFault.{AnyFault}
 use Rattle.sandhi_program.specs.Faults.{file_fault}
 use Rattle.sandhi_program.specs.Segments.{IsRefusedFile}
 
--- the overlap of the definitions that this one is
-abbrev pub overlap_of : ProgramOverlap → Overlap
-overlap_of overlap = record { phase = overlap.phase; form = overlap.form; before = overlap.before; after = overlap.after }
-
 -- the overlap has a phase and two rules of the rule set
-pub record CanBePrinted (rules : RuleSet) (overlap : ProgramOverlap) : Type 0 where
+pub record CanBePrinted (rules : RuleSet) (overlap : Overlap) : Type 0 where
   pub phase : overlap.phase < length rules.names
   pub before : IsRuleNumber rules overlap.before
   pub after : IsRuleNumber rules overlap.after

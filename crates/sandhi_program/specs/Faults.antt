@@ -2,9 +2,7 @@
 use Rattle.std.specs.Prelude.{◌≡◌}
 use Rattle.run_definitions.specs.Ends as ends
 use Rattle.run_definitions.specs.Ends.{End, Outcome}
-use Rattle.text_definitions.specs.LineTexts as texts
-use Rattle.text_definitions.specs.LineTexts.{LineFault}
-use Rattle.latin_schemes.specs.Faults as spelling
+use Rattle.text_line.specs.Values.{text_fault}
 use Rattle.lexicon_file.specs.Contents as files
 use Rattle.rule_file.specs.Faults as rules
 use Rattle.paradigms.specs.Answers.{table_why, stem_why}
@@ -13,10 +11,8 @@ use Rattle.sandhi_program.specs.declared.status.Status.{Status}
 use Rattle.sandhi_program.specs.declared.status.Status.TheVariants.{Done, Memory, Usage, ReadFault, WriteFault, BadFile, BadText, TooMuch}
 use Rattle.sandhi_program.specs.declared.status.AnyFault.{AnyFault}
 use Rattle.sandhi_program.specs.declared.status.AnyFault.TheVariants.{Large, Lexicon, Rules, Tables, Stems, Spelling}
-use Rattle.sandhi_program.specs.declared.status.TextFault.{TextFault}
-use Rattle.sandhi_program.specs.declared.status.TextFault.TheVariants.{Spell, NoLetters, TooLong}
 
--- the fault of a file, and that of a text, as the definitions name them
+-- the fault of a file, as the definitions name it
 abbrev pub file_fault : AnyFault → ends.AnyFault
 file_fault Large = ends.Large
 file_fault (Lexicon fault) = ends.Lexicon (files.fault_of fault)
@@ -24,11 +20,6 @@ file_fault (Rules fault) = ends.Rules (rules.fault_of fault)
 file_fault (Tables fault) = ends.Tables (record { number = fault.number; why = table_why fault.why })
 file_fault (Stems fault) = ends.Stems (record { number = fault.number; why = stem_why fault.why })
 file_fault (Spelling fault) = ends.Spelling (conversion_fault fault)
-
-abbrev pub text_fault : TextFault → LineFault
-text_fault (Spell fault) = texts.Misspelled (spelling.fault_of fault)
-text_fault NoLetters = texts.NoLetters
-text_fault TooLong = texts.TooLong
 
 -- the status tells this end of a run; want of memory and a fault of the sink are no ends
 abbrev pub Tells : Status → End → Type 0

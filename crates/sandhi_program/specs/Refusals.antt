@@ -1,6 +1,9 @@
 -- How the refusals of a part are those of the whole; want of memory stays what it is.
+use Rattle.std.specs.Prelude.{Result, Ok, Err}
+use Rattle.phoneme.specs.declared.memory.Memory.{Memory}
 use Rattle.text_line.specs.declared.line_error.LineError.{LineError}
-use Rattle.text_line.specs.declared.line_error.LineError.TheVariants as line
+use Rattle.text_line.specs.declared.text_fault.TextFault.{TextFault}
+use Rattle.text_line.specs.Values.{fault_of_error}
 use Rattle.lexicon_file.specs.declared.error.FileError.{FileError}
 use Rattle.lexicon_file.specs.declared.error.FileError.TheVariants as file
 use Rattle.rule_file.specs.declared.error.RuleError.{RuleError}
@@ -14,53 +17,52 @@ use Rattle.more_schemes.specs.declared.convert_error.ConvertError.{ConvertError}
 use Rattle.more_schemes.specs.declared.convert_error.ConvertError.TheVariants as conversion
 use Rattle.lexicon_builder.specs.declared.error.BuildError.{BuildError}
 use Rattle.lexicon_builder.specs.declared.error.BuildError.TheVariants as built
-use Rattle.sandhi_program.specs.declared.status.AnyFault.TheVariants as any
-use Rattle.sandhi_program.specs.declared.status.TextFault.TheVariants as text
-use Rattle.sandhi_program.specs.declared.lexicon_error.LexiconError.{LexiconError}
-use Rattle.sandhi_program.specs.declared.lexicon_error.LexiconError.TheVariants as lexicon
+use Rattle.sandhi_program.specs.declared.status.AnyFault.TheVariants as fault_is
+use Rattle.sandhi_program.specs.declared.any_error.AnyError.{AnyError}
+use Rattle.sandhi_program.specs.declared.any_error.AnyError.TheVariants as any
 use Rattle.sandhi_program.specs.declared.segment.SegmentError.{SegmentError}
 use Rattle.sandhi_program.specs.declared.segment.SegmentError.TheVariants as segment
-use Rattle.sandhi_program.specs.declared.build.SourceError.{SourceError}
-use Rattle.sandhi_program.specs.declared.build.SourceError.TheVariants as source
 
 -- a fault of the lexicon file
-abbrev pub error_of_file : FileError → LexiconError
-error_of_file (file.Fault fault) = lexicon.Fault (any.Lexicon fault)
-error_of_file file.Memory = lexicon.Memory
+abbrev pub error_of_file : FileError → AnyError
+error_of_file (file.Fault fault) = any.Fault (fault_is.Lexicon fault)
+error_of_file file.Memory = any.Memory
 
--- a fault of the lexicon file, where a text is read too
-abbrev pub error_of_lexicon_file : LexiconError → SegmentError
-error_of_lexicon_file (lexicon.Fault fault) = segment.BadFile fault
-error_of_lexicon_file lexicon.Memory = segment.Memory
+-- a fault of a file, where a text is read too
+abbrev pub error_of_any : AnyError → SegmentError
+error_of_any (any.Fault fault) = segment.BadFile fault
+error_of_any any.Memory = segment.Memory
 
--- a fault of the text
+-- a fault of the text, where a lexicon file is read too
+abbrev pub error_of_text : Result TextFault Memory → SegmentError
+error_of_text (Ok fault) = segment.BadText fault
+error_of_text (Err memory) = segment.Memory
+
+-- the same of what reads the text
 abbrev pub error_of_line : LineError → SegmentError
-error_of_line (line.Spell fault) = segment.BadText (text.Spell fault)
-error_of_line line.NoLetters = segment.BadText text.NoLetters
-error_of_line line.TooLong = segment.BadText text.TooLong
-error_of_line line.Memory = segment.Memory
+error_of_line error = error_of_text (fault_of_error error)
 
 -- a fault of the rule file
-abbrev pub error_of_rules : RuleError → SourceError
-error_of_rules (rules.Fault fault) = source.Fault (any.Rules fault)
-error_of_rules rules.Memory = source.Memory
+abbrev pub error_of_rules : RuleError → AnyError
+error_of_rules (rules.Fault fault) = any.Fault (fault_is.Rules fault)
+error_of_rules rules.Memory = any.Memory
 
 -- a fault of the table file
-abbrev pub error_of_tables : TableError → SourceError
-error_of_tables (tables.Fault fault) = source.Fault (any.Tables fault)
-error_of_tables tables.Memory = source.Memory
+abbrev pub error_of_tables : TableError → AnyError
+error_of_tables (tables.Fault fault) = any.Fault (fault_is.Tables fault)
+error_of_tables tables.Memory = any.Memory
 
 -- a fault of the stem file
-abbrev pub error_of_stems : StemError → SourceError
-error_of_stems (stems.Fault fault) = source.Fault (any.Stems fault)
-error_of_stems stems.Memory = source.Memory
+abbrev pub error_of_stems : StemError → AnyError
+error_of_stems (stems.Fault fault) = any.Fault (fault_is.Stems fault)
+error_of_stems stems.Memory = any.Memory
 
 -- a fault of a text
-abbrev pub error_of_conversion : ConvertError → SourceError
-error_of_conversion (conversion.Fault fault) = source.Fault (any.Spelling fault)
-error_of_conversion conversion.Memory = source.Memory
+abbrev pub error_of_conversion : ConvertError → AnyError
+error_of_conversion (conversion.Fault fault) = any.Fault (fault_is.Spelling fault)
+error_of_conversion conversion.Memory = any.Memory
 
 -- a lexicon that is too large, as a fault of the stem file that no record has
-abbrev pub error_of_lexicon : BuildError → SourceError
-error_of_lexicon built.Limit = source.Fault (any.Stems (record { number = 0; why = Limit }))
-error_of_lexicon built.Memory = source.Memory
+abbrev pub error_of_lexicon : BuildError → AnyError
+error_of_lexicon built.Limit = any.Fault (fault_is.Stems (record { number = 0; why = Limit }))
+error_of_lexicon built.Memory = any.Memory

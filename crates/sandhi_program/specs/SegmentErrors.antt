@@ -1,16 +1,16 @@
 -- What the refusals of a lexicon file and of a text say of their bytes.
 use Rattle.std.specs.Prelude.{ℕ, List}
 use Rattle.text_definitions.specs.Schemes.{Scheme}
-use Rattle.sandhi_program.specs.declared.lexicon_error.LexiconError.{LexiconError}
-use Rattle.sandhi_program.specs.declared.lexicon_error.LexiconError.TheVariants as lexicon
+use Rattle.sandhi_program.specs.declared.any_error.AnyError.{AnyError}
+use Rattle.sandhi_program.specs.declared.any_error.AnyError.TheVariants as any
 use Rattle.sandhi_program.specs.declared.segment.SegmentError.{SegmentError}
 use Rattle.sandhi_program.specs.declared.segment.SegmentError.TheVariants.{BadFile, BadText, Memory}
 use Rattle.sandhi_program.specs.Segments.{IsRefusedFile, IsRefusedText}
 
 -- the error is a fault of the file, or memory ran out
-abbrev pub IsFileError : List ℕ → LexiconError → Type 0
-IsFileError bytes (lexicon.Fault fault) = IsRefusedFile bytes fault
-IsFileError bytes lexicon.Memory = Unit {0}
+abbrev pub IsFileError : List ℕ → AnyError → Type 0
+IsFileError bytes (any.Fault fault) = IsRefusedFile bytes fault
+IsFileError bytes any.Memory = Unit {0}
 
 -- the error is a fault of the file or of the text, or memory ran out
 abbrev pub IsRefusal : List ℕ → Scheme → List ℕ → SegmentError → Type 0

@@ -3,6 +3,8 @@ use Rattle.std.specs.Prelude.{◌≡◌, ℕ, ◌<◌, ◌≤◌, List, [], leng
 use Rattle.text_definitions.specs.Lines.{Line}
 use Rattle.text_definitions.specs.Schemes.{Scheme}
 use Rattle.text_definitions.specs.LineTexts.{line_of_text}
+use Rattle.text_line.specs.declared.text_fault.TextFault.{TextFault}
+use Rattle.text_line.specs.Values.{text_fault}
 use Rattle.lexicon_definitions.specs.declared.limits.TheConstants.{MOST_FORM_LINES}
 use Rattle.lexicon_definitions.specs.Lexicons.{Lexicon, tree_of}
 use Rattle.lexicon_definitions.specs.Limits.{count_lines}
@@ -21,8 +23,7 @@ use Rattle.sandhi_program.specs.declared.status.Status.{Status}
 use Rattle.sandhi_program.specs.declared.status.Status.TheVariants.{Done, BadFile, BadText}
 use Rattle.sandhi_program.specs.declared.status.AnyFault.{AnyFault}
 use Rattle.sandhi_program.specs.declared.status.AnyFault.TheVariants.{Large, Lexicon as OfLexicon, Rules, Tables, Stems}
-use Rattle.sandhi_program.specs.declared.status.TextFault.{TextFault}
-use Rattle.sandhi_program.specs.Faults.{file_fault, text_fault}
+use Rattle.sandhi_program.specs.Faults.{file_fault}
 
 -- a lexicon can be built of what was read of a file: there are forms for each phase, not too many, and the automaton is that of
 -- the grammar

@@ -5,13 +5,13 @@ use Rattle.morphology_definitions.specs.Inflection.{Class, Stem}
 use Rattle.run_definitions.specs.Ends as ends
 use Rattle.run_definitions.specs.SourceLexicons.{IsLexiconOf, IsOversized}
 use Rattle.run_definitions.specs.BuildOutcomes.{lexicon_fault}
-use Rattle.sandhi_program.specs.declared.build.SourceError.{SourceError}
-use Rattle.sandhi_program.specs.declared.build.SourceError.TheVariants.{Fault, Memory}
+use Rattle.sandhi_program.specs.declared.any_error.AnyError.{AnyError}
+use Rattle.sandhi_program.specs.declared.any_error.AnyError.TheVariants.{Fault, Memory}
 use Rattle.sandhi_program.specs.Faults.{file_fault}
 use Rattle.sandhi_program.specs.Sources.{IsRefusedSource}
 
 -- the error is a fault of the file, or memory ran out
-abbrev pub IsSourceError : {A Why : Type 0} → (List ℕ → Result A Why → Type 0) → (Why → ends.AnyFault) → List ℕ → SourceError → Type 0
+abbrev pub IsSourceError : {A Why : Type 0} → (List ℕ → Result A Why → Type 0) → (Why → ends.AnyFault) → List ℕ → AnyError → Type 0
 IsSourceError is_read named bytes (Fault fault) = IsRefusedSource is_read named bytes (file_fault fault)
 IsSourceError is_read named bytes Memory = Unit {0}
 
@@ -22,6 +22,6 @@ pub record HaveLargeLexicon (rules : RuleSet) (classes : List Class) (stems : Li
   pub oversized : IsOversized lexicon
 
 -- the error is that the lexicon is too large, or memory ran out
-abbrev pub IsLimitError : RuleSet → List Class → List Stem → SourceError → Type 0
+abbrev pub IsLimitError : RuleSet → List Class → List Stem → AnyError → Type 0
 IsLimitError rules classes stems (Fault fault) = (file_fault fault ≡ lexicon_fault) × HaveLargeLexicon rules classes stems
 IsLimitError rules classes stems Memory = Unit {0}

@@ -2,6 +2,7 @@ use super::run::run;
 use super::status::Status;
 use super::tests::{CETI, NASTI};
 use outside::{Gate, MemoryShelf, MemorySink, MemorySource, NoGate};
+use std::alloc::Global;
 use std::process::Abort;
 use std::sync::atomic::{AtomicBool, Ordering};
 use std::test::Fail;

@@ -1,4 +1,7 @@
-ghost use Rattle.std.specs.Prelude.{◌≡◌, ◌≤◌, length, map, IfOk, IfErr, string_bytes};
+ghost use Rattle.std.specs.Prelude.{◌≡◌, ◌≤◌, length, map, ◌++◌, codes, IfOk, IfErr, string_bytes};
+ghost use Rattle.std.specs.Fmt.{decimal};
+ghost use Rattle.segmentation_definitions.specs.PrintedAnswers.{output_line};
+ghost use Rattle.lexicon_definitions.specs.Limits.{count_lines};
 ghost use Rattle.lexicon_definitions.specs.declared.limits.TheConstants.{MOST_PHASES};
 ghost use Rattle.rule_file_definitions.specs.RuleFileReadings.{IsReadAs};
 ghost use Rattle.run_definitions.specs.BuildOutcomes.{AreTables, AreStems};
@@ -7,111 +10,24 @@ ghost use Rattle.lexicon_builder.specs.Sources.{AreSources};
 ghost use Rattle.sandhi_program.specs.Sources.{HoldsSource, IsBuilt};
 ghost use Rattle.sandhi_program.specs.SourceErrors.{IsSourceError, IsLimitError};
 
+use super::any_error::AnyError;
 use super::status::AnyFault;
-use lexicon_builder::{BuildError, build_lexicon, lexicon_text};
+use form_lists::FormLists;
+use lexicon_builder::{build_lexicon, lexicon_text};
 use lexicon_text_definitions::MOST_FILE_BYTES;
-use more_schemes::ConvertError;
-use paradigms::{
-    StemError, StemFault, StemWhy, Stems, TableError, Tables, read_stems, read_tables,
-};
+use paradigms::{Stems, Tables, read_stems, read_tables};
 use phoneme::Memory;
-use rule_file::{RuleError, RuleFile, read};
-use std::alloc::{AllocError, Global};
+use rule_file::{RuleFile, read};
+use std::alloc::Global;
 use std::thread::Threads;
 
-/// Why a source file is refused, or that memory was wanting.
-#[derive(Clone, Copy, Debug, PartialEq, Eq)]
-pub(crate) enum SourceError {
-    Fault(AnyFault),
-    Memory,
-}
-
-impl From<AllocError> for SourceError {
-    ghost use Rattle.sandhi_program.specs.declared.build.SourceError.TheVariants as variant;
-
-    ghost from_gives = { λ _ e. e ≡ variant.Memory };
-
-    fn from(_refused: AllocError) -> SourceError {
-        SourceError::Memory
-    }
-}
-
-impl From<RuleError> for SourceError {
-    ghost use Rattle.sandhi_program.specs.Refusals.{error_of_rules};
-
-    ghost from_gives = { λ refused e. e ≡ error_of_rules refused };
-
-    fn from(refused: RuleError) -> SourceError {
-        match refused {
-            RuleError::Fault(fault) => SourceError::Fault(AnyFault::Rules(fault)),
-            RuleError::Memory => SourceError::Memory,
-        }
-    }
-}
-
-impl From<TableError> for SourceError {
-    ghost use Rattle.sandhi_program.specs.Refusals.{error_of_tables};
-
-    ghost from_gives = { λ refused e. e ≡ error_of_tables refused };
-
-    fn from(refused: TableError) -> SourceError {
-        match refused {
-            TableError::Fault(fault) => SourceError::Fault(AnyFault::Tables(fault)),
-            TableError::Memory => SourceError::Memory,
-        }
-    }
-}
-
-impl From<StemError> for SourceError {
-    ghost use Rattle.sandhi_program.specs.Refusals.{error_of_stems};
-
-    ghost from_gives = { λ refused e. e ≡ error_of_stems refused };
-
-    fn from(refused: StemError) -> SourceError {
-        match refused {
-            StemError::Fault(fault) => SourceError::Fault(AnyFault::Stems(fault)),
-            StemError::Memory => SourceError::Memory,
-        }
-    }
-}
-
-impl From<ConvertError> for SourceError {
-    ghost use Rattle.sandhi_program.specs.Refusals.{error_of_conversion};
-
-    ghost from_gives = { λ refused e. e ≡ error_of_conversion refused };
-
-    fn from(refused: ConvertError) -> SourceError {
-        match refused {
-            ConvertError::Fault(fault) => SourceError::Fault(AnyFault::Spelling(fault)),
-            ConvertError::Memory => SourceError::Memory,
-        }
-    }
-}
-
-/// No record of the stem file is at fault where the lexicon is too large; so the fault has the number 0.
-impl From<BuildError> for SourceError {
-    ghost use Rattle.sandhi_program.specs.Refusals.{error_of_lexicon};
-
-    ghost from_gives = { λ refused e. e ≡ error_of_lexicon refused };
-
-    fn from(refused: BuildError) -> SourceError {
-        match refused {
-            BuildError::Limit => SourceError::Fault(AnyFault::Stems(StemFault {
-                number: 0,
-                why: StemWhy::Limit,
-            })),
-            BuildError::Memory => SourceError::Memory,
-        }
-    }
-}
-
 /// What a rule file holds, whose length is judged before its bytes are looked at.
-pub(crate) fn read_rule_file(alloc: Global, bytes: &[u8]) -> Result<RuleFile, SourceError>
+pub(crate) fn read_rule_file(alloc: Global, bytes: &[u8]) -> Result<RuleFile, AnyError>
     ensures ok { IfOk result (λ file. HoldsSource IsReadAs bytes.now file.rules) }
     ensures refused { IfErr result (IsSourceError IsReadAs Rules bytes.now) }
 {
     if bytes.len() > MOST_FILE_BYTES {
-        return Err(SourceError::Fault(AnyFault::Large));
+        return Err(AnyError::Fault(AnyFault::Large));
     }
     Ok(read(alloc, bytes)?)
 }
@@ -121,13 +37,13 @@ pub(crate) fn read_table_file(
     alloc: Global,
     phases: &[String],
     bytes: &[u8],
-) -> Result<Tables, SourceError>
+) -> Result<Tables, AnyError>
     requires { length phases.now ≤ MOST_PHASES }
     ensures ok { IfOk result (λ tables. HoldsSource (AreTables (map string_bytes phases.now)) bytes.now tables) }
     ensures refused { IfErr result (IsSourceError (AreTables (map string_bytes phases.now)) OfTables bytes.now) }
 {
     if bytes.len() > MOST_FILE_BYTES {
-        return Err(SourceError::Fault(AnyFault::Large));
+        return Err(AnyError::Fault(AnyFault::Large));
     }
     Ok(read_tables(alloc, phases, bytes)?)
 }
@@ -137,12 +53,12 @@ pub(crate) fn read_stem_file(
     alloc: Global,
     tables: &Tables,
     bytes: &[u8],
-) -> Result<Stems, SourceError>
+) -> Result<Stems, AnyError>
     ensures ok { IfOk result (λ stems. HoldsSource (AreStems tables.now) bytes.now stems) }
     ensures refused { IfErr result (IsSourceError (AreStems tables.now) OfStems bytes.now) }
 {
     if bytes.len() > MOST_FILE_BYTES {
-        return Err(SourceError::Fault(AnyFault::Large));
+        return Err(AnyError::Fault(AnyFault::Large));
     }
     Ok(read_stems(alloc, tables, bytes)?)
 }
@@ -154,6 +70,14 @@ pub(crate) struct Built {
     pub output: String,
 }
 
+/// How many lines of forms the lexicon has, as a line.
+fn print_forms(alloc: Global, lists: &FormLists) -> Result<String, Memory>
+    ensures ok { IfOk result (λ text. string_bytes text ≡ output_line (codes "forms " ++ decimal (count_lines lists.now))) }
+{
+    let forms = lists.lines();
+    Ok(format!(in alloc; "forms {forms}\n")?)
+}
+
 /// The lexicon of the sources as its text, and how many lines of forms it has.
 pub(crate) fn build(
     rt: &(impl Threads + Sync),
@@ -161,7 +85,7 @@ pub(crate) fn build(
     file: RuleFile,
     tables: &Tables,
     stems: &Stems,
-) -> Result<Built, SourceError>
+) -> Result<Built, AnyError>
     requires { AreSources file.rules tables.now stems.now }
     ensures ok { IfOk result (IsBuilt file.rules tables.now stems.now) }
     ensures refused { IfErr result (IsLimitError file.rules tables.now stems.now) }
@@ -169,7 +93,6 @@ pub(crate) fn build(
     let RuleFile { rules, automaton } = file;
     let contents = build_lexicon(rt, alloc, rules, automaton, tables, stems)?;
     let text = lexicon_text(alloc, &contents)?;
-    let forms = contents.lists.lines();
-    let output = format!(in alloc; "forms {forms}\n")?;
+    let output = print_forms(alloc, &contents.lists)?;
     Ok(Built { text, output })
 }

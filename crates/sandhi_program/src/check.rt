@@ -1,4 +1,4 @@
-ghost use Rattle.std.specs.Prelude.{◌≡◌, ◌<◌, [], ◌∷◌, ◌++◌, length, map, All, IfOk, IfErr, OnOk, None, string_bytes};
+ghost use Rattle.std.specs.Prelude.{◌≡◌, ◌<◌, [], ◌∷◌, ◌++◌, length, All, IfOk, IfErr, OnOk, None, string_bytes};
 ghost use Rattle.lexicon_definitions.specs.Rules.{printed_rule};
 ghost use Rattle.lexicon_definitions.specs.Lexicons.{rule_of};
 ghost use Rattle.segmentation_definitions.specs.Derivations.{IsRuleNumber};
@@ -8,11 +8,11 @@ ghost use Rattle.run_definitions.specs.CheckOutcomes.{IsCheckOutcome};
 ghost use Rattle.command_words.specs.Meant.{word_meant};
 ghost use Rattle.sandhi_program.specs.Ends.{Wrote};
 ghost use Rattle.sandhi_program.specs.RunEnds.{devices, Ran};
-ghost use Rattle.sandhi_program.specs.Checks.{overlap_of, CanBePrinted, IsPrintedCheck, IsChecked, WritesCheck};
+ghost use Rattle.sandhi_program.specs.Checks.{CanBePrinted, IsPrintedCheck, IsChecked, WritesCheck};
 ghost use Rattle.sandhi_program.specs.SegmentErrors.{IsFileError};
 
+use super::any_error::AnyError;
 use super::ending::{finish, refuse_file};
-use super::lexicon_error::LexiconError;
 use super::reading::read_file;
 use super::segment::read_contents;
 use super::status::Status;
@@ -41,8 +41,7 @@ fn first_overlaps(
     rules: &RuleSet,
     lists: &FormLists,
 ) -> Result<FirstOverlaps, Memory>
-    ensures ok { IfOk result (λ found. AreFirstOverlaps (record { rules = rules.now; phases = lists.now }) CHECK_OVERLAPS
-        (map overlap_of found.overlaps.items) found.more) }
+    ensures ok { IfOk result (λ found. AreFirstOverlaps (record { rules = rules.now; phases = lists.now }) CHECK_OVERLAPS found.overlaps.items found.more) }
 {
     let mut overlaps = overlaps(alloc, lists, rules, CHECK_OVERLAPS + 1)?;
     let more = overlaps.len() > CHECK_OVERLAPS as usize;
@@ -64,7 +63,7 @@ fn print_rule_of(alloc: Global, rules: &RuleSet, number: u32) -> Result<String, 
 /// The line of an overlap.
 fn print_overlap(alloc: Global, rules: &RuleSet, overlap: &Overlap) -> Result<String, Memory>
     requires { CanBePrinted rules.now overlap.now }
-    ensures ok { IfOk result (λ text. string_bytes text ≡ output_line (printed_overlap rules.now (overlap_of overlap.now))) }
+    ensures ok { IfOk result (λ text. string_bytes text ≡ output_line (printed_overlap rules.now overlap.now)) }
 {
     let phase = rules.phases()[overlap.phase as usize].as_str();
     let form = print_slp1(alloc, &overlap.form)?;
@@ -81,7 +80,7 @@ fn push_overlaps(
     overlaps: &[Overlap],
 ) -> Result<(), Memory>
     requires { All (CanBePrinted rules.now) overlaps.now }
-    ensures ok { OnOk result (string_bytes output.new ≡ string_bytes output.old ++ printed_overlaps rules.now (map overlap_of overlaps.now)) }
+    ensures ok { OnOk result (string_bytes output.new ≡ string_bytes output.old ++ printed_overlaps rules.now overlaps.now) }
 {
     for overlap in overlaps {
         let line = print_overlap(alloc, rules, overlap)?;
@@ -113,7 +112,7 @@ fn print_check(alloc: Global, rules: &RuleSet, lists: &FormLists) -> Result<Stri
 }
 
 /// What `check` writes for the bytes of a lexicon file.
-pub(crate) fn check(alloc: Global, bytes: &[u8]) -> Result<String, LexiconError>
+pub(crate) fn check(alloc: Global, bytes: &[u8]) -> Result<String, AnyError>
     ensures ok { IfOk result (λ output. IsChecked bytes.now (string_bytes output)) }
     ensures refused { IfErr result (IsFileError bytes.now) }
 {
@@ -127,8 +126,8 @@ fn write_check<O: Sink>(alloc: Global, lex: &PlacedWord<'_>, bytes: &[u8], out: 
 {
     match check(alloc, bytes) {
         Ok(output) => finish(out, output.as_bytes(), Status::Done),
-        Err(LexiconError::Fault(fault)) => refuse_file(alloc, lex, fault, out),
-        Err(LexiconError::Memory) => Status::Memory,
+        Err(AnyError::Fault(fault)) => refuse_file(alloc, lex, fault, out),
+        Err(AnyError::Memory) => Status::Memory,
     }
 }
 

@@ -8,7 +8,7 @@ ghost use Rattle.sandhi_program.specs.RunEnds.{devices, Ran};
 ghost use Rattle.sandhi_program.specs.SourceErrors.{IsSourceError};
 ghost use Rattle.sandhi_program.specs.Conversions.{IsConvertedFile};
 
-use super::build::SourceError;
+use super::any_error::AnyError;
 use super::ending::{finish, refuse_file};
 use super::reading::read_file;
 use super::status::{AnyFault, Status};
@@ -17,6 +17,7 @@ use lexicon_file::first_line;
 use lexicon_text_definitions::MOST_FILE_BYTES;
 use more_schemes::{AnyScheme, convert};
 use outside::{Shelf, Sink, WriteError};
+use phoneme::Memory;
 use std::alloc::Global;
 
 /// A text in another scheme, and what is printed of it.
@@ -39,22 +40,28 @@ fn count_lines(bytes: &[u8]) -> usize
     count
 }
 
+/// How many lines the text has, as a line.
+fn print_lines(alloc: Global, lines: usize) -> Result<String, Memory>
+    ensures ok { IfOk result (λ text. string_bytes text ≡ printed_lines lines) }
+{
+    Ok(format!(in alloc; "lines {lines}\n")?)
+}
+
 /// The bytes of a text file in the other scheme, whose length is judged before its lines are looked at.
 fn convert_file(
     alloc: Global,
     input: AnyScheme,
     output: AnyScheme,
     bytes: &[u8],
-) -> Result<ConvertedFile, SourceError>
+) -> Result<ConvertedFile, AnyError>
     ensures ok { IfOk result (IsConvertedFile (any_scheme_of input) (any_scheme_of output) bytes.now) }
     ensures refused { IfErr result (IsSourceError (IsConversion (any_scheme_of input) (any_scheme_of output)) Spelling bytes.now) }
 {
     if bytes.len() > MOST_FILE_BYTES {
-        return Err(SourceError::Fault(AnyFault::Large));
+        return Err(AnyError::Fault(AnyFault::Large));
     }
     let text = convert(alloc, input, output, bytes)?;
-    let lines = count_lines(bytes);
-    let output = format!(in alloc; "lines {lines}\n")?;
+    let output = print_lines(alloc, count_lines(bytes))?;
     Ok(ConvertedFile { text, output })
 }
 
@@ -75,8 +82,8 @@ pub(crate) fn run_convert<H: Shelf, O: Sink>(
     };
     match convert_file(alloc, words.input, words.output, bytes.as_slice()) {
         Ok(converted) => write_converted(words, &converted, shelf, sink),
-        Err(SourceError::Fault(fault)) => refuse_file(alloc, &words.file, fault, sink),
-        Err(SourceError::Memory) => Status::Memory,
+        Err(AnyError::Fault(fault)) => refuse_file(alloc, &words.file, fault, sink),
+        Err(AnyError::Memory) => Status::Memory,
     }
 }
 

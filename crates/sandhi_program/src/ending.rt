@@ -1,14 +1,16 @@
 ghost use Rattle.run_definitions.specs.Refusals.{file_refusal, text_refusal};
 ghost use Rattle.sandhi_program.specs.Headline.{IsNoFault};
+ghost use Rattle.text_line.specs.Values.{text_fault};
 ghost use Rattle.sandhi_program.specs.Ends.{Finishes, Refuses};
-ghost use Rattle.sandhi_program.specs.Faults.{file_fault, text_fault};
+ghost use Rattle.sandhi_program.specs.Faults.{file_fault};
 
 use super::refusal::{print_file_refusal, print_text_refusal};
-use super::status::{AnyFault, Status, TextFault};
+use super::status::{AnyFault, Status};
 use command_words::PlacedWord;
 use outside::{Sink, WriteError, write_all};
 use phoneme::Memory;
 use std::alloc::Global;
+use text_line::TextFault;
 
 /// Writes the output, and then ends with the status.
 pub(crate) fn finish<O: Sink>(out: &mut O, output: &[u8], status: Status) -> Status

@@ -9,6 +9,7 @@
 //! `write_fault_files`); and what stays (`failed_writes`, `failed_reads`, `unused_shelf`, `input`, `unread_input`).
 #![tactic(auto)]
 
+mod any_error;
 mod batch;
 #[cfg(test)]
 mod batch_tests;
@@ -25,7 +26,6 @@ mod escaped;
 mod explanation;
 #[cfg(test)]
 mod hostile_tests;
-mod lexicon_error;
 mod notes;
 mod read;
 #[cfg(test)]

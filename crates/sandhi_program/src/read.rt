@@ -5,8 +5,8 @@ ghost use Rattle.sandhi_program.specs.RunEnds.{devices};
 ghost use Rattle.sandhi_program.specs.SegmentErrors.{IsFileError};
 ghost use Rattle.sandhi_program.specs.Sessions.{status_at, source_told, sink_told, IsLexiconFile, WentOn, RanCommand};
 
+use super::any_error::AnyError;
 use super::ending::refuse_file;
-use super::lexicon_error::LexiconError;
 use super::reading::read_file;
 use super::segment::{build_lexicon, read_contents};
 use super::status::Status;
@@ -17,7 +17,7 @@ use reader_session::{ServeEnd, serve};
 use std::alloc::Global;
 
 /// The lexicon of a file's bytes, as it is searched.
-pub(crate) fn read_lexicon(alloc: Global, bytes: &[u8]) -> Result<Lexicon, LexiconError>
+pub(crate) fn read_lexicon(alloc: Global, bytes: &[u8]) -> Result<Lexicon, AnyError>
     ensures ok { IfOk result (λ lexicon. IsLexiconFile bytes.now lexicon.lexicon) }
     ensures refused { IfErr result (IsFileError bytes.now) }
 {
@@ -52,8 +52,8 @@ fn serve_over<I: Source, O: Sink>(
 {
     match read_lexicon(alloc, bytes) {
         Ok(lexicon) => status_of(serve(alloc, &lexicon, input, out)),
-        Err(LexiconError::Fault(fault)) => refuse_file(alloc, lex, fault, out),
-        Err(LexiconError::Memory) => Status::Memory,
+        Err(AnyError::Fault(fault)) => refuse_file(alloc, lex, fault, out),
+        Err(AnyError::Memory) => Status::Memory,
     }
 }
 

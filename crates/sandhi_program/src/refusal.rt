@@ -1,13 +1,15 @@
 ghost use Rattle.std.specs.Prelude.{◌≡◌, IfOk, string_bytes};
 ghost use Rattle.lexicon_file.specs.Faults.{why_of};
 ghost use Rattle.run_definitions.specs.Refusals.{name_of_why, file_refusal, text_refusal};
-ghost use Rattle.sandhi_program.specs.Faults.{file_fault, text_fault};
+ghost use Rattle.text_line.specs.Values.{text_fault};
+ghost use Rattle.sandhi_program.specs.Faults.{file_fault};
 
 use super::source_refusal::{name_of_stem_why, name_of_table_why, record_refusal, rules_refusal};
-use super::status::{AnyFault, TextFault};
+use super::status::AnyFault;
 use lexicon_file::FileWhy;
 use phoneme::Memory;
 use std::alloc::Global;
+use text_line::TextFault;
 
 /// The name of a reason, without what it carries.
 fn name_of(why: FileWhy) -> &'static str

@@ -9,10 +9,10 @@ ghost use Rattle.sandhi_program.specs.RunEnds.{devices, Ran};
 ghost use Rattle.sandhi_program.specs.Segments.{IsBuildable, IsPrintedPage, IsSegmented, Writes};
 ghost use Rattle.sandhi_program.specs.SegmentErrors.{IsFileError, IsRefusal};
 
+use super::any_error::AnyError;
 use super::ending::{finish, refuse_file, refuse_text};
-use super::lexicon_error::LexiconError;
 use super::reading::read_file;
-use super::status::{AnyFault, Status, TextFault};
+use super::status::{AnyFault, Status};
 use annotated_trie::Lexicon;
 use answer_printing::{AnswerPrinter, RuleTexts, push_page};
 use command_words::PlacedWord;
@@ -25,7 +25,7 @@ use run_definitions::SEGMENT_PAGE;
 use segmenter::Search;
 use std::alloc::Global;
 use summary_chart::Chart;
-use text_line::{LineError, Scheme, read_line};
+use text_line::{LineError, Scheme, TextFault, read_line};
 
 /// Why there is no page.
 #[derive(Clone, Copy, Debug, PartialEq, Eq)]
@@ -45,15 +45,15 @@ impl From<Memory> for SegmentError {
     }
 }
 
-impl From<LexiconError> for SegmentError {
-    ghost use Rattle.sandhi_program.specs.Refusals.{error_of_lexicon_file};
+impl From<AnyError> for SegmentError {
+    ghost use Rattle.sandhi_program.specs.Refusals.{error_of_any};
 
-    ghost from_gives = { λ lexicon e. e ≡ error_of_lexicon_file lexicon };
+    ghost from_gives = { λ file e. e ≡ error_of_any file };
 
-    fn from(refused: LexiconError) -> SegmentError {
+    fn from(refused: AnyError) -> SegmentError {
         match refused {
-            LexiconError::Fault(fault) => SegmentError::BadFile(fault),
-            LexiconError::Memory => SegmentError::Memory,
+            AnyError::Fault(fault) => SegmentError::BadFile(fault),
+            AnyError::Memory => SegmentError::Memory,
         }
     }
 }
@@ -64,24 +64,22 @@ impl From<LineError> for SegmentError {
     ghost from_gives = { λ line e. e ≡ error_of_line line };
 
     fn from(refused: LineError) -> SegmentError {
-        match refused {
-            LineError::Spell(fault) => SegmentError::BadText(TextFault::Spell(fault)),
-            LineError::NoLetters => SegmentError::BadText(TextFault::NoLetters),
-            LineError::TooLong => SegmentError::BadText(TextFault::TooLong),
-            LineError::Memory => SegmentError::Memory,
+        match refused.fault() {
+            Ok(fault) => SegmentError::BadText(fault),
+            Err(Memory) => SegmentError::Memory,
         }
     }
 }
 
 /// The contents of a lexicon file, whose length is judged before its bytes are looked at.
-pub(crate) fn read_contents(alloc: Global, bytes: &[u8]) -> Result<Contents, LexiconError>
+pub(crate) fn read_contents(alloc: Global, bytes: &[u8]) -> Result<Contents, AnyError>
     ensures within { IfOk result (λ contents. length bytes.now ≤ MOST_FILE_BYTES) }
     ensures ok { IfOk result (λ contents. IsReadAs bytes.now (Ok (lexicon_of contents))) }
     ensures buildable { IfOk result IsBuildable }
     ensures refused { IfErr result (IsFileError bytes.now) }
 {
     if bytes.len() > MOST_FILE_BYTES {
-        return Err(LexiconError::Fault(AnyFault::Large));
+        return Err(AnyError::Fault(AnyFault::Large));
     }
     Ok(read(alloc, bytes)?)
 }

@@ -7,7 +7,8 @@ ghost use Rattle.run_definitions.specs.BuildOutcomes.{IsBuildOutcome, IsTablesOu
 ghost use Rattle.sandhi_program.specs.RunEnds.{devices, Ran};
 ghost use Rattle.sandhi_program.specs.Sources.{AreReadRules, AreReadTables, IsBuilt};
 
-use super::build::{Built, SourceError, build, read_rule_file, read_stem_file, read_table_file};
+use super::any_error::AnyError;
+use super::build::{Built, build, read_rule_file, read_stem_file, read_table_file};
 use super::ending::{finish, refuse_file};
 use super::reading::read_file;
 use super::status::Status;
@@ -17,6 +18,21 @@ use paradigms::{Stems, Tables};
 use rule_file::RuleFile;
 use std::alloc::Global;
 use std::thread::Threads;
+
+/// What was read of a rule file and of a table file.
+#[derive(Drop)]
+struct ReadTables {
+    file: RuleFile,
+    tables: Tables,
+}
+
+/// What was read of all three source files.
+#[derive(Drop)]
+struct ReadSources {
+    file: RuleFile,
+    tables: Tables,
+    stems: Stems,
+}
 
 /// `build RULES TABLES STEMS OUT`: reads and checks each source file before the next is read, inflects all stems, writes the
 /// lexicon file, and only then the number of its forms.
@@ -37,8 +53,8 @@ pub(crate) fn run_build<H: Shelf, O: Sink>(
     };
     match read_rule_file(alloc, bytes.as_slice()) {
         Ok(file) => build_with_rules(rt, alloc, words, file, shelf, sink),
-        Err(SourceError::Fault(fault)) => refuse_file(alloc, &words.rules, fault, sink),
-        Err(SourceError::Memory) => Status::Memory,
+        Err(AnyError::Fault(fault)) => refuse_file(alloc, &words.rules, fault, sink),
+        Err(AnyError::Memory) => Status::Memory,
     }
 }
 
@@ -61,9 +77,12 @@ fn build_with_rules<H: Shelf, O: Sink>(
         Err(status) => return status,
     };
     match read_table_file(alloc, file.rules.phases(), bytes.as_slice()) {
-        Ok(tables) => build_with_tables(rt, alloc, words, file, &tables, shelf, sink),
-        Err(SourceError::Fault(fault)) => refuse_file(alloc, &words.tables, fault, sink),
-        Err(SourceError::Memory) => Status::Memory,
+        Ok(tables) => {
+            let read = ReadTables { file, tables };
+            build_with_tables(rt, alloc, words, read, shelf, sink)
+        }
+        Err(AnyError::Fault(fault)) => refuse_file(alloc, &words.tables, fault, sink),
+        Err(AnyError::Memory) => Status::Memory,
     }
 }
 
@@ -72,25 +91,32 @@ fn build_with_tables<H: Shelf, O: Sink>(
     rt: &(impl Threads + Sync),
     alloc: Global,
     words: &BuildWords<'_>,
-    file: RuleFile,
-    tables: &Tables,
+    read: ReadTables,
     shelf: &mut H,
     sink: &mut O,
 ) -> Status
-    requires rules { AreReadRules file.rules }
-    requires tables { AreReadTables file.rules tables.now }
-    ensures { Ran (IsStemsOutcome file.rules tables.now (word_meant words.now.stems) (word_meant words.now.out)) (word_meant words.now.stems ∷ []) (Some (word_meant words.now.out)) result
+    requires rules { AreReadRules read.file.rules }
+    requires tables { AreReadTables read.file.rules read.tables }
+    ensures { Ran (IsStemsOutcome read.file.rules read.tables (word_meant words.now.stems) (word_meant words.now.out)) (word_meant words.now.stems ∷ []) (Some (word_meant words.now.out)) result
         (devices (H.files shelf.old) (H.failed_reads shelf.old) (H.failed_writes shelf.old) (O.written sink.old) (O.faults sink.old))
         (devices (H.files shelf.new) (H.failed_reads shelf.new) (H.failed_writes shelf.new) (O.written sink.new) (O.faults sink.new)) }
 {
+    let ReadTables { file, tables } = read;
     let bytes = match read_file(alloc, &words.stems, shelf) {
         Ok(bytes) => bytes,
         Err(status) => return status,
     };
-    match read_stem_file(alloc, tables, bytes.as_slice()) {
-        Ok(stems) => build_with_stems(rt, alloc, words, file, tables, &stems, shelf, sink),
-        Err(SourceError::Fault(fault)) => refuse_file(alloc, &words.stems, fault, sink),
-        Err(SourceError::Memory) => Status::Memory,
+    match read_stem_file(alloc, &tables, bytes.as_slice()) {
+        Ok(stems) => {
+            let sources = ReadSources {
+                file,
+                tables,
+                stems,
+            };
+            build_with_stems(rt, alloc, words, sources, shelf, sink)
+        }
+        Err(AnyError::Fault(fault)) => refuse_file(alloc, &words.stems, fault, sink),
+        Err(AnyError::Memory) => Status::Memory,
     }
 }
 
@@ -99,21 +125,24 @@ fn build_with_stems<H: Shelf, O: Sink>(
     rt: &(impl Threads + Sync),
     alloc: Global,
     words: &BuildWords<'_>,
-    file: RuleFile,
-    tables: &Tables,
-    stems: &Stems,
+    sources: ReadSources,
     shelf: &mut H,
     sink: &mut O,
 ) -> Status
-    requires sources { AreSources file.rules tables.now stems.now }
-    ensures { Ran (IsLexiconOutcome file.rules tables.now stems.now (word_meant words.now.stems) (word_meant words.now.out)) ([]) (Some (word_meant words.now.out)) result
+    requires sources { AreSources sources.file.rules sources.tables sources.stems }
+    ensures { Ran (IsLexiconOutcome sources.file.rules sources.tables sources.stems (word_meant words.now.stems) (word_meant words.now.out)) ([]) (Some (word_meant words.now.out)) result
         (devices (H.files shelf.old) (H.failed_reads shelf.old) (H.failed_writes shelf.old) (O.written sink.old) (O.faults sink.old))
         (devices (H.files shelf.new) (H.failed_reads shelf.new) (H.failed_writes shelf.new) (O.written sink.new) (O.faults sink.new)) }
 {
-    match build(rt, alloc, file, tables, stems) {
+    let ReadSources {
+        file,
+        tables,
+        stems,
+    } = sources;
+    match build(rt, alloc, file, &tables, &stems) {
         Ok(built) => write_built(words, &built, shelf, sink),
-        Err(SourceError::Fault(fault)) => refuse_file(alloc, &words.stems, fault, sink),
-        Err(SourceError::Memory) => Status::Memory,
+        Err(AnyError::Fault(fault)) => refuse_file(alloc, &words.stems, fault, sink),
+        Err(AnyError::Memory) => Status::Memory,
     }
 }
 

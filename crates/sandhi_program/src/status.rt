@@ -1,11 +1,11 @@
 ghost use Rattle.std.specs.Prelude.{◌≡◌};
 ghost use Rattle.sandhi_program.specs.Headline.{exit_status};
 
-use latin_schemes::SpellFault;
 use lexicon_file::FileFault;
 use more_schemes::ConvertFault;
 use paradigms::{StemFault, TableFault};
 use rule_file::RuleFault;
+use text_line::TextFault;
 
 /// How a run ended, and with which fault.
 #[derive(Clone, Copy, Debug, PartialEq, Eq)]
@@ -38,14 +38,6 @@ pub enum AnyFault {
     Tables(TableFault),
     Stems(StemFault),
     Spelling(ConvertFault),
-}
-
-/// Why a text is refused: its first fault of spelling, or else that it has no letter or too many.
-#[derive(Clone, Copy, Debug, PartialEq, Eq)]
-pub enum TextFault {
-    Spell(SpellFault),
-    NoLetters,
-    TooLong,
 }
 
 impl Status {

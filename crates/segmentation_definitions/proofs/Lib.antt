@@ -5,6 +5,7 @@ pub mod KeyFronts
 pub mod KeyLists
 pub mod KeyNumbers
 pub mod Listings
+pub mod OverlapOrder
 pub mod LocalBlanks
 pub mod LocalChoices
 pub mod RisingRanks

@@ -76,15 +76,3 @@ pub record Derives (lexicon : Lexicon) (steps : List Step) (word : List ℕ) : T
 -- the phases of the steps
 abbrev pub phases_of : List Step → List ℕ
 phases_of steps = map (λ step. step.phase) steps
-
--- an overlap is a form of a phase, an inner rule with the phase in its after whose v begins the form, and a rule with the
--- phase in its before whose u ends it, where v and u together are longer than the form
-pub record IsOverlap (lexicon : Lexicon) (phase : ℕ) (form : List ℕ) (before after : ℕ) : Type 0 where
-  pub of_phase : IsForm lexicon phase form
-  pub inner : IsRuleNumber lexicon.rules before × IsInner (rule_of lexicon.rules before)
-  pub rule : IsRuleNumber lexicon.rules after
-  pub precedes : HasPhase (rule_of lexicon.rules before).after phase
-  pub follows : HasPhase (rule_of lexicon.rules after).before phase
-  pub begins : (rest : List ℕ) × (form ≡ (rule_of lexicon.rules before).v ++ rest)
-  pub ends : (front : List ℕ) × (form ≡ front ++ (rule_of lexicon.rules after).u)
-  pub longer : length form < length ((rule_of lexicon.rules before).v ++ (rule_of lexicon.rules after).u)

@@ -1,4 +1,5 @@
 pub mod Derivations
+pub mod Overlaps
 pub mod Items
 pub mod Answers
 pub mod Listings

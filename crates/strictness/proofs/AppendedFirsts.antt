@@ -10,9 +10,8 @@ use Rattle.std.proofs.lemmas.List.Elements.{All-nil, All-append, Contains-append
 use Rattle.list_laws.specs.Firsts.{ComesAfter}
 use Rattle.list_laws.proofs.FirstOnes.{sorted-append}
 use Rattle.list_laws.proofs.Sorted.{Contains-first, Contains-cons_cases, not_Contains-nil, All-from_Contains}
-use Rattle.strictness.specs.Overlaps.{compare_overlaps}
+use Rattle.segmentation_definitions.specs.Overlaps.{Overlap, compare_overlaps}
 use Rattle.strictness.specs.Appending.{IsFull, Takes, AppendsFirst}
-use Rattle.strictness.specs.declared.overlap.Overlap.{Overlap}
 use Rattle.strictness.specs.declared.found.Found.{Found}
 
 -- nothing is appended where nothing has the property

@@ -7,15 +7,14 @@ use Rattle.std.specs.Ordering.{nat_cmp, on}
 use Rattle.std.specs.List.Sorted.{IsStrictlySortedBy}
 use Rattle.text_definitions.specs.Words.{compare_words}
 use Rattle.lexicon_definitions.specs.declared.limits.TheConstants.{MOST_RULE_LETTERS}
+use Rattle.lexicon_definitions.specs.Rules.{HasPhase}
 use Rattle.lexicon_definitions.specs.Lexicons.{Lexicon, RuleSet, Form, IsForm, rule_of}
 use Rattle.lexicon_definitions.specs.Limits.{IsRuleSetWithinLimits}
-use Rattle.segmentation_definitions.specs.Derivations.{IsOverlap}
+use Rattle.segmentation_definitions.specs.Overlaps.{Overlap, IsOverlap}
 use Rattle.list_laws.specs.Firsts.{AreAll}
 use Rattle.list_laws.proofs.FirstOnes.{sorted-map}
-use Rattle.strictness.specs.Overlaps.{IsOverlapOf}
 use Rattle.strictness.specs.Matches.{BeginsForm, EndsForm, AreLonger, IsInForm}
 use Rattle.strictness.specs.Appending.{Takes, AppendsFirst}
-use Rattle.strictness.specs.declared.overlap.Overlap.{Overlap}
 use Rattle.strictness.specs.declared.found.Found.{Found}
 use Rattle.strictness.proofs.OverlapOrder.{less_by_form, less_by_before, less_by_after}
 use Rattle.strictness.proofs.AppendedFirsts.{appends_none, appends_one, appends_with}
@@ -89,35 +88,43 @@ module _ (rules : RuleSet) (phase : ℕ) (form : List ℕ) where
   none_without befores found all none =
       appends_none (IsInForm rules phase form) found (λ x h. omega (arith, (all.complete x.before h.begins).1))
 
--- an overlap, from its parts
-overlap_from : (lexicon : Lexicon) (phase : ℕ) (form : List ℕ) (before after : ℕ) → IsForm lexicon phase form
-    → BeginsForm lexicon.rules phase form before → EndsForm lexicon.rules phase form after → AreLonger lexicon.rules before after form
-    → IsOverlap lexicon phase form before after
-overlap_from lexicon phase form before after is begins ends longer = record {
-  of_phase = is;
-  inner = (begins.rule, begins.inner);
-  rule = ends.rule;
-  precedes = begins.precedes;
-  follows = ends.follows;
-  begins = begins.begins;
-  ends = ends.ends;
-  longer = longer;
+-- what is in a form of a phase is an overlap of the lexicon, and an overlap is in its form
+overlap_from : (lexicon : Lexicon) (phase : ℕ) (form : List ℕ) (x : Overlap) → IsForm lexicon phase form
+    → IsInForm lexicon.rules phase form x → IsOverlap lexicon x
+overlap_from lexicon phase form x is here = record {
+  of_phase = subst (λ n. IsForm lexicon n x.form) (sym here.phase_is) (subst (IsForm lexicon phase) (sym here.form_is) is);
+  inner = (here.begins.rule, here.begins.inner);
+  rule = here.ends.rule;
+  precedes = subst (HasPhase (rule_of lexicon.rules x.before).after) (sym here.phase_is) here.begins.precedes;
+  follows = subst (HasPhase (rule_of lexicon.rules x.after).before) (sym here.phase_is) here.ends.follows;
+  begins = (here.begins.begins.0, here.form_is ∙ here.begins.begins.1);
+  ends = (here.ends.ends.0, here.form_is ∙ here.ends.ends.1);
+  longer = subst (AreLonger lexicon.rules x.before x.after) (sym here.form_is) here.longer;
 }
 
 in_form_from : (lexicon : Lexicon) (x : Overlap) (phase : ℕ) (form : List ℕ) → x.phase ≡ phase → x.form ≡ form
-    → IsOverlap lexicon phase form x.before x.after → IsInForm lexicon.rules phase form x
+    → IsOverlap lexicon x → IsInForm lexicon.rules phase form x
 in_form_from lexicon x phase form p f is = record {
   phase_is = p;
   form_is = f;
-  begins = record { rule = is.inner.0; inner = is.inner.1; precedes = is.precedes; begins = is.begins };
-  ends = record { rule = is.rule; follows = is.follows; ends = is.ends };
-  longer = is.longer;
+  begins = record {
+    rule = is.inner.0;
+    inner = is.inner.1;
+    precedes = subst (HasPhase (rule_of lexicon.rules x.before).after) p is.precedes;
+    begins = (is.begins.0, sym f ∙ is.begins.1);
+  };
+  ends = record {
+    rule = is.rule;
+    follows = subst (HasPhase (rule_of lexicon.rules x.after).before) p is.follows;
+    ends = (is.ends.0, sym f ∙ is.ends.1);
+  };
+  longer = subst (AreLonger lexicon.rules x.before x.after) f is.longer;
 }
 
 module _ (lexicon : Lexicon) (phase : ℕ) where
   -- an overlap of this phase
   abbrev pub IsOfPhase : Overlap → Type 0
-  IsOfPhase x = IsOverlapOf lexicon x × (x.phase ≡ phase)
+  IsOfPhase x = IsOverlap lexicon x × (x.phase ≡ phase)
 
   pub rises_form : RisesWith compare_words (λ x. x.form) IsOfPhase
   rises_form x y p q less = less_by_form x y (p.1 ∙ sym q.1) less
@@ -126,18 +133,8 @@ module _ (lexicon : Lexicon) (phase : ℕ) where
       → AppendsFirst (λ x. IsOfPhase x × (x.form ≡ form)) old new
   of_form form old new is appends =
       appends_with (IsInForm lexicon.rules phase form) (λ x. IsOfPhase x × (x.form ≡ form)) old new
-      (λ x h. (
-        (
-          subst (λ n. IsOverlap lexicon n x.form x.before x.after) (sym h.phase_is)
-              (subst (λ word. IsOverlap lexicon phase word x.before x.after) (sym h.form_is)
-              (overlap_from lexicon phase form x.before x.after is h.begins h.ends h.longer)),
-          h.phase_is,
-        ),
-        h.form_is,
-      ))
-      (λ x h. in_form_from lexicon x phase form h.0.1 h.1
-      (subst (λ word. IsOverlap lexicon phase word x.before x.after) h.1
-      (subst (λ n. IsOverlap lexicon n x.form x.before x.after) h.0.1 h.0.0)))
+      (λ x h. ((overlap_from lexicon phase form x is h, h.phase_is), h.form_is))
+      (λ x h. in_form_from lexicon x phase form h.0.1 h.1 h.0.0)
       appends
 
   pub has_form : (x : Overlap) → IsOfPhase x → IsForm lexicon phase x.form

@@ -9,9 +9,8 @@ use Rattle.std.proofs.lemmas.List.{length-take, take_more, take_all, get_or-take
 use Rattle.std.proofs.lemmas.List.Elements.{Contains-append_left, Contains-push, Contains-push_cases}
 use Rattle.std.proofs.lemmas.Map.Keys.{Less-from_sorted}
 use Rattle.list_laws.proofs.Sorted.{not_Contains-nil}
-use Rattle.strictness.specs.Overlaps.{compare_overlaps}
+use Rattle.segmentation_definitions.specs.Overlaps.{Overlap, compare_overlaps}
 use Rattle.strictness.specs.Appending.{AppendsFirst}
-use Rattle.strictness.specs.declared.overlap.Overlap.{Overlap}
 use Rattle.strictness.specs.declared.found.Found.{Found}
 use Rattle.strictness.proofs.AppendedFirsts.{appends_none, appends_with, appends_both}
 

@@ -1,23 +1,16 @@
--- Four total orders, one after the other. So the first overlaps are told by which they are: one that a list of them has and
--- another has not comes after the other, which is then as long.
+-- The order is total, so the first overlaps are told by which they are: one that a list of them has and another has not comes
+-- after the other, which is then as long. And an overlap is less by the first part in which two differ.
 use Rattle.std.proofs.Common.{◌≡◌, ℕ, inl, inr, List, refl, subst, arith}
 use Rattle.std.specs.Ordering.{nat_cmp}
-use Rattle.std.specs.Cmp.{IsTotalOrder}
 use Rattle.std.specs.declared.cmp.Ordering.TheVariants.{Less, Equal}
-use Rattle.std.proofs.lemmas.Cmp.{nat_cmp_total, nat_list_cmp_total, then_total, on_total, tied_itself}
+use Rattle.std.proofs.lemmas.Cmp.{nat_list_cmp_total, tied_itself}
 use Rattle.text_definitions.specs.Words.{compare_words}
 use Rattle.lexicon_definitions.specs.Lexicons.{Lexicon}
 use Rattle.list_laws.proofs.Sorted.{same_fronts}
-use Rattle.strictness.specs.Overlaps.{compare_overlaps, AreFirstOverlaps}
-use Rattle.strictness.specs.declared.overlap.Overlap.{Overlap}
+use Rattle.segmentation_definitions.specs.Overlaps.{Overlap, compare_overlaps}
+use Rattle.segmentation_definitions.proofs.OverlapOrder.{compare_overlaps_total}
+use Rattle.strictness.specs.Overlaps.{AreFirstOverlaps}
 use Rattle.list_laws.proofs.Orderings.{nat_cmp-Equal}
-
--- the order of overlaps is total
-pub compare_overlaps_total : IsTotalOrder compare_overlaps
-compare_overlaps_total =
-    then_total (on_total (λ (o : Overlap). o.phase) nat_cmp_total)
-    (then_total (on_total (λ (o : Overlap). o.form) nat_list_cmp_total)
-    (then_total (on_total (λ (o : Overlap). o.before) nat_cmp_total) (on_total (λ (o : Overlap). o.after) nat_cmp_total)))
 
 pub one_list : (lexicon : Lexicon) (most : ℕ) (left right : List Overlap) → AreFirstOverlaps lexicon most left
     → AreFirstOverlaps lexicon most right → left ≡ right

@@ -9,9 +9,9 @@ use Rattle.std.proofs.lemmas.List.{get_or_past}
 use Rattle.list_laws.specs.Firsts.{ComesAfter}
 use Rattle.list_laws.proofs.Sorted.{not_Contains-nil}
 use Rattle.lexicon_definitions.specs.Lexicons.{Lexicon, Form}
-use Rattle.strictness.specs.Overlaps.{IsOverlapOf, compare_overlaps, AreFirstOverlaps}
+use Rattle.segmentation_definitions.specs.Overlaps.{Overlap, IsOverlap, compare_overlaps}
+use Rattle.strictness.specs.Overlaps.{AreFirstOverlaps}
 use Rattle.strictness.specs.Appending.{AppendsFirst}
-use Rattle.strictness.specs.declared.overlap.Overlap.{Overlap}
 use Rattle.strictness.specs.declared.found.Found.{Found}
 use Rattle.strictness.proofs.OverlapOrder.{less_by_phase}
 use Rattle.strictness.proofs.AppendedFirsts.{appends_none, appends_with, appends_both}
@@ -20,7 +20,7 @@ use Rattle.strictness.proofs.FormOverlaps.{IsOfPhase}
 module _ (lexicon : Lexicon) where
   -- an overlap of a phase below this one
   abbrev pub IsOfPhaseBelow : ℕ → Overlap → Type 0
-  IsOfPhaseBelow phase x = IsOverlapOf lexicon x × (x.phase < phase)
+  IsOfPhaseBelow phase x = IsOverlap lexicon x × (x.phase < phase)
 
   pub no_phase : (found : Found) → AppendsFirst (IsOfPhaseBelow 0) found found
   no_phase found = appends_none (IsOfPhaseBelow 0) found (λ x h. omega (arith, h.1))
@@ -43,7 +43,7 @@ module _ (lexicon : Lexicon) where
       (λ x y p q. less_by_phase x y (sym (nat_cmp_is x.phase y.phase Less (omega (arith, p.1, q.1))))))
 
   -- a phase that has a form is one of the lexicon's
-  phase_within : (x : Overlap) → IsOverlapOf lexicon x → x.phase < length lexicon.phases
+  phase_within : (x : Overlap) → IsOverlap lexicon x → x.phase < length lexicon.phases
   phase_within x is = elim (cases_lt x.phase (length lexicon.phases)) [
     | inl below ↦ below
     | inr above ↦

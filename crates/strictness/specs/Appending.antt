@@ -2,8 +2,7 @@
 use Rattle.std.specs.Prelude.{◌≡◌, ◌≤◌, ◌⊎◌, List, [], ◌∷◌, ◌++◌, length, Contains}
 use Rattle.std.specs.List.Sorted.{IsStrictlySortedBy}
 use Rattle.list_laws.specs.Firsts.{ComesAfter}
-use Rattle.strictness.specs.Overlaps.{compare_overlaps}
-use Rattle.strictness.specs.declared.overlap.Overlap.{Overlap}
+use Rattle.segmentation_definitions.specs.Overlaps.{Overlap, compare_overlaps}
 use Rattle.strictness.specs.declared.found.Found.{Found}
 
 -- no more overlaps are wanted

@@ -7,8 +7,8 @@ use Rattle.lexicon_definitions.specs.Rules.{IsInner, HasPhase}
 use Rattle.lexicon_definitions.specs.Lexicons.{RuleSet, IsRuleSet, rule_of}
 use Rattle.lexicon_definitions.specs.Limits.{IsRuleSetWithinLimits}
 use Rattle.segmentation_definitions.specs.Derivations.{IsRuleNumber}
+use Rattle.segmentation_definitions.specs.Overlaps.{Overlap}
 use Rattle.list_laws.specs.Firsts.{AreAll}
-use Rattle.strictness.specs.declared.overlap.Overlap.{Overlap}
 use Rattle.strictness.specs.declared.letters.TheConstants.{CODES}
 use Rattle.strictness.specs.declared.letters.LettersOfRules.{LettersOfRules}
 

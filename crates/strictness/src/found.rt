@@ -7,6 +7,7 @@ use std::alloc::Global;
 /// The overlaps found so far, of which at most so many are wanted.
 #[derive(Debug, Drop)]
 pub(crate) struct Found {
+    pub alloc: Global,
     pub overlaps: Vec<Overlap>,
     pub most: usize,
 }
@@ -20,6 +21,7 @@ impl Found {
         ensures most { result.most ≡ most }
     {
         Found {
+            alloc,
             overlaps: Vec::new(alloc),
             most,
         }

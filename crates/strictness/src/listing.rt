@@ -1,6 +1,7 @@
 ghost use Rattle.std.specs.Prelude.{◌≡◌, ◌<◌, length, OnOk, IfOk};
 ghost use Rattle.form_lists.specs.Lists.{AreFormLists};
-ghost use Rattle.strictness.specs.Overlaps.{IsOverlapOf, AreFirstOverlaps};
+ghost use Rattle.segmentation_definitions.specs.Overlaps.{IsOverlap};
+ghost use Rattle.strictness.specs.Overlaps.{AreFirstOverlaps};
 ghost use Rattle.strictness.specs.Matches.{AreLettersOf};
 ghost use Rattle.strictness.specs.Appending.{AppendsFirst};
 
@@ -25,7 +26,7 @@ fn add_of_phase(
     requires letters { AreLettersOf rules.now letters.now }
     requires lists { AreFormLists lists.now }
     requires phase { phase < length lists.now }
-    ensures ok { OnOk result (AppendsFirst (λ overlap. IsOverlapOf (record { rules = rules.now; phases = lists.now }) overlap × (overlap.phase ≡ phase)) found.old found.new) }
+    ensures ok { OnOk result (AppendsFirst (λ overlap. IsOverlap (record { rules = rules.now; phases = lists.now }) overlap × (overlap.phase ≡ phase)) found.old found.new) }
 {
     for form in lists.forms(phase) {
         add_of_form(alloc, rules, letters, phase, form, found)?;

@@ -15,7 +15,6 @@ use std::alloc::Global;
 
 /// Appends the first overlaps in the form with this rule before it, by rising rule after it.
 fn add_of_rule(
-    alloc: Global,
     rules: &RuleSet,
     phase: u32,
     form: &Word,
@@ -34,7 +33,7 @@ fn add_of_rule(
         if are_longer(rules, before, *after, form) {
             let overlap = Overlap {
                 phase,
-                form: form.copy(alloc)?,
+                form: form.copy(found.alloc)?,
                 before,
                 after: *after,
             };
@@ -71,7 +70,7 @@ pub(crate) fn add_of_form(
     let longest = longest_u(rules, &afters);
     for before in &befores {
         if reaches_over(rules, *before, longest, form) {
-            add_of_rule(alloc, rules, phase, form, *before, &afters, found)?;
+            add_of_rule(rules, phase, form, *before, &afters, found)?;
         }
     }
     Ok(())

@@ -33,11 +33,11 @@ fn rule(
     u: &[u8],
     v: &[u8],
     w: &[u8],
-    before: u16,
-    after: u16,
+    phases: (u16, u16),
 ) -> Result<Rule, Memory>
-    ensures { IfOk result (λ rule. rule ≡ record { u = u.now; v = v.now; w = w.now; before = before; after = after }) }
+    ensures { IfOk result (λ rule. rule ≡ record { u = u.now; v = v.now; w = w.now; before = phases.0; after = phases.1 }) }
 {
+    let (before, after) = phases;
     let u = word(rt, alloc, u)?;
     let v = word(rt, alloc, v)?;
     let w = word(rt, alloc, w)?;
@@ -54,12 +54,12 @@ fn rules(rt: &impl Abort, alloc: Global) -> Result<Vec<Rule>, Memory>
     ensures { IfOk result (λ rules. rules.items ≡ small_rules) }
 {
     let mut rules = Vec::new(alloc);
-    rules.push(rule(rt, alloc, &[1], &[5], &[12], 7, 7)?)?;
-    rules.push(rule(rt, alloc, &[5], &[1], &[45, 1], 7, 7)?)?;
-    rules.push(rule(rt, alloc, &[3], &[5], &[42, 5], 7, 2)?)?;
-    rules.push(rule(rt, alloc, &[5], &[3], &[45, 3], 4, 7)?)?;
-    rules.push(rule(rt, alloc, &[32, 5], &[], &[32], 7, 0)?)?;
-    rules.push(rule(rt, alloc, &[1], &[32, 5], &[1, 32, 5], 7, 7)?)?;
+    rules.push(rule(rt, alloc, &[1], &[5], &[12], (7, 7))?)?;
+    rules.push(rule(rt, alloc, &[5], &[1], &[45, 1], (7, 7))?)?;
+    rules.push(rule(rt, alloc, &[3], &[5], &[42, 5], (7, 2))?)?;
+    rules.push(rule(rt, alloc, &[5], &[3], &[45, 3], (4, 7))?)?;
+    rules.push(rule(rt, alloc, &[32, 5], &[], &[32], (7, 0))?)?;
+    rules.push(rule(rt, alloc, &[1], &[32, 5], &[1, 32, 5], (7, 7))?)?;
     Ok(rules)
 }
 

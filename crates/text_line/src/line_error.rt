@@ -2,11 +2,12 @@ ghost use Rattle.std.specs.Prelude.{◌≡◌};
 ghost use Rattle.text_line.specs.declared.line_error.LineError.TheVariants.{Spell as ErrorSpell, Memory as ErrorMemory};
 ghost use Rattle.text_line.specs.Values.{line_error_of};
 
+use super::TextFault;
 use latin_schemes::{SpellError, SpellFault};
 use phoneme::Memory;
 use thiserror::Error;
 
-/// Why a text is no line: its first fault of spelling, or else that it has no letter or too many, or want of memory.
+/// Why a text was not read as a line: its fault, as `TextFault` has it, or want of memory.
 #[derive(Clone, Copy, Debug, PartialEq, Eq, Error)]
 pub enum LineError {
     #[error("{0}")]
@@ -34,6 +35,22 @@ impl From<SpellError> for LineError {
         match error {
             SpellError::Fault(fault) => LineError::Spell(fault),
             SpellError::Memory => LineError::Memory,
+        }
+    }
+}
+
+impl LineError {
+    ghost use Rattle.text_line.specs.Values.{fault_of_error};
+
+    /// The fault of the text; or that there is none, since memory was wanting.
+    pub fn fault(self) -> Result<TextFault, Memory>
+        ensures { result ≡ fault_of_error self }
+    {
+        match self {
+            LineError::Spell(fault) => Ok(TextFault::Spell(fault)),
+            LineError::NoLetters => Ok(TextFault::NoLetters),
+            LineError::TooLong => Ok(TextFault::TooLong),
+            LineError::Memory => Err(Memory),
         }
     }
 }

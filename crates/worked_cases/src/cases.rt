@@ -1,7 +1,8 @@
 ghost use Rattle.std.specs.Prelude.{◌≡◌, ℕ, ◌<◌, ◌≤◌, true, false, List, [], ◌∷◌};
 ghost use Rattle.lexicon_definitions.specs.Grammars.{Opening, After};
 ghost use Rattle.lexicon_definitions.specs.Lexicons.{IsLexicon};
-ghost use Rattle.segmentation_definitions.specs.Derivations.{Derives, IsOverlap};
+ghost use Rattle.segmentation_definitions.specs.Derivations.{Derives};
+ghost use Rattle.segmentation_definitions.specs.Overlaps.{IsOverlap};
 ghost use Rattle.segmentation_definitions.specs.Items.{items_of, ranks_of};
 ghost use Rattle.segmentation_definitions.specs.Answers.{IsAnswer};
 ghost use Rattle.segmentation_definitions.specs.Listings.{IsListing, IsSummary, IsPage, BeforeFirst, AtAnswer};
@@ -59,7 +60,7 @@ pub fn the_smaller_rule_is_first()
 /// `u` overlaps itself between `a|u>o` and `u|a>va`, and so `ca (a|u>o) u (u|a>va) api` derives no word at all, and `covapi`
 /// has no answer.
 pub fn an_overlap_derives_no_word()
-    ensures overlap { IsOverlap overlap_lexicon 0 word_u 1 2 }
+    ensures overlap { IsOverlap overlap_lexicon (record { phase = 0; form = word_u; before = 1; after = 2 }) }
     ensures none { (word : List ℕ) → Derives overlap_lexicon (step 0 word_ca 1 ∷ step 0 word_u 2 ∷ step 0 word_api 0 ∷ []) word → ⊥ }
     ensures covapi { IsListing overlap_lexicon (unbroken word_covapi) [] [] }
 {}

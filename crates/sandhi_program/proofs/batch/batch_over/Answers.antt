@@ -16,19 +16,19 @@ use Rattle.sandhi_program.proofs.batch.batch_over.Goals as goal
 
 pub returns-in-Err : goal.returns-in-Err
 returns-in-Err g c =
-    let lexicon = c.args.lexicon.now.lexicon in
-    let scheme = scheme_of c.args.words.now.scheme in
-    let file = word_meant c.args.words.now.file in
-    let count = c.args.words.now.count in
+    let lexicon = c.args.batch.now.lexicon.now.lexicon in
+    let scheme = scheme_of c.args.batch.now.scheme in
+    let file = word_meant c.args.file.now in
+    let count = c.args.batch.now.count in
     NoText (unread (IsTextOutcome lexicon scheme file count) _ None _ _ _ file (Contains-first file []) (text_missing lexicon scheme file count)
     (record { files = c.read_file.ensures.files; failed_writes = c.read_file.ensures.writes; written = refl }) c.in-Err.ensures.unread)
 
 pub returns-then-len-gt-MOST_FILE_BYTES : goal.returns-then-len-gt-MOST_FILE_BYTES
 returns-then-len-gt-MOST_FILE_BYTES g c =
-    let lexicon = c.args.lexicon.now.lexicon in
-    let scheme = scheme_of c.args.words.now.scheme in
-    let file = word_meant c.args.words.now.file in
-    let count = c.args.words.now.count in
+    let lexicon = c.args.batch.now.lexicon.now.lexicon in
+    let scheme = scheme_of c.args.batch.now.scheme in
+    let file = word_meant c.args.file.now in
+    let count = c.args.batch.now.count in
     let bytes = c.in-Ok.bytes.items in
     let high : MOST_FILE_BYTES < length bytes = omega (arith, c.if-len-gt-MOST_FILE_BYTES.true, c.len.ensures, c.in-Ok.bytes.ok) in
     NoText (refused (IsTextOutcome lexicon scheme file count) _ None _ _ _ (BadFile file.place Large) _ (not_usage file.place Large)
@@ -36,7 +36,7 @@ returns-then-len-gt-MOST_FILE_BYTES g c =
 
 pub returns : goal.returns
 returns g c =
-    let file = word_meant c.args.words.now.file in
+    let file = word_meant c.args.file.now in
     let bytes = c.in-Ok.bytes.items in
     let small : length bytes ≤ MOST_FILE_BYTES = omega (arith, c.if-len-gt-MOST_FILE_BYTES.false, c.len.ensures, c.in-Ok.bytes.ok) in
     OnText (record {

@@ -6,7 +6,7 @@ use Rattle.more_schemes.specs.Values.{any_scheme_of}
 use Rattle.run_definitions.specs.Ends as ends
 use Rattle.run_definitions.specs.ConvertOutcomes.{IsConversion, IsConvertedOutcome, IsConvertOutcome}
 use Rattle.sandhi_program.specs.declared.status.Status.TheVariants.{BadFile}
-use Rattle.sandhi_program.specs.declared.build.SourceError.TheVariants.{Fault}
+use Rattle.sandhi_program.specs.declared.any_error.AnyError.TheVariants.{Fault}
 use Rattle.sandhi_program.specs.SourceErrors.{IsSourceError}
 use Rattle.sandhi_program.specs.Conversions.{IsConvertedFile}
 use Rattle.sandhi_program.proofs.Runs.{unread, refused, goes_on, same_devices}

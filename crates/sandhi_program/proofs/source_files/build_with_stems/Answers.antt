@@ -2,4 +2,4 @@
 use Rattle.sandhi_program.proofs.source_files.build_with_stems.Goals as goal
 
 pub returns-in-Ok : goal.returns-in-Ok
-returns-in-Ok g c = c.write_built.ensures c.args.file.rules c.args.tables.now c.args.stems.now c.in-Ok.ensures.ok
+returns-in-Ok g c = c.write_built.ensures c.args.sources.file.rules c.args.sources.tables c.args.sources.stems c.in-Ok.ensures.ok

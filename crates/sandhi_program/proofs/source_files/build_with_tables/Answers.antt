@@ -6,7 +6,7 @@ use Rattle.lexicon_builder.proofs.SourcesRead.{sources_read}
 use Rattle.run_definitions.specs.Ends as ends
 use Rattle.run_definitions.specs.BuildOutcomes.{AreStems, IsStemsOutcome, IsLexiconOutcome}
 use Rattle.sandhi_program.specs.declared.status.Status.TheVariants.{BadFile}
-use Rattle.sandhi_program.specs.declared.build.SourceError.TheVariants.{Fault}
+use Rattle.sandhi_program.specs.declared.any_error.AnyError.TheVariants.{Fault}
 use Rattle.sandhi_program.specs.SourceErrors.{IsSourceError}
 use Rattle.sandhi_program.specs.Sources.{HoldsSource}
 use Rattle.sandhi_program.proofs.Runs.{unread, refused, goes_on, same_devices}
@@ -17,8 +17,8 @@ pub returns-in-Err : goal.returns-in-Err
 returns-in-Err g c =
     let stems = word_meant c.args.words.now.stems in
     let out = word_meant c.args.words.now.out in
-    let set = c.args.file.rules in
-    let classes = c.args.tables.now in
+    let set = c.args.read.file.rules in
+    let classes = c.args.read.tables in
     unread (IsStemsOutcome set classes stems out) _ _ _ _ _ stems (Contains-first stems ([])) (stems_missing set classes stems out)
     (record { files = c.read_file.ensures.files; failed_writes = c.read_file.ensures.writes; written = refl }) c.in-Err.ensures.unread
 
@@ -26,15 +26,15 @@ pub build_with_stems-requires-clause-sources : goal.build_with_stems-requires-cl
 build_with_stems-requires-clause-sources g c κs within =
     let (rule_bytes, rules) = c.requires.rules in
     let (table_bytes, tables) = c.requires.tables in
-    sources_read rule_bytes table_bytes c.as_slice.result.now c.args.file.rules c.args.tables.now c.in-Ok-read_stem_file.stems rules tables
+    sources_read rule_bytes table_bytes c.as_slice.result.now c.args.read.file.rules c.args.read.tables c.in-Ok-read_stem_file.stems rules tables
     c.in-Ok-read_stem_file.ensures.ok.read
 
 pub returns-in-Ok-read_stem_file : goal.returns-in-Ok-read_stem_file
 returns-in-Ok-read_stem_file g c =
     let stems = word_meant c.args.words.now.stems in
     let out = word_meant c.args.words.now.out in
-    let set = c.args.file.rules in
-    let classes = c.args.tables.now in
+    let set = c.args.read.file.rules in
+    let classes = c.args.read.tables in
     let bytes = c.in-Ok.bytes.items in
     let held = c.in-Ok-read_stem_file.stems in
     goes_on (IsLexiconOutcome set classes held stems out) (IsStemsOutcome set classes stems out) ([]) (stems ∷ []) _ _ _ _
@@ -45,8 +45,8 @@ pub returns-in-Err-Fault : goal.returns-in-Err-Fault
 returns-in-Err-Fault g c =
     let stems = word_meant c.args.words.now.stems in
     let out = word_meant c.args.words.now.out in
-    let set = c.args.file.rules in
-    let classes = c.args.tables.now in
+    let set = c.args.read.file.rules in
+    let classes = c.args.read.tables in
     let bytes = c.in-Ok.bytes.items in
     let fault = c.in-Err-Fault.fault in
     refused (IsStemsOutcome set classes stems out) _ _ _ _ _ (BadFile stems.place fault) _ (not_usage stems.place fault)

@@ -6,7 +6,7 @@ use Rattle.run_definitions.specs.Ends as ends
 use Rattle.rule_file_definitions.specs.RuleFileReadings.{IsReadAs}
 use Rattle.run_definitions.specs.BuildOutcomes.{IsBuildOutcome, IsTablesOutcome}
 use Rattle.sandhi_program.specs.declared.status.Status.TheVariants.{BadFile}
-use Rattle.sandhi_program.specs.declared.build.SourceError.TheVariants.{Fault}
+use Rattle.sandhi_program.specs.declared.any_error.AnyError.TheVariants.{Fault}
 use Rattle.sandhi_program.specs.SourceErrors.{IsSourceError}
 use Rattle.sandhi_program.specs.Sources.{HoldsSource}
 use Rattle.sandhi_program.proofs.Runs.{unread, refused, goes_on, same_devices}

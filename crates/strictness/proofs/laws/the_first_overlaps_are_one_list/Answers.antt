@@ -1,5 +1,6 @@
 -- The order is total, so two such lists are the same.
-use Rattle.strictness.proofs.OverlapOrder.{compare_overlaps_total, one_list}
+use Rattle.segmentation_definitions.proofs.OverlapOrder.{compare_overlaps_total}
+use Rattle.strictness.proofs.OverlapOrder.{one_list}
 use Rattle.strictness.proofs.laws.the_first_overlaps_are_one_list.Goals as goal
 
 pub returns-clause-total : goal.returns-clause-total
