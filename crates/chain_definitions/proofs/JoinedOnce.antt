@@ -5,7 +5,7 @@ use Rattle.std.proofs.lemmas.Bool.{cases_lt}
 use Rattle.std.proofs.lemmas.List.{append_cancel_left, append_cancel_right}
 use Rattle.lexicon_definitions.specs.Rules.{IsInner, HasPhase}
 use Rattle.lexicon_definitions.specs.Lexicons.{Lexicon, RuleSet, rule_of, IsForm, IsLexicon}
-use Rattle.segmentation_definitions.specs.Derivations.{Step, rule_after, IsRuleNumber, Meets, AreForms, AreJoined, EndsWell, Covers, Derives, IsOverlap}
+use Rattle.segmentation_definitions.specs.Derivations.{Step, rule_after, IsRuleNumber, Meets, AreForms, AreJoined, EndsWell, Covers, Derives}
 use Rattle.segmentation_definitions.proofs.Coverings.{unchanged_at_zero, length_of_parts}
 use Rattle.chain_definitions.specs.Chains.{BeginsWith, EndsWith, FitsBefore, AreFitting, IsChain}
 use Rattle.chain_definitions.specs.JoinedChains.{Joined, Text, Overlap, IsOverlapAfter, IsFirstOverlap, MakesAnswer, IsJoinedTo}
@@ -119,8 +119,8 @@ one_step lexicon before step steps form enters leaves rest =
     elim (cases_lt (length step.form) (length (rule_of lexicon.rules before).v + length (rule_after lexicon.rules step).u)) [
       | inl short ↦ inl (Overlap step.phase step.form before step.rule, inl (overlap_if_short lexicon before step form enters leaves short, refl))
       | inr long ↦
-      let taken = taken_between step.form (rule_of lexicon.rules before).v (rule_after lexicon.rules step).u enters.begins leaves.ends long in
-      later lexicon before step steps taken.0 taken.1 (no_overlap_if_long lexicon before step long) rest
+          let taken = taken_between step.form (rule_of lexicon.rules before).v (rule_after lexicon.rules step).u enters.begins leaves.ends long in
+          later lexicon before step steps taken.0 taken.1 (no_overlap_if_long lexicon before step long) rest
     ]
 
 pub overlap_or_cover : (lexicon : Lexicon) (before : ℕ) (steps : List Step) → AreForms lexicon steps → AreJoined lexicon.rules steps

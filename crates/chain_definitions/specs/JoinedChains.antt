@@ -2,7 +2,8 @@
 use Rattle.std.specs.Prelude.{◌≡◌, ℕ, ◌≤◌, ◌⊎◌, ◌↔◌, Bool, IsTrue, List, [], ◌∷◌, length}
 use Rattle.text_definitions.specs.declared.limits.TheConstants.{MOST_LINE_LETTERS}
 use Rattle.lexicon_definitions.specs.Lexicons.{Lexicon, IsPhaseWord}
-use Rattle.segmentation_definitions.specs.Derivations.{Step, phases_of, Derives, IsOverlap}
+use Rattle.segmentation_definitions.specs.Derivations.{Step, phases_of, Derives}
+use Rattle.segmentation_definitions.specs.Overlaps.{IsOverlap}
 
 -- a chain is joined to a word, of which answer says whether the chain is one of its answers; or two rules overlap in a form
 -- of a phase, the one before it and the one after it
@@ -12,7 +13,8 @@ pub data Joined : Type 0 where
 
 -- the step's form is an overlap of the rule before it, which has this number, and the rule after it
 abbrev pub IsOverlapAfter : Lexicon → ℕ → Step → Type 0
-IsOverlapAfter lexicon before step = IsOverlap lexicon step.phase step.form before step.rule
+IsOverlapAfter lexicon before step =
+    IsOverlap lexicon (record { phase = step.phase; form = step.form; before = before; after = step.rule })
 
 -- this is the first overlap along the steps, the first of which comes after the rule with this number
 abbrev pub IsFirstOverlap : Lexicon → ℕ → List Step → Joined → Type 0

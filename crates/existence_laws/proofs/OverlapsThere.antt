@@ -18,8 +18,9 @@ use Rattle.text_definitions.specs.Words.{compare_words}
 use Rattle.lexicon_definitions.specs.Lexicons.{Lexicon, Form, rule_of, forms_of}
 use Rattle.segmentation_definitions.specs.Derivations.{IsRuleNumber}
 use Rattle.segmentation_definitions.proofs.Coverings.{phase_within}
-use Rattle.run_definitions.specs.Overlaps.{Overlap, IsOverlapOf, compare_overlaps, AreFirstOverlaps}
-use Rattle.run_definitions.proofs.OneOverlapList.{compare_overlaps_total}
+use Rattle.segmentation_definitions.specs.Overlaps.{Overlap, IsOverlap, compare_overlaps}
+use Rattle.segmentation_definitions.proofs.OverlapOrder.{compare_overlaps_total}
+use Rattle.run_definitions.specs.Overlaps.{AreFirstOverlaps}
 use Rattle.existence_laws.proofs.Decisions.{Decided, told_by, both, is_below, is_same_word}
 use Rattle.existence_laws.proofs.FiniteLists.{numbers_below, Contains-numbers_below, Contains-flat_map, all_that_have}
 use Rattle.existence_laws.proofs.AnswerDecisions.{has_phase, is_inner, is_rule_number, is_form}
@@ -97,7 +98,7 @@ ends_with (x ∷ form) end = by_rest (is_same_word (x ∷ form) end) (ends_with 
     by_rest (inr n) (inr m) = inr (λ h. m (later h.0 h.1 n))
 
 module _ (lexicon : Lexicon) where
-  is_overlap : (overlap : Overlap) → Decided (IsOverlapOf lexicon overlap)
+  is_overlap : (overlap : Overlap) → Decided (IsOverlap lexicon overlap)
   is_overlap overlap =
       let before = rule_of lexicon.rules overlap.before in
       let after = rule_of lexicon.rules overlap.after in
@@ -140,7 +141,7 @@ module _ (lexicon : Lexicon) where
   number_within : (number : ℕ) → IsRuleNumber lexicon.rules number → Contains rule_numbers number
   number_within number h = Contains-numbers_below (length lexicon.rules.rules + 1) number (omega (arith, h.1))
 
-  is_candidate : (overlap : Overlap) → IsOverlapOf lexicon overlap → Contains candidates overlap
+  is_candidate : (overlap : Overlap) → IsOverlap lexicon overlap → Contains candidates overlap
   is_candidate overlap o =
       let letters : List (List ℕ) = map (λ (form : Form). form.letters) (forms_of lexicon overlap.phase) in
       Contains-flat_map with_phase (numbers_below (length lexicon.phases)) overlap.phase overlap
@@ -163,7 +164,7 @@ module _ (lexicon : Lexicon) where
 
   pub overlaps_there : (most : ℕ) → (overlaps : List Overlap) × (more : Bool) × AreFirstOverlaps lexicon most overlaps more
   overlaps_there most =
-      let all = all_that_have compare_overlaps_total (IsOverlapOf lexicon) (λ x y p q e. overlaps_exact x y e) candidates
+      let all = all_that_have compare_overlaps_total (IsOverlap lexicon) (λ x y p q e. overlaps_exact x y e) candidates
       (λ overlap m. is_overlap overlap) is_candidate in
-      let first = front_of_all compare_overlaps_total (IsOverlapOf lexicon) all.0 all.1 most in
+      let first = front_of_all compare_overlaps_total (IsOverlap lexicon) all.0 all.1 most in
       (first.list, first.more, record { first = first.first; at_most = first.at_most; full = first.full })

@@ -21,12 +21,12 @@ mod laws;
 mod limits;
 
 pub use command_laws::{
-    batch_alone, build_alone, check_alone, convert_alone, demo_alone, other_words_alone, read_alone,
-    segment_alone,
+    batch_alone, build_alone, check_alone, convert_alone, demo_alone, other_words_alone,
+    read_alone, segment_alone,
 };
 pub use laws::{
     a_run_has_one_outcome, batch_has_one_outcome, build_has_one_outcome, check_has_one_outcome,
-    convert_has_one_outcome, demo_has_one_outcome, read_has_one_outcome, segment_has_one_outcome, sources_have_one_lexicon,
-    what_was_written_begins_the_outcome, words_are_of_one_command,
+    convert_has_one_outcome, demo_has_one_outcome, read_has_one_outcome, segment_has_one_outcome,
+    sources_have_one_lexicon, what_was_written_begins_the_outcome, words_are_of_one_command,
 };
 pub use limits::{CHECK_OVERLAPS, MOST_WORD_BYTES, SEGMENT_PAGE};
