@@ -5,3 +5,4 @@ pub mod NodeSteps
 pub mod GroupLaws
 pub mod ChoiceLaws
 pub mod TestRules
+pub mod RuleGroupLaws
