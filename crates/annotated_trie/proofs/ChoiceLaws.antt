@@ -1,6 +1,6 @@
 -- The rules whose u has a number among those of a node's suffixes are the node's choices. A rising list of numbers within bounds has
 -- no more elements than numbers lie there, by induction from its first element.
-use Rattle.std.proofs.Common.{◌≡◌, ℕ, zero, suc, ◌+◌, ◌^◌, ◌<◌, ◌≤◌, List, [], ◌∷◌, length, get_or, refl, sym, ap, subst, arith}
+use Rattle.std.proofs.Common.{◌≡◌, ℕ, zero, suc, ◌+◌, ◌^◌, ◌<◌, ◌≤◌, List, [], ◌∷◌, length, map, get_or, refl, sym, ap, subst, arith}
 use Rattle.std.specs.Global.{Vec}
 use Rattle.std.specs.Prelude.{All, Contains}
 use Rattle.std.specs.declared.cmp.Ordering.TheVariants.{Less}
@@ -14,7 +14,7 @@ use Rattle.list_laws.proofs.Sorted.{All-from_Contains}
 use Rattle.lexicon_definitions.specs.Rules.{no_change}
 use Rattle.lexicon_definitions.specs.Lexicons.{RuleSet, rule_of}
 use Rattle.lexicon_definitions.specs.Tries.{Row, Trie, IsTrie}
-use Rattle.annotated_trie.specs.Choices.{AreChoices, IsAnnotatedTrie, LeadsToEnd, choices_of}
+use Rattle.annotated_trie.specs.Choices.{AreChoices, IsAnnotatedTrie, LeadsToEnd, choices_of, first_letter}
 use Rattle.annotated_trie.specs.Suffixes.{AreGroups, AreListsFrom, AreNumbers, AreSetsAt}
 use Rattle.annotated_trie.specs.Views.{AreChosen, annotated_with, list_at}
 
@@ -109,14 +109,15 @@ chosen_few rules rows lists places most are few k d low =
     omega (arith, few, short, same)
 
 -- the trie with the lists at the places has its choices
-pub IsAnnotatedTrie-chosen : (rules : RuleSet) (trie : Trie) (lists : List (Vec ℕ)) (places : List ℕ) → AreChosen rules trie.rows lists places → IsTrie trie → length trie.rows < 2 ^ 32
-    → IsAnnotatedTrie rules (annotated_with trie lists places)
-IsAnnotatedTrie-chosen rules trie lists places are is few =
+pub IsAnnotatedTrie-chosen : (rules : RuleSet) (trie : Trie) (lists : List (Vec ℕ)) (places firsts : List ℕ) → AreChosen rules trie.rows lists places → IsTrie trie → length trie.rows < 2 ^ 32
+    → firsts ≡ map first_letter rules.rules → IsAnnotatedTrie rules (annotated_with trie lists places firsts)
+IsAnnotatedTrie-chosen rules trie lists places firsts are is few are_firsts =
     record {
       trie = is;
       few = few;
       each = λ node low.
           let count = are.count in
-          let here : choices_of (annotated_with trie lists places) node ≡ list_at lists (get_or places node 0) = get_or-map (list_at lists) places node 0 [] (omega (arith, low, count)) in
+          let here : choices_of (annotated_with trie lists places firsts) node ≡ list_at lists (get_or places node 0) = get_or-map (list_at lists) places node 0 [] (omega (arith, low, count)) in
           subst (AreChoices rules trie.rows node) (sym here) (are.each node low);
+      firsts = are_firsts;
     }

@@ -6,3 +6,4 @@ pub mod GroupLaws
 pub mod ChoiceLaws
 pub mod TestRules
 pub mod SharedLexicons
+pub mod RuleGroupLaws

@@ -10,7 +10,7 @@ store_shared : IsSync Store.the_row
 store_shared = search (sendable, crosses) depth 60 fits 50000
 
 tries_shared : IsSync Annotated.the_row
-tries_shared = let store = store_shared in search (sendable, crosses) depth 60 fits 5000
+tries_shared = let store = store_shared in search (sendable, crosses) depth 60 fits 50000
 
 pub lexicon_shared : IsSync Lexicon.the_row
 lexicon_shared = let tries = tries_shared in search (sendable, crosses) depth 60 fits 5000

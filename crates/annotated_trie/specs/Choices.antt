@@ -1,18 +1,34 @@
 -- The choices of the nodes of a trie: the rules whose `u` leads from the node to a form's end (the choice points of Huet 2005).
-use Rattle.std.specs.Prelude.{◌≡◌, ◌≢◌, ℕ, ◌<◌, ◌≤◌, ◌^◌, ◌↔◌, Some, List, [], length, slice_index_or, Contains}
+use Rattle.std.specs.Prelude.{◌≡◌, ◌≢◌, ℕ, ◌-◌, ◌<◌, ◌≤◌, ◌^◌, ◌↔◌, ◌==◌, Some, List, [], length, map, slice_index, slice_index_or, Contains}
+use Rattle.std.specs.List.{filter}
 use Rattle.std.specs.Ordering.{nat_cmp}
 use Rattle.std.specs.List.Sorted.{IsStrictlySortedBy}
 use Rattle.lexicon_definitions.specs.Lexicons.{RuleSet, rule_of}
+use Rattle.lexicon_definitions.specs.Rules.{Rule}
 use Rattle.lexicon_definitions.specs.Tries.{Row, Trie, IsTrie, row_of, walk}
 
--- the trie, and for each node, by its number, the numbers of the rules that are its choices
+-- the trie; for each node, by its number, the numbers of the rules that are its choices; and for each rule, from the first on,
+-- the first letter of its w
 pub record AnnotatedTrie : Type 0 where
   pub trie : Trie
   pub choices : List (List ℕ)
+  pub firsts : List ℕ
 
 -- the choices of the node
 abbrev pub choices_of : AnnotatedTrie → ℕ → List ℕ
 choices_of tries node = slice_index_or tries.choices node []
+
+-- the rules of the list, by their numbers, whose w begins with the letter
+abbrev pub with_first : List ℕ → ℕ → List ℕ → List ℕ
+with_first firsts letter list = filter (λ (number : ℕ). slice_index firsts (number - 1) == letter) list
+
+-- the choices of the node whose w begins with the letter
+abbrev pub choices_with : AnnotatedTrie → ℕ → ℕ → List ℕ
+choices_with tries node letter = with_first tries.firsts letter (choices_of tries node)
+
+-- the first letter of the rule's w
+abbrev pub first_letter : Rule → ℕ
+first_letter rule = slice_index rule.w 0
 
 -- the word leads from the node to the end of a form
 pub record LeadsToEnd (rows : List Row) (node : ℕ) (word : List ℕ) : Type 0 where
@@ -26,8 +42,9 @@ pub record AreChoices (rules : RuleSet) (rows : List Row) (node : ℕ) (choices 
   pub members : (number : ℕ) → Contains choices number
       ↔ ((0 < number) × (number ≤ length rules.rules) × LeadsToEnd rows node (rule_of rules number).u)
 
--- each node of the trie has its choices
+-- each node of the trie has its choices, and each rule its first letter
 pub record IsAnnotatedTrie (rules : RuleSet) (tries : AnnotatedTrie) : Type 0 where
   pub trie : IsTrie tries.trie
   pub few : length tries.trie.rows < 2 ^ 32
   pub each : (node : ℕ) → node < length tries.trie.rows → AreChoices rules tries.trie.rows node (choices_of tries node)
+  pub firsts : tries.firsts ≡ map first_letter rules.rules

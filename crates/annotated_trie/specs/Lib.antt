@@ -1,4 +1,5 @@
 pub mod Choices
+pub mod RuleGroups
 pub mod Searched
 pub mod Suffixes
 pub mod Views

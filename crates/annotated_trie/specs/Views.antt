@@ -9,9 +9,9 @@ use Rattle.annotated_trie.specs.Choices.{AnnotatedTrie, AreChoices}
 abbrev pub list_at : List (Vec ℕ) → ℕ → List ℕ
 list_at lists place = slice_index_or (map (λ (list : Vec ℕ). list.items) lists) place []
 
--- the trie whose nodes have the lists at these places as their choices
-abbrev pub annotated_with : Trie → List (Vec ℕ) → List ℕ → AnnotatedTrie
-annotated_with trie lists places = record { trie = trie; choices = map (list_at lists) places }
+-- the trie whose nodes have the lists at these places as their choices, and the first letters of the rules
+abbrev pub annotated_with : Trie → List (Vec ℕ) → List ℕ → List ℕ → AnnotatedTrie
+annotated_with trie lists places firsts = record { trie = trie; choices = map (list_at lists) places; firsts = firsts }
 
 -- the number is the greatest length of these lists, or 0 where there are none
 pub record IsMostRules (choices : List (List ℕ)) (most : ℕ) : Type 0 where

@@ -1,13 +1,18 @@
 ghost use Rattle.std.specs.Prelude.{◌≡◌, ◌+◌, ◌≤◌, ◌<◌, ◌^◌, ◌⊎◌, ℕ, length, slice_get};
-ghost use Rattle.annotated_trie.specs.Choices.{choices_of};
+ghost use Rattle.annotated_trie.specs.Choices.{choices_of, choices_with};
+ghost use Rattle.annotated_trie.specs.RuleGroups.{AreGroupedBy};
 ghost use Rattle.annotated_trie.specs.Views.{annotated_with, ArePlaces};
 
+use super::rule_groups::{CODES, RuleGroups};
 use outside::Steps;
+use phoneme::Letter;
 use shared_trie::{Node, Store};
 use std::marker::Model;
+use std::snapshot::Snapshot;
 
 /// A trie with the choices of each node: the rules whose `u` leads from the node to a form's end (Huet 2005), by their numbers,
-/// which are counted from 1, rising. Nodes from which the same suffixes of `u`s lead to an end share one list.
+/// which are counted from 1, rising. Nodes from which the same suffixes of `u`s lead to an end share one list. The rules of each list
+/// stand besides in groups by the first letter of their `w`.
 #[derive(Drop)]
 pub struct Annotated {
     store: Store,
@@ -15,31 +20,42 @@ pub struct Annotated {
     /// For each node, by its number, the place of its list.
     places: Vec<u32>,
     most: u32,
+    groups: RuleGroups,
 }
 
 impl Model for Annotated {
     ghost use Rattle.std.specs.Prelude.{length};
     ghost use Rattle.annotated_trie.specs.Choices.{AnnotatedTrie};
+    ghost use Rattle.annotated_trie.specs.RuleGroups.{AreGroupedBy};
     ghost use Rattle.annotated_trie.specs.Views.{annotated_with, ArePlaces};
 
     ghost Value = { AnnotatedTrie };
 
-    ghost view = { λ a. annotated_with a.store a.lists.items a.places.items };
+    ghost view = { λ a. annotated_with a.store a.lists.items a.places.items a.groups.firsts.value.items };
 
-    ghost invariant = { λ a. ArePlaces a.lists.items (length a.store.rows) a.places.items a.most };
+    ghost invariant = { λ a. ArePlaces a.lists.items (length a.store.rows) a.places.items a.most
+        × AreGroupedBy a.groups.firsts.value.items a.lists.items a.groups.lists };
 }
 
 impl Annotated {
     /// The trie whose nodes have the lists at these places; `most` is the greatest length of their lists.
-    pub(crate) fn new(store: Store, lists: Vec<Vec<u32>>, places: Vec<u32>, most: u32) -> Annotated
-        requires { ArePlaces lists.items (length store.rows) places.items most }
-        ensures { result ≡ annotated_with store lists.items places.items }
+    pub(crate) fn new(
+        store: Store,
+        lists: Vec<Vec<u32>>,
+        places: Vec<u32>,
+        most: u32,
+        groups: RuleGroups,
+    ) -> Annotated
+        requires places { ArePlaces lists.items (length store.rows) places.items most }
+        requires groups { AreGroupedBy groups.firsts.value.items lists.items groups.lists }
+        ensures { result ≡ annotated_with store lists.items places.items groups.firsts.value.items }
     {
         Annotated {
             store,
             lists,
             places,
             most,
+            groups,
         }
     }
 
@@ -67,6 +83,19 @@ impl Annotated {
     {
         steps.tick();
         self.choices(node).get(i as usize).copied()
+    }
+
+    /// The choices of the node whose `w` begins with the letter: rules' numbers, counted from 1, rising. Takes one step.
+    pub fn choices_with<L>(&self, node: Node, letter: Letter, steps: &mut Steps<L>) -> &[u32]
+        requires { node < length self.now.trie.rows }
+        ensures value { result.now ≡ choices_with self.now node letter }
+        ensures steps { steps.new ≡ steps.old + 1 }
+    {
+        steps.tick();
+        let place = self.places[node.number() as usize] as usize;
+        self.groups
+            .lists
+            .get(CODES * place + letter.code() as usize)
     }
 
     /// The greatest number of choices that a node has: 0 where there are no nodes.

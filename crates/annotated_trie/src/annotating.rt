@@ -1,12 +1,14 @@
 ghost use Rattle.std.specs.Prelude.{◌≡◌, ◌<◌, ◌≤◌, ◌^◌, length, IfOk};
 ghost use Rattle.lexicon_definitions.specs.Tries.{IsTrie};
 ghost use Rattle.annotated_trie.specs.Choices.{IsAnnotatedTrie};
+ghost use Rattle.annotated_trie.specs.RuleGroups.{HaveNumbersUpTo};
 ghost use Rattle.annotated_trie.specs.Views.{AreChosen};
 
 use super::Annotated;
 use super::groups::group_places;
 use super::node_choices::{join_each, longest_at};
 use super::node_suffixes::number_nodes;
+use super::rule_groups::group_lists;
 use super::suffixes::number_rules;
 use indexmap::IndexSet;
 use lexicon_definitions::MOST_RULES;
@@ -21,8 +23,9 @@ pub fn annotate(alloc: Global, store: Store, rules: &RuleSet) -> Result<Annotate
     ensures ok { IfOk result (λ annotated. (annotated.trie ≡ store) × IsAnnotatedTrie rules.now annotated) }
 {
     let (lists, places) = choose(alloc, &store, rules)?;
+    let groups = group_lists(alloc, lists.as_slice(), rules.rules())?;
     let most = longest_at(lists.as_slice(), places.as_slice());
-    Ok(Annotated::new(store, lists, places, most))
+    Ok(Annotated::new(store, lists, places, most, groups))
 }
 
 /// Lists of choices, and for each node the place of its list.
@@ -34,6 +37,7 @@ fn choose(
     ensures trie { IfOk result (λ _. IsTrie store.now) }
     ensures size { IfOk result (λ _. length store.now.rows < 2 ^ 32) }
     ensures rules { IfOk result (λ _. length rules.now.rules ≤ MOST_RULES) }
+    ensures numbers { IfOk result (λ chosen. HaveNumbersUpTo (length rules.now.rules) chosen.0.items) }
     ensures ok { IfOk result (λ chosen. AreChosen rules.now store.now.rows chosen.0.items chosen.1.items) }
 {
     let mut suffixes = IndexSet::new(alloc);

@@ -2,9 +2,9 @@
 //! 2005); and a lexicon as it is searched, with the automaton of its grammar and the tries of its forms.
 //!
 //! Proved: contracts see an `Annotated` as the trie and the choices of each node. `annotate` gives each node just the rules that
-//! are its choices, rising (`ok`); `choice_count`, `choice` and `most_choices` read them. `choice` takes one step (`steps`). A
-//! `Lexicon` is always that of its rules, forms and automaton, which is its invariant (`searched` of `rules`); threads may
-//! share it (`lexicons_are_shared`).
+//! are its choices, rising (`ok`); `choice_count`, `choice` and `most_choices` read them, and `choices_with` those whose `w` begins
+//! with a letter (`value`). `choice` and `choices_with` take one step (`steps`). A `Lexicon` is always that of its rules, forms and
+//! automaton, which is its invariant (`searched` of `rules`); threads may share it (`lexicons_are_shared`).
 #![tactic(auto)]
 
 mod annotated;
@@ -13,6 +13,8 @@ mod groups;
 mod lexicon;
 mod node_choices;
 mod node_suffixes;
+mod rule_groups;
+mod rule_lists;
 mod sharing;
 mod suffixes;
 #[cfg(test)]

@@ -5,20 +5,20 @@ use phoneme::Letter;
 
 /// A set of letters. Contracts see it as the rising list of its letters (`letters_in`).
 #[derive(Clone, Copy, Debug)]
-pub struct LetterSet {
+pub(crate) struct LetterSet {
     bits: u64,
 }
 
 impl LetterSet {
     /// The set without letters.
-    pub fn new() -> LetterSet
+    pub(crate) fn new() -> LetterSet
         ensures { letters_in result ≡ [] }
     {
         LetterSet { bits: 0 }
     }
 
     /// The set with this letter besides.
-    pub fn with(self, letter: Letter) -> LetterSet
+    pub(crate) fn with(self, letter: Letter) -> LetterSet
         ensures { (other : ℕ) → Contains (letters_in result) other ↔ (Contains (letters_in self) other ⊎ (other ≡ letter)) }
     {
         LetterSet {
@@ -27,7 +27,7 @@ impl LetterSet {
     }
 
     /// The place of the letter among the letters of the set, counted from 0. `None` where the set has not the letter.
-    pub fn place_of(self, letter: Letter) -> Option<u32>
+    pub(crate) fn place_of(self, letter: Letter) -> Option<u32>
         ensures { MatchOption result (Contains (letters_in self) letter → ⊥) (λ place. slice_get (letters_in self) place ≡ Some letter) }
     {
         let bit = 1u64 << letter.code();
@@ -38,7 +38,7 @@ impl LetterSet {
     }
 
     /// The number of letters.
-    pub fn len(self) -> u32
+    pub(crate) fn len(self) -> u32
         ensures value { result ≡ length (letters_in self) }
         ensures few { result ≤ 64 }
     {

@@ -5,8 +5,7 @@
 //! lists, with their deltas (`ok`). Children have smaller numbers than their parents, and no two rows are the same (`trie` of
 //! `len`), so no two nodes stand for the same suffixes (`nodes_are_told_by_suffixes` of `lexicon_definitions`). `root`, `child`,
 //! `accepts`, `deltas`, `children` and `len` read the rows (`value`); `height` is the length of the longest suffix. `child`
-//! takes one step, and `children` one for each child and one more (`steps`). A `LetterSet` is the rising list of its letters, and
-//! `place_of` tells a letter's place in it by a count of bits. That each row is hashed once is only measured.
+//! takes one step, and `children` one for each child and one more (`steps`). That each row is hashed once is only measured.
 #![tactic(auto)]
 
 mod building;
@@ -28,7 +27,6 @@ mod store;
 mod tests;
 
 pub use building::build;
-pub use letter_set::LetterSet;
 pub use node::Node;
 pub use sharing::stores_are_shared;
 pub use store::Store;

@@ -1,9 +1,22 @@
 -- what the parts give is put together
-use Rattle.std.proofs.Common.{ℕ, List, subst}
+use Rattle.std.proofs.Common.{◌≡◌, ℕ, List, length, ◌∙◌, ap, subst}
 use Rattle.lexicon_definitions.specs.Rules.{Rule}
 use Rattle.annotated_trie.specs.Suffixes.{AreGroups, AreListsFrom, AreNumbers}
 use Rattle.annotated_trie.proofs.ChoiceLaws.{AreChosen-lists}
+use Rattle.annotated_trie.proofs.RuleGroupLaws.{lists_numbered}
 use Rattle.annotated_trie.proofs.annotating.choose.Goals as goal
+
+pub returns-clause-numbers : goal.returns-clause-numbers
+returns-clause-numbers c =
+    let rules = c.args.rules.now in
+    let numbers = c.in_ok-numbers.numbers.items in
+    let groups = c.in_ok-groups.groups.items in
+    let sets = c.in_ok-nodes.nodes.sets.keys in
+    let lists = c.in_ok-lists.lists.items in
+    let count : length numbers ≡ length rules.rules = c.in_ok-numbers.ensures.ok.count ∙ ap (λ (rs : List Rule). length rs) c.rules.ensures.value in
+    let grouped : AreGroups numbers groups = subst (λ (ns : List ℕ). AreGroups ns groups) c.as_slice.ensures.value c.in_ok-groups.ensures.ok in
+    let from : AreListsFrom groups sets lists = subst (λ gs. AreListsFrom gs sets lists) c.as_slice-2.ensures.value (subst (λ ss. AreListsFrom c.as_slice-2.result.now ss lists) c.as_slice-3.ensures.keys c.in_ok-lists.ensures.ok) in
+    lists_numbered numbers groups sets lists (length rules.rules) count grouped from
 
 pub returns-clause-ok : goal.returns-clause-ok
 returns-clause-ok c =
