@@ -45,6 +45,10 @@ pub fn inflect(alloc: Global, rows: &[Row], stem: &Stem) -> Result<Vec<Entry>, M
     Ok(entries)
 }
 
+/// How many stems a thread is given at least. A thread takes some 72 MiB of address space, mostly without use, and inflecting is
+/// a small part of the work on a lexicon.
+const LEAST_PIECE: usize = 5_000;
+
 /// The entries of each stem by the rows of its class.
 fn inflect_each(
     rt: &(impl Threads + Sync),
@@ -63,6 +67,7 @@ fn inflect_each(
                 ensures { IfOk result (λ part. IsPartOf tables.entry.now stem.now part) }
             { inflect(alloc, tables.rows(stem.class), stem) },
         )
+        .with_min_len(LEAST_PIECE)
         .collect::<Result<Vec<Vec<Entry>>, Memory>>(rt, alloc)?
 }
 

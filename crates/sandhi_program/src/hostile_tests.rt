@@ -1,6 +1,7 @@
 ghost use Rattle.std.specs.Prelude.{◌<◌, None};
 
 use super::build_tests::{LEXICON, RULES, STEMS, TABLES};
+use super::read_tests::{PAGED, PAGED_OUT};
 use super::run::run;
 use super::status::Status;
 use super::tests::{CETI, NASTI, push_times};
@@ -10,70 +11,76 @@ use std::sync::atomic::{AtomicU64, Ordering};
 use std::test::Fail;
 use std::thread::Threads;
 
-const PAGED: &str = "text slp1 nAsti\npage 1\npage 1\npage 1\n";
-
-const PAGED_OUT: &str =
-    "ok\n1: na[word] (a|a>A) asti[word]\nmore\n2: na[word] (a|A>A) Asti[word]\nend\nend\n";
-
-/// Which call of the shelf, of the source and of the sink fails, counted from 1, where 0 is none, and how many bytes the two
-/// streams give and take a call.
+/// What fails, by the number of the call, counted from 1, where 0 is none.
 #[derive(Clone, Copy)]
-struct Faults {
-    shelf: u64,
-    source: u64,
-    sink: u64,
-    piece: usize,
+enum Failing {
+    Shelf(u64),
+    Source(u64),
+    /// A call of the sink; both streams give and take so many bytes a call.
+    Sink(u64, usize),
 }
 
-const fn shelf(call: u64) -> Faults {
-    Faults {
-        shelf: call,
-        source: 0,
-        sink: 0,
-        piece: 4_096,
+impl Failing {
+    fn call_of_shelf(self) -> u64 {
+        match self {
+            Failing::Shelf(call) => call,
+            Failing::Source(_) | Failing::Sink(_, _) => 0,
+        }
     }
-}
 
-const fn source(call: u64) -> Faults {
-    Faults {
-        shelf: 0,
-        source: call,
-        sink: 0,
-        piece: 4_096,
+    fn call_of_source(self) -> u64 {
+        match self {
+            Failing::Source(call) => call,
+            Failing::Shelf(_) | Failing::Sink(_, _) => 0,
+        }
     }
-}
 
-const fn sink(call: u64, piece: usize) -> Faults {
-    Faults {
-        shelf: 0,
-        source: 0,
-        sink: call,
-        piece,
+    fn call_of_sink(self) -> u64 {
+        match self {
+            Failing::Sink(call, _) => call,
+            Failing::Shelf(_) | Failing::Source(_) => 0,
+        }
+    }
+
+    /// How many bytes the streams give and take a call.
+    fn piece(self) -> usize
+        ensures { 0 < result }
+    {
+        match self {
+            Failing::Sink(_, piece) => piece.max(1),
+            Failing::Shelf(_) | Failing::Source(_) => 4_096,
+        }
     }
 }
 
 /// The words with a `/` between them, what fails, the exit status, what is written, and what OUT has, where it is there.
-static FAULTS: [(&str, Faults, u8, &str, Option<&str>); 20] = [
-    ("build/r/t/s/o", shelf(1), 3, "", None),
-    ("build/r/t/s/o", shelf(2), 3, "", None),
-    ("build/r/t/s/o", shelf(3), 3, "", None),
-    ("build/r/t/s/o", shelf(4), 4, "", None),
-    ("build/r/t/s/o", sink(1, 7), 4, "", Some(LEXICON)),
-    ("build/r/t/s/o", sink(2, 3), 4, "for", Some(LEXICON)),
-    ("read/l7", shelf(1), 3, "", None),
-    ("read/l7", source(1), 3, "", None),
-    ("read/l7", source(2), 3, PAGED_OUT, None),
-    ("read/l7", sink(2, 4_096), 4, "ok\n", None),
-    ("read/l7", sink(0, 1), 0, PAGED_OUT, None),
-    ("batch/l7/slp1/f/1", shelf(1), 3, "", None),
-    ("batch/l7/slp1/f/1", shelf(2), 3, "", None),
-    ("batch/l7/slp1/f/1", sink(1, 4_096), 4, "", None),
-    ("segment/l1/ceti", shelf(1), 3, "", None),
-    ("segment/l1/ceti", sink(1, 7), 4, "", None),
-    ("segment/l1/ceti", sink(2, 7), 4, "1: ca[w", None),
-    ("check/l1", shelf(1), 3, "", None),
-    ("check/l1", sink(2, 7), 4, "phases ", None),
-    ("demo/0", sink(1, 7), 4, "", None),
+static FAULTS: [(&str, Failing, u8, &str, Option<&str>); 20] = [
+    ("build/r/t/s/o", Failing::Shelf(1), 3, "", None),
+    ("build/r/t/s/o", Failing::Shelf(2), 3, "", None),
+    ("build/r/t/s/o", Failing::Shelf(3), 3, "", None),
+    ("build/r/t/s/o", Failing::Shelf(4), 4, "", None),
+    ("build/r/t/s/o", Failing::Sink(1, 7), 4, "", Some(LEXICON)),
+    (
+        "build/r/t/s/o",
+        Failing::Sink(2, 3),
+        4,
+        "for",
+        Some(LEXICON),
+    ),
+    ("read/l7", Failing::Shelf(1), 3, "", None),
+    ("read/l7", Failing::Source(1), 3, "", None),
+    ("read/l7", Failing::Source(2), 3, PAGED_OUT, None),
+    ("read/l7", Failing::Sink(2, 4_096), 4, "ok\n", None),
+    ("read/l7", Failing::Sink(0, 1), 0, PAGED_OUT, None),
+    ("batch/l7/slp1/f/1", Failing::Shelf(1), 3, "", None),
+    ("batch/l7/slp1/f/1", Failing::Shelf(2), 3, "", None),
+    ("batch/l7/slp1/f/1", Failing::Sink(1, 4_096), 4, "", None),
+    ("segment/l1/ceti", Failing::Shelf(1), 3, "", None),
+    ("segment/l1/ceti", Failing::Sink(1, 7), 4, "", None),
+    ("segment/l1/ceti", Failing::Sink(2, 7), 4, "1: ca[w", None),
+    ("check/l1", Failing::Shelf(1), 3, "", None),
+    ("check/l1", Failing::Sink(2, 7), 4, "phases ", None),
+    ("demo/0", Failing::Sink(1, 7), 4, "", None),
 ];
 
 /// The words, as they are written with a `/` between them.
@@ -114,12 +121,12 @@ fn holds(shelf: &MemoryShelf, name: &str, text: Option<&str>) -> bool {
 #[test]
 fn devices_fail_at_each_call(rt: HostRuntime) -> Result<(), Fail> {
     let alloc = rt.alloc();
-    for (words, faults, exit, output, out) in &FAULTS {
-        let piece = faults.piece.max(1);
-        let mut shelf = shelf_of(&rt, faults.shelf)?;
+    for (words, failing, exit, output, out) in &FAULTS {
+        let piece = failing.piece();
+        let mut shelf = shelf_of(&rt, failing.call_of_shelf())?;
         let input = PAGED.as_bytes().to_vec(alloc)?;
-        let mut source = MemorySource::new(input, piece, vec![in alloc; faults.source]?);
-        let mut sink = MemorySink::new(alloc, piece, vec![in alloc; faults.sink]?);
+        let mut source = MemorySource::new(input, piece, vec![in alloc; failing.call_of_source()]?);
+        let mut sink = MemorySink::new(alloc, piece, vec![in alloc; failing.call_of_sink()]?);
         let words = words_of(&rt, words)?;
         let status = run(
             &rt,

@@ -96,9 +96,9 @@ static SESSIONS: [(&str, &str, &str); 19] = [
     (CETI, "quit", "bye\n"),
 ];
 
-const PAGED: &str = "text slp1 nAsti\npage 1\npage 1\npage 1\n";
+pub(super) const PAGED: &str = "text slp1 nAsti\npage 1\npage 1\npage 1\n";
 
-const PAGED_OUT: &str =
+pub(super) const PAGED_OUT: &str =
     "ok\n1: na[word] (a|a>A) asti[word]\nmore\n2: na[word] (a|A>A) Asti[word]\nend\nend\n";
 
 /// A session over these devices without faults writes this, and is done.
