@@ -410,23 +410,29 @@ fn a_refused_source_is_named_by_its_place(rt: HostRuntime) -> Result<(), Fail> {
     Ok(())
 }
 
-/// The call of the shelf and the write of the sink that fail, counted from 1, the status, and what the file holds then.
-static FAULTS: [(u64, u64, Status, &str); 5] = [
-    (1, 9, Status::ReadFault, BEFORE),
-    (2, 9, Status::ReadFault, BEFORE),
-    (3, 9, Status::ReadFault, BEFORE),
-    (4, 9, Status::WriteFault, BEFORE),
-    (9, 1, Status::WriteFault, LEXICON),
+/// A text in SLP1 in the place of the rules.
+const TEXT: Sources = ("kA\n", TABLES, STEMS);
+
+/// The words, the sources, the call of the shelf and the write of the sink that fail, counted from 1, the status, and what the file holds
+/// then.
+static FAULTS: [(&str, Sources, u64, u64, Status, &str); 8] = [
+    ("build/r/t/s/o", (RULES, TABLES, STEMS), 1, 9, Status::ReadFault, BEFORE),
+    ("build/r/t/s/o", (RULES, TABLES, STEMS), 2, 9, Status::ReadFault, BEFORE),
+    ("build/r/t/s/o", (RULES, TABLES, STEMS), 3, 9, Status::ReadFault, BEFORE),
+    ("build/r/t/s/o", (RULES, TABLES, STEMS), 4, 9, Status::WriteFault, BEFORE),
+    ("build/r/t/s/o", (RULES, TABLES, STEMS), 9, 1, Status::WriteFault, LEXICON),
+    ("convert/slp1/iast/r/o", TEXT, 1, 9, Status::ReadFault, BEFORE),
+    ("convert/slp1/iast/r/o", TEXT, 2, 9, Status::WriteFault, BEFORE),
+    ("convert/slp1/iast/r/o", TEXT, 9, 1, Status::WriteFault, "k\u{101}\n"),
 ];
 
 #[test]
 fn after_a_fault_the_file_is_written_or_stays(rt: HostRuntime) -> Result<(), Fail> {
     let alloc = rt.alloc();
-    let sources = (RULES, TABLES, STEMS);
-    for (failing_call, failing_write, expected, file) in &FAULTS {
+    for (words, sources, failing_call, failing_write, expected, file) in &FAULTS {
         let calls = vec![in alloc; *failing_call]?;
         let writes = vec![in alloc; *failing_write]?;
-        let left = run_over(&rt, "build/r/t/s/o", &sources, calls, writes)?;
+        let left = run_over(&rt, words, sources, calls, writes)?;
         assert!(rt; left.status == *expected);
         assert_eq!(rt; left.sink.bytes().len(), 0);
         assert!(rt; holds(&left.shelf, "o", file));

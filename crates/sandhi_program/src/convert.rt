@@ -40,6 +40,7 @@ fn count_lines(bytes: &[u8]) -> usize
 }
 
 /// The bytes of a text file in the other scheme, whose length is judged before its lines are looked at.
+#[tactic(auto, using(crate::proofs::ConvertRuns::file_converted))]
 fn convert_file(
     alloc: Global,
     input: AnyScheme,
