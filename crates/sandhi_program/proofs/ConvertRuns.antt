@@ -1,17 +1,21 @@
 -- What `convert` says of the outcome: the text file tells what was made of it, its fault, or that it is not there; and what was made is
 -- written.
-use Rattle.std.proofs.Common.{◌≡◌, ℕ, List, Option, Some, None, string_bytes, refl}
+use Rattle.std.proofs.Common.{◌≡◌, ℕ, ◌≤◌, List, length, Option, Some, None, Ok, string_bytes, refl, sym, ap, ◌∙◌}
 use Rattle.outside.specs.Files.{Files, contents_of, with_file}
 use Rattle.conversion_definitions.specs.AnySchemes.{AnyScheme}
+use Rattle.conversion_definitions.specs.Conversions.{converted_text}
+use Rattle.lexicon_text_definitions.specs.declared.limits.TheConstants.{MOST_FILE_BYTES}
+use Rattle.lexicon_text_definitions.specs.FileLines.{lines_of_bytes}
 use Rattle.run_definitions.specs.Commands.{FileWord}
 use Rattle.run_definitions.specs.Ends as ends
 use Rattle.run_definitions.specs.Ends.{Outcome, outcome_over}
 use Rattle.run_definitions.specs.Refusals.{file_refusal}
 use Rattle.run_definitions.specs.SourceTells.{Missing, Refused, Holds, IsMissing}
-use Rattle.run_definitions.specs.ConvertOutcomes.{Conversion, IsConversion, printed_lines, IsConvertedOutcome, IsConvertOutcome}
+use Rattle.run_definitions.specs.ConvertOutcomes.{Conversion, with_count, IsConversion, printed_lines, IsConvertedOutcome, IsConvertOutcome}
 use Rattle.sandhi_program.specs.declared.status.Status.TheVariants.{Done, BadFile}
 use Rattle.sandhi_program.specs.declared.status.AnyFault.{AnyFault}
 use Rattle.sandhi_program.specs.declared.convert.ConvertedFile.{ConvertedFile}
+use Rattle.sandhi_program.specs.Conversions.{IsConvertedFile}
 use Rattle.sandhi_program.specs.Faults.{file_fault}
 use Rattle.sandhi_program.specs.RunEnds.{HasOutcome}
 use Rattle.sandhi_program.specs.Sources.{HoldsSource, IsRefusedSource}
@@ -42,6 +46,19 @@ module _ (from to : AnyScheme) (file out : FileWord) where
     do_tell = told_held (IsConversion from to) ends.Spelling files told file.name bytes e read conversion holds;
     is_outcome = is;
   }
+
+-- the text in the other scheme, and the line that counts its lines
+pub file_converted : (from to : AnyScheme) (bytes : List ℕ) (converted : ConvertedFile) (lines : ℕ) → length bytes ≤ MOST_FILE_BYTES
+    → converted_text from to bytes ≡ Ok converted.text.items → lines ≡ length (lines_of_bytes bytes)
+    → string_bytes converted.output ≡ printed_lines lines → IsConvertedFile from to bytes converted
+file_converted from to bytes converted lines within text same output = record {
+  lines = lines;
+  held = record {
+    within = within;
+    read = ap (with_count (length (lines_of_bytes bytes))) text ∙ ap (λ n. Ok (record { bytes = converted.text.items; lines = n })) (sym same);
+  };
+  output = output;
+}
 
 -- the text is written, and then the number of its lines
 pub text_written : (converted : ConvertedFile) (lines : ℕ) (out : FileWord) → string_bytes converted.output ≡ printed_lines lines → (told : Files)

@@ -48,6 +48,7 @@ fn print_lines(alloc: Global, lines: usize) -> Result<String, Memory>
 }
 
 /// The bytes of a text file in the other scheme, whose length is judged before its lines are looked at.
+#[tactic(auto, using(crate::proofs::ConvertRuns::file_converted))]
 fn convert_file(
     alloc: Global,
     input: AnyScheme,
