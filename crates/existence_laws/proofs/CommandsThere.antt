@@ -1,9 +1,8 @@
 -- Words are those of a command or of none: it is decided what the words after a name give, and by the number of the arguments and
 -- their texts, whether a command takes them.
-use Rattle.std.proofs.Common.{◌≡◌, ◌≤◌, ◌⊎◌, ℕ, inl, inr, List, [], ◌∷◌, length, Option, Some, None, refl, sym, ◌∙◌, ap, subst}
+use Rattle.std.proofs.Common.{◌≡◌, ◌≤◌, ◌⊎◌, ℕ, inl, inr, List, [], ◌∷◌, length, Option, Some, None, refl, sym, ◌∙◌, ap, subst, arith}
 use Rattle.std.specs.Prelude.{codes}
 use Rattle.std.specs.List.{All, Contains}
-use Rattle.list_laws.proofs.Sorted.{Contains-first, Contains-later}
 use Rattle.text_definitions.specs.Schemes.{Scheme, Slp1, Wx, Velthuis, Devanagari, name_of_scheme}
 use Rattle.session_definitions.specs.Numbers.{page_size_of}
 use Rattle.run_definitions.specs.declared.limits.TheConstants.{MOST_WORD_BYTES}
@@ -14,8 +13,11 @@ use Rattle.run_definitions.specs.CheckOutcomes.{TakesCheck}
 use Rattle.run_definitions.specs.BuildOutcomes.{TakesBuild}
 use Rattle.run_definitions.specs.ReadOutcomes.{TakesRead}
 use Rattle.run_definitions.specs.BatchOutcomes.{TakesBatch, AreBatchArguments}
+use Rattle.conversion_definitions.specs.AnySchemes as any
+use Rattle.conversion_definitions.specs.AnySchemes.{AnyScheme, name_of_any_scheme}
+use Rattle.run_definitions.specs.ConvertOutcomes.{TakesConvert, AreConvertArguments}
 use Rattle.run_definitions.specs.DemoOutcomes.{TakesDemo, AreDemoArguments, demo_number_of}
-use Rattle.run_definitions.specs.Commands.{Command, Segment, Check, Build, Read, Batch, Demo, AreWordsOf, AreOfNoCommand}
+use Rattle.run_definitions.specs.Commands.{Command, Segment, Check, Build, Read, Batch, Demo, Convert, AreWordsOf, AreOfNoCommand}
 use Rattle.existence_laws.proofs.Decisions.{Decided, told_by, both, is_at_most, is_same_word, is_same_list, holds_of_all, one_has}
 
 -- ---- what the words give
@@ -97,15 +99,10 @@ schemes = Slp1 ∷ Wx ∷ Velthuis ∷ Devanagari ∷ []
 
 is_scheme : (scheme : Scheme) → Contains schemes scheme
 unfolding schemes
-is_scheme Slp1 = Contains-first Slp1 (Wx ∷ Velthuis ∷ Devanagari ∷ [])
-is_scheme Wx = Contains-later Slp1 (Wx ∷ Velthuis ∷ Devanagari ∷ []) Wx (Contains-first Wx (Velthuis ∷ Devanagari ∷ []))
-is_scheme Velthuis =
-    Contains-later Slp1 (Wx ∷ Velthuis ∷ Devanagari ∷ []) Velthuis
-    (Contains-later Wx (Velthuis ∷ Devanagari ∷ []) Velthuis (Contains-first Velthuis (Devanagari ∷ [])))
-is_scheme Devanagari =
-    Contains-later Slp1 (Wx ∷ Velthuis ∷ Devanagari ∷ []) Devanagari
-    (Contains-later Wx (Velthuis ∷ Devanagari ∷ []) Devanagari
-    (Contains-later Velthuis (Devanagari ∷ []) Devanagari (Contains-first Devanagari [])))
+is_scheme Slp1 = (0, omega arith, refl)
+is_scheme Wx = (1, omega arith, refl)
+is_scheme Velthuis = (2, omega arith, refl)
+is_scheme Devanagari = (3, omega arith, refl)
 
 -- the word names a scheme
 names_scheme : (word : List ℕ) → Decided ((scheme : Scheme) × (word ≡ name_of_scheme scheme))
@@ -116,6 +113,23 @@ gives_scheme : (values : List (List ℕ)) → Decided ((scheme : Scheme) × Give
 gives_scheme [] = inl (Slp1, refl)
 gives_scheme (value ∷ []) = names_scheme value
 gives_scheme (value ∷ other ∷ values) = inr (λ h. absurd h.1)
+
+any_schemes : List AnyScheme
+any_schemes = any.Slp1 ∷ any.Wx ∷ any.Velthuis ∷ any.Devanagari ∷ any.Iast ∷ any.HarvardKyoto ∷ []
+
+is_any_scheme : (scheme : AnyScheme) → Contains any_schemes scheme
+unfolding any_schemes
+is_any_scheme any.Slp1 = (0, omega arith, refl)
+is_any_scheme any.Wx = (1, omega arith, refl)
+is_any_scheme any.Velthuis = (2, omega arith, refl)
+is_any_scheme any.Devanagari = (3, omega arith, refl)
+is_any_scheme any.Iast = (4, omega arith, refl)
+is_any_scheme any.HarvardKyoto = (5, omega arith, refl)
+
+names_any_scheme : (word : List ℕ) → Decided ((scheme : AnyScheme) × (word ≡ name_of_any_scheme scheme))
+names_any_scheme word =
+    one_has (λ scheme. word ≡ name_of_any_scheme scheme) (λ scheme. is_same_word word (name_of_any_scheme scheme)) any_schemes
+    (λ scheme e. is_any_scheme scheme)
 
 no_values : (values : List (List ℕ)) → Decided (values ≡ [])
 no_values values = is_same_list is_same_word values []
@@ -198,6 +212,32 @@ takes_demo : (values : List (List ℕ)) (arguments : List FileWord) → Decided 
 takes_demo values arguments =
     told_by (λ h. (h.1.0, (h.0, h.1.1))) (λ h. (h.1.0, (h.0, h.1.1))) (both (no_values values) (demo_argument arguments))
 
+convert_arguments : (a b c d : FileWord)
+    → Decided ((x : AnyScheme × AnyScheme × FileWord × FileWord) × AreConvertArguments x.0 x.1 x.2 x.3 (a ∷ b ∷ c ∷ d ∷ []))
+convert_arguments a b c d =
+    told_by
+    (λ h. ((h.0.0, h.1.0, c, d), record { first = a; second = b; are = refl; names_from = h.0.1; names_to = h.1.1 })) back
+    (both (names_any_scheme a.name) (names_any_scheme b.name))
+  where
+    back : (x : AnyScheme × AnyScheme × FileWord × FileWord) × AreConvertArguments x.0 x.1 x.2 x.3 (a ∷ b ∷ c ∷ d ∷ [])
+        → ((scheme : AnyScheme) × (a.name ≡ name_of_any_scheme scheme)) × ((scheme : AnyScheme) × (b.name ≡ name_of_any_scheme scheme))
+    back h =
+        let first : a ≡ h.1.first = let e = h.1.are in cc in
+        let second : b ≡ h.1.second = let e = h.1.are in cc in (
+          (h.0.0, ap (λ (w : FileWord). w.name) first ∙ h.1.names_from),
+          (h.0.1, ap (λ (w : FileWord). w.name) second ∙ h.1.names_to),
+        )
+
+takes_convert : (values : List (List ℕ)) (arguments : List FileWord)
+    → Decided ((x : AnyScheme × AnyScheme × FileWord × FileWord) × TakesConvert x.0 x.1 x.2 x.3 values arguments)
+takes_convert values [] = inr (λ h. let e = h.1.1.are in cc)
+takes_convert values (a ∷ []) = inr (λ h. let e = h.1.1.are in cc)
+takes_convert values (a ∷ b ∷ []) = inr (λ h. let e = h.1.1.are in cc)
+takes_convert values (a ∷ b ∷ c ∷ []) = inr (λ h. let e = h.1.1.are in cc)
+takes_convert values (a ∷ b ∷ c ∷ d ∷ []) =
+    told_by (λ h. (h.1.0, (h.0, h.1.1))) (λ h. (h.1.0, (h.0, h.1.1))) (both (no_values values) (convert_arguments a b c d))
+takes_convert values (a ∷ b ∷ c ∷ d ∷ f ∷ arguments) = inr (λ h. let e = h.1.1.are in cc)
+
 -- ---- the command
 
 -- the command whose words they are, or none
@@ -210,6 +250,7 @@ command_there words =
     (named (codes "read") TakesRead takes_read words)
     (named (codes "batch") (λ (x : FileWord × Scheme × FileWord × ℕ). TakesBatch x.0 x.1 x.2 x.3) takes_batch words)
     (named (codes "demo") TakesDemo takes_demo words)
+    (named (codes "convert") (λ (v : AnyScheme × AnyScheme × FileWord × FileWord). TakesConvert v.0 v.1 v.2 v.3) takes_convert words)
   where
     by_all : Decided ((c : FileWord × Scheme × List ℕ) × AreNamed (codes "segment") (TakesSegment c.0 c.1 c.2) words)
         → Decided ((lex : FileWord) × AreNamed (codes "check") (TakesCheck lex) words)
@@ -217,14 +258,16 @@ command_there words =
         → Decided ((lex : FileWord) × AreNamed (codes "read") (TakesRead lex) words)
         → Decided ((x : FileWord × Scheme × FileWord × ℕ) × AreNamed (codes "batch") (TakesBatch x.0 x.1 x.2 x.3) words)
         → Decided ((number : ℕ) × AreNamed (codes "demo") (TakesDemo number) words)
+        → Decided ((v : AnyScheme × AnyScheme × FileWord × FileWord) × AreNamed (codes "convert") (TakesConvert v.0 v.1 v.2 v.3) words)
         → Decided ((command : Command) × AreWordsOf command words)
-    by_all (inl c) check build read batch demo = inl (Segment c.0.0 c.0.1 c.0.2, c.1)
-    by_all (inr s) (inl c) build read batch demo = inl (Check c.0, c.1)
-    by_all (inr s) (inr c) (inl b) read batch demo = inl (Build b.0.0 b.0.1 b.0.2 b.0.3, b.1)
-    by_all (inr s) (inr c) (inr b) (inl r) batch demo = inl (Read r.0, r.1)
-    by_all (inr s) (inr c) (inr b) (inr r) (inl x) demo = inl (Batch x.0.0 x.0.1 x.0.2 x.0.3, x.1)
-    by_all (inr s) (inr c) (inr b) (inr r) (inr x) (inl d) = inl (Demo d.0, d.1)
-    by_all (inr s) (inr c) (inr b) (inr r) (inr x) (inr d) = inr (λ h. none h.0 h.1)
+    by_all (inl c) check build read batch demo convert = inl (Segment c.0.0 c.0.1 c.0.2, c.1)
+    by_all (inr s) (inl c) build read batch demo convert = inl (Check c.0, c.1)
+    by_all (inr s) (inr c) (inl b) read batch demo convert = inl (Build b.0.0 b.0.1 b.0.2 b.0.3, b.1)
+    by_all (inr s) (inr c) (inr b) (inl r) batch demo convert = inl (Read r.0, r.1)
+    by_all (inr s) (inr c) (inr b) (inr r) (inl x) demo convert = inl (Batch x.0.0 x.0.1 x.0.2 x.0.3, x.1)
+    by_all (inr s) (inr c) (inr b) (inr r) (inr x) (inl d) convert = inl (Demo d.0, d.1)
+    by_all (inr s) (inr c) (inr b) (inr r) (inr x) (inr d) (inl v) = inl (Convert v.0.0 v.0.1 v.0.2 v.0.3, v.1)
+    by_all (inr s) (inr c) (inr b) (inr r) (inr x) (inr d) (inr v) = inr (λ h. none h.0 h.1)
       where
         none : (command : Command) → AreWordsOf command words → ⊥
         none (Segment lex scheme text) h = s ((lex, scheme, text), h)
@@ -233,6 +276,7 @@ command_there words =
         none (Read lex) h = r (lex, h)
         none (Batch lex scheme file count) h = x ((lex, scheme, file, count), h)
         none (Demo number) h = d (number, h)
+        none (Convert from to file out) h = v ((from, to, file, out), h)
 
 pub command_or_none : (words : List (List ℕ)) → ((command : Command) × AreWordsOf command words) ⊎ AreOfNoCommand words
 command_or_none words = elim (command_there words) [ inl c ↦ inl c | inr none ↦ inr (λ command are. none (command, are)) ]

@@ -2,7 +2,7 @@
 -- whose words are those of a command or of none.
 use Rattle.std.proofs.Common.{◌≡◌, ℕ, ◌+◌, ◌++◌, inl, inr, List, [], ◌∷◌, length, Option, Some, Result, Ok, Err, refl, sym, ◌∙◌, subst, arith}
 use Rattle.std.specs.Prelude.{codes}
-use Rattle.outside.specs.Files.{Files}
+use Rattle.outside.specs.Files.{Files, with_file}
 use Rattle.text_definitions.specs.Lines.{Line}
 use Rattle.text_definitions.specs.Schemes.{Scheme}
 use Rattle.text_definitions.specs.LineTexts.{LineFault, line_of_text}
@@ -29,8 +29,8 @@ use Rattle.demo_definitions.proofs.StemsRead.{stems_read}
 use Rattle.demo_definitions.proofs.LinesRead.{line_read}
 use Rattle.run_definitions.specs.declared.limits.TheConstants.{CHECK_OVERLAPS, SEGMENT_PAGE}
 use Rattle.run_definitions.specs.Arguments.{FileWord}
-use Rattle.run_definitions.specs.Commands.{Command, Segment, Check, Build, Read, Batch, Demo, AreWordsOf}
-use Rattle.run_definitions.specs.Ends.{Outcome, Done, ReadFault, BadFile, BadText, AnyFault, Rules, Tables, Stems, outcome_over}
+use Rattle.run_definitions.specs.Commands.{Command, Segment, Check, Build, Read, Batch, Demo, Convert, AreWordsOf}
+use Rattle.run_definitions.specs.Ends.{Outcome, Spelling, Done, ReadFault, BadFile, BadText, AnyFault, Rules, Tables, Stems, outcome_over}
 use Rattle.run_definitions.specs.Refusals.{file_refusal, text_refusal, usage_outcome}
 use Rattle.run_definitions.specs.LexiconTells as lexicons
 use Rattle.run_definitions.specs.LexiconTells.{FileTells, DoesTell}
@@ -45,6 +45,9 @@ use Rattle.run_definitions.specs.BuildOutcomes as build
 use Rattle.run_definitions.specs.ReadOutcomes.{end_with, IsToldWhereServed, IsReadOutcomeWith, IsReadOutcome}
 use Rattle.run_definitions.specs.BatchOutcomes as batch
 use Rattle.run_definitions.specs.BatchOutcomes.{IsLineReply, numbered_reply, AreNumberedReplies, IsAnyText, no_text_fault, TextTells, IsRepliesOutcome, IsTextOutcome, IsBatchOutcomeWith, IsBatchOutcome}
+use Rattle.conversion_definitions.specs.AnySchemes.{AnyScheme}
+use Rattle.conversion_definitions.specs.Conversions.{converted_text}
+use Rattle.run_definitions.specs.ConvertOutcomes.{with_count, IsConversion, printed_lines, IsConvertedOutcome, IsConvertOutcome}
 use Rattle.run_definitions.specs.DemoOutcomes.{DemoCounts, IsDemoLexicon, printed_demo, IsDemoOutcome}
 use Rattle.run_definitions.specs.Outcomes.{IsOutcomeOf, IsOutcome, IsSoFar, OfNoCommand, OfCommand, OfNone, OfOne}
 use Rattle.run_definitions.proofs.SoFar.{all_is_so_far}
@@ -282,6 +285,16 @@ demo_there number files =
       },
     )
 
+-- ---- convert
+
+pub convert_there : (from to : AnyScheme) (text out : FileWord) (files : Files) → (outcome : Outcome) × IsConvertOutcome from to text out files outcome
+convert_there from to text out files =
+    let told = source_told_there (IsConversion from to) Spelling
+    (λ bytes. (with_count (length (lines_of_bytes bytes)) (converted_text from to bytes), refl)) files text.name in
+    let outcome = after_there told.0 text files (λ conversion o. IsConvertedOutcome conversion out files o) (λ conversion e.
+    (record { output = printed_lines conversion.lines; files = with_file files out.name conversion.bytes; end = Done }, refl)) in
+    (outcome.0, record { tells = told.0; do_tell = told.1; is_outcome = outcome.1 })
+
 -- ---- a run
 
 of_command : (words : List (List ℕ)) (files : Files) (input : Option (List ℕ)) → IsToldWhereServed words files input
@@ -292,6 +305,7 @@ of_command words files input told (Build rules tables stems out) are = build_the
 of_command words files input told (Read lex) are = read_there lex files input (λ lexicon holds. told lex lexicon are holds)
 of_command words files input told (Batch lex scheme word count) are = batch_there lex scheme word count files
 of_command words files input told (Demo number) are = demo_there number files
+of_command words files input told (Convert from to text out) are = convert_there from to text out files
 
 pub outcome_there : (words : List (List ℕ)) (files : Files) (input : Option (List ℕ)) → IsToldWhereServed words files input
     → (outcome : Outcome) × IsOutcome words files input outcome

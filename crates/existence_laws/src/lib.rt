@@ -19,7 +19,7 @@ pub use files::{
 pub use listings::{a_line_has_a_listing, a_line_has_a_page, a_line_has_a_summary};
 pub use outcomes::{
     a_run_has_an_outcome, batch_has_an_outcome, build_has_an_outcome, check_has_an_outcome,
-    demo_has_an_outcome, read_has_an_outcome, segment_has_an_outcome,
+    convert_has_an_outcome, demo_has_an_outcome, read_has_an_outcome, segment_has_an_outcome,
     words_are_of_a_command_or_of_none,
 };
 pub use sessions::{a_line_has_a_reply, an_input_has_a_session};

@@ -2,10 +2,12 @@ ghost use Rattle.std.specs.Prelude.{◌≡◌, ◌⊎◌, ℕ, List, Option, Som
 ghost use Rattle.outside.specs.Files.{Files};
 ghost use Rattle.text_definitions.specs.Schemes.{Scheme};
 ghost use Rattle.lexicon_definitions.specs.Lexicons.{Lexicon};
+ghost use Rattle.conversion_definitions.specs.AnySchemes.{AnyScheme};
 ghost use Rattle.run_definitions.specs.BatchOutcomes.{IsBatchOutcome};
 ghost use Rattle.run_definitions.specs.BuildOutcomes.{IsBuildOutcome};
 ghost use Rattle.run_definitions.specs.CheckOutcomes.{IsCheckOutcome};
 ghost use Rattle.run_definitions.specs.Commands.{Command, FileWord, AreWordsOf, AreOfNoCommand};
+ghost use Rattle.run_definitions.specs.ConvertOutcomes.{IsConvertOutcome};
 ghost use Rattle.run_definitions.specs.DemoOutcomes.{IsDemoOutcome};
 ghost use Rattle.run_definitions.specs.LexiconTells.{Holds, DoesTell};
 ghost use Rattle.run_definitions.specs.Outcomes.{Outcome, IsOutcome, IsSoFar};
@@ -50,6 +52,12 @@ pub fn batch_has_an_outcome()
 /// `demo` has an outcome for each number.
 pub fn demo_has_an_outcome()
     ensures { (number : ℕ) (files : Files) → (outcome : Outcome) × IsDemoOutcome number files outcome }
+{}
+
+/// `convert` has an outcome over any files.
+pub fn convert_has_an_outcome()
+    ensures { (from to : AnyScheme) (file out : FileWord) (files : Files)
+        → (outcome : Outcome) × IsConvertOutcome from to file out files outcome }
 {}
 
 /// A run has an outcome, whatever its words and files are, where the input is told if a session is served. All of its output is
