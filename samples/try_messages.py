@@ -131,14 +131,13 @@ def try_closed_pipes(trial):
 def try_usage(trial):
     """The commands in one order, but that of the first word comes first; no similar word is guessed."""
     all_lines = lines_of(trial.run().stderr)
-    names = [line.split()[2] if line.startswith("usage:") else line.split()[1] for line in all_lines[:-1]]
+    names = [line.split()[1] for line in all_lines[1:-1]]
     readme = (TOP / "README.md").read_text(encoding="utf-8")
     trial.tell("usage lists the commands of the README", names == re.findall(r"^### `([a-z]+)[ `]", readme, re.MULTILINE))
     for name in names:
         lines = lines_of(trial.run(name).stderr)
-        told = [line.replace("usage:", "      ") for line in lines]
-        wanted = sorted((line.replace("usage:", "      ") for line in all_lines[:-1]), key=lambda line: line.split()[1] != name)
-        trial.tell(f"usage of {name}", told == [*wanted, all_lines[-1]] and lines[0].startswith(f"usage: sandhi {name}"))
+        wanted = sorted(all_lines[1:-1], key=lambda line: line.split()[1] != name)
+        trial.tell(f"usage of {name}", lines == ("usage:", *wanted, all_lines[-1]))
     for words in (("bild", "x"), ("--help",), ("",), ("--", "build")):
         ended = trial.run(*words)
         trial.tell(f"usage of {words!r}", (ended.returncode, ended.stdout, lines_of(ended.stderr)) == (2, b"usage\n", all_lines))

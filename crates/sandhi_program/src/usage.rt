@@ -34,24 +34,17 @@ pub fn tell_usage(rt: &impl Eprint, words: &[String]) {
         Some(word) => word.as_str(),
         None => "",
     };
-    let mut is_first = true;
+    // Nobody is left to tell where standard error fails too; so here and below.
+    let _ = eprintln!(rt; "usage:");
     for (name, line) in &COMMANDS {
         if *name == meant {
-            tell_line(rt, line, is_first);
-            is_first = false;
+            let _ = eprintln!(rt; "  sandhi {line}");
         }
     }
     for (name, line) in &COMMANDS {
         if *name != meant {
-            tell_line(rt, line, is_first);
-            is_first = false;
+            let _ = eprintln!(rt; "  sandhi {line}");
         }
     }
     let _ = eprintln!(rt; "Words after `--` are never options.");
-}
-
-/// Tells one line of usage. Nobody is left to tell where standard error fails too.
-fn tell_line(rt: &impl Eprint, line: &str, is_first: bool) {
-    let before = if is_first { "usage:" } else { "      " };
-    let _ = eprintln!(rt; "{before} sandhi {line}");
 }
