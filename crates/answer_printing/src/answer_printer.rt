@@ -17,6 +17,7 @@ use std::mem;
 /// before.
 #[derive(Debug, Drop)]
 pub struct AnswerPrinter<'a> {
+    alloc: Global,
     texts: &'a RuleTexts<'a>,
     line: &'a Line,
     spelled: String,
@@ -47,6 +48,7 @@ impl<'a> AnswerPrinter<'a> {
         ensures ok { IfOk result (λ printer. printer ≡ record { rules = texts.now; letters = line.now.letters }) }
     {
         Ok(AnswerPrinter {
+            alloc,
             texts,
             line,
             spelled: print_slp1(alloc, &line.letters)?,
@@ -184,7 +186,6 @@ impl<'a> AnswerPrinter<'a> {
     /// rule stands at the end as ` (u|>w)`. Words are in SLP1. The layout is our own. Refused only for want of memory.
     pub fn push_answer(
         &mut self,
-        alloc: Global,
         output: &mut Vec<u8>,
         steps: &[Step],
         number: u64,
@@ -195,6 +196,7 @@ impl<'a> AnswerPrinter<'a> {
         ensures ok { OnOk result (output.new.items ≡ output.old.items
             ++ output_line (printed_answer self.old.rules number (steps_of self.old.rules self.old.letters steps.now))) }
     {
+        let alloc = self.alloc;
         let before = mem::replace(&mut self.front, PrintedFront::new(alloc));
         self.front = self.print_steps(before, steps)?;
         output.extend_from_slice(format!(in alloc; "{number}: ")?.as_bytes())?;

@@ -13,11 +13,9 @@ use phoneme::Memory;
 use search_frames::SearchGuide;
 use segmentation_definitions::LAST_ANSWER_NUMBER;
 use segmenter::Search;
-use std::alloc::Global;
 
 /// Appends the line of the answer at which the search stands.
 fn push_current<D: SearchGuide>(
-    alloc: Global,
     output: &mut Vec<u8>,
     printer: &mut AnswerPrinter,
     search: &Search<D>,
@@ -31,7 +29,7 @@ fn push_current<D: SearchGuide>(
 {
     match search.current() {
         None => Ok(()),
-        Some(steps) => printer.push_answer(alloc, output, steps, number),
+        Some(steps) => printer.push_answer(output, steps, number),
     }
 }
 
@@ -51,7 +49,6 @@ fn keep_current<D: SearchGuide>(search: &Search<D>, last: &mut Vec<Step>) -> Res
 /// Moves to the next answer and appends its line. False where no answer is left; then nothing is appended, and the search stands
 /// past the last.
 fn push_next<D: SearchGuide, L>(
-    alloc: Global,
     output: &mut Vec<u8>,
     printer: &mut AnswerPrinter,
     search: &mut Search<D>,
@@ -66,7 +63,7 @@ fn push_next<D: SearchGuide, L>(
     if !search.advance(steps) {
         return Ok(false);
     }
-    push_current(alloc, output, printer, search, number)?;
+    push_current(output, printer, search, number)?;
     Ok(true)
 }
 
@@ -76,6 +73,13 @@ fn number_of_next(number: u64) -> u64
     ensures { result ≡ next_number number }
 {
     LAST_ANSWER_NUMBER.min(number + 1)
+}
+
+/// The next answers that are asked for: at most `count`, the first of which has the number `number`, counted from 1.
+#[derive(Clone, Copy, Debug, PartialEq, Eq)]
+pub struct NextAnswers {
+    pub number: u64,
+    pub count: u32,
 }
 
 /// The last line of a list that may have been cut off: `more` where something is left, else `end`.
@@ -93,58 +97,54 @@ fn push_rest(output: &mut Vec<u8>, more: bool) -> Result<(), Memory>
     Ok(())
 }
 
-/// Appends at most `count` answers after where the search stands, an answer a line, numbered from `number` on, and tells how many
+/// Appends the answers that are asked for, after where the search stands, an answer a line with its number, and tells how many
 /// these are. Where they are as many as `count`, the search then stands at the last of them, or where it stood if `count` is 0;
 /// else it stands past the last answer. `last` is then the steps of the last answer that was printed; it stays as it was where no
 /// answer was printed. Refused only for want of memory.
 pub fn push_answers<D: SearchGuide, L>(
-    alloc: Global,
     output: &mut Vec<u8>,
     printer: &mut AnswerPrinter,
     search: &mut Search<D>,
-    number: u64,
-    count: u32,
+    asked: NextAnswers,
     last: &mut Vec<Step>,
     steps: &mut Steps<L>,
 ) -> Result<u32, Memory>
     requires rules { search.old.searched.lexicon.rules ≡ printer.old.rules }
     requires line { search.old.line.letters ≡ printer.old.letters }
-    requires number { number ≤ LAST_ANSWER_NUMBER }
+    requires number { asked.number ≤ LAST_ANSWER_NUMBER }
     ensures unchanged { printer.new ≡ printer.old }
-    ensures ok { IfOk result (HasPrinted search.old search.new number count output.old.items output.new.items
+    ensures ok { IfOk result (HasPrinted search.old search.new asked.number asked.count output.old.items output.new.items
         last.old.items last.new.items) }
 {
-    let mut next = number;
-    for printed in 0..count {
-        if !push_next(alloc, output, printer, search, next, steps)? {
+    let mut next = asked.number;
+    for printed in 0..asked.count {
+        if !push_next(output, printer, search, next, steps)? {
             return Ok(printed);
         }
         keep_current(search, last)?;
         next = number_of_next(next);
     }
-    Ok(count)
+    Ok(asked.count)
 }
 
-/// Appends a page: at most `count` answers after where the search stands, an answer a line, numbered from `number` on, then
-/// `more` where an answer is left and `end` where no answer is. Refused only for want of memory.
+/// Appends a page: the answers that are asked for, after where the search stands, an answer a line with its number, then `more`
+/// where an answer is left and `end` where no answer is. Refused only for want of memory.
 pub fn push_page<D: SearchGuide, L>(
-    alloc: Global,
     output: &mut Vec<u8>,
     printer: &mut AnswerPrinter,
     search: &mut Search<D>,
-    number: u64,
-    count: u32,
+    asked: NextAnswers,
     steps: &mut Steps<L>,
 ) -> Result<(), Memory>
     requires rules { search.old.searched.lexicon.rules ≡ printer.old.rules }
     requires line { search.old.line.letters ≡ printer.old.letters }
-    requires number { number ≤ LAST_ANSWER_NUMBER }
+    requires number { asked.number ≤ LAST_ANSWER_NUMBER }
     ensures unchanged { printer.new ≡ printer.old }
-    ensures ok { OnOk result (HasPrintedPage search.old number count output.old.items output.new.items) }
+    ensures ok { OnOk result (HasPrintedPage search.old asked.number asked.count output.old.items output.new.items) }
 {
-    let mut next = number;
-    for _ in 0..count {
-        if !push_next(alloc, output, printer, search, next, steps)? {
+    let mut next = asked.number;
+    for _ in 0..asked.count {
+        if !push_next(output, printer, search, next, steps)? {
             push_rest(output, false)?;
             return Ok(());
         }

@@ -2,7 +2,7 @@ ghost use Rattle.std.specs.Prelude.{◌≡◌, IfOk};
 ghost use Rattle.batch_reader.specs.Replies.{IsReply};
 
 use annotated_trie::Lexicon;
-use answer_printing::{AnswerPrinter, RuleTexts, push_page};
+use answer_printing::{AnswerPrinter, NextAnswers, RuleTexts, push_page};
 use outside::{Gate, Steps};
 use phoneme::{Line, Memory};
 use reader_choices::Choices;
@@ -36,15 +36,11 @@ impl<'a, G: Gate> Replier<'a, G> {
         let mut search = Search::new(alloc, self.lexicon, line, &choices, &chart)?;
         let mut printer = AnswerPrinter::new(alloc, self.texts, line)?;
         let mut text = Vec::with_capacity(alloc, ROOM)?;
-        push_page(
-            alloc,
-            &mut text,
-            &mut printer,
-            &mut search,
-            1,
-            self.count,
-            &mut steps,
-        )?;
+        let asked = NextAnswers {
+            number: 1,
+            count: self.count,
+        };
+        push_page(&mut text, &mut printer, &mut search, asked, &mut steps)?;
         Ok(text)
     }
 

@@ -6,7 +6,7 @@ ghost use Rattle.paradigm_file_definitions.specs.TableFiles.{cut_of, take_cut, t
 ghost use Rattle.paradigms.specs.Rows.{text_row};
 ghost use Rattle.paradigms.specs.Answers.{IsRead, table_why};
 
-use crate::fields::read_cut;
+use crate::fields::{TableFields, read_cut};
 use crate::record_error::RecordError;
 use crate::words::read_word;
 use crate::{Row, TableWhy};
@@ -14,34 +14,30 @@ use form_tags::read_tag;
 use sandhi_rules::phase_named;
 use std::alloc::Global;
 
-/// The row that these fields of a record tell, over these names of phases.
+/// The row that the fields of a record tell, all but the class, over these names of phases.
 pub(crate) fn read_row(
     alloc: Global,
     phases: &[String],
-    tag: &[u8],
-    phase: &[u8],
-    prefix: &[u8],
-    cut: &[u8],
-    ending: &[u8],
+    fields: &TableFields<'_>,
 ) -> Result<Row, RecordError<TableWhy>>
     requires few { length phases.now ≤ MOST_PHASES }
-    requires prefix { length prefix.now < 2 ^ 32 }
-    requires ending { length ending.now < 2 ^ 32 }
+    requires prefix { length fields.now.prefix.now < 2 ^ 32 }
+    requires ending { length fields.now.ending.now < 2 ^ 32 }
     ensures { (number : ℕ) (classes : List Class) (name : List ℕ)
         → IsRead table_why text_row (take_row number classes name)
-        (take_cut (map string_bytes phases.now) number classes name tag.now phase.now (cut_of cut.now) prefix.now ending.now) result }
+        (take_cut (map string_bytes phases.now) number classes name fields.now.tag.now fields.now.phase.now (cut_of fields.now.cut.now) fields.now.prefix.now fields.now.ending.now) result }
 {
-    let Some(cut) = read_cut(cut) else {
+    let Some(cut) = read_cut(fields.cut) else {
         return Err(RecordError::Why(TableWhy::Fields));
     };
-    let Some(tag) = read_tag(tag) else {
+    let Some(tag) = read_tag(fields.tag) else {
         return Err(RecordError::Why(TableWhy::Tag));
     };
-    let Some(phase) = phase_named(phases, phase) else {
+    let Some(phase) = phase_named(phases, fields.phase) else {
         return Err(RecordError::Why(TableWhy::Phase));
     };
-    let prefix = read_word(alloc, prefix, TableWhy::Spelling)?;
-    let ending = read_word(alloc, ending, TableWhy::Spelling)?;
+    let prefix = read_word(alloc, fields.prefix, TableWhy::Spelling)?;
+    let ending = read_word(alloc, fields.ending, TableWhy::Spelling)?;
     Ok(Row {
         tag,
         phase: phase as u32,

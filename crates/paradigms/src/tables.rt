@@ -162,15 +162,7 @@ impl Tables {
         if !is_class_name(fields.class) {
             return Err(RecordError::Why(TableWhy::Fields));
         }
-        let row = read_row(
-            alloc,
-            phases,
-            fields.tag,
-            fields.phase,
-            fields.prefix,
-            fields.cut,
-            fields.ending,
-        )?;
+        let row = read_row(alloc, phases, &fields)?;
         self.take_row(alloc, number, fields.class, row)
     }
 }

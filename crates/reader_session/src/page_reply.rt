@@ -8,7 +8,7 @@ ghost use Rattle.reader_session.specs.Readings.{IsReading, IsReadingOver, GoesOn
 use super::reading::Reading;
 use super::refusing::refuse;
 use annotated_trie::Lexicon;
-use answer_printing::{AnswerPrinter, RuleTexts, push_answers, rest_line};
+use answer_printing::{AnswerPrinter, NextAnswers, RuleTexts, push_answers, rest_line};
 use outside::Steps;
 use phoneme::Memory;
 use search_frames::{Resumption, SearchGuide};
@@ -60,13 +60,15 @@ fn push_next_page(
     let (answers, resumption) = {
         let mut printer = AnswerPrinter::new(alloc, texts, &line)?;
         let mut search = Search::go_on(lexicon, &line, &choices, &chart, resumption);
+        let asked = NextAnswers {
+            number: first,
+            count,
+        };
         let answers = push_answers(
-            alloc,
             output,
             &mut printer,
             &mut search,
-            first,
-            count,
+            asked,
             &mut last,
             &mut steps,
         )?;

@@ -14,7 +14,7 @@ use super::ending::{finish, refuse_file, refuse_text};
 use super::reading::read_file;
 use super::status::{AnyFault, Status};
 use annotated_trie::Lexicon;
-use answer_printing::{AnswerPrinter, RuleTexts, push_page};
+use answer_printing::{AnswerPrinter, NextAnswers, RuleTexts, push_page};
 use command_words::PlacedWord;
 use lexicon_file::{Contents, read};
 use lexicon_text_definitions::MOST_FILE_BYTES;
@@ -108,15 +108,11 @@ fn list_answers(alloc: Global, lexicon: &Lexicon, line: &Line) -> Result<Vec<u8>
     let texts = RuleTexts::new(alloc, lexicon.rules())?;
     let mut printer = AnswerPrinter::new(alloc, &texts, line)?;
     let mut output = Vec::new(alloc);
-    push_page(
-        alloc,
-        &mut output,
-        &mut printer,
-        &mut search,
-        1,
-        SEGMENT_PAGE,
-        &mut steps,
-    )?;
+    let asked = NextAnswers {
+        number: 1,
+        count: SEGMENT_PAGE,
+    };
+    push_page(&mut output, &mut printer, &mut search, asked, &mut steps)?;
     Ok(output)
 }
 

@@ -39,6 +39,13 @@ more_levels cost m n le = mul-le-mul_right cost le
 one_level : (cost m n : ℕ) → n ≡ m + 1 → n * cost ≡ m * cost + cost
 one_level cost m n is = ap (λ (k : ℕ). k * cost) (is ∙ add-one m) ∙ suc-mul m cost
 
+-- a frame is opened and a path is found from it: its levels are one more than those after it
+pub found_opened : (cost bound here start live opened left now : ℕ) → here ≤ bound → live ≡ start + 1 → opened + left ≤ live + cost
+    → now ≤ opened + left + (bound - here) * cost → now ≤ start + 1 + (bound + 1 - here) * cost
+found_opened cost bound here start live opened left now within live_is whole found =
+    let one = one_level cost (bound - here) (bound + 1 - here) (omega (arith, within)) in
+    omega (arith, live_is, whole, found, one)
+
 -- a path is found below a key of the frame: its levels are fewer than those after this one
 pub found_below : (cost bound here next start before key now left_start left_before left_key : ℕ) → here < next
     → before + left_before ≤ start + left_start → key + 1 + left_key ≤ before + left_before → now ≤ key + 1 + (bound + 1 - next) * cost

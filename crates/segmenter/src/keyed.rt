@@ -12,71 +12,71 @@ ghost use Rattle.segmenter.specs.Chains.{AreFrames, HasRoom};
 ghost use Rattle.derivation.specs.Steps.{key_meant, keys_meant};
 ghost use Rattle.segmenter.specs.GivenKeys.{StandsUnlessRefused};
 
-use annotated_trie::Lexicon;
+use super::search_space::SearchSpace;
 use derivation::Key;
 use outside::Steps;
-use phoneme::Line;
-use reader_choices::Choices;
-use search_frames::{Configuration, Resumption, Test, open_frame, seek, test_key};
+use search_frames::{Configuration, Resumption, SearchGuide, Test, open_frame, seek, test_key};
 
 /// Makes the frame at the level, counted from 0, one that stands at the configuration and at the key, and tells what the key does
 /// there.
-fn stand_at_key(
-    lexicon: &Lexicon,
-    line: &Line,
-    choices: &Choices,
+fn stand_at_key<D: SearchGuide>(
+    space: &SearchSpace<'_, D>,
     stack: &mut Resumption,
     level: usize,
     place: Configuration,
     key: Key,
 ) -> Test
-    requires searched { IsSearchedLexicon lexicon.now }
-    requires line { IsLine line.now }
+    requires searched { IsSearchedLexicon space.now.lexicon.now }
+    requires line { IsLine space.now.line.now }
     requires stack { IsStack stack.old }
     requires there { level < room_of stack.old }
-    requires place { IsConfigurationIn lexicon.now line.now place }
-    ensures exact { IsTestOf lexicon.now line.now choices.now (numbered_of lexicon.now place) (key_meant key) result }
-    ensures stands { StandsUnlessRefused lexicon.now line.now stack.new level (numbered_of lexicon.now place) (key_meant key) result }
+    requires place { IsConfigurationIn space.now.lexicon.now space.now.line.now place }
+    ensures exact { IsTestOf space.now.lexicon.now space.now.line.now space.now.choices.now (numbered_of space.now.lexicon.now place) (key_meant key) result }
+    ensures stands { StandsUnlessRefused space.now.lexicon.now space.now.line.now stack.new level (numbered_of space.now.lexicon.now place) (key_meant key) result }
     ensures changes { KeepsBefore level stack.old stack.new }
 {
     let mut steps = Steps::<()>::new();
-    open_frame(lexicon, line, stack, level, place, &mut steps);
-    if !seek(lexicon, line, stack, level, key) {
+    open_frame(space.lexicon, space.line, stack, level, place, &mut steps);
+    if !seek(space.lexicon, space.line, stack, level, key) {
         return Test::Refused;
     }
-    test_key(lexicon, line, choices, &place, &stack.step(level))
+    test_key(
+        space.lexicon,
+        space.line,
+        space.choices,
+        &place,
+        &stack.step(level),
+    )
 }
 
 /// Goes from the configuration along the keys, with the frames from the level on. False where the keys are no path from there.
-pub(crate) fn find_keys(
-    lexicon: &Lexicon,
-    line: &Line,
-    choices: &Choices,
+pub(crate) fn find_keys<D: SearchGuide>(
+    space: &SearchSpace<'_, D>,
     stack: &mut Resumption,
     level: usize,
     place: Configuration,
     keys: &[Key],
 ) -> bool
-    requires searched { IsSearchedLexicon lexicon.now }
-    requires line { IsLine line.now }
+    requires searched { IsSearchedLexicon space.now.lexicon.now }
+    requires line { IsLine space.now.line.now }
     requires stack { IsStack stack.old }
-    requires place { IsConfigurationIn lexicon.now line.now place }
-    requires reached { IsReached lexicon.now line.now choices.now (numbered_of lexicon.now place) }
-    requires room { HasRoom line.now stack.old level (numbered_of lexicon.now place) }
-    ensures found { OnTrue result (AreFrames lexicon.now line.now stack.new level (numbered_of lexicon.now place) (keys_meant keys.now)
-        × IsPath (ways_in lexicon.now line.now choices.now) (numbered_of lexicon.now place) (keys_meant keys.now)) }
-    ensures not_there { OnFalse result (IsPath (ways_in lexicon.now line.now choices.now) (numbered_of lexicon.now place) (keys_meant keys.now) → ⊥) }
+    requires place { IsConfigurationIn space.now.lexicon.now space.now.line.now place }
+    requires reached { IsReached space.now.lexicon.now space.now.line.now space.now.choices.now (numbered_of space.now.lexicon.now place) }
+    requires room { HasRoom space.now.line.now stack.old level (numbered_of space.now.lexicon.now place) }
+    ensures found { OnTrue result (AreFrames space.now.lexicon.now space.now.line.now stack.new level (numbered_of space.now.lexicon.now place) (keys_meant keys.now)
+        × IsPath (ways_in space.now.lexicon.now space.now.line.now space.now.choices.now) (numbered_of space.now.lexicon.now place) (keys_meant keys.now)) }
+    ensures not_there { OnFalse result (IsPath (ways_in space.now.lexicon.now space.now.line.now space.now.choices.now) (numbered_of space.now.lexicon.now place) (keys_meant keys.now) → ⊥) }
     ensures changes { KeepsBefore level stack.old stack.new }
 {
     let [key, rest @ ..] = keys else {
         return false;
     };
-    match stand_at_key(lexicon, line, choices, stack, level, place, *key) {
+    match stand_at_key(space, stack, level, place, *key) {
         Test::Refused => false,
         Test::Ends => {
             stack.use_frames(level as u32 + 1);
             rest.is_empty()
         }
-        Test::LeadsOn(next) => find_keys(lexicon, line, choices, stack, level + 1, next, rest),
+        Test::LeadsOn(next) => find_keys(space, stack, level + 1, next, rest),
     }
 }

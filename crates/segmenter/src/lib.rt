@@ -17,6 +17,7 @@ mod finding;
 mod keyed;
 mod resuming;
 mod search;
+mod search_space;
 #[cfg(test)]
 mod tests;
 

@@ -17,6 +17,7 @@ ghost use Rattle.segmenter.specs.Skips.{HasNonePast, StandsPast, HasSkipped, Has
 use super::finding::find_later;
 use super::keyed::find_keys;
 use super::search::{Search, empty_stack, opening};
+use super::search_space::{SearchSpace, show_lexicon};
 use annotated_trie::Lexicon;
 use derivation::Key;
 use outside::Steps;
@@ -60,10 +61,15 @@ impl<'a, D: SearchGuide> Search<'a, D> {
         ensures at { IfOk result (λ search. StandsAtKeys search (keys_meant keys.now)) }
         ensures not_an_answer { IfErr result (λ error. error ≡ ErrorNotAnAnswer → (keys.now ≢ []) × AreNoKeys lexicon.now line.now choices.now (keys_meant keys.now)) }
     {
-        // The proof knows what a lexicon is only of one whose rules are read.
-        let _rules = lexicon.rules();
+        show_lexicon(lexicon);
         let mut stack = empty_stack(alloc, lexicon, line)?;
-        if !go_to_keys(lexicon, line, choices, &mut stack, keys) {
+        let space = SearchSpace {
+            lexicon,
+            line,
+            choices,
+            guide,
+        };
+        if !go_to_keys(&space, &mut stack, keys) {
             return Err(ResumeError::NotAnAnswer);
         }
         Ok(Search::go_on(lexicon, line, choices, guide, stack))
@@ -79,38 +85,28 @@ impl<'a, D: SearchGuide> Search<'a, D> {
         ensures ended { OnFalse result (HasSkippedAll depth self.old self.new) }
         ensures steps { AreKnownExact D D.known D.says self.old → (most : ℕ) → HasAtMostRules self.old.searched.tries most → steps.new ≤ steps.old + advance_bound self.old.searched.lexicon most (length self.old.line.letters) }
     {
-        skip_on(
-            self.lexicon,
-            self.line,
-            self.choices,
-            self.guide,
-            &mut self.stack,
-            depth,
-            steps,
-        )
+        skip_on(&self.space, &mut self.stack, depth, steps)
     }
 }
 
 /// Brings a stack that stands before the first answer to the answer with these keys; where no keys are given it stays. False where no
 /// answer has the keys.
-fn go_to_keys(
-    lexicon: &Lexicon,
-    line: &Line,
-    choices: &Choices,
+fn go_to_keys<D: SearchGuide>(
+    space: &SearchSpace<'_, D>,
     stack: &mut Resumption,
     keys: &[Key],
 ) -> bool
-    requires searched { IsSearchedLexicon lexicon.now }
-    requires stack { IsStackOf lexicon.now line.now choices.now stack.old }
+    requires searched { IsSearchedLexicon space.now.lexicon.now }
+    requires stack { IsStackOf space.now.lexicon.now space.now.line.now space.now.choices.now stack.old }
     requires before { cursor_in stack.old ≡ cursor.Before }
-    ensures stack { OnTrue result (IsStackOf lexicon.now line.now choices.now stack.new) }
-    ensures at { OnTrue result (StandsAtKeys (value_of lexicon.now line.now choices.now stack.new) (keys_meant keys.now)) }
-    ensures none { OnFalse result ((keys.now ≢ []) × AreNoKeys lexicon.now line.now choices.now (keys_meant keys.now)) }
+    ensures stack { OnTrue result (IsStackOf space.now.lexicon.now space.now.line.now space.now.choices.now stack.new) }
+    ensures at { OnTrue result (StandsAtKeys (value_of space.now.lexicon.now space.now.line.now space.now.choices.now stack.new) (keys_meant keys.now)) }
+    ensures none { OnFalse result ((keys.now ≢ []) × AreNoKeys space.now.lexicon.now space.now.line.now space.now.choices.now (keys_meant keys.now)) }
 {
     if keys.is_empty() {
         return true;
     }
-    if !find_keys(lexicon, line, choices, stack, 0, opening(lexicon), keys) {
+    if !find_keys(space, stack, 0, opening(space.lexicon), keys) {
         return false;
     }
     stack.stand_at(Cursor::At);
@@ -119,53 +115,47 @@ fn go_to_keys(
 
 /// Finds the least answer past the first keys of the one at which the stack stands. False where there is no such answer.
 fn find_past<D: SearchGuide, L>(
-    lexicon: &Lexicon,
-    line: &Line,
-    choices: &Choices,
-    guide: &D,
+    space: &SearchSpace<'_, D>,
     stack: &mut Resumption,
     depth: u32,
     steps: &mut Steps<L>,
 ) -> bool
-    requires searched { IsSearchedLexicon lexicon.now }
-    requires guide { IsGuideOf lexicon.now line.now choices.now (D.covers guide.now) (D.says guide.now) }
-    requires known { D.known guide.now lexicon.now line.now choices.now }
-    requires stack { IsStackOf lexicon.now line.now choices.now stack.old }
+    requires searched { IsSearchedLexicon space.now.lexicon.now }
+    requires guide { IsGuideOf space.now.lexicon.now space.now.line.now space.now.choices.now (D.covers space.now.guide.now) (D.says space.now.guide.now) }
+    requires known { D.known space.now.guide.now space.now.lexicon.now space.now.line.now space.now.choices.now }
+    requires stack { IsStackOf space.now.lexicon.now space.now.line.now space.now.choices.now stack.old }
     requires at { cursor_in stack.old ≡ cursor.At }
     requires depth { 1 ≤ depth }
-    ensures found { OnTrue result (StandsPast lexicon.now line.now choices.now depth stack.old stack.new) }
-    ensures none { OnFalse result (HasNonePast depth (value_of lexicon.now line.now choices.now stack.old)) }
+    ensures found { OnTrue result (StandsPast space.now.lexicon.now space.now.line.now space.now.choices.now depth stack.old stack.new) }
+    ensures none { OnFalse result (HasNonePast depth (value_of space.now.lexicon.now space.now.line.now space.now.choices.now stack.old)) }
     ensures changes { KeepsBefore 0 stack.old stack.new }
-    ensures steps { IsExactOf lexicon.now line.now choices.now (D.says guide.now) → (most : ℕ) → HasAtMostRules lexicon.now.tries most → steps.new ≤ steps.old + steps_of_levels lexicon.now most (4 * length line.now.letters) }
+    ensures steps { IsExactOf space.now.lexicon.now space.now.line.now space.now.choices.now (D.says space.now.guide.now) → (most : ℕ) → HasAtMostRules space.now.lexicon.now.tries most → steps.new ≤ steps.old + steps_of_levels space.now.lexicon.now most (4 * length space.now.line.now.letters) }
 {
     let in_use = depth.min(stack.depth());
     stack.use_frames(in_use);
-    find_later(lexicon, line, choices, guide, stack, 0, steps)
+    find_later(space, stack, 0, steps)
 }
 
 /// Moves the stack to the least answer past the first keys of the one at which it stands. False where there is no such answer; then
 /// it stands past the last.
 fn skip_on<D: SearchGuide, L>(
-    lexicon: &Lexicon,
-    line: &Line,
-    choices: &Choices,
-    guide: &D,
+    space: &SearchSpace<'_, D>,
     stack: &mut Resumption,
     depth: u32,
     steps: &mut Steps<L>,
 ) -> bool
-    requires searched { IsSearchedLexicon lexicon.now }
-    requires guide { IsGuideOf lexicon.now line.now choices.now (D.covers guide.now) (D.says guide.now) }
-    requires known { D.known guide.now lexicon.now line.now choices.now }
-    requires stack { IsStackOf lexicon.now line.now choices.now stack.old }
+    requires searched { IsSearchedLexicon space.now.lexicon.now }
+    requires guide { IsGuideOf space.now.lexicon.now space.now.line.now space.now.choices.now (D.covers space.now.guide.now) (D.says space.now.guide.now) }
+    requires known { D.known space.now.guide.now space.now.lexicon.now space.now.line.now space.now.choices.now }
+    requires stack { IsStackOf space.now.lexicon.now space.now.line.now space.now.choices.now stack.old }
     requires at { cursor_in stack.old ≡ cursor.At }
     requires depth { 1 ≤ depth }
-    ensures stack { IsStackOf lexicon.now line.now choices.now stack.new }
-    ensures moved { OnTrue result (HasSkipped lexicon.now line.now choices.now depth stack.old stack.new) }
-    ensures ended { OnFalse result (HasSkippedOut lexicon.now line.now choices.now depth stack.old stack.new) }
-    ensures steps { IsExactOf lexicon.now line.now choices.now (D.says guide.now) → (most : ℕ) → HasAtMostRules lexicon.now.tries most → steps.new ≤ steps.old + steps_of_levels lexicon.now most (4 * length line.now.letters) }
+    ensures stack { IsStackOf space.now.lexicon.now space.now.line.now space.now.choices.now stack.new }
+    ensures moved { OnTrue result (HasSkipped space.now.lexicon.now space.now.line.now space.now.choices.now depth stack.old stack.new) }
+    ensures ended { OnFalse result (HasSkippedOut space.now.lexicon.now space.now.line.now space.now.choices.now depth stack.old stack.new) }
+    ensures steps { IsExactOf space.now.lexicon.now space.now.line.now space.now.choices.now (D.says space.now.guide.now) → (most : ℕ) → HasAtMostRules space.now.lexicon.now.tries most → steps.new ≤ steps.old + steps_of_levels space.now.lexicon.now most (4 * length space.now.line.now.letters) }
 {
-    let found = find_past(lexicon, line, choices, guide, stack, depth, steps);
+    let found = find_past(space, stack, depth, steps);
     let cursor = if found { Cursor::At } else { Cursor::Past };
     stack.stand_at(cursor);
     found

@@ -16,6 +16,7 @@ ghost use Rattle.segmenter.specs.Moves.{StandsAtNext, HasNoNext, HasMoved, HasRu
 ghost use Rattle.segmenter.specs.Searches.{IsStackOf, cursor_of, MovedOn, HasEnded, IsCurrent, StandsWhere};
 
 use super::finding::{find_first, find_later};
+use super::search_space::{SearchSpace, show_lexicon};
 use annotated_trie::Lexicon;
 use derivation::{Entrance, Step};
 use outside::Steps;
@@ -29,10 +30,7 @@ use std::marker::Model;
 /// whose stack can be kept, after Huet 2005). The guide says where it need not go on.
 #[derive(Drop)]
 pub struct Search<'a, D: SearchGuide> {
-    pub(crate) lexicon: &'a Lexicon,
-    pub(crate) line: &'a Line,
-    pub(crate) choices: &'a Choices,
-    pub(crate) guide: &'a D,
+    pub(crate) space: SearchSpace<'a, D>,
     pub(crate) stack: Resumption,
 }
 
@@ -43,12 +41,12 @@ impl<'a, D: SearchGuide> Model for Search<'a, D> {
 
     ghost Value = { SearchValue };
 
-    ghost view = { λ s. record { searched = s.lexicon.now; line = s.line.now; choices = s.choices.now; cursor = cursor_of s.lexicon.now s.line.now s.stack } };
+    ghost view = { λ s. record { searched = s.space.lexicon.now; line = s.space.line.now; choices = s.space.choices.now; cursor = cursor_of s.space.lexicon.now s.space.line.now s.stack } };
 
-    ghost invariant = { λ s. IsSearchedLexicon s.lexicon.now
-        × IsGuideOf s.lexicon.now s.line.now s.choices.now (D.covers s.guide.now) (D.says s.guide.now)
-        × IsStackOf s.lexicon.now s.line.now s.choices.now s.stack
-        × D.known s.guide.now s.lexicon.now s.line.now s.choices.now };
+    ghost invariant = { λ s. IsSearchedLexicon s.space.lexicon.now
+        × IsGuideOf s.space.lexicon.now s.space.line.now s.space.choices.now (D.covers s.space.guide.now) (D.says s.space.guide.now)
+        × IsStackOf s.space.lexicon.now s.space.line.now s.space.choices.now s.stack
+        × D.known s.space.guide.now s.space.lexicon.now s.space.line.now s.space.choices.now };
 }
 
 impl<'a, D: SearchGuide> Search<'a, D> {
@@ -82,14 +80,14 @@ impl<'a, D: SearchGuide> Search<'a, D> {
         requires stack { IsStackOf lexicon.now line.now choices.now from }
         ensures ok { result ≡ record { searched = lexicon.now; line = line.now; choices = choices.now; cursor = cursor_of lexicon.now line.now from } }
     {
-        let _rules = lexicon.rules();
-        Search {
+        show_lexicon(lexicon);
+        let space = SearchSpace {
             lexicon,
             line,
             choices,
             guide,
-            stack: from,
-        }
+        };
+        Search { space, stack: from }
     }
 
     /// Moves to the next answer. False where no answer is left; then the search stands past the last. Takes no memory. Under a guide
@@ -100,14 +98,7 @@ impl<'a, D: SearchGuide> Search<'a, D> {
         ensures ended { OnFalse result (HasEnded self.old self.new) }
         ensures steps { AreKnownExact D D.known D.says self.old → (most : ℕ) → HasAtMostRules self.old.searched.tries most → steps.new ≤ steps.old + advance_bound self.old.searched.lexicon most (length self.old.line.letters) }
     {
-        move_on(
-            self.lexicon,
-            self.line,
-            self.choices,
-            self.guide,
-            &mut self.stack,
-            steps,
-        )
+        move_on(&self.space, &mut self.stack, steps)
     }
 
     /// The steps of the answer at which the search stands. `None` before the first answer and past the last.
@@ -137,57 +128,42 @@ impl<'a, D: SearchGuide> Search<'a, D> {
 
 /// Finds the next answer after where the stack stands, and brings its frames there. False where no answer is left.
 fn find_next_answer<D: SearchGuide, L>(
-    lexicon: &Lexicon,
-    line: &Line,
-    choices: &Choices,
-    guide: &D,
+    space: &SearchSpace<'_, D>,
     stack: &mut Resumption,
     steps: &mut Steps<L>,
 ) -> bool
-    requires searched { IsSearchedLexicon lexicon.now }
-    requires guide { IsGuideOf lexicon.now line.now choices.now (D.covers guide.now) (D.says guide.now) }
-    requires known { D.known guide.now lexicon.now line.now choices.now }
-    requires stack { IsStackOf lexicon.now line.now choices.now stack.old }
-    ensures found { OnTrue result (StandsAtNext lexicon.now line.now choices.now stack.old stack.new) }
-    ensures none { OnFalse result (HasNoNext lexicon.now line.now choices.now stack.old) }
+    requires searched { IsSearchedLexicon space.now.lexicon.now }
+    requires guide { IsGuideOf space.now.lexicon.now space.now.line.now space.now.choices.now (D.covers space.now.guide.now) (D.says space.now.guide.now) }
+    requires known { D.known space.now.guide.now space.now.lexicon.now space.now.line.now space.now.choices.now }
+    requires stack { IsStackOf space.now.lexicon.now space.now.line.now space.now.choices.now stack.old }
+    ensures found { OnTrue result (StandsAtNext space.now.lexicon.now space.now.line.now space.now.choices.now stack.old stack.new) }
+    ensures none { OnFalse result (HasNoNext space.now.lexicon.now space.now.line.now space.now.choices.now stack.old) }
     ensures changes { KeepsBefore 0 stack.old stack.new }
-    ensures steps { IsExactOf lexicon.now line.now choices.now (D.says guide.now) → (most : ℕ) → HasAtMostRules lexicon.now.tries most → steps.new ≤ steps.old + steps_of_levels lexicon.now most (4 * length line.now.letters) }
+    ensures steps { IsExactOf space.now.lexicon.now space.now.line.now space.now.choices.now (D.says space.now.guide.now) → (most : ℕ) → HasAtMostRules space.now.lexicon.now.tries most → steps.new ≤ steps.old + steps_of_levels space.now.lexicon.now most (4 * length space.now.line.now.letters) }
 {
     match stack.cursor() {
-        Cursor::Before => find_first(
-            lexicon,
-            line,
-            choices,
-            guide,
-            stack,
-            0,
-            opening(lexicon),
-            steps,
-        ),
-        Cursor::At => find_later(lexicon, line, choices, guide, stack, 0, steps),
+        Cursor::Before => find_first(space, stack, 0, opening(space.lexicon), steps),
+        Cursor::At => find_later(space, stack, 0, steps),
         Cursor::Past => false,
     }
 }
 
 /// Moves the stack to the next answer. False where no answer is left; then it stands past the last.
 fn move_on<D: SearchGuide, L>(
-    lexicon: &Lexicon,
-    line: &Line,
-    choices: &Choices,
-    guide: &D,
+    space: &SearchSpace<'_, D>,
     stack: &mut Resumption,
     steps: &mut Steps<L>,
 ) -> bool
-    requires searched { IsSearchedLexicon lexicon.now }
-    requires guide { IsGuideOf lexicon.now line.now choices.now (D.covers guide.now) (D.says guide.now) }
-    requires known { D.known guide.now lexicon.now line.now choices.now }
-    requires stack { IsStackOf lexicon.now line.now choices.now stack.old }
-    ensures stack { IsStackOf lexicon.now line.now choices.now stack.new }
-    ensures moved { OnTrue result (HasMoved lexicon.now line.now choices.now stack.old stack.new) }
-    ensures ended { OnFalse result (HasRunOut lexicon.now line.now choices.now stack.old stack.new) }
-    ensures steps { IsExactOf lexicon.now line.now choices.now (D.says guide.now) → (most : ℕ) → HasAtMostRules lexicon.now.tries most → steps.new ≤ steps.old + steps_of_levels lexicon.now most (4 * length line.now.letters) }
+    requires searched { IsSearchedLexicon space.now.lexicon.now }
+    requires guide { IsGuideOf space.now.lexicon.now space.now.line.now space.now.choices.now (D.covers space.now.guide.now) (D.says space.now.guide.now) }
+    requires known { D.known space.now.guide.now space.now.lexicon.now space.now.line.now space.now.choices.now }
+    requires stack { IsStackOf space.now.lexicon.now space.now.line.now space.now.choices.now stack.old }
+    ensures stack { IsStackOf space.now.lexicon.now space.now.line.now space.now.choices.now stack.new }
+    ensures moved { OnTrue result (HasMoved space.now.lexicon.now space.now.line.now space.now.choices.now stack.old stack.new) }
+    ensures ended { OnFalse result (HasRunOut space.now.lexicon.now space.now.line.now space.now.choices.now stack.old stack.new) }
+    ensures steps { IsExactOf space.now.lexicon.now space.now.line.now space.now.choices.now (D.says space.now.guide.now) → (most : ℕ) → HasAtMostRules space.now.lexicon.now.tries most → steps.new ≤ steps.old + steps_of_levels space.now.lexicon.now most (4 * length space.now.line.now.letters) }
 {
-    let found = find_next_answer(lexicon, line, choices, guide, stack, steps);
+    let found = find_next_answer(space, stack, steps);
     let cursor = if found { Cursor::At } else { Cursor::Past };
     stack.stand_at(cursor);
     found

@@ -6,7 +6,7 @@ use Rattle.answer_printing.proofs.page_printing.push_answers.Goals as goal
 
 pub loop-printed-init : goal.loop-printed-init
 loop-printed-init g c = record {
-  keeping = keeping_at_first c.args.search.now c.args.number c.args.output.now.items c.args.last.now.items c.requires.number;
+  keeping = keeping_at_first c.args.search.now c.args.asked.number c.args.output.now.items c.args.last.now.items c.requires.number;
   printer = refl;
 }
 
@@ -15,7 +15,7 @@ loop-printed-preserved g c =
     let turn = subst (HasTurned c.loop-printed.search c.push_next.new.search c.loop-printed.next c.loop-printed.output.items c.push_next.new.output.items)
     c.if-not-branch.false c.in_ok-push_next.ensures.ok in
     record {
-      keeping = keeping_next c.args.search.now c.loop-printed.search c.push_next.new.search c.args.number c.loop-printed.printed c.args.output.now.items
+      keeping = keeping_next c.args.search.now c.loop-printed.search c.push_next.new.search c.args.asked.number c.loop-printed.printed c.args.output.now.items
           c.loop-printed.output.items c.push_next.new.output.items c.loop-printed.next c.number_of_next-next.result c.args.last.now.items
           c.loop-printed.last.items c.keep_current.new.last.items c.loop-printed.invariant.keeping turn c.in_ok-keep_current.ensures.ok
           c.number_of_next-next.ensures;

@@ -6,6 +6,6 @@ use Rattle.answer_printing.proofs.page_printing.push_answers.Given as goal
 
 abbrev pub invariant-loop-printed : goal.invariant-loop-printed
 invariant-loop-printed g l = record {
-  keeping : IsKeeping l.initial.search l.search l.fn.number l.printed l.initial.output.items l.output.items l.next l.initial.last.items l.last.items;
+  keeping : IsKeeping l.initial.search l.search l.fn.asked.number l.printed l.initial.output.items l.output.items l.next l.initial.last.items l.last.items;
   printer : l.printer ≡ l.initial.printer;
 }

@@ -6,7 +6,7 @@ use Rattle.answer_printing.proofs.page_printing.push_page.Goals as goal
 
 pub loop-init : goal.loop-init
 loop-init g c = record {
-  under = under_way_at_first c.args.search.now c.args.number c.args.output.now.items c.requires.number;
+  under = under_way_at_first c.args.search.now c.args.asked.number c.args.output.now.items c.requires.number;
   printer = refl;
 }
 
@@ -15,7 +15,7 @@ loop-preserved g c =
     let turn = subst (HasTurned c.loop.search c.push_next.new.search c.loop.next c.loop.output.items c.push_next.new.output.items)
     c.if-not-branch.false c.in_ok-push_next.ensures.ok in
     record {
-      under = under_way_next c.args.search.now c.loop.search c.push_next.new.search c.args.number c.loop.counter c.args.output.now.items
+      under = under_way_next c.args.search.now c.loop.search c.push_next.new.search c.args.asked.number c.loop.counter c.args.output.now.items
           c.loop.output.items c.push_next.new.output.items c.loop.next c.number_of_next-next.result c.loop.invariant.under turn
           c.number_of_next-next.ensures;
       printer = c.push_next.ensures.unchanged ∙ c.loop.invariant.printer;
@@ -28,7 +28,7 @@ returns-then-not-branch g c =
     let fewer = c.loop-test.true in
     record {
       unchanged = c.push_next.ensures.unchanged ∙ c.loop.invariant.printer;
-      ok = page_at_end c.args.search.now c.loop.search c.args.number c.loop.counter c.args.output.now.items c.loop.output.items c.loop.next c.args.count
+      ok = page_at_end c.args.search.now c.loop.search c.args.asked.number c.loop.counter c.args.output.now.items c.loop.output.items c.loop.next c.args.asked.count
           c.loop.invariant.under c.push_next.new.search c.push_next.new.output.items c.push_rest.new.output.items (omega (arith, fewer)) turn
           c.in_ok-push_rest.ensures.ok;
     }
@@ -39,7 +39,7 @@ returns g c =
     let within = c.loop.auto.counter-end in
     record {
       unchanged = c.loop.invariant.printer;
-      ok = page_at_last c.args.search.now c.loop.search c.args.number c.loop.counter c.args.output.now.items c.loop.output.items c.loop.next c.args.count
+      ok = page_at_last c.args.search.now c.loop.search c.args.asked.number c.loop.counter c.args.output.now.items c.loop.output.items c.loop.next c.args.asked.count
           c.loop.invariant.under c.advance-more.new.self c.push_rest-2.new.output.items c.advance-more.result (omega (arith, enough, within))
           c.advance-more.ensures.moved c.advance-more.ensures.ended c.in_ok-push_rest-2.ensures.ok;
     }

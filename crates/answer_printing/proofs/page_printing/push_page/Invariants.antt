@@ -5,6 +5,6 @@ use Rattle.answer_printing.proofs.page_printing.push_page.Given as goal
 
 abbrev pub invariant-loop : goal.invariant-loop
 invariant-loop g l = record {
-  under : IsUnderWay l.initial.search l.search l.fn.number l.counter l.initial.output.items l.output.items l.next;
+  under : IsUnderWay l.initial.search l.search l.fn.asked.number l.counter l.initial.output.items l.output.items l.next;
   printer : l.printer ≡ l.initial.printer;
 }

@@ -10,18 +10,18 @@ use Rattle.segmenter.proofs.PathsFound.{IsUnderWay}
 use Rattle.segmenter.proofs.finding.+find.Given as goal
 
 abbrev pub decreases-find_first : goal.decreases-find_first
-decreases-find_first g l = 2 * (2 * length l.line.now.letters + 2 - rank (numbered_of l.lexicon.now l.place)) + 1
+decreases-find_first g l = 2 * (2 * length l.space.now.line.now.letters + 2 - rank (numbered_of l.space.now.lexicon.now l.place)) + 1
 
 abbrev pub decreases-find_next : goal.decreases-find_next
-decreases-find_next g l = 2 * (2 * length l.line.now.letters + 2 - rank (here_of l.lexicon.now l.stack.now l.level))
+decreases-find_next g l = 2 * (2 * length l.space.now.line.now.letters + 2 - rank (here_of l.space.now.lexicon.now l.stack.now l.level))
 
 abbrev pub invariant-find_next-loop-stack : goal.invariant-find_next-loop-stack
 invariant-find_next-loop-stack g l = record {
-  under : IsUnderWay l.lexicon l.line l.choices l.level l.initial.stack l.stack;
-  to_try : HasToTry l.lexicon l.line l.stack l.level l.to_try;
-  spent : IsExactOf l.lexicon l.line l.choices (g.D.Guide.says l.guide) → (most : ℕ) → HasAtMostRules l.lexicon.tries most
-      → l.steps + steps_left l.lexicon most l.stack l.level ≤ l.initial.steps + steps_left l.lexicon most l.initial.stack l.level;
+  under : IsUnderWay l.space.lexicon.now l.space.line.now l.space.choices.now l.level l.initial.stack l.stack;
+  to_try : HasToTry l.space.lexicon.now l.space.line.now l.stack l.level l.to_try;
+  spent : IsExactOf l.space.lexicon.now l.space.line.now l.space.choices.now (g.D.Guide.says l.space.guide.now) → (most : ℕ) → HasAtMostRules l.space.lexicon.now.tries most
+      → l.steps + steps_left l.space.lexicon.now most l.stack l.level ≤ l.initial.steps + steps_left l.space.lexicon.now most l.initial.stack l.level;
 }
 
 abbrev pub decreases-find_next-loop-stack : goal.decreases-find_next-loop-stack
-decreases-find_next-loop-stack g l = still_to_try l.lexicon l.stack l.level
+decreases-find_next-loop-stack g l = still_to_try l.space.lexicon.now l.stack l.level

@@ -13,7 +13,7 @@ use Rattle.segmenter.proofs.finding.+later.Goals as goal
 pub find_deeper-find_later-requires : goal.find_deeper-find_later-requires
 find_deeper-find_later-requires g t c κs bounds =
     let more = subst (λ depth. c.args.level + 1 < depth) c.depth.ensures c.if-level-depth.true in
-    let there = deeper c.args.lexicon.now c.args.line.now c.args.choices.now c.args.stack.now c.args.level (here_of c.args.lexicon.now c.args.stack.now c.args.level)
+    let there = deeper c.args.space.now.lexicon.now c.args.space.now.line.now c.args.space.now.choices.now c.args.stack.now c.args.level (here_of c.args.space.now.lexicon.now c.args.stack.now c.args.level)
     c.requires.frames.0 c.requires.searched c.requires.frames.1 c.requires.frames.2 more c.requires.reached c.requires.room in (
       omega (arith, more, c.decreases),
       (
@@ -48,12 +48,12 @@ find_deeper-find_later-requires g t c κs bounds =
 
 pub find_deeper-returns-then-level-depth-clause-found : goal.find_deeper-returns-then-level-depth-clause-found
 find_deeper-returns-then-level-depth-clause-found g t c keys frames along =
-    deeper_found c.args.lexicon.now c.args.line.now c.args.choices.now c.args.stack.now c.args.level (here_of c.args.lexicon.now c.args.stack.now c.args.level)
+    deeper_found c.args.space.now.lexicon.now c.args.space.now.line.now c.args.space.now.choices.now c.args.stack.now c.args.level (here_of c.args.space.now.lexicon.now c.args.stack.now c.args.level)
     c.find_later.new.stack c.find_later.result keys frames along (subst (λ depth. c.args.level + 1 < depth) c.depth.ensures c.if-level-depth.true) c.find_later.ensures.changes c.find_later.ensures.found
 
 pub find_deeper-returns-then-level-depth-clause-none : goal.find_deeper-returns-then-level-depth-clause-none
 find_deeper-returns-then-level-depth-clause-none g t c key rest frames along =
-    deeper_none c.args.lexicon.now c.args.line.now c.args.choices.now c.args.stack.now c.args.level (here_of c.args.lexicon.now c.args.stack.now c.args.level)
+    deeper_none c.args.space.now.lexicon.now c.args.space.now.line.now c.args.space.now.choices.now c.args.stack.now c.args.level (here_of c.args.space.now.lexicon.now c.args.stack.now c.args.level)
     c.find_later.new.stack c.find_later.result key rest frames along (subst (λ depth. c.args.level + 1 < depth) c.depth.ensures c.if-level-depth.true) c.find_later.ensures.none
 
 pub find_deeper-returns-then-level-depth-clause-changes : goal.find_deeper-returns-then-level-depth-clause-changes
@@ -62,55 +62,55 @@ find_deeper-returns-then-level-depth-clause-changes g t c =
 
 pub find_deeper-returns-else-level-depth-clause-none : goal.find_deeper-returns-else-level-depth-clause-none
 find_deeper-returns-else-level-depth-clause-none g t c key rest frames along =
-    on_false_too _ (last_none c.args.lexicon.now c.args.line.now c.args.choices.now c.args.stack.now c.args.level
-    (here_of c.args.lexicon.now c.args.stack.now c.args.level) key rest frames (λ more. let less = c.if-level-depth.false in let in_use = c.depth.ensures in omega (arith, less, in_use, more)))
+    on_false_too _ (last_none c.args.space.now.lexicon.now c.args.space.now.line.now c.args.space.now.choices.now c.args.stack.now c.args.level
+    (here_of c.args.space.now.lexicon.now c.args.stack.now c.args.level) key rest frames (λ more. let less = c.if-level-depth.false in let in_use = c.depth.ensures in omega (arith, less, in_use, more)))
 
 pub find_later-find_next-requires-clause-frame : goal.find_later-find_next-requires-clause-frame
 find_later-find_next-requires-clause-frame g t c =
-    is_frame_kept c.args.lexicon.now c.args.line.now c.args.level c.args.stack.now c.find_deeper.new.stack c.if-find_deeper.ensures.kept
-    (first_frame c.args.lexicon.now c.args.line.now c.args.stack.now c.requires.frames.0 c.args.level
-    (here_of c.args.lexicon.now c.args.stack.now c.args.level) c.requires.frames.1 c.requires.below)
+    is_frame_kept c.args.space.now.lexicon.now c.args.space.now.line.now c.args.level c.args.stack.now c.find_deeper.new.stack c.if-find_deeper.ensures.kept
+    (first_frame c.args.space.now.lexicon.now c.args.space.now.line.now c.args.stack.now c.requires.frames.0 c.args.level
+    (here_of c.args.space.now.lexicon.now c.args.stack.now c.args.level) c.requires.frames.1 c.requires.below)
 
 pub find_later-find_next-requires-clause-to_try : goal.find_later-find_next-requires-clause-to_try
 find_later-find_next-requires-clause-to_try g t c =
     let stack = c.args.stack.now in
     let level = c.args.level in
-    let here = here_of c.args.lexicon.now stack level in
+    let here = here_of c.args.space.now.lexicon.now stack level in
     let keys = c.requires.frames.0 in
     let frames = c.requires.frames.1 in
-    later_kept c.args.lexicon.now c.args.line.now level stack c.find_deeper.new.stack c.if-find_deeper.ensures.kept
-    (first_frame c.args.lexicon.now c.args.line.now stack keys level here frames c.requires.below)
-    (first_later c.args.lexicon.now c.args.line.now stack keys level here frames c.requires.below)
+    later_kept c.args.space.now.lexicon.now c.args.space.now.line.now level stack c.find_deeper.new.stack c.if-find_deeper.ensures.kept
+    (first_frame c.args.space.now.lexicon.now c.args.space.now.line.now stack keys level here frames c.requires.below)
+    (first_later c.args.space.now.lexicon.now c.args.space.now.line.now stack keys level here frames c.requires.below)
 
 pub find_later-returns-clause-found : goal.find_later-returns-clause-found
 find_later-returns-clause-found g t c keys frames along =
-    later_found c.args.lexicon.now c.args.line.now c.args.choices.now c.args.stack.now c.args.level (here_of c.args.lexicon.now c.args.stack.now c.args.level)
+    later_found c.args.space.now.lexicon.now c.args.space.now.line.now c.args.space.now.choices.now c.args.stack.now c.args.level (here_of c.args.space.now.lexicon.now c.args.stack.now c.args.level)
     c.find_deeper.new.stack c.find_next.new.stack c.find_next.result c.if-find_deeper.ensures.kept c.if-find_deeper.ensures.none keys frames along
     c.find_next.ensures.found
 
 pub find_later-returns-clause-none : goal.find_later-returns-clause-none
 find_later-returns-clause-none g t c keys frames along =
-    later_none c.args.lexicon.now c.args.line.now c.args.choices.now c.args.stack.now c.args.level (here_of c.args.lexicon.now c.args.stack.now c.args.level)
+    later_none c.args.space.now.lexicon.now c.args.space.now.line.now c.args.space.now.choices.now c.args.stack.now c.args.level (here_of c.args.space.now.lexicon.now c.args.stack.now c.args.level)
     c.find_deeper.new.stack c.find_next.new.stack c.find_next.result c.if-find_deeper.ensures.kept c.if-find_deeper.ensures.none keys frames along
     c.find_next.ensures.none
 
 pub find_deeper-returns-then-level-depth-clause-steps_on : goal.find_deeper-returns-then-level-depth-clause-steps_on
 find_deeper-returns-then-level-depth-clause-steps_on g t c exact most few =
-    let searched = c.args.lexicon.now in
+    let searched = c.args.space.now.lexicon.now in
     let stack = c.args.stack.now in
     let level = c.args.level in
     let here = here_of searched stack level in
     let more = subst (λ depth. c.args.level + 1 < depth) c.depth.ensures c.if-level-depth.true in
-    let rises = deeper_rises searched c.args.line.now c.args.choices.now c.requires.searched stack level here c.requires.frames.0 c.requires.frames.1 c.requires.frames.2 more in
+    let rises = deeper_rises searched c.args.space.now.line.now c.args.space.now.choices.now c.requires.searched stack level here c.requires.frames.0 c.requires.frames.1 c.requires.frames.2 more in
     let fewer = more_levels (steps_of_frame searched most)
-    (stack.depth - (level + 1) + levels_after c.args.line.now (here_of searched stack (level + 1))) (stack.depth - level + levels_after c.args.line.now here)
+    (stack.depth - (level + 1) + levels_after c.args.space.now.line.now (here_of searched stack (level + 1))) (stack.depth - level + levels_after c.args.space.now.line.now here)
     (omega (arith, rises, more)) in
     on_true c.find_later.result (λ found. omega (arith, found, fewer)) (c.find_later.ensures.steps_on exact most few)
 
 pub find_later-returns-clause-steps_on : goal.find_later-returns-clause-steps_on
 find_later-returns-clause-steps_on g t c exact most few =
-    let searched = c.args.lexicon.now in
-    let line = c.args.line.now in
+    let searched = c.args.space.now.lexicon.now in
+    let line = c.args.space.now.line.now in
     let stack = c.args.stack.now in
     let mid = c.find_deeper.new.stack in
     let level = c.args.level in
@@ -125,8 +125,8 @@ find_later-returns-clause-steps_on g t c exact most few =
 
 pub find_later-returns-clause-steps_end : goal.find_later-returns-clause-steps_end
 find_later-returns-clause-steps_end g t c exact most few =
-    let searched = c.args.lexicon.now in
-    let line = c.args.line.now in
+    let searched = c.args.space.now.lexicon.now in
+    let line = c.args.space.now.line.now in
     let stack = c.args.stack.now in
     let mid = c.find_deeper.new.stack in
     let level = c.args.level in

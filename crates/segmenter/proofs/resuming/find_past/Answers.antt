@@ -22,26 +22,26 @@ pub find_later-requires-clause-below : goal.find_later-requires-clause-below
 find_later-requires-clause-below g c =
     let fewest = c.min-in_use.ensures ∙ ap (min c.args.depth) c.depth.ensures in
     subst (λ stack. 0 < depth_of stack) (sym c.use_frames.ensures)
-    (front_below c.args.lexicon.now c.args.line.now c.args.choices.now c.args.stack.now c.requires.searched c.requires.stack c.requires.at
+    (front_below c.args.space.now.lexicon.now c.args.space.now.line.now c.args.space.now.choices.now c.args.stack.now c.requires.searched c.requires.stack c.requires.at
     c.args.depth c.min-in_use.result fewest c.requires.depth)
 
 pub find_later-requires-clause-reached : goal.find_later-requires-clause-reached
 find_later-requires-clause-reached g c =
-    subst (λ stack. IsReached c.args.lexicon.now c.args.line.now c.args.choices.now (here_of c.args.lexicon.now stack 0)) (sym c.use_frames.ensures)
-    (first_reached c.args.lexicon.now c.args.line.now c.args.choices.now c.args.stack.now (c.requires.stack.answer c.requires.at))
+    subst (λ stack. IsReached c.args.space.now.lexicon.now c.args.space.now.line.now c.args.space.now.choices.now (here_of c.args.space.now.lexicon.now stack 0)) (sym c.use_frames.ensures)
+    (first_reached c.args.space.now.lexicon.now c.args.space.now.line.now c.args.space.now.choices.now c.args.stack.now (c.requires.stack.answer c.requires.at))
 
 pub find_later-requires-clause-room : goal.find_later-requires-clause-room
 find_later-requires-clause-room g c =
     let fewest = c.min-in_use.ensures ∙ ap (min c.args.depth) c.depth.ensures in
-    subst (λ stack. HasRoom c.args.line.now stack 0 (here_of c.args.lexicon.now stack 0)) (sym c.use_frames.ensures)
-    (front_room c.args.lexicon.now c.args.line.now c.args.choices.now c.args.stack.now c.requires.searched c.requires.stack c.requires.at
+    subst (λ stack. HasRoom c.args.space.now.line.now stack 0 (here_of c.args.space.now.lexicon.now stack 0)) (sym c.use_frames.ensures)
+    (front_room c.args.space.now.lexicon.now c.args.space.now.line.now c.args.space.now.choices.now c.args.stack.now c.requires.searched c.requires.stack c.requires.at
     c.args.depth c.min-in_use.result fewest)
 
 pub find_later-requires-clause-frames : goal.find_later-requires-clause-frames
 find_later-requires-clause-frames g c =
-    let searched = c.args.lexicon.now in
-    let line = c.args.line.now in
-    let choices = c.args.choices.now in
+    let searched = c.args.space.now.lexicon.now in
+    let line = c.args.space.now.line.now in
+    let choices = c.args.space.now.choices.now in
     let fewest = c.min-in_use.ensures ∙ ap (min c.args.depth) c.depth.ensures in
     subst (λ stack. (keys : List Key) × AreFrames searched line stack 0 (here_of searched stack 0) keys × LeadAlong searched line choices (here_of searched stack 0) keys)
     (sym c.use_frames.ensures) (
@@ -55,9 +55,9 @@ find_later-requires-clause-frames g c =
 
 pub returns-clause-found : goal.returns-clause-found
 returns-clause-found g c =
-    let searched = c.args.lexicon.now in
-    let line = c.args.line.now in
-    let choices = c.args.choices.now in
+    let searched = c.args.space.now.lexicon.now in
+    let line = c.args.space.now.line.now in
+    let choices = c.args.space.now.choices.now in
     let fewest = c.min-in_use.ensures ∙ ap (min c.args.depth) c.depth.ensures in
     let found = subst (λ stack. (keys : List Key) → AreFrames searched line stack 0 (here_of searched stack 0) keys
     → LeadAlong searched line choices (here_of searched stack 0) keys
@@ -74,9 +74,9 @@ returns-clause-found g c =
 
 pub returns-clause-none : goal.returns-clause-none
 returns-clause-none g c =
-    let searched = c.args.lexicon.now in
-    let line = c.args.line.now in
-    let choices = c.args.choices.now in
+    let searched = c.args.space.now.lexicon.now in
+    let line = c.args.space.now.line.now in
+    let choices = c.args.space.now.choices.now in
     let fewest = c.min-in_use.ensures ∙ ap (min c.args.depth) c.depth.ensures in
     let none = subst (λ stack. (keys : List Key) → AreFrames searched line stack 0 (here_of searched stack 0) keys
     → LeadAlong searched line choices (here_of searched stack 0) keys
@@ -98,16 +98,16 @@ returns-clause-changes g c =
 
 pub returns-clause-steps : goal.returns-clause-steps
 returns-clause-steps g c exact most few =
-    let searched = c.args.lexicon.now in
-    let line = c.args.line.now in
+    let searched = c.args.space.now.lexicon.now in
+    let line = c.args.space.now.line.now in
     let stack = c.args.stack.now in
     let fewest = c.min-in_use.ensures ∙ ap (min c.args.depth) c.depth.ensures in
     let stands = c.requires.stack.answer c.requires.at in
-    let all = few_frames searched line c.args.choices.now c.requires.searched c.requires.stack.is_line stack stands in
+    let all = few_frames searched line c.args.space.now.choices.now c.requires.searched c.requires.stack.is_line stack stands in
     let depth : c.min-in_use.result ≤ 2 * length line.letters = omega (arith, all, fewest) in
-    let here = at_opening searched line c.args.choices.now stack stands in
-    let later = later_move searched line c.args.choices.now c.requires.searched most c.args.steps.now c.find_later.new.steps c.min-in_use.result (here_of searched stack 0) here depth in
-    let none = no_later_move searched line c.args.choices.now c.requires.searched most c.args.steps.now c.find_later.new.steps c.min-in_use.result depth in
+    let here = at_opening searched line c.args.space.now.choices.now stack stands in
+    let later = later_move searched line c.args.space.now.choices.now c.requires.searched most c.args.steps.now c.find_later.new.steps c.min-in_use.result (here_of searched stack 0) here depth in
+    let none = no_later_move searched line c.args.space.now.choices.now c.requires.searched most c.args.steps.now c.find_later.new.steps c.min-in_use.result depth in
     let on = subst (λ stack. OnTrue c.find_later.result (c.find_later.new.steps ≤ c.args.steps.now + steps_of_levels searched most (depth_of stack - 0 + levels_after line (here_of searched stack 0))))
     c.use_frames.ensures (c.find_later.ensures.steps_on exact most few) in
     let ended = subst (λ stack. OnFalse c.find_later.result (c.find_later.new.steps ≤ c.args.steps.now + steps_of_levels searched most (depth_of stack - 0)))

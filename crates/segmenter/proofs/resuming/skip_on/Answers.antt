@@ -11,8 +11,8 @@ if_true {P = P} b is p = subst (λ b. OnTrue b P) is p
 
 pub returns-clause-stack : goal.returns-clause-stack
 returns-clause-stack g c =
-    subst (IsStackOf c.args.lexicon.now c.args.line.now c.args.choices.now) (sym c.stand_at.ensures)
-    (stack_restood c.args.lexicon.now c.args.line.now c.args.choices.now c.args.stack.now c.find_past-found.new.stack c.if-found.cursor
+    subst (IsStackOf c.args.space.now.lexicon.now c.args.space.now.line.now c.args.space.now.choices.now) (sym c.stand_at.ensures)
+    (stack_restood c.args.space.now.lexicon.now c.args.space.now.line.now c.args.space.now.choices.now c.args.stack.now c.find_past-found.new.stack c.if-found.cursor
     c.requires.stack c.find_past-found.ensures.changes
     (λ at. elim c.if-found.branch [
       | then-found w ↦ (if_true c.find_past-found.result w.if-found.true c.find_past-found.ensures.found).answer

@@ -10,79 +10,79 @@ use Rattle.segmenter.proofs.search.find_next_answer.Goals as goal
 
 pub find_later-requires-clause-below : goal.find_later-requires-clause-below
 find_later-requires-clause-below g c =
-    some_depth c.args.lexicon.now c.args.line.now c.args.choices.now c.args.stack.now (c.requires.stack.answer (sym c.cursor.ensures ∙ c.in-At.is))
+    some_depth c.args.space.now.lexicon.now c.args.space.now.line.now c.args.space.now.choices.now c.args.stack.now (c.requires.stack.answer (sym c.cursor.ensures ∙ c.in-At.is))
 
 pub find_later-requires-clause-reached : goal.find_later-requires-clause-reached
 find_later-requires-clause-reached g c =
-    first_reached c.args.lexicon.now c.args.line.now c.args.choices.now c.args.stack.now (c.requires.stack.answer (sym c.cursor.ensures ∙ c.in-At.is))
+    first_reached c.args.space.now.lexicon.now c.args.space.now.line.now c.args.space.now.choices.now c.args.stack.now (c.requires.stack.answer (sym c.cursor.ensures ∙ c.in-At.is))
 
 pub find_later-requires-clause-room : goal.find_later-requires-clause-room
 find_later-requires-clause-room g c =
-    first_room c.args.lexicon.now c.args.line.now c.args.choices.now c.args.stack.now (c.requires.stack.answer (sym c.cursor.ensures ∙ c.in-At.is)) c.requires.stack
+    first_room c.args.space.now.lexicon.now c.args.space.now.line.now c.args.space.now.choices.now c.args.stack.now (c.requires.stack.answer (sym c.cursor.ensures ∙ c.in-At.is)) c.requires.stack
 
 pub find_later-requires-clause-frames : goal.find_later-requires-clause-frames
 find_later-requires-clause-frames g c =
     let stands = c.requires.stack.answer (sym c.cursor.ensures ∙ c.in-At.is) in (
       stands.keys,
-      frames_from_first c.args.lexicon.now c.args.line.now c.args.choices.now c.args.stack.now stands,
-      keys_lead_along c.args.lexicon.now c.args.line.now c.args.choices.now c.args.stack.now stands,
+      frames_from_first c.args.space.now.lexicon.now c.args.space.now.line.now c.args.space.now.choices.now c.args.stack.now stands,
+      keys_lead_along c.args.space.now.lexicon.now c.args.space.now.line.now c.args.space.now.choices.now c.args.stack.now stands,
     )
 
 pub returns-in-Before-clause-found : goal.returns-in-Before-clause-found
 returns-in-Before-clause-found g c =
     on_true c.find_first.result
-    (λ found. next_before c.args.lexicon.now c.args.line.now c.args.choices.now c.args.stack.now c.requires.searched c.requires.stack c.find_first.new.stack
+    (λ found. next_before c.args.space.now.lexicon.now c.args.space.now.line.now c.args.space.now.choices.now c.args.stack.now c.requires.searched c.requires.stack c.find_first.new.stack
     (sym c.cursor.ensures ∙ c.in-Before.is)
-    (subst (HasFound c.args.lexicon.now c.args.line.now c.args.choices.now Every c.find_first.new.stack 0) c.opening.ensures.standing found))
+    (subst (HasFound c.args.space.now.lexicon.now c.args.space.now.line.now c.args.space.now.choices.now Every c.find_first.new.stack 0) c.opening.ensures.standing found))
     c.find_first.ensures.found
 
 pub returns-in-Before-clause-none : goal.returns-in-Before-clause-none
 returns-in-Before-clause-none g c =
     on_false c.find_first.result
-    (λ none. none_before c.args.lexicon.now c.args.line.now c.args.choices.now c.args.stack.now c.requires.searched c.requires.stack (sym c.cursor.ensures ∙ c.in-Before.is)
-    (subst (HasNone c.args.lexicon.now c.args.line.now c.args.choices.now Every) c.opening.ensures.standing none))
+    (λ none. none_before c.args.space.now.lexicon.now c.args.space.now.line.now c.args.space.now.choices.now c.args.stack.now c.requires.searched c.requires.stack (sym c.cursor.ensures ∙ c.in-Before.is)
+    (subst (HasNone c.args.space.now.lexicon.now c.args.space.now.line.now c.args.space.now.choices.now Every) c.opening.ensures.standing none))
     c.find_first.ensures.none
 
 pub returns-in-At-clause-found : goal.returns-in-At-clause-found
 returns-in-At-clause-found g c =
     let stands = c.requires.stack.answer (sym c.cursor.ensures ∙ c.in-At.is) in
-    let here = at_opening c.args.lexicon.now c.args.line.now c.args.choices.now c.args.stack.now stands in
+    let here = at_opening c.args.space.now.lexicon.now c.args.space.now.line.now c.args.space.now.choices.now c.args.stack.now stands in
     on_true c.find_later.result
-    (λ found. next_at c.args.lexicon.now c.args.line.now c.args.choices.now c.args.stack.now c.requires.searched c.requires.stack (sym c.cursor.ensures ∙ c.in-At.is)
+    (λ found. next_at c.args.space.now.lexicon.now c.args.space.now.line.now c.args.space.now.choices.now c.args.stack.now c.requires.searched c.requires.stack (sym c.cursor.ensures ∙ c.in-At.is)
     c.find_later.new.stack
-    (subst (HasFound c.args.lexicon.now c.args.line.now c.args.choices.now (ComesAfter stands.keys) c.find_later.new.stack 0) here found))
+    (subst (HasFound c.args.space.now.lexicon.now c.args.space.now.line.now c.args.space.now.choices.now (ComesAfter stands.keys) c.find_later.new.stack 0) here found))
     (c.find_later.ensures.found stands.keys
-    (frames_from_first c.args.lexicon.now c.args.line.now c.args.choices.now c.args.stack.now stands)
-    (keys_lead_along c.args.lexicon.now c.args.line.now c.args.choices.now c.args.stack.now stands))
+    (frames_from_first c.args.space.now.lexicon.now c.args.space.now.line.now c.args.space.now.choices.now c.args.stack.now stands)
+    (keys_lead_along c.args.space.now.lexicon.now c.args.space.now.line.now c.args.space.now.choices.now c.args.stack.now stands))
 
 pub returns-in-At-clause-none : goal.returns-in-At-clause-none
 returns-in-At-clause-none g c =
     let stands = c.requires.stack.answer (sym c.cursor.ensures ∙ c.in-At.is) in
-    let here = at_opening c.args.lexicon.now c.args.line.now c.args.choices.now c.args.stack.now stands in
+    let here = at_opening c.args.space.now.lexicon.now c.args.space.now.line.now c.args.space.now.choices.now c.args.stack.now stands in
     on_false c.find_later.result
-    (λ none. none_at c.args.lexicon.now c.args.line.now c.args.choices.now c.args.stack.now c.requires.searched c.requires.stack (sym c.cursor.ensures ∙ c.in-At.is)
-    (subst (HasNone c.args.lexicon.now c.args.line.now c.args.choices.now (ComesAfter stands.keys)) here none))
+    (λ none. none_at c.args.space.now.lexicon.now c.args.space.now.line.now c.args.space.now.choices.now c.args.stack.now c.requires.searched c.requires.stack (sym c.cursor.ensures ∙ c.in-At.is)
+    (subst (HasNone c.args.space.now.lexicon.now c.args.space.now.line.now c.args.space.now.choices.now (ComesAfter stands.keys)) here none))
     (c.find_later.ensures.none stands.keys
-    (frames_from_first c.args.lexicon.now c.args.line.now c.args.choices.now c.args.stack.now stands)
-    (keys_lead_along c.args.lexicon.now c.args.line.now c.args.choices.now c.args.stack.now stands))
+    (frames_from_first c.args.space.now.lexicon.now c.args.space.now.line.now c.args.space.now.choices.now c.args.stack.now stands)
+    (keys_lead_along c.args.space.now.lexicon.now c.args.space.now.line.now c.args.space.now.choices.now c.args.stack.now stands))
 
 pub returns-in-Before-clause-steps : goal.returns-in-Before-clause-steps
 returns-in-Before-clause-steps g c exact most few =
-    let searched = c.args.lexicon.now in
-    let line = c.args.line.now in
-    let first = first_move searched line c.args.choices.now c.requires.searched most c.args.steps.now c.find_first.new.steps c.requires.stack.is_line
+    let searched = c.args.space.now.lexicon.now in
+    let line = c.args.space.now.line.now in
+    let first = first_move searched line c.args.space.now.choices.now c.requires.searched most c.args.steps.now c.find_first.new.steps c.requires.stack.is_line
     (numbered_of searched c.opening.result) c.opening.ensures.standing in
-    let none = no_first_move searched line c.args.choices.now c.requires.searched most c.args.steps.now c.find_first.new.steps c.requires.stack.is_line in
+    let none = no_first_move searched line c.args.space.now.choices.now c.requires.searched most c.args.steps.now c.find_first.new.steps c.requires.stack.is_line in
     either_way c.find_first.result first none (c.find_first.ensures.steps_on exact most few) (c.find_first.ensures.steps_end exact most few)
 
 pub returns-in-At-clause-steps : goal.returns-in-At-clause-steps
 returns-in-At-clause-steps g c exact most few =
-    let searched = c.args.lexicon.now in
-    let line = c.args.line.now in
+    let searched = c.args.space.now.lexicon.now in
+    let line = c.args.space.now.line.now in
     let stack = c.args.stack.now in
     let stands = c.requires.stack.answer (sym c.cursor.ensures ∙ c.in-At.is) in
-    let depth = few_frames searched line c.args.choices.now c.requires.searched c.requires.stack.is_line stack stands in
-    let here = at_opening searched line c.args.choices.now stack stands in
-    let later = later_move searched line c.args.choices.now c.requires.searched most c.args.steps.now c.find_later.new.steps stack.depth (here_of searched stack 0) here depth in
-    let none = no_later_move searched line c.args.choices.now c.requires.searched most c.args.steps.now c.find_later.new.steps stack.depth depth in
+    let depth = few_frames searched line c.args.space.now.choices.now c.requires.searched c.requires.stack.is_line stack stands in
+    let here = at_opening searched line c.args.space.now.choices.now stack stands in
+    let later = later_move searched line c.args.space.now.choices.now c.requires.searched most c.args.steps.now c.find_later.new.steps stack.depth (here_of searched stack 0) here depth in
+    let none = no_later_move searched line c.args.space.now.choices.now c.requires.searched most c.args.steps.now c.find_later.new.steps stack.depth depth in
     either_way c.find_later.result later none (c.find_later.ensures.steps_on exact most few) (c.find_later.ensures.steps_end exact most few)

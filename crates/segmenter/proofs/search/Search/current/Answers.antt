@@ -13,7 +13,7 @@ pub steps-requires-clause-within : goal.steps-requires-clause-within
 steps-requires-clause-within g c =
     let s = c.self.inside in
     subst (λ room. depth_of s.stack ≤ room) c.self.invariant.2.is_stack.steps
-    (depth_within s.lexicon.now s.line.now s.choices.now s.stack (c.self.invariant.2.answer (sym c.cursor.ensures ∙ c.in-At.is)))
+    (depth_within s.space.lexicon.now s.space.line.now s.space.choices.now s.stack (c.self.invariant.2.answer (sym c.cursor.ensures ∙ c.in-At.is)))
 
 pub returns-in-At : goal.returns-in-At
 returns-in-At g c =
@@ -21,5 +21,5 @@ returns-in-At g c =
     record {
       answer = subst (λ steps. IsCurrent c.args.self.now (Some steps)) (sym c.steps.ensures)
           (subst (λ search. IsCurrent search (Some (steps_in s.stack))) c.self.view_is
-          (current_at s.lexicon.now s.line.now s.choices.now s.stack c.self.invariant.0 c.self.invariant.2 (sym c.cursor.ensures ∙ c.in-At.is) s.stack.steps.items refl));
+          (current_at s.space.lexicon.now s.space.line.now s.space.choices.now s.stack c.self.invariant.0 c.self.invariant.2 (sym c.cursor.ensures ∙ c.in-At.is) s.stack.steps.items refl));
     }

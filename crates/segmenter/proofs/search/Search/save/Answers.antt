@@ -11,5 +11,5 @@ returns g c =
     let s = c.self.inside in
     record {
       ok = subst (λ search. IfOk c.copy.result (StandsWhere search)) c.self.view_is
-          (IfOk-weaker c.copy.result _ _ (λ copy is. copy_stands s.lexicon.now s.line.now s.stack copy is s.choices.now c.self.invariant.2) c.copy.ensures.ok);
+          (IfOk-weaker c.copy.result _ _ (λ copy is. copy_stands s.space.lexicon.now s.space.line.now s.stack copy is s.space.choices.now c.self.invariant.2) c.copy.ensures.ok);
     }
