@@ -11,25 +11,15 @@
 
 mod any_error;
 mod batch;
-#[cfg(test)]
-mod batch_tests;
 mod build;
-#[cfg(test)]
-mod build_tests;
 mod check;
 mod convert;
 mod demo;
-#[cfg(test)]
-mod demo_tests;
 mod ending;
 mod escaped;
 mod explanation;
-#[cfg(test)]
-mod hostile_tests;
 mod notes;
 mod read;
-#[cfg(test)]
-mod read_tests;
 mod reading;
 mod ready_reader;
 mod refusal;
