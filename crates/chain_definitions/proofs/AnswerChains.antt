@@ -19,10 +19,13 @@ use Rattle.chain_definitions.specs.JoinedChains.{Text, MakesAnswer, IsJoinedTo}
 pub fitting_from : (rules : RuleSet) (lead : List ℕ) (steps : List Step) (word rest : List ℕ) → Covers rules lead steps word rest → AreFitting rules steps
 fitting_from rules lead [] word rest covers = tt
 fitting_from rules lead (step ∷ []) word rest covers = ((lead ++ covers.0, covers.2), tt)
-fitting_from rules lead (step ∷ next ∷ steps) word rest covers =
-    (((lead ++ covers.0, covers.2),
-    (covers.4.0 ++ (rule_after rules next).u, covers.4.2 ∙ append_assoc (rule_after rules step).v covers.4.0 (rule_after rules next).u)),
-    fitting_from rules (rule_after rules step).v (next ∷ steps) covers.1 rest covers.4)
+fitting_from rules lead (step ∷ next ∷ steps) word rest covers = (
+  (
+    (lead ++ covers.0, covers.2),
+    (covers.4.0 ++ (rule_after rules next).u, covers.4.2 ∙ append_assoc (rule_after rules step).v covers.4.0 (rule_after rules next).u),
+  ),
+  fitting_from rules (rule_after rules step).v (next ∷ steps) covers.1 rest covers.4,
+)
 
 pub chain_from : (lexicon : Lexicon) (steps : List Step) (word : List ℕ) → Derives lexicon steps word → IsChain lexicon steps
 chain_from lexicon steps word derives = record {

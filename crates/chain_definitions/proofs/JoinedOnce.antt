@@ -119,8 +119,8 @@ one_step lexicon before step steps form enters leaves rest =
     elim (cases_lt (length step.form) (length (rule_of lexicon.rules before).v + length (rule_after lexicon.rules step).u)) [
       | inl short ↦ inl (Overlap step.phase step.form before step.rule, inl (overlap_if_short lexicon before step form enters leaves short, refl))
       | inr long ↦
-      let taken = taken_between step.form (rule_of lexicon.rules before).v (rule_after lexicon.rules step).u enters.begins leaves.ends long in
-      later lexicon before step steps taken.0 taken.1 (no_overlap_if_long lexicon before step long) rest
+          let taken = taken_between step.form (rule_of lexicon.rules before).v (rule_after lexicon.rules step).u enters.begins leaves.ends long in
+          later lexicon before step steps taken.0 taken.1 (no_overlap_if_long lexicon before step long) rest
     ]
 
 pub overlap_or_cover : (lexicon : Lexicon) (before : ℕ) (steps : List Step) → AreForms lexicon steps → AreJoined lexicon.rules steps

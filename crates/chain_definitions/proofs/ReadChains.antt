@@ -29,9 +29,12 @@ nameable : (lexicon : Lexicon) (steps : List Step) → IsLexicon lexicon → Are
 nameable lexicon [] is forms joined ends = absurd ends
 nameable lexicon (step ∷ []) is forms joined ends =
     (low_phase lexicon step.phase step.form is forms.0, forms.0, number_if_first lexicon.rules step [] joined ends, tt)
-nameable lexicon (step ∷ next ∷ steps) is forms joined ends =
-    (low_phase lexicon step.phase step.form is forms.0, forms.0, number_if_first lexicon.rules step (next ∷ steps) joined ends,
-    nameable lexicon (next ∷ steps) is forms.1 joined.1 ends)
+nameable lexicon (step ∷ next ∷ steps) is forms joined ends = (
+  low_phase lexicon step.phase step.form is forms.0,
+  forms.0,
+  number_if_first lexicon.rules step (next ∷ steps) joined ends,
+  nameable lexicon (next ∷ steps) is forms.1 joined.1 ends,
+)
 
 rule_words : (rules : RuleSet) (number : ℕ) → IsRuleSet rules → IsRuleNumber rules number → AreRuleWords (triple_of (rule_of rules number))
 rule_words rules number set within =
@@ -65,22 +68,25 @@ writable_form lexicon step is form = record {
 writable : (lexicon : Lexicon) (steps : List Step) → IsLexicon lexicon → AreForms lexicon steps → AreJoined lexicon.rules steps
     → EndsWell lexicon.rules steps → AreWritable (map (written_of lexicon.rules) steps)
 writable lexicon [] is forms joined ends = absurd ends
-writable lexicon (step ∷ []) is forms joined ends =
-    (writable_form lexicon step is forms.0,
-    final_change lexicon.rules step.rule is.rules (elim ends [ inl none ↦ inl none | inr final_ ↦ inr (final_.0, final_.1) ]))
-writable lexicon (step ∷ next ∷ steps) is forms joined ends =
-    (writable_form lexicon step is forms.0,
-    inner_change lexicon.rules step.rule is.rules (elim joined.0 [ inl plain ↦ inl plain.0 | inr inner ↦ inr (inner.0.0, inner.0.1) ]),
-    writable lexicon (next ∷ steps) is forms.1 joined.1 ends)
+writable lexicon (step ∷ []) is forms joined ends = (
+  writable_form lexicon step is forms.0,
+  final_change lexicon.rules step.rule is.rules (elim ends [ inl none ↦ inl none | inr final_ ↦ inr (final_.0, final_.1) ]),
+)
+writable lexicon (step ∷ next ∷ steps) is forms joined ends = (
+  writable_form lexicon step is forms.0,
+  inner_change lexicon.rules step.rule is.rules (elim joined.0 [ inl plain ↦ inl plain.0 | inr inner ↦ inr (inner.0.0, inner.0.1) ]),
+  writable lexicon (next ∷ steps) is forms.1 joined.1 ends,
+)
 
 meeting : (rules : RuleSet) (steps : List Step) → AreJoined rules steps → EndsWell rules steps → AreFitting rules steps → AreMeeting rules steps
 meeting rules [] joined ends fitting = tt
 meeting rules (step ∷ []) joined ends fitting =
     ((λ some. elim ends [ inl none ↦ absurd (some none) | inr final_ ↦ final_.2 ]), fitting.0, tt)
-meeting rules (step ∷ next ∷ steps) joined ends fitting =
-    ((λ some. elim joined.0 [ inl plain ↦ absurd (some plain.0) | inr inner ↦ (inner.0.2, inner.1) ]),
-    (fitting.0, (λ none. elim joined.0 [ inl plain ↦ plain.1 | inr inner ↦ absurd (let some = inner.0.0.0 in omega (arith, some, none)) ])),
-    meeting rules (next ∷ steps) joined.1 ends fitting.1)
+meeting rules (step ∷ next ∷ steps) joined ends fitting = (
+  (λ some. elim joined.0 [ inl plain ↦ absurd (some plain.0) | inr inner ↦ (inner.0.2, inner.1) ]),
+  (fitting.0, (λ none. elim joined.0 [ inl plain ↦ plain.1 | inr inner ↦ absurd (let some = inner.0.0.0 in omega (arith, some, none)) ])),
+  meeting rules (next ∷ steps) joined.1 ends fitting.1,
+)
 
 after_names : (rules : RuleSet) (told : Result (List Step) Fault) (steps : List Step) → told ≡ Ok steps → AreMeeting rules steps
     → IsReadAfterNames rules told (Ok steps)
@@ -123,15 +129,16 @@ joined_from : (rules : RuleSet) (steps : List Step) → AreWritable (map (writte
     → AreJoined rules steps
 joined_from rules [] are have met = tt
 joined_from rules (step ∷ []) are have met = tt
-joined_from rules (step ∷ next ∷ steps) are have met =
-    (elim have.0 [
-      | inl none ↦ inl (none, met.1.1 none)
-      | inr number ↦
-          let some = some_number rules step.rule number in
-          let allowed = met.0 some in
-          inr ((number, inner_rule rules step.rule are.1 some, allowed.0), allowed.1)
-    ],
-    joined_from rules (next ∷ steps) are.2 have.1 met.2)
+joined_from rules (step ∷ next ∷ steps) are have met = (
+  elim have.0 [
+    | inl none ↦ inl (none, met.1.1 none)
+    | inr number ↦
+        let some = some_number rules step.rule number in
+        let allowed = met.0 some in
+        inr ((number, inner_rule rules step.rule are.1 some, allowed.0), allowed.1)
+  ],
+  joined_from rules (next ∷ steps) are.2 have.1 met.2,
+)
 
 ends_from : (rules : RuleSet) (steps : List Step) → AreWritable (map (written_of rules) steps) → HaveRules rules steps → AreMeeting rules steps
     → EndsWell rules steps

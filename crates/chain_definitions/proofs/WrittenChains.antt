@@ -193,9 +193,11 @@ one_more : (form change : List ℕ) (words : List (List ℕ)) (step : WrittenSte
     → form ≡ text_of_form step.form → IsInnerChange step.change → change ≡ text_between step.change → AreWritable more → words ≡ words_of more
     → AreWritable (step ∷ more) × (form ∷ change ∷ words ≡ words_of (step ∷ more))
 one_more form change words step [] is e inner f are g = absurd are
-one_more form change words step (next ∷ more) is e inner f are g =
-    ((is, inner, are), ap (λ t. t ∷ change ∷ words) e ∙ ap (λ t. text_of_form step.form ∷ t ∷ words) f
-    ∙ ap (λ ws. text_of_form step.form ∷ text_between step.change ∷ ws) g)
+one_more form change words step (next ∷ more) is e inner f are g = (
+  (is, inner, are),
+  ap (λ t. t ∷ change ∷ words) e ∙ ap (λ t. text_of_form step.form ∷ t ∷ words) f
+      ∙ ap (λ ws. text_of_form step.form ∷ text_between step.change ∷ ws) g,
+)
 
 is_nil : (more : List WrittenStep) → Some [] ≡ Some more → [] ≡ more
 is_nil [] e = refl
@@ -207,9 +209,10 @@ words_tell (form ∷ []) steps h =
     let parts = read_parts (form_of_text form) (Some None) (Some []) steps h in
     let told = form_tells form parts.step.form parts.form_is in
     let plain : None ≡ parts.step.change = cc (parts.change_is) in
-    subst (λ (s : List WrittenStep). AreWritable s × (form ∷ [] ≡ words_of s)) (ap (◌∷◌ parts.step) (is_nil parts.more parts.rest_is) ∙ parts.steps_are)
-    ((told.0, subst IsFinalChange plain tt),
-    ap (λ t. t ∷ []) told.1 ∙ ap (λ c. text_of_form parts.step.form ∷ words_at_end c) plain)
+    subst (λ (s : List WrittenStep). AreWritable s × (form ∷ [] ≡ words_of s)) (ap (◌∷◌ parts.step) (is_nil parts.more parts.rest_is) ∙ parts.steps_are) (
+      (told.0, subst IsFinalChange plain tt),
+      ap (λ t. t ∷ []) told.1 ∙ ap (λ c. text_of_form parts.step.form ∷ words_at_end c) plain,
+    )
 words_tell (form ∷ change ∷ []) steps h =
     let parts = read_parts (form_of_text form) (change_at_end change) (Some []) steps h in
     let told = form_tells form parts.step.form parts.form_is in

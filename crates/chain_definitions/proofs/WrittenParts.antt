@@ -135,17 +135,17 @@ form_if_read text before after form (Some letters) None e l n h = absurd (cc)
 form_if_read text before after form (Some letters) (Some name) e l n h =
     let read = some_tells before letters l in
     let closed = closed_tells 93 after name n in
-    let tested = by_name_test letters name form (is_phase_name name) refl h in
-    (
+    let tested = by_name_test letters name form (is_phase_name name) refl h in (
       record {
         word = subst IsWord tested.1 read.0;
         some = subst (λ (w : List ℕ). w ≢ []) tested.1 read.1;
         name = subst IsPhaseName tested.2 (name_from_test name tested.0);
       },
       e ∙ ap (λ b. b ++ 91 ∷ after) (sym read.2) ∙ ap (λ a. slp1_of_word letters ++ 91 ∷ a) closed
-      ∙ sym (bracketed (slp1_of_word letters) name)
-      ∙ ap (λ l. slp1_of_word l ++ codes "[" ++ name ++ codes "]") tested.1
-      ∙ ap (λ n. slp1_of_word form.letters ++ codes "[" ++ n ++ codes "]") tested.2)
+          ∙ sym (bracketed (slp1_of_word letters) name)
+          ∙ ap (λ l. slp1_of_word l ++ codes "[" ++ name ++ codes "]") tested.1
+          ∙ ap (λ n. slp1_of_word form.letters ++ codes "[" ++ n ++ codes "]") tested.2,
+    )
 
 form_if_parted : (text : List ℕ) (form : WrittenForm) (parts : Option (List ℕ × List ℕ)) → cut 91 text ≡ parts → form_of_parts parts ≡ Some form
     → IsWritable form × (text ≡ text_of_form form)
@@ -231,11 +231,12 @@ halves_tell : (text before rest : List ℕ) (triple : Triple) (parts : Option (L
 halves_tell text before rest triple None e f h = absurd (cc)
 halves_tell text before rest triple (Some parts) e f h =
     let read = three_tell before parts.0 parts.1 triple _ _ _ refl refl refl h in
-    let whole = (cut_as 62 rest (Some parts) f).0 in
-    (read.0,
-    e ∙ ap (λ r. before ++ 124 ∷ r) whole ∙ ap (λ b. b ++ 124 ∷ (parts.0 ++ 62 ∷ parts.1)) read.1
-    ∙ ap (λ m. slp1_of_word triple.u ++ 124 ∷ (m ++ 62 ∷ parts.1)) read.2 ∙ ap (λ a. slp1_of_word triple.u ++ 124 ∷ (slp1_of_word triple.v ++ 62 ∷ a)) read.3
-    ∙ sym (marked (slp1_of_word triple.u) (slp1_of_word triple.v) (slp1_of_word triple.w)))
+    let whole = (cut_as 62 rest (Some parts) f).0 in (
+      read.0,
+      e ∙ ap (λ r. before ++ 124 ∷ r) whole ∙ ap (λ b. b ++ 124 ∷ (parts.0 ++ 62 ∷ parts.1)) read.1
+          ∙ ap (λ m. slp1_of_word triple.u ++ 124 ∷ (m ++ 62 ∷ parts.1)) read.2 ∙ ap (λ a. slp1_of_word triple.u ++ 124 ∷ (slp1_of_word triple.v ++ 62 ∷ a)) read.3
+          ∙ sym (marked (slp1_of_word triple.u) (slp1_of_word triple.v) (slp1_of_word triple.w)),
+    )
 
 notation_read : (text : List ℕ) (triple : Triple) (halves : Option (List ℕ × List ℕ)) → cut 124 text ≡ halves → triple_of_halves halves ≡ Some triple
     → AreRuleWords triple × (text ≡ notation_of triple)
