@@ -1,5 +1,5 @@
 -- The fault of a text is that of its first line that has one: by induction on the lines, by what each is converted to.
-use Rattle.std.proofs.Common.{◌≡◌, ℕ, ◌+◌, List, [], ◌∷◌, ◌++◌, length, Ok, Err, refl, sym, ◌∙◌, ap, arith}
+use Rattle.std.proofs.Common.{◌≡◌, ℕ, ◌+◌, List, [], ◌∷◌, ◌++◌, length, Ok, Err, refl, ◌∙◌, ap, arith}
 use Rattle.std.specs.List.{AllByRecursion}
 use Rattle.text_definitions.specs.Spellings.{Reading}
 use Rattle.lexicon_text_definitions.specs.FileLines.{Line}
