@@ -27,22 +27,26 @@ static COMMANDS: [(&str, &str); 7] = [
     ),
 ];
 
+/// Whether the first word is this name.
+fn is_first_word(words: &[String], name: &str) -> bool {
+    match words.first() {
+        Some(word) => word.as_str() == name,
+        None => false,
+    }
+}
+
 /// Tells a person the commands, a line each. Where the first word is the name of a command its line comes first; the others
 /// always come in the same order.
 pub fn tell_usage(rt: &impl Eprint, words: &[String]) {
-    let meant = match words.first() {
-        Some(word) => word.as_str(),
-        None => "",
-    };
     // Nobody is left to tell where standard error fails too; so here and below.
     let _ = eprintln!(rt; "usage:");
     for (name, line) in &COMMANDS {
-        if *name == meant {
+        if is_first_word(words, name) {
             let _ = eprintln!(rt; "  sandhi {line}");
         }
     }
     for (name, line) in &COMMANDS {
-        if *name != meant {
+        if !is_first_word(words, name) {
             let _ = eprintln!(rt; "  sandhi {line}");
         }
     }
