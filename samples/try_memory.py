@@ -36,6 +36,7 @@ ROWS = (
     Row(("read", "made.lex"), input=SESSION.encode()),
     Row(("batch", "made.lex", "slp1", "text", "9")),
     Row(("build", "rules.toml", "tables.csv", "stems.csv", "out.lex"), out="out.lex"),
+    Row(("convert", "slp1", "iast", "text", "out.iast"), out="out.iast"),
     Row(("demo", "0")),
 )
 
