@@ -37,6 +37,7 @@ ROWS = (
     Row(("batch", "made.lex", "slp1", "text", "9")),
     Row(("build", "rules.toml", "tables.csv", "stems.csv", "out.lex"), out="out.lex"),
     Row(("demo", "0")),
+    Row(("convert", "slp1", "iast", "verses", "out.text"), out="out.text"),
 )
 
 
@@ -119,6 +120,7 @@ def main():
             return
         trial.build()
         (trial.folder / "text").write_text(f"{LINE}\nrAmo\n?\n" * 30, encoding="utf-8")
+        (trial.folder / "verses").write_text(f"{LINE} | 12 ||\n" * 30, encoding="utf-8")
         for row in ROWS:
             try_row(refusing, row, given.requests)
 
