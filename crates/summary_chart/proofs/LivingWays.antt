@@ -1,13 +1,18 @@
 -- The first of the ways after a key that goes further: a key that goes further is possible and does something as the letters tell, so
 -- it is that of a way; and ways rise, so each that comes before the first has been looked at.
-use Rattle.std.proofs.Common.{◌≡◌, ℕ, ◌+◌, ◌<◌, ◌≤◌, inl, inr, Option, List, length, map, get_or, sym, ◌∙◌, ap, subst, arith}
-use Rattle.std.specs.declared.cmp.Ordering.TheVariants.{Less}
-use Rattle.std.proofs.lemmas.Bool.{cases_lt}
+use Rattle.std.proofs.Common.{◌≡◌, ℕ, ◌+◌, ◌<◌, ◌≤◌, Bool, true, false, not, inl, inr, Option, Some, None, List, length, map, get_or, refl, sym, ◌∙◌, ap, subst, arith}
+use Rattle.std.specs.declared.cmp.Ordering.{Ordering}
+use Rattle.std.specs.declared.cmp.Ordering.TheVariants.{Less, Equal, Greater}
+use Rattle.std.specs.Ordering.{is_lt}
+use Rattle.std.specs.List.Sorted.{IsStrictlySortedBy, IsPartitionedBy, IsPartitionPoint}
+use Rattle.std.proofs.lemmas.Bool.{cases_lt, false≢true}
 use Rattle.std.proofs.lemmas.List.{get_or-map, length-map}
 use Rattle.std.proofs.lemmas.Map.Keys.{Less-from_sorted}
 use Rattle.text_definitions.specs.Lines.{Line}
 use Rattle.segmentation_definitions.specs.Items.{Choice}
 use Rattle.segmentation_definitions.specs.Listings.{Key, compare_keys}
+use Rattle.segmentation_definitions.proofs.KeyLists.{compare_keys_total}
+use Rattle.derivation.specs.Steps.{key_meant}
 use Rattle.derivation.specs.declared.step.Key.{Key as ProgramKey}
 use Rattle.annotated_trie.specs.Searched.{SearchedLexicon}
 use Rattle.search_frames.specs.declared.guiding.Turn.{Turn}
@@ -20,7 +25,68 @@ use Rattle.search_frames.specs.WaysFrom.{AreWaysFrom, IsWayFrom, key_of_way}
 use Rattle.search_frames.proofs.ConfigurationRanks.{may_if_leads, may_if_ends}
 use Rattle.summary_chart.specs.declared.table.Table.{Table}
 use Rattle.summary_chart.specs.Spreading.{GoesFurtherBy}
-use Rattle.summary_chart.specs.Turning.{IsAfter, IsTestUnder, IsFirstLiving, HasNoLiving}
+use Rattle.summary_chart.specs.Turning.{IsAfter, HasTried, IsTestUnder, IsFirstLiving, HasNoLiving}
+
+-- ---- the ways up to the last key
+
+-- the way comes no later than the key, as a test
+abbrev pub is_tried : ProgramKey → Way → Bool
+is_tried last way = not (is_lt (compare_keys (key_meant last) (key_of_way way)))
+
+not_both : (order : Ordering) → not (is_lt order) ≡ true → order ≡ Less → ⊥
+not_both Less passed less = false≢true passed
+not_both Equal passed less = absurd (cc less)
+not_both Greater passed less = absurd (cc less)
+
+is_less : (order : Ordering) → not (is_lt order) ≡ false → order ≡ Less
+is_less Less failed = refl
+is_less Equal failed = absurd (cc failed)
+is_less Greater failed = absurd (cc failed)
+
+passes : (order : Ordering) → (order ≡ Less → ⊥) → not (is_lt order) ≡ true
+passes Less none = absurd (none refl)
+passes Equal none = refl
+passes Greater none = refl
+
+module _ (last : ProgramKey) (ways : List Way) where
+  earlier_tried : (first second : Key) → compare_keys first second ≡ Less → not (is_lt (compare_keys (key_meant last) second)) ≡ true
+      → not (is_lt (compare_keys (key_meant last) first)) ≡ true
+  earlier_tried first second rises tried = passes (compare_keys (key_meant last) first)
+      (λ less. not_both (compare_keys (key_meant last) second) tried (compare_keys_total.trans (key_meant last) first second less rises))
+
+  -- such ways come before the others, since ways rise
+  pub tried_first : IsStrictlySortedBy compare_keys (map key_of_way ways) → IsPartitionedBy (is_tried last) ways
+  tried_first rising i j d upto within tried = elim (cases_lt i j) [
+    | inl earlier ↦
+        let key = key_of_way d in
+        let count = length-map ways key_of_way in
+        let first = get_or-map key_of_way ways i d key (omega (arith, earlier, within)) in
+        let second = get_or-map key_of_way ways j d key within in
+        let less = Less-from_sorted compare_keys (map key_of_way ways) i j key rising earlier (omega (arith, count, within)) in
+        let rises : compare_keys (key_of_way (get_or ways i d)) (key_of_way (get_or ways j d)) ≡ Less =
+        subst (λ (k : Key). compare_keys k (key_of_way (get_or ways j d)) ≡ Less) first
+        (subst (λ (k : Key). compare_keys (get_or (map key_of_way ways) i key) k ≡ Less) second less) in
+        earlier_tried (key_of_way (get_or ways i d)) (key_of_way (get_or ways j d)) rises tried
+    | inr same ↦
+        let at : j ≡ i = omega (arith, upto, same) in
+        subst (λ (k : ℕ). is_tried last (get_or ways k d) ≡ true) at tried
+  ]
+
+  pub tried_ways : (count : ℕ) → count ≤ length ways → IsPartitionPoint (λ way. is_tried last way ≡ true) (λ way. is_tried last way ≡ false) ways count
+      → HasTried (Some last) ways count
+  tried_ways count few parts = record {
+    few = few;
+    tried = λ index default low after. not_both (compare_keys (key_meant last) (key_of_way (get_or ways index default))) (parts.0 index default (omega arith) low) after;
+    left = λ index default high low. is_less (compare_keys (key_meant last) (key_of_way (get_or ways index default))) (parts.1 index default high low);
+  }
+
+-- where there is no last key, no way is tried
+pub none_tried : (ways : List Way) → HasTried None ways 0
+none_tried ways = record {
+  few = omega arith;
+  tried = λ index default low after. absurd (omega arith);
+  left = λ index default high low. tt;
+}
 
 -- ---- one way after another
 
@@ -32,6 +98,10 @@ module _ (searched : SearchedLexicon) (line : Line) (choices : List Choice) (tab
 
   pub none_at_first : HasNoneBefore 0
   none_at_first = record { none = λ place default low after further. absurd (omega arith) }
+
+  -- nor is one of those that are tried
+  pub none_tried_before : (count : ℕ) → HasTried last ways count → HasNoneBefore count
+  none_tried_before count tried = record { none = λ place default low after further. tried.tried place default low after }
 
   pub none_more : (index : ℕ) (way : Way) → ((default : Way) → get_or ways index default ≡ way) → HasNoneBefore index
       → (IsAfter last (key_of_way way) → GoesFurtherBy searched line choices table here (key_of_way way) → ⊥) → HasNoneBefore (index + 1)

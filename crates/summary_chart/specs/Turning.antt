@@ -1,5 +1,5 @@
 -- How a chart brings a search to its next living way (own).
-use Rattle.std.specs.Prelude.{◌≡◌, ◌⊎◌, List, Option, Some, None}
+use Rattle.std.specs.Prelude.{◌≡◌, ℕ, ◌<◌, ◌≤◌, ◌⊎◌, List, length, slice_index_or, Option, Some, None}
 use Rattle.std.specs.declared.cmp.Ordering.TheVariants.{Less}
 use Rattle.text_definitions.specs.Lines.{Line}
 use Rattle.segmentation_definitions.specs.Items.{Choice}
@@ -12,6 +12,8 @@ use Rattle.search_frames.specs.declared.guiding.ToTry.{ToTry}
 use Rattle.search_frames.specs.declared.guiding.ToTry.TheVariants.{All, Later}
 use Rattle.search_frames.specs.declared.guiding.Turn.{Turn}
 use Rattle.search_frames.specs.declared.guiding.Turn.TheVariants.{Nothing, Ends as ToEnd, LeadsOn as ToPlace}
+use Rattle.search_frames.specs.declared.ways.Way.{Way}
+use Rattle.search_frames.specs.WaysFrom.{key_of_way}
 use Rattle.search_frames.specs.Configurations.{NumberedConfiguration, IsPossible, Ends}
 use Rattle.search_frames.specs.Tests.{LeadsTo}
 use Rattle.summary_chart.specs.declared.table.Table.{Table}
@@ -25,6 +27,12 @@ IsFrom key other = (key ≡ other) ⊎ (compare_keys key other ≡ Less)
 abbrev pub IsAfter : Option ProgramKey → Key → Type 0
 IsAfter None key = Unit {0}
 IsAfter (Some last) key = compare_keys (key_meant last) key ≡ Less
+
+-- so many of the ways come no later than the last key, and those after them come after it
+pub record HasTried (last : Option ProgramKey) (ways : List Way) (count : ℕ) : Type 0 where
+  pub few : count ≤ length ways
+  pub tried : (index : ℕ) (default : Way) → index < count → IsAfter last (key_of_way (slice_index_or ways index default)) → ⊥
+  pub left : (index : ℕ) (default : Way) → count ≤ index → index < length ways → IsAfter last (key_of_way (slice_index_or ways index default))
 
 -- the last key that a frame at the step has tried, where it has not all keys to try
 abbrev pub last_tried : Step → ToTry → Option ProgramKey

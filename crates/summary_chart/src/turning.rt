@@ -1,11 +1,13 @@
-ghost use Rattle.std.specs.Prelude.{◌≡◌, ◌↔◌, IsTrue, length, MatchOption};
+ghost use Rattle.std.specs.Prelude.{◌≡◌, length, map, MatchOption};
+ghost use Rattle.std.specs.List.Sorted.{IsStrictlySortedBy};
+ghost use Rattle.segmentation_definitions.specs.Listings.{compare_keys};
 ghost use Rattle.derivation.specs.Steps.{key_meant};
 ghost use Rattle.annotated_trie.specs.Searched.{IsSearchedLexicon};
 ghost use Rattle.search_frames.specs.Frames.{IsConfigurationIn, numbered_of};
 ghost use Rattle.search_frames.specs.WaysFrom.{AreWaysFrom, IsWayFrom, key_of_way};
 ghost use Rattle.summary_chart.specs.Tables.{IsTable};
 ghost use Rattle.summary_chart.specs.Spreading.{leads_in};
-ghost use Rattle.summary_chart.specs.Turning.{IsAfter, IsTestUnder, IsFirstLiving, HasNoLiving, last_tried};
+ghost use Rattle.summary_chart.specs.Turning.{HasTried, IsTestUnder, IsFirstLiving, HasNoLiving, last_tried};
 
 use super::Chart;
 use super::table::Table;
@@ -18,13 +20,14 @@ use reader_choices::Choices;
 use search_frames::{Configuration, LetterTest, Resumption, SearchGuide, ToTry, Turn, Way, go_to};
 use std::cmp::Ordering;
 
-/// Whether the key comes after the last one. Where there is no last one, any key does.
-fn is_after(last: Option<Key>, key: Key) -> bool
-    ensures { IsTrue result ↔ IsAfter last (key_meant key) }
+/// How many of the ways, which rise by their keys, come no later than the last key; 0 where there is no last key.
+fn count_tried(ways: &[Way], last: Option<Key>) -> usize
+    requires rising { IsStrictlySortedBy compare_keys (map key_of_way ways.now) }
+    ensures tried { HasTried last ways.now result }
 {
     match last {
-        None => true,
-        Some(last) => last.compare(&key) == Ordering::Less,
+        None => 0,
+        Some(last) => ways.partition_point(|way| last.compare(&way.key) != Ordering::Less),
     }
 }
 
@@ -82,6 +85,7 @@ fn test_way(
 }
 
 /// The first of the ways, which are all from the place, whose key comes after the last one and that goes further, with what it does.
+/// The ways up to the last key are not looked at one by one.
 fn find_living(
     lexicon: &Lexicon,
     line: &Line,
@@ -98,16 +102,13 @@ fn find_living(
     ensures { MatchOption result (HasNoLiving lexicon.now line.now choices.now table.now (numbered_of lexicon.now place.now) last)
         (λ found. IsFirstLiving lexicon.now line.now choices.now table.now (numbered_of lexicon.now place.now) last (key_meant found.0) found.1) }
 {
-    for way in ways {
-        let key = way.key;
-        if !is_after(last, key) {
-            continue;
-        }
+    for number in count_tried(ways, last)..ways.len() {
+        let way = &ways[number];
         let turn = test_way(lexicon, line, choices, place, way, table);
         if let Turn::Nothing = turn {
             continue;
         }
-        return Some((key, turn));
+        return Some((way.key, turn));
     }
     None
 }
