@@ -18,12 +18,12 @@ static COMMANDS: [(&str, &str); 7] = [
         "batch LEX SCHEME FILE N    (the first N answers, 1 to 1000, for each line of FILE)",
     ),
     (
-        "convert",
-        "convert FROM TO FILE OUT    (a text from scheme to scheme: slp1, wx, velthuis, devanagari, iast or hk)",
-    ),
-    (
         "demo",
         "demo NUMBER    (counts the answers of an input that is made from the number)",
+    ),
+    (
+        "convert",
+        "convert FROM TO FILE OUT    (a text from scheme to scheme: slp1, wx, velthuis, devanagari, iast or hk)",
     ),
 ];
 

@@ -2,6 +2,7 @@
 use Rattle.std.proofs.Common.{◌+◌, ◌≤◌, arith, sym, subst}
 use Rattle.search_frames.specs.declared.resumption.Resumption.{Resumption}
 use Rattle.search_frames.specs.Costs.{steps_left, steps_after_node}
+use Rattle.search_frames.specs.Frames.{HasNoChange}
 use Rattle.search_frames.proofs.StepLoops.{HasSameToTry, same_at_first, same_after_leaving, went_on_at_last, nothing_at_first}
 use Rattle.search_frames.proofs.going_on.go_on.Goals as goal
 
@@ -13,6 +14,11 @@ loop-stack-init g c = record {
 
 pub next_change-requires : goal.next_change-requires
 next_change-requires g c = record { frame = c.loop-stack.invariant.same.frame }
+
+pub leave_node-requires-clause-none : goal.leave_node-requires-clause-none
+leave_node-requires-clause-none g c =
+    subst (λ (stack : Resumption). HasNoChange c.args.lexicon.now c.args.line.now stack c.args.level) (sym c.loop-stack-test.ensures.unchanged)
+    c.loop-stack-test.ensures.none
 
 pub returns-then-not-leave_node-clause-nothing : goal.returns-then-not-leave_node-clause-nothing
 returns-then-not-leave_node-clause-nothing g c =
