@@ -38,6 +38,7 @@ ROWS = (
     Row(("build", "rules.toml", "tables.csv", "stems.csv", "out.lex"), out="out.lex"),
     Row(("convert", "slp1", "iast", "text", "out.iast"), out="out.iast"),
     Row(("demo", "0")),
+    Row(("convert", "slp1", "iast", "verses", "out.text"), out="out.text"),
 )
 
 
@@ -120,6 +121,7 @@ def main():
             return
         trial.build()
         (trial.folder / "text").write_text(f"{LINE}\nrAmo\n?\n" * 30, encoding="utf-8")
+        (trial.folder / "verses").write_text(f"{LINE} | 12 ||\n" * 30, encoding="utf-8")
         for row in ROWS:
             try_row(refusing, row, given.requests)
 

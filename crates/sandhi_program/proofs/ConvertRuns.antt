@@ -55,7 +55,7 @@ file_converted from to bytes converted lines within text same output = record {
   lines = lines;
   held = record {
     within = within;
-    read = ap (with_count (length (lines_of_bytes bytes))) text ∙ ap (λ n. Ok (record { bytes = converted.text.items; lines = n })) (sym same);
+    read = ap (with_count (length (lines_of_bytes bytes))) text ∙ ap (λ n. with_count n (Ok converted.text.items)) (sym same);
   };
   output = output;
 }

@@ -1,6 +1,11 @@
 -- The lines in which files are refused, with their line end put last.
-use Rattle.std.proofs.Common.{◌≡◌, ℕ, List, [], ◌∷◌, ◌++◌, codes, sym, ap, append_assoc}
+use Rattle.std.proofs.Common.{◌≡◌, ℕ, List, [], ◌∷◌, ◌++◌, codes, refl, sym, ap, append_assoc}
 use Rattle.list_laws.proofs.Elements.{six_regrouped}
+use Rattle.text_definitions.specs.LineTexts.{place_of}
+use Rattle.latin_schemes.specs.declared.spell_fault.SpellFault.{SpellFault}
+use Rattle.latin_schemes.specs.declared.spell_fault.SpellFault.TheVariants.{NotLetter, LoneSign, NotUtf8}
+use Rattle.latin_schemes.specs.Faults as told
+use Rattle.latin_schemes.specs.Faults.{fault_of}
 
 pub large_line : (name : List ℕ) → codes "bad file " ++ name ++ codes ": Large\n" ≡ (codes "bad file " ++ name ++ codes ": Large") ++ 10 ∷ []
 large_line name = ap (λ rest. codes "bad file " ++ rest) (sym (append_assoc name (codes ": Large") (10 ∷ [])))
@@ -10,6 +15,12 @@ pub fault_line : (name number why : List ℕ)
     ≡ (codes "bad file " ++ name ++ codes " line " ++ number ++ codes ": " ++ why) ++ 10 ∷ []
 fault_line name number why =
     ap (λ rest. codes "bad file " ++ rest) (sym (six_regrouped name (codes " line ") number (codes ": ") why (10 ∷ [])))
+
+-- the place that the program's fault names is the one that the definitions name
+pub same_place : (fault : SpellFault) → told.place_of fault ≡ place_of (fault_of fault)
+same_place (NotLetter at) = refl
+same_place (LoneSign at) = refl
+same_place (NotUtf8 at) = refl
 
 -- of a text: its line and the place
 pub spelling_line : (name number place : List ℕ)

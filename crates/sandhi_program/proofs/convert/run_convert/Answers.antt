@@ -4,7 +4,7 @@ use Rattle.list_laws.proofs.Sorted.{Contains-first, Contains-later}
 use Rattle.command_words.specs.Meant.{word_meant}
 use Rattle.more_schemes.specs.Values.{any_scheme_of}
 use Rattle.run_definitions.specs.Ends as ends
-use Rattle.run_definitions.specs.ConvertOutcomes.{IsConversion, IsConvertedOutcome, IsConvertOutcome}
+use Rattle.run_definitions.specs.ConvertOutcomes.{Conversion, IsConversion, IsConvertedOutcome, IsConvertOutcome}
 use Rattle.sandhi_program.specs.declared.status.Status.TheVariants.{BadFile}
 use Rattle.sandhi_program.specs.declared.any_error.AnyError.TheVariants.{Fault}
 use Rattle.sandhi_program.specs.SourceErrors.{IsSourceError}
@@ -32,7 +32,7 @@ returns-in-Ok-convert_file g c =
     let bytes = c.in-Ok.bytes.items in
     let converted = c.in-Ok-convert_file.converted in
     let is = subst (λ (b : List ℕ). IsConvertedFile from to b converted) c.as_slice.ensures.value c.in-Ok-convert_file.ensures.ok in
-    let conversion = record { bytes = converted.text.items; lines = is.lines } in
+    let conversion : Conversion = record { bytes = converted.text.items; lines = is.lines } in
     goes_on (IsConvertedOutcome conversion out) (IsConvertOutcome from to file out) [] (file ∷ []) _ _ _ _
     (text_held from to file out _ bytes conversion c.in-Ok.ensures.ok is.held) (λ word m. Contains-later file [] word m) _
     (same_devices _ _ _ _ _ _ _ _ c.read_file.ensures.files c.in-Ok.ensures.reads c.read_file.ensures.writes) (c.write_converted.ensures is.lines is.output)

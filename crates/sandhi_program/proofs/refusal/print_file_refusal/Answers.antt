@@ -1,10 +1,12 @@
 -- The line is printed part by part.
 use Rattle.std.proofs.Common.{◌≡◌, string_bytes, ◌++◌, ◌∙◌, ap, codes}
 use Rattle.std.specs.Fmt.{decimal}
+use Rattle.text_definitions.specs.LineTexts.{place_of}
+use Rattle.latin_schemes.specs.Faults as spelled
 use Rattle.lexicon_file.specs.Faults.{why_of}
 use Rattle.rule_file.specs.Faults.{fault_of}
 use Rattle.run_definitions.specs.Refusals.{name_of_why, rules_refusal}
-use Rattle.sandhi_program.proofs.RefusalLines.{large_line, fault_line, spelling_line, source_line}
+use Rattle.sandhi_program.proofs.RefusalLines.{large_line, fault_line, same_place, spelling_line, source_line}
 use Rattle.sandhi_program.proofs.refusal.print_file_refusal.Goals as goal
 
 pub returns-in_ok-format-in-Large : goal.returns-in_ok-format-in-Large
@@ -41,6 +43,6 @@ returns-in_ok-format-in-Spelling c =
     c.in_ok-format-in-Spelling.ensures.ok in
     record {
       ok = rw c.in-Spelling.is
-          (told ∙ ap (λ place. codes "bad file " ++ (name ++ (codes " line " ++ (number ++ (codes ": spelling " ++ (decimal place ++ codes "\n")))))) c.place-at.ensures
-          ∙ spelling_line name number (decimal (place_of c.in-Spelling.fault.fault)));
+          (told ∙ ap (λ place. codes "bad file " ++ (name ++ (codes " line " ++ (number ++ (codes ": spelling " ++ (decimal place ++ codes "\n")))))) (c.place-at.ensures ∙ same_place c.in-Spelling.fault.fault)
+          ∙ spelling_line name number (decimal (place_of (spelled.fault_of c.in-Spelling.fault.fault))));
     }
