@@ -36,7 +36,6 @@ ROWS = (
     Row(("read", "made.lex"), input=SESSION.encode()),
     Row(("batch", "made.lex", "slp1", "text", "9")),
     Row(("build", "rules.toml", "tables.csv", "stems.csv", "out.lex"), out="out.lex"),
-    Row(("convert", "slp1", "iast", "text", "out.iast"), out="out.iast"),
     Row(("demo", "0")),
     Row(("convert", "slp1", "iast", "verses", "out.text"), out="out.text"),
 )
