@@ -1,6 +1,6 @@
 -- What `convert` says of the outcome: the text file tells what was made of it, its fault, or that it is not there; and what was made is
 -- written.
-use Rattle.std.proofs.Common.{◌≡◌, ℕ, ◌≤◌, List, length, Option, Some, None, Ok, string_bytes, refl, sym, ap, ◌∙◌}
+use Rattle.std.proofs.Common.{◌≡◌, ℕ, ◌≤◌, List, [], length, Option, Some, None, Ok, string_bytes, refl, sym, ap, ◌∙◌}
 use Rattle.outside.specs.Files.{Files, contents_of, with_file}
 use Rattle.conversion_definitions.specs.AnySchemes.{AnyScheme}
 use Rattle.conversion_definitions.specs.Conversions.{converted_text}
