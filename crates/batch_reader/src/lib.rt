@@ -20,8 +20,6 @@ mod block;
 mod bounded_moves;
 mod printing;
 mod replier;
-#[cfg(test)]
-mod tests;
 
 pub use answering::read_all;
 pub use batch::Batch;
