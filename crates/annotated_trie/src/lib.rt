@@ -17,8 +17,6 @@ mod rule_groups;
 mod rule_lists;
 mod sharing;
 mod suffixes;
-#[cfg(test)]
-mod tests;
 
 pub use annotated::Annotated;
 pub use annotating::annotate;

@@ -9,8 +9,6 @@ mod point;
 mod print;
 mod read;
 mod reader;
-#[cfg(test)]
-mod tests;
 
 pub use print::print_devanagari;
 pub use read::read_devanagari;

@@ -10,8 +10,6 @@ mod form_lists;
 mod phase_forms;
 mod places;
 mod sharing;
-#[cfg(test)]
-mod tests;
 
 pub use form_lists::FormLists;
 pub use sharing::form_lists_are_shared;

@@ -20,8 +20,6 @@ mod tag;
 mod tag_order;
 mod tag_text;
 mod tense;
-#[cfg(test)]
-mod tests;
 mod voice;
 
 pub use analysis::Analysis;

@@ -6,7 +6,5 @@ mod nasals;
 mod seam;
 mod sibilants;
 mod stops;
-#[cfg(test)]
-mod tests;
 
 pub use seam::{join, join_parts};

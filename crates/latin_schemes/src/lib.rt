@@ -10,8 +10,6 @@ mod byte_scheme;
 mod slp1;
 mod spell_error;
 mod spell_fault;
-#[cfg(test)]
-mod tests;
 mod velthuis;
 mod velthuis_front;
 mod velthuis_print;

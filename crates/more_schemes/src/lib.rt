@@ -16,8 +16,6 @@ mod marks;
 mod print;
 mod read;
 mod scheme;
-#[cfg(test)]
-mod tests;
 
 pub use any_scheme::AnyScheme;
 pub use conversion::convert;

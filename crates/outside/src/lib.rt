@@ -16,8 +16,9 @@
 //! - `Steps::new` and `Steps::tick` give 0 and one more.
 //!
 //! The adapters tell no bytes, so no public clause shows what they do with those of a real file or stream. Their private
-//! functions are proved over any reader and any writer, and tests show the rest. They try again what a signal interrupted
-//! or what would have blocked, and keep their last fault, of which no clause speaks, for a message to a person.
+//! functions are proved over any reader and any writer; tests of `sandhi_program` and the scripts in `samples` show the rest. They
+//! try again what a signal interrupted or what would have blocked, and keep their last fault, of which no clause speaks, for a message
+//! to a person.
 #![tactic(auto)]
 
 mod disk_shelf;
@@ -35,8 +36,6 @@ mod shelf;
 mod sink;
 mod source;
 mod steps;
-#[cfg(test)]
-mod tests;
 
 pub use disk_shelf::{DiskFault, DiskShelf};
 pub use gate::{Gate, NoGate};

@@ -30,8 +30,6 @@ mod sharing;
 mod state;
 mod state_laws;
 mod subsets;
-#[cfg(test)]
-mod tests;
 mod walk;
 
 pub use automaton::Automaton;

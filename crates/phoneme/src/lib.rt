@@ -13,8 +13,6 @@ mod letter;
 mod line;
 mod memory;
 mod sharing;
-#[cfg(test)]
-mod tests;
 mod word;
 
 pub use cutting::cut_at;

@@ -3,6 +3,12 @@
 
 ghost use Rattle.std.specs.Prelude.{◌<◌, None};
 
+mod meeting;
+mod scripted_clock;
+mod scripted_input;
+mod scripted_printer;
+mod streams;
+
 use super::run::run;
 use super::status::Status;
 use outside::{Failed, MemoryShelf, MemorySink, MemorySource, NoGate, Sink, Source, WriteError};

@@ -18,8 +18,6 @@ mod keyed;
 mod resuming;
 mod search;
 mod search_space;
-#[cfg(test)]
-mod tests;
 
 pub use resuming::ResumeError;
 pub use search::Search;

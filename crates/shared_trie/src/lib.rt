@@ -23,8 +23,6 @@ mod row;
 mod rows;
 mod sharing;
 mod store;
-#[cfg(test)]
-mod tests;
 
 pub use building::build;
 pub use node::Node;

@@ -5,4 +5,3 @@ pub mod NumberLists
 pub mod RuleMatches
 pub mod FormOverlaps
 pub mod PhaseOverlaps
-pub mod SmallRuleSets

@@ -1,4 +1,3 @@
 pub mod Overlaps
 pub mod Matches
 pub mod Appending
-pub mod SmallRules

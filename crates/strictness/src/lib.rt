@@ -13,8 +13,6 @@ mod listing;
 mod matching;
 mod overlap;
 mod pairs;
-#[cfg(test)]
-mod tests;
 
 pub use laws::the_first_overlaps_are_one_list;
 pub use listing::overlaps;

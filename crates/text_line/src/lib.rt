@@ -14,8 +14,6 @@ mod numbers;
 mod read;
 mod scheme;
 mod spelled;
-#[cfg(test)]
-mod tests;
 mod text_fault;
 
 pub use line_error::LineError;

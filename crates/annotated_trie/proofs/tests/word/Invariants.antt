@@ -1,6 +1,0 @@
--- the letters so far
-use Rattle.std.proofs.Common.{◌≡◌, take}
-use Rattle.annotated_trie.proofs.tests.word.Given as goal
-
-abbrev pub invariant-loop-code : goal.invariant-loop-code
-invariant-loop-code g l = l.word ≡ take l.code-index l.codes

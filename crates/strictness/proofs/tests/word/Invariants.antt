@@ -1,6 +1,0 @@
--- The letters so far are there.
-use Rattle.std.proofs.Common.{◌≡◌, take}
-use Rattle.strictness.proofs.tests.word.Given as goal
-
-abbrev pub invariant-loop-code : goal.invariant-loop-code
-invariant-loop-code g l = l.word ≡ take l.code-index l.codes
