@@ -4,7 +4,6 @@ ghost use Rattle.session_definitions.specs.Requests.{Tags};
 ghost use Rattle.session_definitions.specs.Replies.{IsReplyTo};
 ghost use Rattle.reader_session.specs.Readings.{IsReadingOver, GoesOn, state_of};
 
-
 use super::numbered_item::{NoItem, numbered_item};
 use super::reading::Reading;
 use super::refusing::refuse;
