@@ -71,9 +71,10 @@ class Tree:
         return listed
 
     def _words_of_scripts(self):
-        """All words in the scripts and pages beside the crates, with the names of their files."""
+        """All words in the scripts and pages beside the crates and in the worked rows, with the names of their files."""
         folders = [folder for folder in self.root.glob("*/") if folder.name not in ("crates", ".git")]
         paths = [path for folder in folders for path in folder.rglob("*") if path.suffix in SCRIPTS]
+        paths += sorted((self.root / "worked" / "rows").glob("*.json"))
         paths += [path for path in [*self.root.glob("*"), *self.root.glob(".ci/*")] if path.is_file() and not path.suffix]
         return {word for path in paths for word in [path.stem, *WORD.findall(path.read_text(encoding="utf-8"))]}
 

@@ -4,6 +4,5 @@ pub mod SuffixPlaces
 pub mod NodeSteps
 pub mod GroupLaws
 pub mod ChoiceLaws
-pub mod TestRules
 pub mod SharedLexicons
 pub mod RuleGroupLaws

@@ -10,7 +10,8 @@
 //! A law beside them: under a chart each move of a search is within the bound that `advance` and `skip` of `segmenter` state
 //! (`moves_under_a_chart_are_bounded`).
 //!
-//! That two lines are answered at once is only tested, by a gate at which the worker of the first line waits for that of the second.
+//! That two lines are answered at once is only tested, in `sandhi_program`, by a gate at which the worker of the first line waits for that
+//! of the second.
 //! No clause speaks of the gate, of the workers, of the order in which they take lines, or of time.
 #![tactic(auto)]
 

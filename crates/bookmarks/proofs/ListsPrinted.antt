@@ -3,10 +3,10 @@ use Rattle.std.proofs.Common.{◌≡◌, ℕ, ◌+◌, ◌<◌, List, [], ◌∷
 use Rattle.std.specs.List.{AllByRecursion, join_with_byte}
 use Rattle.std.proofs.lemmas.List.{map-append, take_more}
 use Rattle.derivation.specs.declared.step.Key.{Key as ProgramKey}
+use Rattle.derivation.specs.Steps.{key_meant, keys_meant}
 use Rattle.bookmark_definitions.specs.BookmarkTexts.{text_of_key}
 use Rattle.bookmark_definitions.proofs.WrittenParts.{key_some}
 use Rattle.bookmarks.specs.Parts.{with_part}
-use Rattle.bookmarks.specs.Values.{key_of, keys_of}
 use Rattle.bookmark_definitions.proofs.JoinedTexts.{some_joined}
 
 part_after : (list part : List ℕ) → 0 < length list → with_part list part ≡ list ++ 44 ∷ part
@@ -42,15 +42,15 @@ module _ {X : Type 0} (text_of : X → List ℕ) (some : (x : X) → 0 < length 
       ∙ ap (join_with_byte 44) (sym texts)
 
 -- the texts of keys are those of what the keys stand for
-pub texts_of_keys : (keys : List ProgramKey) → map text_of_key (keys_of keys) ≡ map (λ key. text_of_key (key_of key)) keys
+pub texts_of_keys : (keys : List ProgramKey) → map text_of_key (keys_meant keys) ≡ map (λ key. text_of_key (key_meant key)) keys
 texts_of_keys [] = refl
-texts_of_keys (key ∷ keys) = ap (λ (texts : List (List ℕ)). text_of_key (key_of key) ∷ texts) (texts_of_keys keys)
+texts_of_keys (key ∷ keys) = ap (λ (texts : List (List ℕ)). text_of_key (key_meant key) ∷ texts) (texts_of_keys keys)
 
 -- one key more is printed
 pub key_printed : (keys : List ProgramKey) (at : ℕ) (key d : ProgramKey) (old new part : List ℕ) → at < length keys → key ≡ get_or keys at d
-    → old ≡ join_with_byte 44 (map text_of_key (keys_of (take at keys))) → part ≡ text_of_key (key_of key) → new ≡ with_part old part
-    → new ≡ join_with_byte 44 (map text_of_key (keys_of (take (at + 1) keys)))
+    → old ≡ join_with_byte 44 (map text_of_key (keys_meant (take at keys))) → part ≡ text_of_key (key_meant key) → new ≡ with_part old part
+    → new ≡ join_with_byte 44 (map text_of_key (keys_meant (take (at + 1) keys)))
 key_printed keys at key d old new part inside is old_is part_is new_is =
-    part_printed (λ key. text_of_key (key_of key)) (λ key. key_some (key_of key)) keys at key d old new part inside is
+    part_printed (λ key. text_of_key (key_meant key)) (λ key. key_some (key_meant key)) keys at key d old new part inside is
     (old_is ∙ ap (join_with_byte 44) (texts_of_keys (take at keys))) part_is new_is
     ∙ ap (join_with_byte 44) (sym (texts_of_keys (take (at + 1) keys)))

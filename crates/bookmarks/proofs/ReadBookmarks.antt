@@ -5,14 +5,10 @@ use Rattle.text_definitions.specs.Lines.{Line}
 use Rattle.segmentation_definitions.specs.declared.limits.TheConstants.{LAST_ANSWER_NUMBER}
 use Rattle.segmentation_definitions.specs.Items.{Choice}
 use Rattle.segmentation_definitions.specs.Listings.{Key}
-use Rattle.bookmark_definitions.specs.Bookmarks.{Bookmark, IsBookmark}
+use Rattle.bookmark_definitions.specs.Bookmarks.{Bookmark}
 use Rattle.bookmark_definitions.specs.BookmarkReadings.{number_up_to, each_read, parts_of_list, line_of, choice_of, key_of_text, bookmark_with, bookmark_of_fields, bookmark_of_text}
-use Rattle.bookmark_definitions.proofs.WrittenBookmarks.{bookmark_tells}
 use Rattle.bookmarks.specs.Parts.{parts_at}
 use Rattle.bookmarks.specs.Values.{is_within_bounds}
-
-pub read_is_bookmark : (text : List ℕ) (mark : Bookmark) → bookmark_of_text text ≡ Some mark → IsBookmark mark
-read_is_bookmark text mark h = (bookmark_tells text mark h).1
 
 -- ---- the fields
 

@@ -1,14 +1,14 @@
 -- A word is printed without marks and read again: byte by byte in the schemes in Latin letters, where the check tests the fifty spellings, and
 -- code point by code point in Devanagari.
-use Rattle.std.proofs.Common.{◌≡◌, ℕ, zero, suc, ◌+◌, ◌-◌, ◌≤◌, Bool, true, false, not, cond, ◌&&◌, List, [], ◌∷◌, ◌++◌, map, length, get_or, slice_index, Option, Some, None, is_none, is_some, take, Ok, Err, eqb, encode_utf8, encode_utf8_all, arith, ap, ◌∙◌, sym, subst, refl}
+use Rattle.std.proofs.Common.{◌≡◌, ℕ, ◌+◌, ◌-◌, ◌≤◌, Bool, true, false, not, cond, ◌&&◌, List, [], ◌∷◌, ◌++◌, map, length, get_or, slice_index, Option, Some, None, is_none, Ok, eqb, encode_utf8, encode_utf8_all, arith, ap, ◌∙◌, sym, refl}
 use Rattle.std.specs.List.{AllByRecursion, list_all}
 use Rattle.std.proofs.lemmas.Bool.{and_parts}
 use Rattle.std.proofs.lemmas.Bool.Decides.{nat_tests}
 use Rattle.text_definitions.specs.Letters.{IsLetter}
-use Rattle.text_definitions.specs.Spellings.{Reading, with_letter, byte_of_letter}
+use Rattle.text_definitions.specs.Spellings.{byte_of_letter}
 use Rattle.text_definitions.specs.Slp1.{slp1_table, word_of_slp1, slp1_of_word}
 use Rattle.text_definitions.specs.Wx.{wx_table, word_of_wx, wx_of_word}
-use Rattle.text_definitions.specs.Longest.{or_shorter, front_letter, word_at, word_of_spellings, spelling_of_letter, has_length, gap_before, spellings_of_word}
+use Rattle.text_definitions.specs.Longest.{spelling_of_letter, has_length, gap_before, spellings_of_word}
 use Rattle.text_definitions.specs.Velthuis.{velthuis_table, velthuis_front, word_of_velthuis, velthuis_of_word}
 use Rattle.text_definitions.specs.Devanagari.{devanagari_table, devanagari_signs, is_vowel, is_consonant, sign_of_vowel, points_of_letter, points_of_word, word_of_devanagari, devanagari_of_word}
 use Rattle.text_definitions.proofs.Tables.{passes_below, passes_at}
@@ -19,11 +19,10 @@ use Rattle.text_definitions.proofs.VelthuisTable.{separates_velthuis}
 use Rattle.text_definitions.proofs.DevanagariTable.{printed_points_are_read}
 use Rattle.text_definitions.proofs.ReadWords.{velthuis_reads_words, devanagari_reads_words}
 use Rattle.more_scheme_definitions.specs.HarvardKyoto.{harvard_kyoto_table, harvard_kyoto_front, word_of_harvard_kyoto, harvard_kyoto_of_word}
-use Rattle.more_scheme_definitions.specs.Iast.{iast_table, iast_letter, iast_front, word_of_composed, iast_of_word}
+use Rattle.more_scheme_definitions.specs.Iast.{iast_table, iast_front, word_of_composed, iast_of_word}
 use Rattle.more_scheme_definitions.proofs.HarvardKyotoTable.{separates_harvard_kyoto}
-use Rattle.more_scheme_definitions.proofs.IastTable as of_iast
 use Rattle.more_scheme_definitions.proofs.IastTable.{iast_bytes, separates_iast}
-use Rattle.more_scheme_definitions.proofs.ReadSpellings.{harvard_kyoto_reads_words}
+use Rattle.more_scheme_definitions.proofs.ReadSpellings.{harvard_kyoto_reads_words, composed_reads_words}
 use Rattle.conversion_definitions.specs.AnySchemes.{AnyScheme, Slp1, Wx, Velthuis, Devanagari, Iast, HarvardKyoto, word_of_run, spelling_in}
 use Rattle.conversion_definitions.specs.Marks.{latin_marks, marks_to_latin, first_mark}
 use Rattle.conversion_definitions.proofs.MarkBytes.{mark_bytes}
@@ -281,51 +280,6 @@ word_printed Iast = iast_printed
 word_printed HarvardKyoto = harvard_kyoto_printed
 
 -- ---- what is read
-
--- a reading that is a word has letters only
-abbrev Reads : Reading → Type 0
-Reads (Ok word) = AllByRecursion IsLetter word
-Reads (Err fault) = Unit {0}
-
-reads_letter : (n : ℕ) (rest : Reading) → IsLetter n → Reads rest → Reads (with_letter n rest)
-reads_letter n (Ok word) l r = (l, r)
-reads_letter n (Err fault) l r = tt
-
-word_from : (reading : Reading) (word : List ℕ) → Reads reading → reading ≡ Ok word → AllByRecursion IsLetter word
-word_from reading word r h = subst Reads h r
-
-or_shorter_is : (found : Option ℕ) (len : ℕ) (shorter : Option (ℕ × ℕ)) (pair : ℕ × ℕ) → or_shorter found len shorter ≡ Some pair → (found ≡ Some pair.0 → IsLetter pair.0) → (shorter ≡ Some pair → IsLetter pair.0) → IsLetter pair.0
-or_shorter_is None len shorter pair h f s = s h
-or_shorter_is (Some m) len shorter pair h f s = let is : (m, len) ≡ pair = cc in f (ap (λ (p : ℕ × ℕ). Some p.0) is)
-
-module _ (letter : List ℕ → Option ℕ) (is_letter : (bytes : List ℕ) (n : ℕ) → letter bytes ≡ Some n → IsLetter n) where
-  front_is : (most : ℕ) (text : List ℕ) (pair : ℕ × ℕ) → front_letter letter most text ≡ Some pair → IsLetter pair.0
-  front_is zero text pair h = absurd (cc)
-  front_is (suc most) text pair h =
-      or_shorter_is (letter (take (suc most) text)) (length (take (suc most) text)) (front_letter letter most text) pair h (is_letter (take (suc most) text) pair.0) (front_is most text pair)
-
-reads_at : (place : ℕ) (found : Option (ℕ × ℕ)) (passed : Bool) (following : ℕ → Bool → Reading) → ((pair : ℕ × ℕ) → found ≡ Some pair → IsLetter pair.0) → ((inside : ℕ) (after : Bool) → Reads (following inside after)) → Reads (word_at place found passed following)
-reads_at place None false following l r = tt
-reads_at place None true following l r = r 0 false
-reads_at place (Some pair) passed following l r = reads_letter pair.0 (following (pair.1 - 1) true) (l pair refl) (r (pair.1 - 1) true)
-
-module _ (front : List ℕ → Option (ℕ × ℕ)) (is_letter : (text : List ℕ) (pair : ℕ × ℕ) → front text ≡ Some pair → IsLetter pair.0) where
-  reads_spellings : (text : List ℕ) (place inside : ℕ) (spelled : Bool) → Reads (word_of_spellings front place inside spelled text)
-  reads_spellings [] place inside spelled = tt
-  reads_spellings (byte ∷ text) place (suc inside) spelled = reads_spellings text (place + 1) inside true
-  reads_spellings (byte ∷ text) place zero spelled =
-      reads_at place (front (byte ∷ text)) (spelled && eqb byte 95 && is_some (front text)) (λ inside after. word_of_spellings front (place + 1) inside after text) (is_letter (byte ∷ text)) (reads_spellings text (place + 1))
-
-iast_front_is : (text : List ℕ) (pair : ℕ × ℕ) → iast_front text ≡ Some pair → IsLetter pair.0
-unfolding iast_front
-iast_front_is text pair h = front_is iast_letter of_iast.is_letter 4 text pair h
-
-reads_composed : (text : List ℕ) → Reads (word_of_composed text)
-unfolding word_of_composed
-reads_composed text = reads_spellings iast_front iast_front_is text 0 0 false
-
-composed_reads_words : (run word : List ℕ) → word_of_composed run ≡ Ok word → AllByRecursion IsLetter word
-composed_reads_words run word h = word_from (word_of_composed run) word (reads_composed run) h
 
 slp1_letters : (run word : List ℕ) → word_of_slp1 run ≡ Ok word → AllByRecursion IsLetter word
 unfolding slp1_table word_of_slp1

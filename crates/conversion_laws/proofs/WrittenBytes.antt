@@ -1,22 +1,17 @@
 -- What is written in Devanagari and in IAST is UTF-8, and in IAST composition leaves it as it is: mark by mark, which the check computes,
 -- and word by word. A letter of IAST is composed whatever stands beside it.
-use Rattle.std.proofs.Common.{◌≡◌, ℕ, zero, suc, ◌-◌, ◌<◌, ◌≤◌, Bool, true, false, cond, ◌&&◌, List, [], ◌∷◌, ◌++◌, map, length, get_or, slice_index, Some, IsUtf8, eqb, encode_utf8_all, arith, ap, ◌∙◌, sym, refl}
-use Rattle.std.specs.Char.{encode_utf8}
+use Rattle.std.proofs.Common.{◌≡◌, ℕ, ◌-◌, ◌≤◌, Bool, true, false, cond, ◌&&◌, List, [], ◌∷◌, ◌++◌, slice_index, IsUtf8, eqb, encode_utf8_all, arith, ap, ◌∙◌, refl}
 use Rattle.std.specs.List.{AllByRecursion, list_all}
-use Rattle.std.specs.Str.{chars, all_scalars}
-use Rattle.std.proofs.lemmas.Bool.{eqb-true, and_parts}
+use Rattle.std.specs.Str.{all_scalars}
+use Rattle.std.proofs.lemmas.Bool.{and_parts}
 use Rattle.std.proofs.lemmas.Bool.Decides.{nat_tests}
-use Rattle.std.proofs.lemmas.Str.{chars-encodes, encodes-append}
-use Rattle.unicode_normalization.specs.Order.{is_starter, is_ordered}
-use Rattle.unicode_normalization.specs.Forms.{Nfc, nfc}
+use Rattle.std.proofs.lemmas.Str.{encodes-append}
 use Rattle.unicode_normalization.proofs.Computing.{unicode_normalization}
-use Rattle.unicode_normalization.proofs.FormsLemmas.{passes, normalize-passes}
-use Rattle.unicode_normalization.proofs.OrderLemmas.{is_ordered-nil, is_ordered-starter}
 use Rattle.text_definitions.specs.Letters.{IsLetter}
-use Rattle.text_definitions.specs.Longest.{spelling_of_letter, has_length, spellings_of_word}
 use Rattle.text_definitions.specs.Devanagari.{devanagari_table, devanagari_signs, is_vowel, is_consonant, sign_of_vowel, points_of_letter, points_of_word, devanagari_of_word}
 use Rattle.text_definitions.proofs.Tables.{passes_below, passes_at}
-use Rattle.more_scheme_definitions.specs.Iast.{iast_spellings, iast_table, iast_front, composed, iast_of_word}
+use Rattle.more_scheme_definitions.specs.Iast.{composed, iast_of_word}
+use Rattle.more_scheme_definitions.proofs.ComposedSpellings.{is_kept, join_all, points_of_word as iast_points, word_spells, kept_scalars, spells_composed}
 use Rattle.conversion_definitions.specs.Marks.{marks_by}
 use Rattle.conversion_definitions.proofs.MarkBytes.{mark_bytes}
 
@@ -82,19 +77,11 @@ devanagari_written word ls = record { points = points_of_word false word; scalar
 
 -- ---- composition
 
--- a code point that has a UTF-8 form and that composition keeps, whatever stands beside it
-abbrev pub is_kept : ℕ → Bool
-is_kept point = all_scalars (point ∷ []) && passes Nfc point && is_starter point
-
--- the bytes are those of some such characters
+-- the bytes are those of some characters that have a UTF-8 form and that composition keeps, whatever stands beside them
 pub record IsKept (bytes : List ℕ) : Type 0 where
   pub points : List ℕ
   pub kept : list_all is_kept points ≡ true
   pub bytes_are : encode_utf8_all points ≡ bytes
-
-join_all : (xs ys : List ℕ) → list_all is_kept xs ≡ true → list_all is_kept ys ≡ true → list_all is_kept (xs ++ ys) ≡ true
-join_all [] ys h k = k
-join_all (x ∷ xs) ys h k = let p = and_parts _ _ h in ap (λ b. b && list_all is_kept (xs ++ ys)) p.0 ∙ join_all xs ys p.1 k
 
 pub join_kept : (xs ys : List ℕ) → IsKept xs → IsKept ys → IsKept (xs ++ ys)
 join_kept xs ys s t = record {
@@ -103,82 +90,17 @@ join_kept xs ys s t = record {
   bytes_are = encodes-append s.points t.points ∙ ap (λ l. l ++ encode_utf8_all t.points) s.bytes_are ∙ ap (λ r. xs ++ r) t.bytes_are;
 }
 
-all_kept : passes_below 50 (λ k. list_all is_kept (get_or iast_spellings k [])) ≡ true
-unfolding iast_spellings unicode_normalization
-all_kept = refl
-
-at_map : (entries : List (List ℕ)) (k : ℕ) → k < length entries → encode_utf8_all (get_or entries k []) ≡ get_or (map encode_utf8_all entries) k []
-at_map [] k h = absurd (omega arith)
-at_map (entry ∷ entries) zero h = refl
-at_map (entry ∷ entries) (suc k) h = at_map entries k (omega arith)
-
-fifty : length iast_spellings ≡ 50
-unfolding iast_spellings
-fifty = refl
-
-letter_kept : (n : ℕ) → IsLetter n → IsKept (spelling_of_letter iast_table n)
-unfolding iast_table
-letter_kept n l = record {
-  points = get_or iast_spellings (n - 1) [];
-  kept = passes_at 50 (λ k. list_all is_kept (get_or iast_spellings k [])) all_kept (n - 1) (omega (arith, l.0, l.1));
-  bytes_are = at_map iast_spellings (n - 1) (omega (arith, l.0, l.1, fifty));
-}
-
-gap_kept : (gap : Bool) → IsKept (cond gap [] (95 ∷ []))
-unfolding encode_utf8 unicode_normalization
-gap_kept true = record { points = []; kept = refl; bytes_are = refl }
-gap_kept false = record { points = 95 ∷ []; kept = refl; bytes_are = refl }
-
 pub nothing_kept : IsKept []
 nothing_kept = record { points = []; kept = refl; bytes_are = refl }
 
-after_kept : (previous : ℕ) (word : List ℕ) → AllByRecursion IsLetter word → IsKept (spellings_of_word iast_front (spelling_of_letter iast_table) (Some previous) word)
-after_kept previous [] ls = nothing_kept
-after_kept previous (n ∷ word) ls =
-    join_kept _ _ (join_kept _ _ (gap_kept (has_length (iast_front (spelling_of_letter iast_table previous ++ spelling_of_letter iast_table n)) (length (spelling_of_letter iast_table previous)))) (letter_kept n ls.0)) (after_kept n word ls.1)
-
 pub iast_written : (word : List ℕ) → AllByRecursion IsLetter word → IsKept (iast_of_word word)
-unfolding iast_of_word
-iast_written [] ls = nothing_kept
-iast_written (n ∷ word) ls = join_kept _ _ (letter_kept n ls.0) (after_kept n word ls.1)
-
-three : (a b c : Bool) → a && b && c ≡ true → (a ≡ true) × (b ≡ true) × (c ≡ true)
-three true true c h = (refl, refl, h)
-three true false c h = absurd (cc (h))
-three false b c h = absurd (cc (h))
-
-first_of : (a b : Bool) → a && b ≡ true → a ≡ true
-first_of true b h = refl
-first_of false b h = absurd (cc (h))
-
-scalars : (points : List ℕ) → list_all is_kept points ≡ true → all_scalars points ≡ true
-scalars [] h = refl
-scalars (x ∷ xs) h =
-    let p = and_parts _ _ h in
-    let one = first_of _ _ (three _ _ _ p.0).0 in
-    ap (λ b. b && all_scalars xs) one ∙ scalars xs p.1
-
-all_pass : (points : List ℕ) → list_all is_kept points ≡ true → list_all (passes Nfc) points ≡ true
-all_pass [] h = refl
-all_pass (x ∷ xs) h = let p = and_parts _ _ h in ap (λ b. b && list_all (passes Nfc) xs) (three _ _ _ p.0).1 ∙ all_pass xs p.1
-
-starts : (class : ℕ) → eqb class 0 ≡ true → class ≤ 0
-starts class h = omega (arith, eqb-true class 0 h)
-
-ordered : (points : List ℕ) → list_all is_kept points ≡ true → is_ordered points ≡ true
-ordered [] h = is_ordered-nil
-ordered (x ∷ xs) h =
-    let p = and_parts _ _ h in
-    is_ordered-starter x xs (starts _ (three (all_scalars (x ∷ [])) (passes Nfc x) (is_starter x) p.0).2) (ordered xs p.1)
+iast_written word ls = let s = word_spells word ls in record { points = iast_points word; kept = s.kept; bytes_are = s.bytes_are }
 
 pub kept_utf8 : (bytes : List ℕ) → IsKept bytes → IsUtf8 bytes
-kept_utf8 bytes s = (s.points, (scalars s.points s.kept, s.bytes_are))
+kept_utf8 bytes s = (s.points, (kept_scalars s.points s.kept, s.bytes_are))
 
 pub kept_composed : (bytes : List ℕ) → IsKept bytes → composed bytes ≡ bytes
-unfolding composed
-kept_composed bytes s =
-    let chars_are : chars bytes ≡ s.points = ap chars (sym s.bytes_are) ∙ chars-encodes s.points (scalars s.points s.kept) in
-    ap encode_utf8_all (ap nfc chars_are ∙ normalize-passes Nfc s.points (all_pass s.points s.kept) (ordered s.points s.kept)) ∙ s.bytes_are
+kept_composed bytes s = spells_composed s.points bytes (record { kept = s.kept; bytes_are = s.bytes_are })
 
 -- ---- marks
 

@@ -11,18 +11,15 @@ use Rattle.std.proofs.lemmas.List.Sums.{sum_by_push}
 use Rattle.text_definitions.specs.Spellings.{Reading}
 use Rattle.text_definitions.specs.Slp1.{word_of_slp1}
 use Rattle.lexicon_definitions.specs.declared.limits.TheConstants.{MOST_FORM_LETTERS}
-use Rattle.lexicon_definitions.specs.Lexicons.{RuleSet, Lexicon, IsRuleSet}
+use Rattle.lexicon_definitions.specs.Lexicons.{RuleSet, IsRuleSet}
 use Rattle.lexicon_definitions.specs.Limits.{IsRuleSetWithinLimits}
 use Rattle.lexicon_definitions.specs.Rules.{IsUnlimited}
-use Rattle.lexicon_text_definitions.specs.FileReadings as lexicon_file
-use Rattle.lexicon_file.proofs.WriteLemmas.{read_has_text}
 use Rattle.lexicon_text_definitions.specs.FileContents.{is_tag_text}
 use Rattle.lexicon_text_definitions.specs.FileSteps.{some_word}
 use Rattle.morphology_definitions.specs.Inflection.{Row, Class, Stem, rows_of}
 use Rattle.paradigm_file_definitions.specs.declared.limits.TheConstants.{MOST_STEM_RECORDS, MOST_INFLECTIONS}
 use Rattle.paradigm_file_definitions.specs.Records.{read_on, read_records, records_of}
 use Rattle.paradigm_file_definitions.specs.TableFaults as table
-use Rattle.paradigm_file_definitions.specs.TableFaults.{TableWhy}
 use Rattle.paradigm_file_definitions.specs.TableFiles.{has_name, has_row, with_row, with_last_row, passes_row_limits, is_class_name, cut_of, take_row, take_affixes, take_phase, take_cut, take_table, tables_of}
 use Rattle.paradigm_file_definitions.specs.StemFaults as stem
 use Rattle.paradigm_file_definitions.specs.StemFiles.{is_same_stem, is_too_short, is_too_long, count_inflections, passes_stem_limits, take_classed, take_class, take_letters, take_stem, stems_of}
@@ -190,12 +187,3 @@ pub sources_read : (rule_bytes table_bytes stem_bytes : List ℕ) (rules : RuleS
 sources_read rule_bytes table_bytes stem_bytes rules classes stems r t s =
     let set = read_sound rule_bytes rules r in
     sources_over table_bytes stem_bytes rules classes stems set.set_itself set.limits set.unlimited t s
-
--- the same over the rule set of a lexicon file, whose names these are
-pub sources_over_lexicon : (bytes table_bytes stem_bytes : List ℕ) (lexicon : Lexicon) (names : List (List ℕ)) (classes : List Class) (stems : List Stem)
-    → lexicon_file.IsReadAs bytes (Ok lexicon) → names ≡ lexicon.rules.names → tables_of names table_bytes ≡ Ok classes → stems_of classes stem_bytes ≡ Ok stems
-    → AreSources lexicon.rules classes stems
-sources_over_lexicon bytes table_bytes stem_bytes lexicon names classes stems r n t s =
-    let text = read_has_text bytes lexicon r in
-    sources_over table_bytes stem_bytes lexicon.rules classes stems text.lexicon_itself.rules text.limits.rule_set text.unlimited
-    (subst (λ (words : List (List ℕ)). tables_of words table_bytes ≡ Ok classes) n t) s

@@ -1,5 +1,5 @@
 -- What is written, a form at a time and a part of the text at a time.
-use Rattle.std.proofs.Common.{◌≡◌, ℕ, ◌+◌, ◌<◌, ◌++◌, Ok, [], ◌∷◌, List, length, map, drop, get_or, sym, ◌∙◌, ap, subst, add-one}
+use Rattle.std.proofs.Common.{◌≡◌, ℕ, ◌+◌, ◌<◌, ◌++◌, [], ◌∷◌, List, length, map, drop, get_or, sym, ◌∙◌, ap, subst, add-one}
 use Rattle.std.proofs.lemmas.List.{append_assoc, get_or-map, length-map}
 use Rattle.std.proofs.lemmas.Grind.{flat_map-append}
 use Rattle.std.proofs.Math.Seq.{drop-cons}
@@ -7,9 +7,6 @@ use Rattle.lexicon_definitions.specs.Analyses.{Analysis}
 use Rattle.lexicon_definitions.specs.Rules.{Rule}
 use Rattle.lexicon_definitions.specs.Lexicons.{Lexicon, Form}
 use Rattle.lexicon_text_definitions.specs.LexiconTexts.{text_of, text_of_lines, head_line, end_line, phase_line, grammar_line, plain_line, rule_line, form_line, phase_forms_lines, forms_lines}
-use Rattle.lexicon_text_definitions.specs.TextsOf.{HasText}
-use Rattle.lexicon_text_definitions.specs.FileReadings.{IsReadAs}
-use Rattle.lexicon_text_definitions.proofs.WholeTexts.{read_text}
 use Rattle.list_laws.proofs.Elements.{append_regrouped}
 
 -- a text of two lists of lines
@@ -98,7 +95,3 @@ pub whole_text : (lexicon : Lexicon) (names : List (List ℕ)) (grammar : List �
     → at_end ≡ text_of lexicon
 whole_text lexicon names grammar plain rules at_head at_names at_grammar at_plain at_rules at_forms at_end names_are grammar_is plain_are rules_are a b c d e f g =
     let parts = text_in_parts lexicon in cc
-
--- what is read has a text
-pub read_has_text : (bytes : List ℕ) (lexicon : Lexicon) → IsReadAs bytes (Ok lexicon) → HasText lexicon
-read_has_text bytes lexicon read = (read_text bytes lexicon read).has_text

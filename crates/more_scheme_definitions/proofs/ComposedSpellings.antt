@@ -21,15 +21,15 @@ use Rattle.more_scheme_definitions.specs.Iast.{iast_spellings, iast_table, iast_
 use Rattle.more_scheme_definitions.proofs.IastTable.{separates_iast}
 
 -- a code point that has a UTF-8 form and that composition keeps, whatever stands beside it
-abbrev is_kept : ℕ → Bool
+abbrev pub is_kept : ℕ → Bool
 is_kept point = all_scalars (point ∷ []) && passes Nfc point && is_starter point
 
 -- these are the characters of the bytes, and composition keeps each
-record Spells (points bytes : List ℕ) : Type 0 where
+pub record Spells (points bytes : List ℕ) : Type 0 where
   pub kept : list_all is_kept points ≡ true
   pub bytes_are : encode_utf8_all points ≡ bytes
 
-join_all : (xs ys : List ℕ) → list_all is_kept xs ≡ true → list_all is_kept ys ≡ true → list_all is_kept (xs ++ ys) ≡ true
+pub join_all : (xs ys : List ℕ) → list_all is_kept xs ≡ true → list_all is_kept ys ≡ true → list_all is_kept (xs ++ ys) ≡ true
 join_all [] ys h k = k
 join_all (x ∷ xs) ys h k = let p = and_parts _ _ h in ap (λ b. b && list_all is_kept (xs ++ ys)) p.0 ∙ join_all xs ys p.1 k
 
@@ -63,7 +63,7 @@ letter_spells n l = record {
   bytes_are = at_map iast_spellings (n - 1) (omega (arith, fifty));
 }
 
-abbrev gap_points : Bool → List ℕ
+abbrev pub gap_points : Bool → List ℕ
 gap_points gap = cond gap [] (95 ∷ [])
 
 gap_spells : (gap : Bool) → Spells (gap_points gap) (cond gap [] (95 ∷ []))
@@ -72,7 +72,7 @@ gap_spells true = record { kept = refl; bytes_are = refl }
 gap_spells false = record { kept = separator_kept; bytes_are = refl }
 
 -- the characters of what is printed
-abbrev points_after : ℕ → List ℕ → List ℕ
+abbrev pub points_after : ℕ → List ℕ → List ℕ
 points_after previous [] = []
 points_after previous (n ∷ word) =
     gap_points (has_length (iast_front (spelling_of_letter iast_table previous ++ spelling_of_letter iast_table n)) (length (spelling_of_letter iast_table previous)))
@@ -84,11 +84,11 @@ after_spells previous (n ∷ word) ls =
     let gap = has_length (iast_front (spelling_of_letter iast_table previous ++ spelling_of_letter iast_table n)) (length (spelling_of_letter iast_table previous)) in
     join _ (points_after n word) _ _ (join (gap_points gap) _ (cond gap [] (95 ∷ [])) _ (gap_spells gap) (letter_spells n ls.0)) (after_spells n word ls.1)
 
-abbrev points_of_word : List ℕ → List ℕ
+abbrev pub points_of_word : List ℕ → List ℕ
 points_of_word [] = []
 points_of_word (n ∷ word) = get_or iast_spellings (n - 1) [] ++ points_after n word
 
-word_spells : (word : List ℕ) → AllByRecursion IsLetter word → Spells (points_of_word word) (iast_of_word word)
+pub word_spells : (word : List ℕ) → AllByRecursion IsLetter word → Spells (points_of_word word) (iast_of_word word)
 unfolding iast_of_word
 word_spells [] ls = record { kept = refl; bytes_are = refl }
 word_spells (n ∷ word) ls = join _ (points_after n word) _ _ (letter_spells n ls.0) (after_spells n word ls.1)
@@ -103,12 +103,12 @@ first_of : (a b : Bool) → a && b ≡ true → a ≡ true
 first_of true b h = refl
 first_of false b h = absurd (cc)
 
-scalars : (points : List ℕ) → list_all is_kept points ≡ true → all_scalars points ≡ true
-scalars [] h = refl
-scalars (x ∷ xs) h =
+pub kept_scalars : (points : List ℕ) → list_all is_kept points ≡ true → all_scalars points ≡ true
+kept_scalars [] h = refl
+kept_scalars (x ∷ xs) h =
     let p = and_parts _ _ h in
     let one = first_of _ _ (parts _ _ _ p.0).0 in
-    ap (λ b. b && all_scalars xs) one ∙ scalars xs p.1
+    ap (λ b. b && all_scalars xs) one ∙ kept_scalars xs p.1
 
 all_pass : (points : List ℕ) → list_all is_kept points ≡ true → list_all (passes Nfc) points ≡ true
 all_pass [] h = refl
@@ -126,15 +126,15 @@ ordered (x ∷ xs) h =
 kept_by_composition : (points : List ℕ) → list_all is_kept points ≡ true → nfc points ≡ points
 kept_by_composition points h = normalize-passes Nfc points (all_pass points h) (ordered points h)
 
-spells_composed : (points bytes : List ℕ) → Spells points bytes → composed bytes ≡ bytes
+pub spells_composed : (points bytes : List ℕ) → Spells points bytes → composed bytes ≡ bytes
 unfolding composed
 spells_composed points bytes s =
-    let chars_are : chars bytes ≡ points = ap chars (sym s.bytes_are) ∙ chars-encodes points (scalars points s.kept) in
+    let chars_are : chars bytes ≡ points = ap chars (sym s.bytes_are) ∙ chars-encodes points (kept_scalars points s.kept) in
     ap encode_utf8_all (ap nfc chars_are ∙ kept_by_composition points s.kept) ∙ s.bytes_are
 
 -- what IAST prints is UTF-8
 pub printed_is_utf8 : (word : List ℕ) → AllByRecursion IsLetter word → IsUtf8 (iast_of_word word)
-printed_is_utf8 word ls = let s = word_spells word ls in (points_of_word word, (scalars (points_of_word word) s.kept, s.bytes_are))
+printed_is_utf8 word ls = let s = word_spells word ls in (points_of_word word, (kept_scalars (points_of_word word) s.kept, s.bytes_are))
 
 -- composition leaves it as it is
 pub printed_is_composed : (word : List ℕ) → AllByRecursion IsLetter word → composed (iast_of_word word) ≡ iast_of_word word

@@ -62,6 +62,10 @@ reads_composed : (text : List ℕ) → Reads (word_of_composed text)
 unfolding word_of_composed
 reads_composed text = reads_spellings iast_front iast_front_is text 0 0 false
 
+-- what is read of composed characters is a word
+pub composed_reads_words : (text word : List ℕ) → word_of_composed text ≡ Ok word → AllByRecursion IsLetter word
+composed_reads_words text word h = word_from (word_of_composed text) word (reads_composed text) h
+
 reads_if_valid : (valid : Bool) (reading : Reading) (place : ℕ) → Reads reading → Reads (cond valid reading (Err (NotUtf8 place)))
 reads_if_valid true reading place r = r
 reads_if_valid false reading place r = tt

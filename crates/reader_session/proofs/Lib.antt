@@ -8,13 +8,10 @@ pub mod MarkedReadings
 pub mod OpenReplies
 pub mod PageCursors
 pub mod PageReadings
-pub mod PhaseAnalyses
-pub mod PutAnalyses
 pub mod RefusedPages
 pub mod RefusedReplies
 pub mod ResumeReplies
 pub mod ResumedReadings
-pub mod SearchedForms
 pub mod ServedInputs
 pub mod ServedLines
 pub mod ServedPieces

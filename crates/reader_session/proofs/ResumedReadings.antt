@@ -11,10 +11,9 @@ use Rattle.segmentation_definitions.specs.Listings.{Key, Cursor, IsAbove}
 use Rattle.derivation.specs.declared.item.Item.{Item as ProgramItem}
 use Rattle.derivation.specs.declared.step.Step.{Step as ProgramStep}
 use Rattle.derivation.specs.declared.step.Key.{Key as ProgramKey}
-use Rattle.derivation.specs.Steps.{StandIn, steps_of}
+use Rattle.derivation.specs.Steps.{StandIn, steps_of, keys_meant}
 use Rattle.annotated_trie.specs.Searched.{SearchedLexicon}
 use Rattle.bookmark_definitions.specs.Bookmarks.{Bookmark, IsBookmark}
-use Rattle.bookmarks.specs.Values.{keys_of}
 use Rattle.session_definitions.specs.Replies.{IsCursorOfKeys}
 use Rattle.search_frames.specs.Guided.{IsGuideOf, IsExactOf}
 use Rattle.derivation.specs.Steps.{keys_meant}
@@ -75,14 +74,14 @@ cursor_of_keys search (key ∷ keys) at = (at.0, at.2, at.3, at.1)
 -- keys of no answer have no cursor
 no_cursor : (searched : SearchedLexicon) (line : Line) (choices : List Choice) (keys : List ProgramKey) (cursor : Cursor)
     → keys ≢ [] → AreNoKeys searched line choices (keys_meant keys)
-    → IsCursorOfKeys searched.lexicon line choices (keys_of keys) cursor → ⊥
+    → IsCursorOfKeys searched.lexicon line choices (keys_meant keys) cursor → ⊥
 no_cursor searched line choices [] cursor some none is = absurd (some refl)
 no_cursor searched line choices (key ∷ keys) cursor some none is = none is.0 is.1 is.2
 
 -- a bookmark with keys of no answer is not one over the lexicon
 pub none_resumed : (searched : SearchedLexicon) (line : Line) (choices : List Choice) (printed : ℕ) (keys : List ProgramKey)
     → keys ≢ [] → AreNoKeys searched line choices (keys_meant keys)
-    → IsResumed searched (record { line = line; choices = choices; printed = printed; keys = keys_of keys }) None
+    → IsResumed searched (record { line = line; choices = choices; printed = printed; keys = keys_meant keys }) None
 none_resumed searched line choices printed keys some none =
     λ cursor is. no_cursor searched line choices keys cursor some none is.keys
 

@@ -8,9 +8,10 @@ use Rattle.segmentation_definitions.specs.Listings.{Cursor}
 use Rattle.derivation.specs.declared.step.Step.{Step as ProgramStep}
 use Rattle.derivation.specs.declared.step.Key.{Key as ProgramKey}
 use Rattle.annotated_trie.specs.Searched.{SearchedLexicon}
+use Rattle.derivation.specs.Steps.{keys_meant}
 use Rattle.bookmark_definitions.specs.Bookmarks.{Bookmark, IsBookmark}
 use Rattle.bookmarks.specs.declared.bookmark.Bookmark.{Bookmark as ProgramBookmark}
-use Rattle.bookmarks.specs.Values.{keys_of, bookmark_of}
+use Rattle.bookmarks.specs.Values.{bookmark_of}
 use Rattle.segmenter.specs.Searches.{SearchValue, IsCurrent}
 use Rattle.session_definitions.specs.States.{after_resume}
 use Rattle.session_definitions.specs.Replies.{IsCursorOfBookmark}
@@ -39,7 +40,7 @@ IsLastOf search (step ∷ steps) = IsCurrent search (Some (step ∷ steps))
 
 -- the bookmark with these parts
 abbrev pub mark_with : Line → List Choice → ℕ → List ProgramKey → Bookmark
-mark_with line choices printed keys = record { line = line; choices = choices; printed = printed; keys = keys_of keys }
+mark_with line choices printed keys = record { line = line; choices = choices; printed = printed; keys = keys_meant keys }
 
 -- the bookmark that was read, if any, is one
 abbrev pub IsMark : Option ProgramBookmark → Type 0

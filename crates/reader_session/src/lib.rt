@@ -23,7 +23,6 @@ mod answering;
 mod choice_reply;
 mod copying;
 mod cutting;
-mod form_analyses;
 mod input;
 mod item_number;
 mod laws;

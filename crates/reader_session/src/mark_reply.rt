@@ -2,8 +2,8 @@ ghost use Rattle.std.specs.Prelude.{◌≡◌, ◌++◌, IfOk, OnOk};
 ghost use Rattle.segmentation_definitions.specs.PrintedAnswers.{output_line};
 ghost use Rattle.bookmark_definitions.specs.Bookmarks.{IsBookmark};
 ghost use Rattle.bookmark_definitions.specs.BookmarkTexts.{text_of_bookmark};
-ghost use Rattle.derivation.specs.Steps.{keys_of as step_keys};
-ghost use Rattle.bookmarks.specs.Values.{bookmark_of, keys_of as bookmark_keys};
+ghost use Rattle.derivation.specs.Steps.{keys_of as step_keys, keys_meant};
+ghost use Rattle.bookmarks.specs.Values.{bookmark_of};
 ghost use Rattle.session_definitions.specs.Requests.{Mark};
 ghost use Rattle.session_definitions.specs.Replies.{IsReplyTo};
 ghost use Rattle.reader_session.specs.Readings.{IsReadingOver, GoesOn, state_of};
@@ -21,7 +21,7 @@ use std::alloc::Global;
 
 /// The keys of the steps.
 fn keys_of(alloc: Global, steps: &[Step]) -> Result<Vec<Key>, Memory>
-    ensures { IfOk result (λ keys. bookmark_keys keys.items ≡ step_keys steps.now) }
+    ensures { IfOk result (λ keys. keys_meant keys.items ≡ step_keys steps.now) }
 {
     let mut keys = Vec::with_capacity(alloc, steps.len())?;
     for step in steps {

@@ -4,13 +4,13 @@ ghost use Rattle.session_definitions.specs.Requests.{Tags};
 ghost use Rattle.session_definitions.specs.Replies.{IsReplyTo};
 ghost use Rattle.reader_session.specs.Readings.{IsReadingOver, GoesOn, state_of};
 
-use super::form_analyses::analyses_of_form;
 use super::numbered_item::{NoItem, numbered_item};
 use super::reading::Reading;
 use super::refusing::refuse;
 use super::tags_printing::push_tags;
 use annotated_trie::Lexicon;
 use derivation::Item;
+use form_analyses::analyses_of_form;
 use phoneme::Memory;
 use std::alloc::Global;
 

@@ -24,4 +24,3 @@ pub mod TriedWays
 pub mod PassedKeys
 pub mod ArrivedKeys
 pub mod TurnedKeys
-pub mod TestRules

@@ -1,8 +1,6 @@
 -- Bounds on the answers of a line, and on the steps of a search and of its chart (own).
-use Rattle.std.specs.Prelude.{◌≡◌, ℕ, ◌+◌, ◌*◌, ◌^◌, ◌≤◌, ◌⊎◌, ◌↔◌, List, ◌++◌, length, Contains}
-use Rattle.std.specs.List.Sorted.{IsStrictlyIncreasing}
-use Rattle.lexicon_definitions.specs.Lexicons.{Lexicon, rule_of, IsForm}
-use Rattle.segmentation_definitions.specs.Derivations.{IsRuleNumber}
+use Rattle.std.specs.Prelude.{ℕ, ◌+◌, ◌*◌, ◌^◌, length}
+use Rattle.lexicon_definitions.specs.Lexicons.{Lexicon}
 
 -- how many keys there are for a step over this many letters: the phases, times how many of the letters it may take, times
 -- the rules and no change
@@ -13,21 +11,6 @@ key_count lexicon letters = length lexicon.phases * (letters + 1) * (length lexi
 -- there stands one of the keys or no key
 abbrev pub answer_bound : Lexicon → ℕ → ℕ
 answer_bound lexicon letters = (key_count lexicon letters + 1) ^ (2 * letters)
-
--- at the front of a form of the phase the rule may be chosen: its u leads from there to the end of a form
-abbrev pub IsChoiceAt : Lexicon → ℕ → List ℕ → ℕ → Type 0
-IsChoiceAt lexicon phase front number =
-    IsRuleNumber lexicon.rules number × IsForm lexicon phase (front ++ (rule_of lexicon.rules number).u)
-
--- the numbers of the rules that may be chosen there, rising
-pub record AreChoicesAt (lexicon : Lexicon) (phase : ℕ) (front : List ℕ) (numbers : List ℕ) : Type 0 where
-  pub rising : IsStrictlyIncreasing numbers
-  pub members : (number : ℕ) → Contains numbers number ↔ IsChoiceAt lexicon phase front number
-
--- most is the greatest number of choices at one front of a form
-pub record IsMostRules (lexicon : Lexicon) (most : ℕ) : Type 0 where
-  pub bound : (phase : ℕ) (front numbers : List ℕ) → AreChoicesAt lexicon phase front numbers → length numbers ≤ most
-  pub least : (most ≡ 0) ⊎ ((phase : ℕ) × (front : List ℕ) × (numbers : List ℕ) × AreChoicesAt lexicon phase front numbers × (length numbers ≡ most))
 
 -- for each phase, each of the at most 65 nodes on the way along a form, and each rule there and no change: one look, which
 -- takes at most three steps

@@ -5,8 +5,8 @@ use Rattle.std.proofs.lemmas.List.{map-append}
 use Rattle.std.proofs.lemmas.Result.{err_from_is_err_and}
 use Rattle.std.proofs.lemmas.Iterator.Consumers.{YieldsList-at}
 use Rattle.std.proofs.lemmas.Iterator.Splits.{YieldsList-from_slice_split}
+use Rattle.derivation.specs.Steps.{key_meant, keys_meant}
 use Rattle.bookmark_definitions.specs.BookmarkReadings.{key_of_text}
-use Rattle.bookmarks.specs.Values.{key_of, keys_of}
 use Rattle.bookmarks.proofs.HandedOn.{handed_on}
 use Rattle.bookmarks.proofs.ListsRead.{parts_in_turn, parts_at_end, part_refused, list_read, part_read}
 use Rattle.bookmarks.proofs.keys.read_keys.Goals as goal
@@ -23,7 +23,7 @@ returns-in_err-read_key c =
     c.loop-part.yielded _ c.loop-part.yielded_by _ _ c.in-Some.part c.in-Some.is c.next.ensures.steps in
     rw (p.1, p.2)
     (handed_on _ _ _ _ c.in_err-read_key.field-0.0 _ _ c.in_err-read_key.ensures
-    (part_refused key_of_text c.args.text.now _ c.in-Some.part.now _ (keys_of c.loop-part.keys.items) some cut c.loop-part.invariant.read))
+    (part_refused key_of_text c.args.text.now _ c.in-Some.part.now _ (keys_meant c.loop-part.keys.items) some cut c.loop-part.invariant.read))
 
 pub loop-part-preserved : goal.loop-part-preserved
 loop-part-preserved c =
@@ -31,9 +31,9 @@ loop-part-preserved c =
     record {
       can = search rules;
       finite = search rules;
-      read = part_read key_of_text (λ (x : Bor (List ℕ)). x.now) c.loop-part.yielded c.in-Some.part (keys_of c.loop-part.keys.items) (keys_of c.push.new.self.items)
-          (key_of c.in_ok-read_key.field-0) c.loop-part.invariant.read c.in_ok-read_key.ensures
-          (ap keys_of pushed ∙ map-append key_of c.loop-part.keys.items (c.in_ok-read_key.field-0 ∷ []));
+      read = part_read key_of_text (λ (x : Bor (List ℕ)). x.now) c.loop-part.yielded c.in-Some.part (keys_meant c.loop-part.keys.items) (keys_meant c.push.new.self.items)
+          (key_meant c.in_ok-read_key.field-0) c.loop-part.invariant.read c.in_ok-read_key.ensures
+          (ap keys_meant pushed ∙ map-append key_meant c.loop-part.keys.items (c.in_ok-read_key.field-0 ∷ []));
     }
 
 pub returns : goal.returns
@@ -45,4 +45,4 @@ returns c =
     (YieldsList-from_slice_split _ (λ byte. eqb byte 44) c.args.text.now c.split-part-items.ensures.rest c.split-part-items.ensures.done c.split-part-items.ensures.closure
     (λ x r q k. search (rules, tests))))
     c.loop-part.yielded _ c.loop-part.yielded_by _ _ c.in-None.is c.next.ensures.steps in
-    list_read key_of_text c.args.text.now _ (keys_of c.loop-part.keys.items) some cut c.loop-part.invariant.read
+    list_read key_of_text c.args.text.now _ (keys_meant c.loop-part.keys.items) some cut c.loop-part.invariant.read

@@ -1,6 +1,6 @@
 -- The search stands at the keys of the bookmark, and so the line is read on there.
 use Rattle.std.proofs.Common.{None, refl}
-use Rattle.bookmarks.specs.Values.{keys_of}
+use Rattle.derivation.specs.Steps.{keys_meant}
 use Rattle.reader_session.specs.declared.reading.Reading.{Reading}
 use Rattle.reader_session.proofs.ResumedReadings.{resumed}
 use Rattle.reader_session.proofs.resume_reply.resume_at.Goals as goal
@@ -17,7 +17,7 @@ returns c =
       summary = None;
     } in
     record {
-      ok = resumed c.args.lexicon.now reading (keys_of c.args.keys.now) refl c.in-Ok.search c.requires.mark c.requires.phases
+      ok = resumed c.args.lexicon.now reading (keys_meant c.args.keys.now) refl c.in-Ok.search c.requires.mark c.requires.phases
           c.in_ok-chart.ensures.chart c.in_ok-chart.ensures.guide c.in_ok-chart.ensures.exact c.in-Ok.ensures.over c.in-Ok.ensures.at
           c.in_ok-last.ensures.ok c.into_resumption-resumption.ensures;
     }

@@ -62,7 +62,7 @@ fn analyses_by_deltas(
 
 /// The analyses, rising, of the form in the phase with this number, counted from 0. There are no analyses where the phase has no such
 /// form or the lexicon no such phase. Refused only for want of memory.
-pub(crate) fn analyses_of_form(
+pub fn analyses_of_form(
     alloc: Global,
     lexicon: &Lexicon,
     phase: u32,

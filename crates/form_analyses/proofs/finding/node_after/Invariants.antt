@@ -1,7 +1,7 @@
 -- The walk along all letters is the walk along those that are left, from the node so far.
 use Rattle.std.proofs.Common.{◌≡◌, ◌<◌, length, drop}
 use Rattle.lexicon_definitions.specs.Tries.{walk}
-use Rattle.reader_session.proofs.form_analyses.node_after.Given as goal
+use Rattle.form_analyses.proofs.finding.node_after.Given as goal
 
 abbrev pub invariant-loop-letter : goal.invariant-loop-letter
 invariant-loop-letter l = record {

@@ -3,8 +3,8 @@ use Rattle.std.proofs.Common.{◌∙◌, map, ap, rules}
 use Rattle.std.proofs.lemmas.Fn.{always_returns_same}
 use Rattle.lexicon_definitions.specs.Analyses.{compare_analyses}
 use Rattle.form_tags.specs.Analyses.{text_analysis}
-use Rattle.reader_session.proofs.PutAnalyses.{put_at, put_there}
-use Rattle.reader_session.proofs.form_analyses.put_analysis.Goals as goal
+use Rattle.form_analyses.proofs.PutAnalyses.{put_at, put_there}
+use Rattle.form_analyses.proofs.finding.put_analysis.Goals as goal
 
 pub returns-in_ok-insert : goal.returns-in_ok-insert
 returns-in_ok-insert c =

@@ -1,7 +1,7 @@
 -- Each delta is one of those that cut no more than there is, and the analyses so far rise.
 use Rattle.std.proofs.Common.{take}
-use Rattle.reader_session.proofs.PutAnalyses.{given_rise, one_within, one_put}
-use Rattle.reader_session.proofs.form_analyses.analyses_by_deltas.Goals as goal
+use Rattle.form_analyses.proofs.PutAnalyses.{given_rise, one_within, one_put}
+use Rattle.form_analyses.proofs.finding.analyses_by_deltas.Goals as goal
 
 pub from_delta-requires : goal.from_delta-requires
 from_delta-requires c = one_within c.args.form.now c.args.deltas.now c.loop-delta.delta-index c.delta-item.result c.requires.within c.loop-delta-test.true c.delta-item.is

@@ -4,7 +4,7 @@ use Rattle.list_laws.specs.RisingSets.{with_elements}
 use Rattle.lexicon_definitions.specs.Analyses.{compare_analyses}
 use Rattle.lexicon_definitions.specs.Deltas.{analysis_by}
 use Rattle.form_tags.specs.Analyses.{text_analysis, text_delta}
-use Rattle.reader_session.proofs.form_analyses.analyses_by_deltas.Given as goal
+use Rattle.form_analyses.proofs.finding.analyses_by_deltas.Given as goal
 
 abbrev pub invariant-loop-delta : goal.invariant-loop-delta
 invariant-loop-delta l =

@@ -5,8 +5,8 @@ use Rattle.lexicon_definitions.specs.Lexicons.{forms_of}
 use Rattle.annotated_trie.specs.Choices.{AnnotatedTrie}
 use Rattle.session_definitions.specs.PrintedSummaries.{analyses_among}
 use Rattle.form_tags.specs.Analyses.{text_analysis}
-use Rattle.reader_session.proofs.SearchedForms.{has_forms, none_found, found_within, all_found}
-use Rattle.reader_session.proofs.form_analyses.analyses_of_form.Goals as goal
+use Rattle.form_analyses.proofs.SearchedForms.{has_forms, none_found, found_within, all_found}
+use Rattle.form_analyses.proofs.finding.analyses_of_form.Goals as goal
 
 pub analyses_by_deltas-requires : goal.analyses_by_deltas-requires
 analyses_by_deltas-requires c =

@@ -10,7 +10,7 @@ use Rattle.lexicon_definitions.specs.Lexicons.{RuleSet, IsPhase, forms_of}
 use Rattle.lexicon_definitions.specs.Tries.{Trie, IsNodeAfter, row_of, walk}
 use Rattle.annotated_trie.specs.Searched.{SearchedLexicon, IsSearchedLexicon}
 use Rattle.session_definitions.specs.PrintedSummaries.{analyses_among}
-use Rattle.reader_session.proofs.PhaseAnalyses.{AreDeltasOf, deltas_at_node, cut_within, found_analyses, not_found}
+use Rattle.form_analyses.proofs.PhaseAnalyses.{AreDeltasOf, deltas_at_node, cut_within, found_analyses, not_found}
 
 -- a phase that has a name has forms
 pub has_forms : {X : Type 0} (text : X → List ℕ) (texts : List X) (rules : RuleSet) (searched : SearchedLexicon) (phase : ℕ)
