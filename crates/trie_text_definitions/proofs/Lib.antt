@@ -1,0 +1,2 @@
+pub mod OneVersionReading
+pub mod WorkedFiles
