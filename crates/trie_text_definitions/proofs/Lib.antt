@@ -1,2 +1,1 @@
 pub mod OneVersionReading
-pub mod WorkedFiles

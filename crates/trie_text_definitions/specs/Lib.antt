@@ -9,3 +9,4 @@ pub mod NodeFields
 pub mod VersionSteps
 pub mod VersionReadings
 pub mod VersionTexts
+pub mod WorkedFiles
