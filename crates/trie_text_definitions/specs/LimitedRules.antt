@@ -1,5 +1,5 @@
 -- A rule's sets of phases as the lines of version 3 tell them: `*`, or the names of phases with `,` between (own).
-use Rattle.std.specs.Prelude.{ℕ, ◌+◌, ◌^◌, ◌==◌, not, ◌&&◌, nat_lt, bit_and, Bool, true, false, if◌then◌else◌, Option, Some, None, option_map, option_and_then, List, [], ◌∷◌, ◌++◌, map, length, codes}
+use Rattle.std.specs.Prelude.{ℕ, ◌+◌, ◌^◌, ◌==◌, not, ◌&&◌, nat_lt, bit_and, bit_or, Bool, true, false, if◌then◌else◌, Option, Some, None, option_map, option_and_then, List, [], ◌∷◌, ◌++◌, map, length, codes}
 use Rattle.std.specs.List.{join_with_byte, position, slice_split}
 use Rattle.std.specs.Str.{bytes_eq}
 use Rattle.std.specs.declared.cmp.Ordering.{Ordering}
@@ -48,10 +48,10 @@ limited_rule_line names rule =
 
 -- ---- reading
 
--- the set of the phases with these numbers, no two of which are the same
+-- the set of the phases with these numbers
 abbrev pub set_of : List ℕ → ℕ
 set_of [] = 0
-set_of (phase ∷ phases) = 2 ^ phase + set_of phases
+set_of (phase ∷ phases) = bit_or (2 ^ phase) (set_of phases)
 
 -- the set of the phases with these numbers, which rise and are not all of so many
 abbrev pub set_within : ℕ → List ℕ → Option ℕ
