@@ -4,3 +4,8 @@ pub mod NodeValueLaws
 pub mod NodeSteps
 pub mod VersionLines
 pub mod ToldTries
+pub mod PhaseSets
+pub mod LimitedRuleSteps
+pub mod VersionsSoFar
+pub mod VersionsTold
+pub mod SharedTries

@@ -97,7 +97,7 @@ plain_is pair = ap (λ fields. codes "plain " ++ fields) (append_assoc (slp1_of_
 regroup_three : (a b c : List ℕ) (m n : ℕ) → (((a ++ m ∷ []) ++ b) ++ n ∷ []) ++ c ≡ a ++ m ∷ (b ++ n ∷ c)
 regroup_three a b c m n = simp append_assoc
 
-rule_is : (u v w : List ℕ) → rule_line (unlimited_rule 0 u v w) ≡ line_with (codes "rule") (Some (rule_field u v w))
+pub rule_is : (u v w : List ℕ) → rule_line (unlimited_rule 0 u v w) ≡ line_with (codes "rule") (Some (rule_field u v w))
 rule_is u v w = ap (λ field. codes "rule " ++ field) (regroup_three (slp1_of_word u) (slp1_of_word v) (slp1_of_word w) 124 62)
 
 module _ (told after : Told) (bytes : List ℕ) where
