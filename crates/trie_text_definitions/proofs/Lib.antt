@@ -9,3 +9,4 @@ pub mod LimitedRuleSteps
 pub mod VersionsSoFar
 pub mod VersionsTold
 pub mod SharedTries
+pub mod SuffixLaws
