@@ -10,3 +10,7 @@ pub mod VersionsSoFar
 pub mod VersionsTold
 pub mod SharedTries
 pub mod SuffixLaws
+pub mod RootForms
+pub mod LexiconsTold
+pub mod RootNodes
+pub mod TrieTextsRead

@@ -125,6 +125,7 @@ names_at phases from (name ∷ names) (number ∷ numbers) s w b =
     greater_still : (from number : ℕ) (numbers : List ℕ) → from < number → AllByRecursion (λ phase. number < phase) numbers → AllByRecursion (λ phase. from < phase) numbers
     greater_still from number [] l h = tt
     greater_still from number (phase ∷ numbers) l h = let k = h.0 in (omega (arith, l, k), greater_still from number numbers l h.1)
+
     ends_at : (numbers : List ℕ) → AreWithin (from + 1) (from + length (name ∷ names)) numbers → AreWithin (from + 1) (from + 1 + length names) numbers
     ends_at numbers h = let same : from + length (name ∷ names) ≡ from + 1 + length names = omega arith in subst (λ end. AreWithin (from + 1) end numbers) same h
 

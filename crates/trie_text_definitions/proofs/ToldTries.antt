@@ -41,10 +41,10 @@ pub record AreNodes (rows : List Row) (nodes : List NodeLine) (roots : List ℕ)
 
 -- ---- no row twice
 
-abbrev no_line : NodeLine
+abbrev pub no_line : NodeLine
 no_line = record { height = 0; bytes = [] }
 
-heights_at : (nodes : List NodeLine) (k : ℕ) → k < length nodes → get_or (heights nodes) k 0 ≡ (get_or nodes k no_line).height
+pub heights_at : (nodes : List NodeLine) (k : ℕ) → k < length nodes → get_or (heights nodes) k 0 ≡ (get_or nodes k no_line).height
 heights_at nodes k below = get_or-map (λ (node : NodeLine). node.height) nodes k no_line 0 below
 
 -- the heights of children before a node are the same over all nodes

@@ -33,6 +33,11 @@ pub record HasText (version : Version) (lexicon : Lexicon) : Type 0 where
   pub rules : HasRulesOf version (length lexicon.rules.names) lexicon.rules.rules
   pub stems : All (λ forms. All HasSpelledStems forms) lexicon.phases
 
+-- the lexicon has a text of this version, where None is version 1
+abbrev pub HasTextIn : Option Version → Lexicon → Type 0
+HasTextIn None lexicon = first.HasText lexicon
+HasTextIn (Some version) lexicon = HasText version lexicon
+
 -- the bytes are the text of the lexicon in the version
 pub record IsTrieText (version : Version) (lexicon : Lexicon) (bytes : List ℕ) : Type 0 where
   pub has_text : HasText version lexicon
