@@ -1,0 +1,16 @@
+pub mod OneVersionReading
+pub mod NodeTexts
+pub mod NodeValueLaws
+pub mod NodeSteps
+pub mod VersionLines
+pub mod ToldTries
+pub mod PhaseSets
+pub mod LimitedRuleSteps
+pub mod VersionsSoFar
+pub mod VersionsTold
+pub mod SharedTries
+pub mod SuffixLaws
+pub mod RootForms
+pub mod LexiconsTold
+pub mod RootNodes
+pub mod TrieTextsRead

@@ -1,0 +1,12 @@
+pub mod NodeValues
+pub mod TrieForms
+pub mod NodeLines
+pub mod Versions
+pub mod LimitedRules
+pub mod TrieTexts
+pub mod VersionFaults
+pub mod NodeFields
+pub mod VersionSteps
+pub mod VersionReadings
+pub mod VersionTexts
+pub mod WorkedFiles

@@ -1,0 +1,20 @@
+//! Lexicon files of versions 2 and 3, which tell a trie, as definitions in `specs/`: the text of a lexicon in each, and what is
+//! read in the bytes of a lexicon file of any version, a lexicon or the first fault. What follows from the definitions: bytes
+//! are read in one way at most (`a_file_of_any_version_is_read_in_one_way`), and the trie that is told has no row twice
+//! (`tries_that_are_read_are_shared`), and what is read is a lexicon within the limits (`what_is_read_is_a_lexicon`). Small files are followed through the definitions
+//! (`a_small_trie_is_read`, `an_inflected_trie_is_read`, `lines_of_a_small_trie_are_refused`, `limited_rules_are_read`).
+#![tactic(auto)]
+
+mod limits;
+mod readings;
+mod worked;
+
+pub use limits::MOST_NODE_DIGITS;
+pub use readings::{
+    a_file_of_any_version_is_read_in_one_way, tries_that_are_read_are_shared,
+    what_any_version_is_read_as_has_this_text, what_is_read_is_a_lexicon,
+};
+pub use worked::{
+    a_small_trie_is_read, an_inflected_trie_is_read, limited_rules_are_read,
+    lines_of_a_small_trie_are_refused,
+};

@@ -1,0 +1,30 @@
+ghost use Rattle.std.specs.Prelude.{◌≡◌, ℕ, List, Ok};
+ghost use Rattle.lexicon_definitions.specs.Lexicons.{Lexicon};
+ghost use Rattle.lexicon_definitions.specs.Tries.{IsTrie};
+ghost use Rattle.trie_text_definitions.specs.Versions.{Version, version_of};
+ghost use Rattle.trie_text_definitions.specs.VersionFaults.{FileResult};
+ghost use Rattle.trie_text_definitions.specs.VersionReadings.{IsReadAs, HasContent, reading_in};
+ghost use Rattle.trie_text_definitions.specs.VersionSteps.{Told, trie_told};
+ghost use Rattle.trie_text_definitions.specs.VersionTexts.{HasTextIn, IsTextIn};
+
+/// The bytes of a lexicon file of any version are read in one way at most: as one lexicon, or with one first fault.
+pub fn a_file_of_any_version_is_read_in_one_way()
+    ensures { (bytes : List ℕ) (left right : FileResult) → IsReadAs bytes left → IsReadAs bytes right → left ≡ right }
+{}
+
+/// What the lines of a file of version 2 or 3 tell is a trie: each child has a smaller number than its node, and no two rows are the
+/// same.
+pub fn tries_that_are_read_are_shared()
+    ensures { (version : Version) (bytes : List ℕ) (told : Told) → HasContent (reading_in version bytes) told → IsTrie (trie_told told) }
+{}
+
+/// What a file of any version is read as is a lexicon within the limits, with the rules of this version and stems that have a
+/// spelling.
+pub fn what_is_read_is_a_lexicon()
+    ensures { (bytes : List ℕ) (lexicon : Lexicon) → IsReadAs bytes (Ok lexicon) → HasTextIn (version_of bytes) lexicon }
+{}
+
+/// Bytes that are read as a lexicon are its text in their version.
+pub fn what_any_version_is_read_as_has_this_text()
+    ensures { (bytes : List ℕ) (lexicon : Lexicon) → IsReadAs bytes (Ok lexicon) → IsTextIn (version_of bytes) lexicon bytes }
+{}
