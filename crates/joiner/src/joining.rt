@@ -1,6 +1,7 @@
-ghost use Rattle.std.specs.Prelude.{◌≡◌, ◌<◌, ◌↔◌, length, All, IsTrue, IfOk};
-ghost use Rattle.segmentation_definitions.specs.Derivations.{phases_of};
+ghost use Rattle.std.specs.Prelude.{◌≡◌, ◌↔◌, All, IsTrue, IfOk};
+ghost use Rattle.segmentation_definitions.specs.Derivations.{AreForms, phases_of};
 ghost use Rattle.phase_automaton.specs.Automata.{state_after, is_accepting};
+ghost use Rattle.annotated_trie.specs.Searched.{IsSearchedLexicon};
 ghost use Rattle.chain_definitions.specs.Chains.{IsChain};
 ghost use Rattle.chain_definitions.specs.JoinedChains.{MakesAnswer, IsJoinedTo};
 ghost use Rattle.joiner.specs.Joining.{joined_of, HasNumberedPhase};
@@ -28,7 +29,8 @@ fn accepts_links(automaton: &Automaton, links: &[Link]) -> bool
 
 /// Whether the word is no longer than a line may be, and the phases of the links are a word of the grammar.
 fn makes_answer(lexicon: &Lexicon, links: &[Link], word: &Word) -> bool
-    requires { All (HasNumberedPhase (length lexicon.now.lexicon.phases)) links.now }
+    requires searched { IsSearchedLexicon lexicon.now }
+    requires forms { AreForms lexicon.now.lexicon links.now }
     ensures { IsTrue result ↔ MakesAnswer lexicon.now.lexicon links.now word.now }
 {
     word.len() <= MOST_LINE_LETTERS && accepts_links(lexicon.automaton(), links)
