@@ -36,9 +36,9 @@ fn makes_answer(lexicon: &Lexicon, links: &[Link], word: &Word) -> bool
     word.len() <= MOST_LINE_LETTERS && accepts_links(lexicon.automaton(), links)
 }
 
-/// What the chain is joined to (after Huet 2005; answers are own): its first overlap, or else the one word that it derives. The word
-/// has at most `MOST_FORM_LETTERS` and `MOST_RULE_LETTERS` letters for each link, and there is no limit on the links. Refused only for
-/// want of memory.
+/// What the chain is joined to (after Huet 2005; answers are own): its first overlap, or else the one word that it derives. There is
+/// no limit on the links; the word is no longer than their forms and the `w` of their rules together, which is at most
+/// `MOST_FORM_LETTERS` and `MOST_RULE_LETTERS` letters a link. Refused only for want of memory.
 pub fn join_chain(alloc: Global, lexicon: &Lexicon, links: &[Link]) -> Result<Joined, Memory>
     requires chain { IsChain lexicon.now.lexicon links.now }
     ensures ok { IfOk result (λ joined. IsJoinedTo lexicon.now.lexicon links.now (joined_of joined)) }

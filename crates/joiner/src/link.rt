@@ -1,8 +1,8 @@
 use phoneme::Word;
 use std::marker::Model;
 
-/// A link of a chain: a phase, a form of it, and the number of the rule after the form. The phase counts from 0, the rules
-/// from 1; 0 is no change.
+/// A form of a chain with the number of its phase, counted from 0, and the number of the rule after it, counted from 1; 0
+/// where there is no change.
 #[derive(Debug, Drop)]
 pub struct Link {
     pub phase: u32,
