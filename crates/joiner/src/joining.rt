@@ -1,4 +1,5 @@
 ghost use Rattle.std.specs.Prelude.{◌≡◌, ◌↔◌, All, IsTrue, IfOk};
+ghost use Rattle.lexicon_definitions.specs.Lexicons.{IsPhaseWord};
 ghost use Rattle.segmentation_definitions.specs.Derivations.{AreForms, phases_of};
 ghost use Rattle.phase_automaton.specs.Automata.{state_after, is_accepting};
 ghost use Rattle.annotated_trie.specs.Searched.{IsSearchedLexicon};
@@ -27,13 +28,22 @@ fn accepts_links(automaton: &Automaton, links: &[Link]) -> bool
     automaton.accepts(state)
 }
 
+/// Whether the phases of the links are a word of the grammar.
+fn is_phase_word(lexicon: &Lexicon, links: &[Link]) -> bool
+    requires searched { IsSearchedLexicon lexicon.now }
+    requires forms { AreForms lexicon.now.lexicon links.now }
+    ensures { IsTrue result ↔ IsPhaseWord lexicon.now.lexicon.rules (phases_of links.now) }
+{
+    accepts_links(lexicon.automaton(), links)
+}
+
 /// Whether the word is no longer than a line may be, and the phases of the links are a word of the grammar.
 fn makes_answer(lexicon: &Lexicon, links: &[Link], word: &Word) -> bool
     requires searched { IsSearchedLexicon lexicon.now }
     requires forms { AreForms lexicon.now.lexicon links.now }
     ensures { IsTrue result ↔ MakesAnswer lexicon.now.lexicon links.now word.now }
 {
-    word.len() <= MOST_LINE_LETTERS && accepts_links(lexicon.automaton(), links)
+    word.len() <= MOST_LINE_LETTERS && is_phase_word(lexicon, links)
 }
 
 /// What the chain is joined to (after Huet 2005; answers are own): its first overlap, or else the one word that it derives. There is
