@@ -1,13 +1,12 @@
 -- In a chain the first form that has fewer letters than the v before it and the u after it is the first overlap, and where there is
 -- none the chain covers a word: by induction along the steps.
-use Rattle.std.proofs.Common.{◌≡◌, ℕ, ◌⊎◌, inl, inr, List, [], ◌∷◌, length, refl, ap, subst, arith, length-append}
-use Rattle.std.specs.Prelude.{Option, Some, None}
+use Rattle.std.proofs.Common.{◌≡◌, ℕ, inl, inr, List, [], ◌∷◌, refl, ap, subst, arith, length-append}
+use Rattle.std.specs.Prelude.{Some, None}
 use Rattle.lexicon_definitions.specs.Lexicons.{Lexicon, rule_of, IsForm}
 use Rattle.segmentation_definitions.specs.Derivations.{Step, rule_after, AreForms, AreJoined, EndsWell, Covers}
 use Rattle.segmentation_definitions.specs.Overlaps as rules
-use Rattle.strictness.specs.Matches.{AreLonger}
 use Rattle.chain_definitions.specs.Chains.{AreFitting, IsChain}
-use Rattle.chain_definitions.specs.JoinedChains.{Joined, Overlap, IsOverlapAfter, IsFirstOverlap}
+use Rattle.chain_definitions.specs.JoinedChains.{Joined, Overlap, IsFirstOverlap}
 use Rattle.chain_definitions.proofs.JoinedOnce.{Enters, Leaves, leaves_to_next, leaves_last, enters_next, enters_first, overlap_if_short, overlap_or_word}
 use Rattle.joiner.specs.Joining.{pair_at, IsFirstFound}
 

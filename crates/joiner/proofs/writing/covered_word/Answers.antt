@@ -1,5 +1,5 @@
 -- One link more: what it takes and its w are appended.
-use Rattle.std.proofs.Common.{◌≡◌, ◌≤◌, ℕ, ◌+◌, List, [], drop, length, sym, ap, subst}
+use Rattle.std.proofs.Common.{◌≡◌, ◌≤◌, ◌+◌, [], drop, length, sym, ap, subst}
 use Rattle.lexicon_definitions.specs.Lexicons.{rule_of}
 use Rattle.segmentation_definitions.specs.Derivations.{Step, Covers}
 use Rattle.joiner.proofs.LinkSteps.{left_at, covered_next, whole_next}
