@@ -1,6 +1,6 @@
 -- A phase has a form exactly where its letters lead from the phase's root to a node with a delta: each form has an analysis, and
 -- each analysis a delta.
-use Rattle.std.proofs.Common.{◌≡◌, ◌≢◌, ℕ, ◌<◌, ◌↔◌, Bool, true, false, List, [], ◌∷◌, length, map, Some, None, inr, refl, sym, ◌∙◌, ap, subst, arith}
+use Rattle.std.proofs.Common.{◌≡◌, ◌≢◌, ℕ, ◌<◌, ◌↔◌, Bool, false, List, [], ◌∷◌, length, map, Some, None, inr, refl, sym, ◌∙◌, subst, arith}
 use Rattle.std.specs.Prelude.{IsTrue, IsSome, slice_index, Contains}
 use Rattle.std.specs.Cmp.{both_ways}
 use Rattle.std.proofs.lemmas.Bool.{false_from_ne_true}
@@ -10,7 +10,7 @@ use Rattle.list_laws.proofs.Sorted.{Contains-first, not_Contains-nil}
 use Rattle.list_laws.proofs.FirstOnes.{Contains-map, Contains-map_cases}
 use Rattle.lexicon_definitions.specs.Analyses.{Analysis}
 use Rattle.lexicon_definitions.specs.Deltas.{Delta}
-use Rattle.lexicon_definitions.specs.Lexicons.{Form, IsForm, IsFormEntry, IsPhase, forms_of}
+use Rattle.lexicon_definitions.specs.Lexicons.{Form, IsFormEntry, IsPhase, forms_of}
 use Rattle.lexicon_definitions.specs.Tries.{Row, Trie, IsNodeAfter, HasDelta, BeginsForm, row_of, walk}
 use Rattle.annotated_trie.specs.Searched.{SearchedLexicon, IsSearchedLexicon}
 use Rattle.search_frames.proofs.WalkDeltas.{delta_exists}

@@ -1,5 +1,5 @@
 -- An error that is handed on: by cases on it.
-use Rattle.std.proofs.Common.{◌≡◌, Result, Err, Option, None}
+use Rattle.std.proofs.Common.{◌≡◌, Err, Option, None}
 use Rattle.joiner.specs.declared.shape_error.ShapeError.{ShapeError}
 use Rattle.joiner.specs.declared.shape_error.ShapeError.TheVariants.{Shape, Memory}
 use Rattle.joiner.specs.Shapes.{IsReadWith}

@@ -1,5 +1,5 @@
 -- A form and a change are read part by part: where one part is refused, nothing is read of the whole.
-use Rattle.std.proofs.Common.{◌≡◌, ◌≢◌, ℕ, ◌<◌, ◌≤◌, Bool, true, false, cond, Option, Some, None, List, [], ◌∷◌, length, get_or, drop, codes, eqb, refl, sym, ◌∙◌, ap, arith}
+use Rattle.std.proofs.Common.{◌≡◌, ◌≢◌, ℕ, ◌<◌, ◌≤◌, Bool, true, false, cond, Option, Some, None, List, [], ◌∷◌, length, get_or, drop, codes, refl, sym, ◌∙◌, ap, arith}
 use Rattle.std.specs.Prelude.{option_and_then}
 use Rattle.std.specs.Str.{bytes_eq}
 use Rattle.std.proofs.lemmas.Bool.{eq-eqb, ne_eqb}
@@ -7,7 +7,7 @@ use Rattle.list_laws.specs.Cuts.{cut}
 use Rattle.list_laws.specs.EmptyLists.{is_empty}
 use Rattle.text_definitions.specs.Slp1.{word_of_slp1}
 use Rattle.lexicon_definitions.specs.PhaseNames.{is_phase_name}
-use Rattle.chain_definitions.specs.ChainTexts.{Triple, WrittenForm, some_word, closed_by, form_with, form_of_parts, form_of_text, if_inner, if_final, triple_of_notation, triple_of_text, change_between, change_at_end}
+use Rattle.chain_definitions.specs.ChainTexts.{Triple, some_word, closed_by, form_with, form_of_parts, form_of_text, if_inner, if_final, triple_of_notation, triple_of_text, change_between, change_at_end}
 
 -- ---- forms
 

@@ -1,16 +1,15 @@
 -- The triples of rules stand in the order of the rules, since no two rules have the same; so the place of a triple is that of the
 -- first rule with its words.
-use Rattle.std.proofs.Common.{◌≡◌, ℕ, zero, suc, ◌+◌, ◌<◌, Bool, true, false, cond, not, if◌then◌else◌, ◌&&◌, nat_eq, nat_lt, Option, Some, None, List, [], ◌∷◌, ◌++◌, length, map, get_or, take, AllPairs, All, refl, sym, ◌∙◌, ap, subst, arith, position}
+use Rattle.std.proofs.Common.{◌≡◌, ℕ, ◌+◌, ◌<◌, Bool, true, false, cond, not, if◌then◌else◌, ◌&&◌, nat_eq, nat_lt, Option, Some, None, List, [], ◌∷◌, ◌++◌, length, map, get_or, take, AllPairs, refl, sym, ◌∙◌, ap, subst, arith, position}
 use Rattle.std.specs.Prelude.{option_map}
 use Rattle.std.specs.Cmp.Lexicographic.{pointwise}
 use Rattle.std.specs.List.{list_any, position_or_len}
 use Rattle.std.proofs.lemmas.Bool.{and_parts, false_from_ne_true}
 use Rattle.std.proofs.lemmas.List.{length-map, take_more, get_or-take, get_or_default, length-take-le}
 use Rattle.std.proofs.lemmas.List.Folds.{list_any_none}
-use Rattle.std.proofs.lemmas.List.Recursion.{is_position_or_len}
 use Rattle.list_laws.proofs.Booleans.{and_regrouped}
 use Rattle.list_laws.proofs.Texts.{bytes_same}
-use Rattle.lexicon_definitions.specs.Rules.{Rule, IsSameTriple, is_twin, no_change}
+use Rattle.lexicon_definitions.specs.Rules.{Rule, IsSameTriple, is_twin}
 use Rattle.lexicon_definitions.specs.Lexicons.{RuleSet}
 use Rattle.sandhi_rules.specs.declared.triple.Triple.{Triple}
 use Rattle.sandhi_rules.specs.contracts.triple.TriplePartialEq.TheImpl.{eq-value as triple_eq}

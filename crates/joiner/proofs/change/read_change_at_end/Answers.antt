@@ -1,5 +1,5 @@
 -- A rule between brackets is taken where it is final.
-use Rattle.std.proofs.Common.{◌≡◌, true, cond}
+use Rattle.std.proofs.Common.{◌≡◌, true}
 use Rattle.std.proofs.lemmas.Result.{err_from_is_err_and}
 use Rattle.joiner.specs.Triples.{words_of}
 use Rattle.joiner.proofs.HandedOn.{handed_on}

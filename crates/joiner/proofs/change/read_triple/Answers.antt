@@ -1,5 +1,5 @@
 -- By the first byte, and then by what is closed by a bracket.
-use Rattle.std.proofs.Common.{◌≡◌, Option, sym, subst}
+use Rattle.std.proofs.Common.{Option, sym, subst}
 use Rattle.std.proofs.lemmas.List.{take_rest}
 use Rattle.chain_definitions.specs.ChainTexts.{Triple}
 use Rattle.joiner.specs.Shapes.{IsReadWith}

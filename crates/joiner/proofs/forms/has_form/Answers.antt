@@ -1,5 +1,5 @@
 -- There are as many phases of forms as names, so the phase has a root; what is found from there is what the lemmas say.
-use Rattle.std.proofs.Common.{◌≡◌, List, ◌∙◌, ap, sym, length, arith}
+use Rattle.std.proofs.Common.{◌∙◌, ap, length, arith}
 use Rattle.annotated_trie.specs.Choices.{AnnotatedTrie}
 use Rattle.chain_definitions.specs.ChainReadings.{has_form}
 use Rattle.joiner.proofs.FormsFound.{not_there, there}

@@ -1,5 +1,5 @@
 -- What a test of the front of a slice says.
-use Rattle.std.proofs.Common.{◌≡◌, ℕ, List, ◌++◌, ◌↔◌, IsTrue, length, drop, subst}
+use Rattle.std.proofs.Common.{ℕ, List, ◌↔◌, IsTrue, length, drop, subst}
 use Rattle.std.proofs.lemmas.Bool.Decides.{Decides-eqb}
 use Rattle.std.proofs.lemmas.Slice.Eq.{starts_is}
 use Rattle.chain_definitions.specs.Chains.{BeginsWith}

@@ -1,5 +1,5 @@
 -- What a test of the end of a slice says.
-use Rattle.std.proofs.Common.{◌≡◌, ℕ, ◌-◌, List, ◌++◌, ◌↔◌, IsTrue, length, take, subst}
+use Rattle.std.proofs.Common.{ℕ, ◌-◌, List, ◌↔◌, IsTrue, length, take, subst}
 use Rattle.std.proofs.lemmas.Bool.Decides.{Decides-eqb}
 use Rattle.std.proofs.lemmas.Slice.Eq.{ends_is}
 use Rattle.chain_definitions.specs.Chains.{EndsWith}

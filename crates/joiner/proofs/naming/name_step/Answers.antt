@@ -1,7 +1,5 @@
 -- What is found of the step's phase, form and rule decides what it names.
-use Rattle.std.proofs.Common.{◌≡◌, List, ℕ, true, false, Some, None, Result, Ok, Err, sym, ◌∙◌, ap, subst}
-use Rattle.lexicon_definitions.specs.Lexicons.{RuleSet}
-use Rattle.segmentation_definitions.specs.Derivations.{Step}
+use Rattle.std.proofs.Common.{◌≡◌, Some, None, Ok, Err, ◌∙◌, subst}
 use Rattle.chain_definitions.specs.ChainFaults as faults
 use Rattle.chain_definitions.specs.ChainFaults.{Why}
 use Rattle.chain_definitions.specs.ChainTexts.{WrittenStep}

@@ -1,5 +1,5 @@
 -- What the steps that are left name comes after the links so far.
-use Rattle.std.proofs.Common.{◌≡◌, ◌+◌, ◌≤◌, length}
+use Rattle.std.proofs.Common.{◌≡◌, ◌+◌, length}
 use Rattle.joiner.proofs.LinksNamed.{AreNamedSoFar}
 use Rattle.joiner.proofs.naming.name_steps.Given as goal
 
