@@ -42,7 +42,7 @@ front_of : (front rest : List ℕ) → take (length front) (front ++ rest) ≡ f
 front_of [] rest = refl
 front_of (x ∷ front) rest = ap (◌∷◌ x) (front_of front rest)
 
-begins_with : (front rest : List ℕ) → starts_with nat_eq (front ++ rest) front ≡ true
+pub begins_with : (front rest : List ℕ) → starts_with nat_eq (front ++ rest) front ≡ true
 begins_with front rest = ap (bytes_eq front) (front_of front rest) ∙ bytes_itself front
 
 -- a delta that passes the test is the delta of the analysis that it gives
@@ -97,7 +97,7 @@ walks_front rows (letter ∷ word) rest node h =
 walks_by : (o : Option ℕ) (reached : ℕ) → o ≡ Some reached → IsSome o
 walks_by o reached e = ap is_some e
 
-reached_by : (o : Option ℕ) → IsSome o → (reached : ℕ) × (o ≡ Some reached)
+pub reached_by : (o : Option ℕ) → IsSome o → (reached : ℕ) × (o ≡ Some reached)
 reached_by None h = absurd (true≢false (sym h))
 reached_by (Some reached) h = (reached, refl)
 
