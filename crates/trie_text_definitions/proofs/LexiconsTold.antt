@@ -1,9 +1,9 @@
 -- What a file of any version is read as is a lexicon with a text of its version: its rules by what was told line by line, its forms by the
 -- suffixes of the roots.
-use Rattle.std.proofs.Common.{◌≡◌, ◌≢◌, ℕ, ◌+◌, ◌<◌, ◌≤◌, ◌||◌, ◌&&◌, inl, inr, Bool, true, false, not, eqb, Option, Some, None, Ok, Err, List, [], ◌∷◌, length, map, refl, sym, ◌∙◌, ap, subst, arith}
+use Rattle.std.proofs.Common.{◌≡◌, ◌≢◌, ℕ, ◌≤◌, ◌||◌, ◌&&◌, inl, inr, Bool, true, false, eqb, Option, Some, None, Ok, Err, List, [], ◌∷◌, length, map, refl, sym, ◌∙◌, subst, arith}
 use Rattle.std.specs.Prelude.{All, Contains, drop}
 use Rattle.std.specs.List.{list_all}
-use Rattle.std.proofs.lemmas.Bool.{and_from, or_left, or_right, not-false, ltb-false, eq-eqb, true≢false}
+use Rattle.std.proofs.lemmas.Bool.{and_from, not-false, ltb-false, eq-eqb, true≢false}
 use Rattle.std.proofs.lemmas.List.{length-map}
 use Rattle.std.proofs.lemmas.List.Elements.{All-weaker, All-map, All-contains}
 use Rattle.list_laws.specs.EmptyLists.{is_empty}
@@ -22,7 +22,7 @@ use Rattle.trie_text_definitions.specs.Versions.{Version, Second, Third, version
 use Rattle.trie_text_definitions.specs.VersionFaults.{same_result}
 use Rattle.trie_text_definitions.specs.NodeValues.{suffixes_of}
 use Rattle.trie_text_definitions.specs.TrieForms.{forms_of_root, count_pairs, has_right_deltas}
-use Rattle.trie_text_definitions.specs.VersionSteps.{Told, End, head_told, trie_told}
+use Rattle.trie_text_definitions.specs.VersionSteps.{Told, head_told, trie_told}
 use Rattle.trie_text_definitions.specs.VersionReadings.{Reading, Content, Fault as FaultAt, Asks, IsResult, IsReadIn, IsReadAs, reading_in, lexicon_told}
 use Rattle.trie_text_definitions.specs.VersionTexts.{HasText, HasTextIn}
 use Rattle.trie_text_definitions.proofs.RootForms.{passes_all, phase_of_root, shorts_of_root, stems_of_root, pairs_at_most}

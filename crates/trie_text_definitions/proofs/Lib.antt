@@ -14,3 +14,4 @@ pub mod RootForms
 pub mod LexiconsTold
 pub mod RootNodes
 pub mod TrieTextsRead
+pub mod TrieLexicons

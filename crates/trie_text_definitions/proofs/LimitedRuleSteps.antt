@@ -1,5 +1,5 @@
 -- When a rule line of version 3 is taken, and what is told after it: the tests one after another, by cases of each.
-use Rattle.std.proofs.Common.{◌≡◌, ◌≢◌, ℕ, ◌<◌, ◌≤◌, ◌+◌, Bool, true, false, cond, ◌||◌, Option, Some, None, Result, Ok, Err, List, [], ◌∷◌, ◌++◌, length, refl, sym, ◌∙◌, ap, subst, arith}
+use Rattle.std.proofs.Common.{◌≡◌, ◌≢◌, ℕ, ◌<◌, ◌≤◌, false, ◌||◌, Option, Some, None, Ok, Err, List, [], ◌∷◌, ◌++◌, length, refl, sym, ◌∙◌, ap, arith}
 use Rattle.std.specs.Prelude.{All, codes}
 use Rattle.std.specs.List.{list_any}
 use Rattle.std.specs.Str.{bytes_eq}
@@ -22,8 +22,8 @@ use Rattle.lexicon_text_definitions.specs.FileLines.{Shape, shape_of}
 use Rattle.lexicon_text_definitions.proofs.LineCuts.{field_with, field_from_shape}
 use Rattle.lexicon_text_definitions.proofs.LineSteps.{rule_field}
 use Rattle.lexicon_text_definitions.proofs.LineTests.{IsOther, others_from_test}
-use Rattle.trie_text_definitions.specs.LimitedRules.{phases_text, phases_after_text, set_told, set_after_told}
-use Rattle.trie_text_definitions.specs.VersionFaults.{Field, Spelling, Strict, Limit, Twice}
+use Rattle.trie_text_definitions.specs.LimitedRules.{phases_after_text, set_told, set_after_told}
+use Rattle.trie_text_definitions.specs.VersionFaults.{Strict, Limit, Twice}
 use Rattle.trie_text_definitions.specs.VersionSteps.{Rules, Told, passes_limits, take_limited, take_words, take_sets, take_shape, take_limited_rule}
 use Rattle.trie_text_definitions.proofs.PhaseSets.{IsSetWithin, set_field_told}
 

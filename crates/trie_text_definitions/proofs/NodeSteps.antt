@@ -1,5 +1,5 @@
 -- When the line of a node or of a root is taken, and what is told after it: the tests one after another, by cases of each.
-use Rattle.std.proofs.Common.{◌≡◌, ◌≢◌, ℕ, ◌<◌, ◌≤◌, Bool, true, false, cond, not, ◌&&◌, ◌||◌, nat_lt, Option, Some, None, Ok, Err, List, [], ◌∷◌, ◌++◌, length, map, refl, sym, ◌∙◌, ap, subst}
+use Rattle.std.proofs.Common.{◌≡◌, ℕ, ◌<◌, ◌≤◌, Bool, true, false, not, nat_lt, Option, Some, None, Ok, List, [], ◌∷◌, ◌++◌, length, map, refl, sym, ◌∙◌, ap, subst}
 use Rattle.std.specs.Prelude.{slice_index_or, decimal, codes}
 use Rattle.std.specs.List.{AllByRecursion, list_any, list_all}
 use Rattle.std.specs.List.Sorted.{IsStrictlySortedBy}
@@ -19,15 +19,14 @@ use Rattle.list_laws.proofs.Sorted.{sorted_nil}
 use Rattle.list_laws.proofs.Texts.{bytes_same}
 use Rattle.lexicon_definitions.specs.declared.limits.TheConstants.{MOST_FORM_LETTERS}
 use Rattle.lexicon_definitions.specs.Deltas.{Delta, compare_deltas}
-use Rattle.lexicon_definitions.specs.Tries.{Row, IsChild, IsRow, row_of, empty_row}
+use Rattle.lexicon_definitions.specs.Tries.{Row, IsChild, IsRow, row_of}
 use Rattle.lexicon_definitions.proofs.TrieSuffixes.{compare_deltas-total}
 use Rattle.lexicon_text_definitions.specs.FileContents.{compare_last}
 use Rattle.lexicon_text_definitions.specs.FileLines.{fields_of}
 use Rattle.lexicon_text_definitions.proofs.LineCuts.{two_parts, line_with}
 use Rattle.lexicon_text_definitions.proofs.RisingLines.{sorted_one, sorted_cons}
 use Rattle.trie_text_definitions.specs.LimitedRules.{rises, all_there}
-use Rattle.trie_text_definitions.specs.NodeValues.{height_over}
-use Rattle.trie_text_definitions.specs.NodeLines.{NodeLine, compare_node_lines, heights, node_line, node_line_over, listed, delta_text, child_text}
+use Rattle.trie_text_definitions.specs.NodeLines.{NodeLine, compare_node_lines, node_line, node_line_over, listed, delta_text, child_text}
 use Rattle.trie_text_definitions.specs.NodeFields.{DeltaShape, ChildShape, delta_shapes, child_shapes, delta_spelled, child_spelled, node_number}
 use Rattle.trie_text_definitions.specs.TrieTexts.{root_line}
 use Rattle.trie_text_definitions.specs.VersionFaults as faults

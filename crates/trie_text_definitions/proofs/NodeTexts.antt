@@ -1,6 +1,6 @@
 -- What the fields of a node's line tell is written again as these fields: each part undoes its test or its cut, and lists go text by
 -- text.
-use Rattle.std.proofs.Common.{◌≡◌, ℕ, ◌≤◌, Bool, true, false, cond, ◌&&◌, leb, eqb, Option, Some, None, Ok, Err, List, [], ◌∷◌, ◌++◌, length, map, refl, sym, ◌∙◌, ap, subst, arith}
+use Rattle.std.proofs.Common.{◌≡◌, ℕ, ◌≤◌, Bool, true, false, cond, ◌&&◌, leb, eqb, Option, Some, None, Ok, Err, List, [], ◌∷◌, ◌++◌, length, map, refl, sym, ◌∙◌, ap, subst}
 use Rattle.std.specs.Prelude.{option_map, option_and_then, decimal, codes}
 use Rattle.std.specs.Str.{bytes_eq}
 use Rattle.std.specs.Str.Parse.{digits_value}
@@ -24,10 +24,9 @@ use Rattle.lexicon_text_definitions.specs.FileContents.{is_tag_text}
 use Rattle.lexicon_text_definitions.specs.FileSteps.{one_letter}
 use Rattle.lexicon_text_definitions.proofs.LineCuts.{two_parts, three_parts}
 use Rattle.lexicon_text_definitions.proofs.TagTests.{tag_from_test}
-use Rattle.trie_text_definitions.specs.declared.limits.TheConstants.{MOST_NODE_DIGITS}
 use Rattle.trie_text_definitions.specs.LimitedRules.{all_there}
 use Rattle.trie_text_definitions.specs.NodeLines.{listed, delta_text, child_text}
-use Rattle.trie_text_definitions.specs.NodeFields.{number_of, node_number, texts_of, DeltaShape, ChildShape, delta_with, delta_of_parts, delta_shape, child_of_parts, child_shape, delta_shapes, child_shapes, word_read, delta_spelled, child_spelled}
+use Rattle.trie_text_definitions.specs.NodeFields.{most_node_digits, number_of, node_number, texts_of, DeltaShape, ChildShape, delta_with, delta_of_parts, delta_shape, child_of_parts, child_shape, delta_shapes, child_shapes, word_read, delta_spelled, child_spelled}
 
 -- ---- values that are there
 
@@ -64,13 +63,13 @@ number_told text n h =
 
 -- the number of a node has not too many digits
 abbrev pub HasFewDigits : ℕ → Type 0
-HasFewDigits n = length (decimal n) ≤ MOST_NODE_DIGITS
+HasFewDigits n = length (decimal n) ≤ most_node_digits
 
 pub node_told : (text : List ℕ) (n : ℕ) → node_number text ≡ Some n → (text ≡ decimal n) × HasFewDigits n
 node_told text n h =
-    let found = if_some (leb (length text) MOST_NODE_DIGITS) (number_of text) n h in
+    let found = if_some (leb (length text) most_node_digits) (number_of text) n h in
     let is = number_told text n found.1 in
-    (is, subst (λ (t : List ℕ). length t ≤ MOST_NODE_DIGITS) is (leb-true (length text) MOST_NODE_DIGITS found.0))
+    (is, subst (λ (t : List ℕ). length t ≤ most_node_digits) is (leb-true (length text) most_node_digits found.0))
 
 -- ---- shapes
 

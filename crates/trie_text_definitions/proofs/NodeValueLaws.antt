@@ -1,8 +1,8 @@
 -- The values of nodes: rows are cut in two, so one more row adds one more value, and the value of a node is made of those of the nodes
 -- before; what depends on children alone is the same over all values as over those before the node.
-use Rattle.std.proofs.Common.{◌≡◌, ℕ, zero, suc, ◌+◌, ◌<◌, ◌≤◌, List, [], ◌∷◌, ◌++◌, length, map, take, drop, get_or, max, arith, refl, sym, ◌∙◌, ap, subst}
+use Rattle.std.proofs.Common.{◌≡◌, ℕ, zero, suc, ◌+◌, ◌<◌, List, [], ◌∷◌, ◌++◌, length, take, drop, get_or, max, arith, refl, sym, ◌∙◌, ap}
 use Rattle.std.specs.List.{AllByRecursion}
-use Rattle.std.proofs.lemmas.List.{append_assoc, append-nil, length-append, length_push, length-take, get_or_push, get_or_append_left, get_or-map}
+use Rattle.std.proofs.lemmas.List.{append_assoc, append-nil, length_push, length-take, get_or_push, get_or_append_left}
 use Rattle.lexicon_definitions.specs.Tries.{Row, row_of, empty_row}
 use Rattle.trie_text_definitions.specs.NodeValues.{values_from, values_of, height_over}
 

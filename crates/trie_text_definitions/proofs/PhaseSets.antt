@@ -1,20 +1,19 @@
 -- A set of phases that a field tells is written again as this field: its bits are just the numbers of the phases named, which rise, so
 -- the names at its bits are those of the field; and not all bits are set, since not all phases are named.
-use Rattle.std.proofs.Common.{◌≡◌, ◌≢◌, ◌⊎◌, inl, inr, ℕ, zero, suc, ◌+◌, ◌-◌, ◌*◌, ◌^◌, ◌<◌, ◌≤◌, Bool, true, false, cond, not, ◌&&◌, nat_lt, eqb, bit_and, bit_or, max, Option, Some, None, List, [], ◌∷◌, length, map, get_or, refl, sym, ◌∙◌, ap, subst, arith}
-use Rattle.std.specs.Prelude.{option_and_then, slice_index_or, codes}
+use Rattle.std.proofs.Common.{◌≡◌, ◌≢◌, inl, inr, ℕ, suc, ◌+◌, ◌-◌, ◌*◌, ◌^◌, ◌<◌, ◌≤◌, Bool, true, false, cond, ◌&&◌, nat_lt, eqb, bit_and, max, Some, List, [], ◌∷◌, length, map, get_or, refl, sym, ◌∙◌, ap, subst, arith}
+use Rattle.std.specs.Prelude.{option_and_then, codes}
 use Rattle.std.specs.Int.{bit_at}
 use Rattle.std.specs.List.{AllByRecursion, join_with_byte, position, slice_split}
 use Rattle.std.specs.List.Sorted.{IsStrictlySortedBy}
 use Rattle.std.specs.Str.{bytes_eq}
 use Rattle.std.specs.Ordering.{nat_cmp}
 use Rattle.std.proofs.Math.Pow.{ones_lt}
-use Rattle.std.proofs.lemmas.Bool.{and_parts, ltb-true, eq-eqb, ne_eqb, eqb-true, not_from_true, not_from_false, cases_lt}
+use Rattle.std.proofs.lemmas.Bool.{and_parts, ltb-true, eq-eqb, ne_eqb, not_from_true, not_from_false, cases_lt}
 use Rattle.std.proofs.lemmas.Cmp.{nat_cmp_total}
 use Rattle.std.proofs.lemmas.Nat.{pow_pos, pow_below, le_or_l, or_lt}
 use Rattle.std.proofs.lemmas.Nat.Bits.{bit_at-zero, bit_at_or, bit_at-pow_same, bit_at-pow_other, bit_at_ones, and_pow}
 use Rattle.std.proofs.lemmas.List.{length-map}
 use Rattle.std.proofs.lemmas.List.Splits.{join_with_byte-slice_split, length-slice_split}
-use Rattle.std.proofs.lemmas.List.Elements.{All-from_recursion, recursion_from_All}
 use Rattle.std.proofs.lemmas.Map.Keys.{sorted_head, sorted_tail}
 use Rattle.std.proofs.lemmas.Option.{cond_some}
 use Rattle.std.specs.Cmp.{ranked}
@@ -23,7 +22,7 @@ use Rattle.list_laws.proofs.Texts.{bytes_same}
 use Rattle.lexicon_definitions.specs.Rules.{all_phases}
 use Rattle.lexicon_definitions.proofs.WrittenRules.{some_phases}
 use Rattle.lexicon_text_definitions.proofs.LineSteps.{name_at}
-use Rattle.trie_text_definitions.specs.LimitedRules.{rises, all_there, has_phase, names_from, phases_text, phases_after_text, set_of, set_within, phases_named, set_told, set_after_told}
+use Rattle.trie_text_definitions.specs.LimitedRules.{rises, has_phase, names_from, phases_text, set_of, set_within, phases_named, set_told}
 use Rattle.trie_text_definitions.proofs.NodeTexts.{then_some, all_told, same_map}
 use Rattle.trie_text_definitions.proofs.NodeSteps.{sorted_from_rises}
 

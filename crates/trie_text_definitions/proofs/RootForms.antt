@@ -1,9 +1,8 @@
 -- The forms of a root are forms of a lexicon: each suffix is a word of letters that is no longer than the node is high, with deltas that are
 -- right for it, so its analyses are lawful; and suffixes rise.
-use Rattle.std.proofs.Common.{◌≡◌, ◌≢◌, ◌⊎◌, inl, inr, ℕ, zero, suc, ◌+◌, ◌-◌, ◌<◌, ◌≤◌, ◌&&◌, Bool, true, false, not, leb, max, Option, Some, None, List, [], ◌∷◌, ◌++◌, length, map, take, get_or, refl, sym, ◌∙◌, ap, subst, arith}
+use Rattle.std.proofs.Common.{◌≡◌, ◌≢◌, inl, inr, ℕ, ◌+◌, ◌-◌, ◌<◌, ◌≤◌, Bool, true, leb, Option, Some, None, List, [], ◌∷◌, length, map, take, get_or, refl, sym, ◌∙◌, ap, subst, arith}
 use Rattle.std.specs.Prelude.{All, Contains, sum_by}
-use Rattle.std.specs.List.{AllByRecursion, list_all, list_any, range_with_len}
-use Rattle.std.specs.List.Sorted.{IsStrictlySortedBy}
+use Rattle.std.specs.List.{AllByRecursion, list_all}
 use Rattle.std.specs.declared.cmp.Ordering.{Ordering}
 use Rattle.std.specs.declared.cmp.Ordering.TheVariants.{Less, Equal, Greater}
 use Rattle.std.specs.Ordering.{nat_cmp, on}
@@ -12,7 +11,7 @@ use Rattle.std.proofs.lemmas.Bool.{and_parts, leb-true}
 use Rattle.std.proofs.lemmas.Map.Lookups.{CmpEqualImpliesEq, exact_bytes}
 use Rattle.std.proofs.lemmas.List.Sums.{sum_by-cons}
 use Rattle.std.proofs.lemmas.List.{length-map}
-use Rattle.std.proofs.lemmas.List.Elements.{All-contains, All-from_recursion, All-get_or, All-take, All-append, All-map, All-nil}
+use Rattle.std.proofs.lemmas.List.Elements.{All-contains, All-from_recursion, All-get_or, All-take, All-append, All-map}
 use Rattle.list_laws.specs.RisingSets.{put, with_element, with_elements}
 use Rattle.list_laws.proofs.Elements.{some_element, some_by_element}
 use Rattle.list_laws.proofs.FirstOnes.{Contains-map, Contains-map_cases, sorted-map}
@@ -33,12 +32,12 @@ use Rattle.lexicon_definitions.proofs.TrieGrowth.{walk-child, walk-none, walk-wi
 use Rattle.lexicon_text_definitions.specs.TextsOf.{HasSpelledStems}
 use Rattle.trie_text_definitions.specs.NodeValues.{height_over, Suffix, suffixes_of}
 use Rattle.trie_text_definitions.specs.NodeLines.{NodeLine, heights, node_lines}
-use Rattle.trie_text_definitions.specs.TrieForms.{analyses_by, form_of_suffix, forms_of_root, is_stem_length, is_right_delta, has_right_deltas, may_cut}
+use Rattle.trie_text_definitions.specs.TrieForms.{analyses_by, form_of_suffix, forms_of_root, is_stem_length, is_right_delta, has_right_deltas}
 use Rattle.trie_text_definitions.proofs.NodeSteps.{IsRootNode, IsRowDelta}
 use Rattle.trie_text_definitions.proofs.NodeValueLaws.{length-values}
 use Rattle.trie_text_definitions.specs.NodeLines.{node_line_over}
 use Rattle.trie_text_definitions.proofs.ToldTries.{IsSpelledRow, AreNodes, no_line, heights_at, line_at}
-use Rattle.trie_text_definitions.proofs.SuffixLaws.{IsSuffix, suffix_by, suffixes_rise}
+use Rattle.trie_text_definitions.proofs.SuffixLaws.{suffix_by, suffixes_rise}
 
 -- ---- tests of all
 

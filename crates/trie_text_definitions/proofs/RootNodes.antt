@@ -1,17 +1,17 @@
 -- The trie that is told is that of its phases: a root stands for just the forms that its suffixes are, since each node that is not empty leads
 -- to some form, and the right delta of an analysis is the only one.
-use Rattle.std.proofs.Common.{◌≡◌, ◌≢◌, ◌⊎◌, ◌↔◌, inl, inr, ℕ, zero, suc, ◌+◌, ◌-◌, ◌<◌, ◌≤◌, ◌&&◌, Bool, true, false, not, leb, Option, Some, None, List, [], ◌∷◌, ◌++◌, length, map, take, drop, get_or, refl, sym, ◌∙◌, ap, subst, arith, true≢false, append_assoc}
-use Rattle.std.specs.Prelude.{All, Contains, IsSome, is_some, nat_eq}
-use Rattle.std.specs.List.{AllByRecursion, list_all, list_any, range_with_len, starts_with}
+use Rattle.std.proofs.Common.{◌≡◌, ◌≢◌, ◌⊎◌, inl, inr, ℕ, zero, suc, ◌+◌, ◌-◌, ◌<◌, ◌≤◌, Bool, true, leb, Option, Some, None, List, [], ◌∷◌, ◌++◌, length, take, refl, sym, ◌∙◌, ap, subst, arith, true≢false}
+use Rattle.std.specs.Prelude.{Contains, IsSome, is_some, nat_eq}
+use Rattle.std.specs.List.{list_all, list_any, range_with_len, starts_with}
 use Rattle.std.specs.Str.{bytes_eq}
-use Rattle.std.proofs.lemmas.Bool.{and_parts, leb-true, not-true, false_from_ne_true, cases_lt}
-use Rattle.std.proofs.lemmas.List.{append_cancel_left, length-append, length-take, take-append-drop}
-use Rattle.std.proofs.lemmas.List.Elements.{All-contains, Contains-get_or}
-use Rattle.std.proofs.lemmas.List.Folds.{list_any_at, list_any-from_Any}
+use Rattle.std.proofs.lemmas.Bool.{and_parts, leb-true, not-true, cases_lt}
+use Rattle.std.proofs.lemmas.List.{append_cancel_left}
+use Rattle.std.proofs.lemmas.List.Elements.{All-contains}
+use Rattle.std.proofs.lemmas.List.Folds.{list_any_at}
 use Rattle.list_laws.proofs.Texts.{bytes_itself}
 use Rattle.list_laws.proofs.FirstOnes.{Contains-map, Contains-map_cases}
-use Rattle.list_laws.proofs.Elements.{some_element, some_by_element}
-use Rattle.list_laws.proofs.Sorted.{Contains-first, Contains-later, Contains-cons_cases, not_Contains-nil}
+use Rattle.list_laws.proofs.Elements.{some_by_element}
+use Rattle.list_laws.proofs.Sorted.{Contains-first, Contains-later}
 use Rattle.lexicon_definitions.specs.Analyses.{Analysis}
 use Rattle.lexicon_definitions.specs.Deltas.{Delta, replace_end, analysis_by, IsDelta}
 use Rattle.lexicon_definitions.specs.Lexicons.{Form}
@@ -23,7 +23,7 @@ use Rattle.lexicon_definitions.proofs.TrieWalks.{walk-two}
 use Rattle.trie_text_definitions.specs.NodeValues.{Suffix, suffixes_of}
 use Rattle.trie_text_definitions.specs.TrieForms.{analyses_by, form_of_suffix, forms_of_root, is_stem_length, is_right_delta, has_right_deltas, may_cut}
 use Rattle.trie_text_definitions.proofs.RootForms.{passes_all, analysis_from, analysis_there}
-use Rattle.trie_text_definitions.proofs.SuffixLaws.{IsSuffix, suffix_by, suffix_there}
+use Rattle.trie_text_definitions.proofs.SuffixLaws.{suffix_by, suffix_there}
 
 -- ---- right deltas
 
@@ -42,7 +42,7 @@ front_of : (front rest : List ℕ) → take (length front) (front ++ rest) ≡ f
 front_of [] rest = refl
 front_of (x ∷ front) rest = ap (◌∷◌ x) (front_of front rest)
 
-begins_with : (front rest : List ℕ) → starts_with nat_eq (front ++ rest) front ≡ true
+pub begins_with : (front rest : List ℕ) → starts_with nat_eq (front ++ rest) front ≡ true
 begins_with front rest = ap (bytes_eq front) (front_of front rest) ∙ bytes_itself front
 
 -- a delta that passes the test is the delta of the analysis that it gives
@@ -97,7 +97,7 @@ walks_front rows (letter ∷ word) rest node h =
 walks_by : (o : Option ℕ) (reached : ℕ) → o ≡ Some reached → IsSome o
 walks_by o reached e = ap is_some e
 
-reached_by : (o : Option ℕ) → IsSome o → (reached : ℕ) × (o ≡ Some reached)
+pub reached_by : (o : Option ℕ) → IsSome o → (reached : ℕ) × (o ≡ Some reached)
 reached_by None h = absurd (true≢false (sym h))
 reached_by (Some reached) h = (reached, refl)
 

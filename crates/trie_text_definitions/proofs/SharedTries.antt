@@ -1,5 +1,5 @@
 -- What a file of version 2 or 3 tells is a trie: what was told line by line is lawful at the end.
-use Rattle.std.proofs.Common.{◌≡◌, ℕ, List, refl}
+use Rattle.std.proofs.Common.{ℕ, List, refl}
 use Rattle.std.specs.Prelude.{drop}
 use Rattle.lexicon_definitions.specs.Tries.{IsTrie}
 use Rattle.lexicon_text_definitions.specs.FileLines.{lines_of_bytes}

@@ -1,24 +1,20 @@
 -- The rows and roots that were told so far are those of a trie, line by line: a row that is the same as an earlier one would have the same
 -- height and the same line, and lines rise.
-use Rattle.std.proofs.Common.{◌≡◌, ◌≢◌, ℕ, ◌+◌, ◌<◌, ◌≤◌, Ok, Err, List, [], ◌∷◌, ◌++◌, length, map, take, get_or, refl, sym, ◌∙◌, ap, subst, arith}
-use Rattle.std.specs.Prelude.{All, AllPairs}
+use Rattle.std.proofs.Common.{◌≡◌, ◌≢◌, ℕ, ◌<◌, ◌≤◌, List, [], ◌∷◌, ◌++◌, length, take, get_or, refl, sym, ◌∙◌, ap, arith}
+use Rattle.std.specs.Prelude.{All}
 use Rattle.std.specs.List.{AllByRecursion}
 use Rattle.std.specs.List.Sorted.{IsStrictlySortedBy}
-use Rattle.std.specs.declared.cmp.Ordering.TheVariants.{Less}
 use Rattle.std.proofs.lemmas.List.{length_push, get_or_push, get_or_append_left, get_or-map}
 use Rattle.std.proofs.lemmas.List.Elements.{All-from_get_or, All-push, All-nil, All-weaker, recursion_from_All}
 use Rattle.std.proofs.lemmas.Map.Keys.{Less-from_sorted}
 use Rattle.list_laws.proofs.Sorted.{sorted_nil, not_Less-itself}
 use Rattle.lexicon_definitions.specs.declared.limits.TheConstants.{MOST_FORM_LETTERS}
-use Rattle.lexicon_definitions.specs.Tries.{Row, Trie, AreRows, IsChild, IsRow, IsTrie, row_of, empty_row}
+use Rattle.lexicon_definitions.specs.Tries.{Row, AreRows, IsChild, IsRow, IsTrie, row_of, empty_row}
 use Rattle.lexicon_definitions.proofs.TrieGrowth.{AreRows-push, row_of-append}
-use Rattle.lexicon_text_definitions.specs.FileLines.{Line}
 use Rattle.lexicon_text_definitions.proofs.LineTests.{pairs_push}
-use Rattle.lexicon_text_definitions.proofs.RisingLines.{sorted_with_last}
-use Rattle.trie_text_definitions.specs.NodeValues.{values_of, height_over}
 use Rattle.trie_text_definitions.specs.NodeLines.{NodeLine, compare_node_lines, heights, node_line, node_line_over, node_lines}
 use Rattle.trie_text_definitions.proofs.NodeValueLaws.{values_push, length-values, value_at, value_before, same_heights, length-before}
-use Rattle.trie_text_definitions.proofs.NodeSteps.{node_lines_total, with_row, IsRowDelta, MayNode, IsRootNode, with_root, MayRoot}
+use Rattle.trie_text_definitions.proofs.NodeSteps.{node_lines_total, IsRowDelta, IsRootNode}
 use Rattle.trie_text_definitions.proofs.NodeTexts.{HasFewDigits, IsNodeChild}
 
 -- the deltas and children of a row are as lines have them

@@ -1,43 +1,41 @@
 -- What is read in a file of version 2 or 3 is a text of what was read: its trie is that of the phases, each node is led to, and what was told
 -- line by line spells the lines.
-use Rattle.std.proofs.Common.{◌≡◌, ◌≢◌, inl, inr, ℕ, zero, suc, ◌+◌, ◌<◌, ◌≤◌, ◌&&◌, ◌==◌, Bool, true, false, not, cond, eqb, Option, Some, None, Ok, List, [], ◌∷◌, ◌++◌, length, map, take, drop, get_or, refl, sym, ◌∙◌, ap, subst, arith}
-use Rattle.std.specs.Prelude.{All, Contains}
-use Rattle.std.specs.List.{AllByRecursion, list_any, list_all, flat_map, range_with_len}
+use Rattle.std.proofs.Common.{◌≡◌, inl, inr, ℕ, zero, suc, ◌<◌, ◌&&◌, ◌==◌, Bool, true, false, not, cond, Option, Some, None, Ok, List, [], ◌∷◌, ◌++◌, length, map, take, drop, get_or, refl, sym, ◌∙◌, ap, subst, arith}
+use Rattle.std.specs.Prelude.{Contains}
+use Rattle.std.specs.List.{AllByRecursion, list_any, flat_map, range_with_len}
 use Rattle.std.specs.List.Sorted.{IsStrictlySortedBy}
 use Rattle.std.specs.Str.{bytes_eq}
 use Rattle.std.proofs.lemmas.Bool.{and_parts, not-false, or_parts, eqb-true}
 use Rattle.std.proofs.lemmas.List.{append_assoc, length-map, get_or-map}
 use Rattle.std.proofs.lemmas.List.Elements.{All-contains, recursion_from_All, Contains-get_or, All-get_or}
 use Rattle.std.proofs.lemmas.List.Folds.{Any-from_list_any}
-use Rattle.list_laws.proofs.Sorted.{Contains-first, Contains-later, Contains-cons_cases, not_Contains-nil}
+use Rattle.list_laws.proofs.Sorted.{Contains-cons_cases, not_Contains-nil}
 use Rattle.list_laws.proofs.Texts.{bytes_same}
 use Rattle.lexicon_definitions.specs.GrammarFaults.{IsGrammarTextWithinLimits}
 use Rattle.lexicon_definitions.specs.Lexicons.{Lexicon}
 use Rattle.lexicon_definitions.specs.Tries.{Row, Trie, AreRows, IsChild, IsNodeAfter, row_of, walk}
 use Rattle.lexicon_definitions.proofs.TrieGrowth.{walk-child}
 use Rattle.lexicon_definitions.proofs.TrieSteps.{child_among-Contains}
-use Rattle.lexicon_text_definitions.specs.FileContents as first
 use Rattle.lexicon_text_definitions.specs.FileContents.{rules_told}
 use Rattle.lexicon_text_definitions.specs.FileReadings as readings
 use Rattle.lexicon_text_definitions.specs.FileLines.{Line, lines_of_bytes}
 use Rattle.lexicon_text_definitions.specs.LexiconTexts.{phase_line, grammar_line, plain_line, end_line, text_of_lines}
 use Rattle.lexicon_text_definitions.proofs.LineCuts.{text_from_lines}
 use Rattle.lexicon_text_definitions.proofs.WholeTexts as whole
-use Rattle.trie_text_definitions.specs.Versions.{Version, Second, Third, head_line, version_told, version_of_lines, version_of}
-use Rattle.trie_text_definitions.specs.NodeValues.{values_of, nodes_over, nodes_from, is_led_to, has_unused, suffixes_of}
-use Rattle.trie_text_definitions.specs.TrieForms.{forms_of_root, phases_of, has_right_deltas}
-use Rattle.trie_text_definitions.specs.NodeLines.{compare_node_lines, node_line, node_lines}
+use Rattle.trie_text_definitions.specs.Versions.{Version, Second, Third, head_line, version_of_lines, version_of}
+use Rattle.trie_text_definitions.specs.NodeValues.{values_of, nodes_over, nodes_from, is_led_to}
+use Rattle.trie_text_definitions.specs.TrieForms.{forms_of_root, phases_of}
+use Rattle.trie_text_definitions.specs.NodeLines.{compare_node_lines, node_line}
 use Rattle.trie_text_definitions.specs.TrieTexts.{rule_line_in, root_lines, lines_in, text_in}
 use Rattle.trie_text_definitions.specs.VersionSteps.{Told, End, head_told, trie_told}
 use Rattle.trie_text_definitions.specs.VersionReadings.{IsReadIn, IsReadAs, reading_in, lexicon_told}
 use Rattle.trie_text_definitions.specs.VersionTexts.{IsLedTo, IsOrderedTrieOf, IsTrieText, IsTextIn}
 use Rattle.trie_text_definitions.proofs.LexiconsTold.{has_text, read_by, all_read, first_by, right_roots}
 use Rattle.trie_text_definitions.proofs.NodeValueLaws.{value_at, value_before, length-before}
-use Rattle.trie_text_definitions.proofs.RootForms.{passes_all}
 use Rattle.trie_text_definitions.proofs.RootNodes.{in_range, node_of_root}
 use Rattle.trie_text_definitions.proofs.SuffixLaws.{Contains-flat_map_cases}
 use Rattle.trie_text_definitions.proofs.ToldTries.{IsToldRoot, trie_of_nodes}
-use Rattle.trie_text_definitions.proofs.VersionsSoFar.{lines_so_far, names_so_far}
+use Rattle.trie_text_definitions.proofs.VersionsSoFar.{lines_so_far}
 use Rattle.trie_text_definitions.proofs.VersionsTold.{IsRead}
 
 -- ---- nodes that are led to

@@ -1,6 +1,6 @@
 -- A line of version 2 or 3 that is taken is one of the format's lines, and says what it tells: its kind by its name, and what version 1
 -- tells of the lines that both have.
-use Rattle.std.proofs.Common.{◌≡◌, ℕ, Bool, true, false, cond, not, Option, Some, None, Result, Ok, Err, List, [], ◌∷◌, ◌++◌, length, codes, refl, sym, ◌∙◌, ap}
+use Rattle.std.proofs.Common.{◌≡◌, ℕ, Bool, true, false, cond, not, Option, Some, None, Ok, Err, List, [], ◌∷◌, ◌++◌, length, codes, refl, sym, ◌∙◌, ap}
 use Rattle.std.specs.Prelude.{slice_index_or}
 use Rattle.std.specs.Str.{bytes_eq, is_utf8}
 use Rattle.std.proofs.lemmas.Bool.{not-false}
@@ -18,10 +18,10 @@ use Rattle.lexicon_text_definitions.proofs.LineSteps.{MayName, MayPair, MayRule,
 use Rattle.text_definitions.specs.Slp1.{slp1_of_word}
 use Rattle.std.proofs.lemmas.List.{append_assoc}
 use Rattle.trie_text_definitions.specs.Versions.{Version, Second, Third}
-use Rattle.trie_text_definitions.specs.VersionFaults.{Trailing, NoEnd, NotUtf8, Order, Field}
+use Rattle.trie_text_definitions.specs.VersionFaults.{Trailing, NoEnd, NotUtf8, Order}
 use Rattle.trie_text_definitions.specs.NodeLines.{node_line}
 use Rattle.trie_text_definitions.specs.TrieTexts.{root_line}
-use Rattle.trie_text_definitions.specs.VersionSteps.{Kind, Head, Phase, Grammar, Plain, Rules, Node, Root, End, Told, with_front, take_limited_rule, take_end, kind_named, may_follow, are_rooted, take_kind, take_named, take_parts, is_last, take_line}
+use Rattle.trie_text_definitions.specs.VersionSteps.{Kind, Head, Phase, Grammar, Plain, Rules, Node, Root, End, Told, with_front, take_limited_rule, take_end, kind_named, may_follow, are_rooted, take_kind, take_named, is_last, take_line}
 use Rattle.trie_text_definitions.proofs.NodeSteps.{with_row, MayNode, took_node, with_root, MayRoot, took_root, two_fields}
 
 -- what is told with another front

@@ -1,40 +1,33 @@
 -- What was told so far is lawful and spells the lines so far; so it is after each line that is taken, by the kind of the line.
-use Rattle.std.proofs.Common.{◌≡◌, ◌≢◌, ◌↔◌, ℕ, ◌+◌, ◌<◌, ◌≤◌, ◌^◌, Bool, true, false, not, eqb, Option, Some, None, Ok, Err, List, [], ◌∷◌, ◌++◌, length, map, All, AllPairs, slice_index_or, codes, refl, sym, ◌∙◌, ap, subst, arith}
-use Rattle.std.specs.List.{AllByRecursion}
+use Rattle.std.proofs.Common.{◌≡◌, ◌≢◌, ◌↔◌, ℕ, ◌<◌, ◌≤◌, ◌^◌, Bool, true, eqb, Option, Some, None, List, [], ◌∷◌, ◌++◌, length, map, All, AllPairs, slice_index_or, codes, refl, sym, ◌∙◌, ap, arith}
 use Rattle.std.specs.List.Sorted.{IsStrictlySortedBy}
 use Rattle.std.proofs.Math.Pow.{ones_lt}
 use Rattle.std.proofs.lemmas.Bool.{not-true, eqb-true, eqb-false}
 use Rattle.std.proofs.lemmas.Nat.{pow_pos}
-use Rattle.std.proofs.lemmas.List.{append_assoc, append-nil, map-append, length_push}
-use Rattle.std.proofs.lemmas.List.Elements.{All-push, All-nil, All-weaker}
+use Rattle.std.proofs.lemmas.List.{append_assoc, append-nil}
 use Rattle.text_definitions.specs.Letters.{IsLetter}
 use Rattle.lexicon_definitions.specs.declared.limits.TheConstants.{MOST_PHASES, MOST_RULES, MOST_LEADS}
 use Rattle.lexicon_definitions.specs.Rules.{Rule, IsRule, IsUnlimited, unlimited_rule}
 use Rattle.lexicon_definitions.specs.Leads.{Lead, with_lead, with_leads, leads_of}
 use Rattle.lexicon_definitions.specs.Lexicons.{IsPhaseName, compare_pairs}
 use Rattle.lexicon_definitions.specs.Limits.{IsShortRule}
-use Rattle.lexicon_definitions.proofs.PlainPairs.{pairs_total}
 use Rattle.lexicon_definitions.proofs.WrittenRules.{some_phases}
-use Rattle.lexicon_definitions.proofs.UnlimitedRules.{after_within_by, after_none_by, unlimited_by}
+use Rattle.lexicon_definitions.proofs.UnlimitedRules.{after_within_by, after_none_by}
 use Rattle.lexicon_text_definitions.specs.FileContents as first
 use Rattle.lexicon_text_definitions.specs.FileLines.{fields_of}
-use Rattle.lexicon_text_definitions.specs.LexiconTexts.{phase_line, grammar_line, plain_line, rule_line, end_line}
-use Rattle.lexicon_text_definitions.proofs.FileLeads.{leads_with, leads_counted}
+use Rattle.lexicon_text_definitions.specs.LexiconTexts.{phase_line, grammar_line, plain_line, end_line}
 use Rattle.lexicon_text_definitions.proofs.LineCuts.{three_parts, line_with}
-use Rattle.lexicon_text_definitions.proofs.LineSteps as steps
-use Rattle.lexicon_text_definitions.proofs.LineSteps.{MayName, MayPair, MayRule, rule_field}
-use Rattle.lexicon_text_definitions.proofs.LineTests.{IsOther, pairs_push}
-use Rattle.lexicon_text_definitions.proofs.RisingLines.{sorted_with_last}
-use Rattle.trie_text_definitions.specs.Versions.{Version, Second, Third, head_line}
+use Rattle.lexicon_text_definitions.proofs.LineSteps.{MayRule, rule_field}
+use Rattle.lexicon_text_definitions.proofs.LineTests.{IsOther}
+use Rattle.trie_text_definitions.specs.Versions.{Version, Second, head_line}
 use Rattle.trie_text_definitions.specs.LimitedRules.{phases_text, phases_after_text, limited_rule_line}
-use Rattle.trie_text_definitions.specs.NodeLines.{node_line, node_line_over}
+use Rattle.trie_text_definitions.specs.NodeLines.{node_line}
 use Rattle.trie_text_definitions.specs.TrieTexts.{rule_line_in, root_line, root_lines}
-use Rattle.trie_text_definitions.specs.VersionSteps.{Kind, Head, Phase, Grammar, Plain, Rules, Node, Root, End, Told, are_rooted, may_follow, take_end}
-use Rattle.trie_text_definitions.proofs.NodeSteps.{node_lines_total, with_row, MayNode, with_root, MayRoot}
+use Rattle.trie_text_definitions.specs.VersionSteps.{Kind, Head, Phase, Grammar, Plain, Rules, Node, Root, End, Told, are_rooted, may_follow}
 use Rattle.trie_text_definitions.proofs.PhaseSets.{IsSetWithin, set_field_told}
-use Rattle.trie_text_definitions.proofs.LimitedRuleSteps.{with_limited, MayLimited, LimitedTaken, took_limited, IsAfterSet, after_told}
-use Rattle.trie_text_definitions.proofs.ToldTries.{AreNodes, nodes_with_row, nodes_with_root}
-use Rattle.trie_text_definitions.proofs.VersionLines.{with_told, with_end, MayCome, Took, a_name, a_grammar, a_pair, a_rule, a_limited, a_node, a_root, the_end, rule_is}
+use Rattle.trie_text_definitions.proofs.LimitedRuleSteps.{MayLimited, LimitedTaken, IsAfterSet, after_told}
+use Rattle.trie_text_definitions.proofs.ToldTries.{AreNodes}
+use Rattle.trie_text_definitions.proofs.VersionLines.{rule_is}
 
 -- ---- what is lawful
 

@@ -1,23 +1,22 @@
 -- All lines are read one after another: what was told is lawful and spells the lines so far after each of them, and so at the end.
-use Rattle.std.proofs.Common.{◌≡◌, ◌≢◌, ℕ, ◌+◌, ◌<◌, ◌≤◌, true, false, inl, inr, Option, Some, None, Result, Ok, Err, List, [], ◌∷◌, ◌++◌, length, map, All, AllPairs, slice_index_or, codes, refl, sym, ◌∙◌, ap, subst, arith}
+use Rattle.std.proofs.Common.{◌≡◌, ◌≢◌, ℕ, ◌+◌, ◌<◌, ◌≤◌, true, false, None, Ok, Err, List, [], ◌∷◌, ◌++◌, length, map, All, slice_index_or, refl, sym, ◌∙◌, ap, subst, arith}
 use Rattle.std.specs.List.{AllByRecursion}
-use Rattle.std.specs.List.Sorted.{IsStrictlySortedBy}
 use Rattle.std.proofs.lemmas.List.{append_assoc, append-nil, map-append, length_push}
-use Rattle.std.proofs.lemmas.List.Elements.{All-push, All-nil, All-weaker, All-head}
+use Rattle.std.proofs.lemmas.List.Elements.{All-push, All-nil}
 use Rattle.list_laws.proofs.Booleans.{if_refused}
 use Rattle.list_laws.proofs.Sorted.{sorted_nil}
 use Rattle.text_definitions.specs.Letters.{IsLetter}
-use Rattle.lexicon_definitions.specs.declared.limits.TheConstants.{MOST_PHASES, MOST_RULES, MOST_LEADS}
+use Rattle.lexicon_definitions.specs.declared.limits.TheConstants.{MOST_RULES, MOST_LEADS}
 use Rattle.lexicon_definitions.specs.Rules.{Rule, IsUnlimited, unlimited_rule}
 use Rattle.lexicon_definitions.specs.Leads.{leads_of}
-use Rattle.lexicon_definitions.specs.Lexicons.{Lexicon, IsPhaseName, compare_pairs}
+use Rattle.lexicon_definitions.specs.Lexicons.{IsPhaseName}
 use Rattle.lexicon_definitions.specs.Tries.{Row}
 use Rattle.lexicon_definitions.proofs.PlainPairs.{pairs_total}
 use Rattle.lexicon_definitions.proofs.UnlimitedRules.{unlimited_by}
 use Rattle.lexicon_text_definitions.specs.FileContents as first
 use Rattle.lexicon_text_definitions.specs.FileContents.{different_v}
 use Rattle.lexicon_text_definitions.specs.FileLines.{Line, fields_of}
-use Rattle.lexicon_text_definitions.specs.LexiconTexts.{phase_line, grammar_line, plain_line, rule_line, end_line}
+use Rattle.lexicon_text_definitions.specs.LexiconTexts.{phase_line, grammar_line, plain_line, end_line}
 use Rattle.lexicon_text_definitions.proofs.FileLeads.{leads_with, leads_counted}
 use Rattle.lexicon_text_definitions.proofs.LineSteps as steps
 use Rattle.lexicon_text_definitions.proofs.LineSteps.{MayName, MayPair, MayRule}
@@ -28,15 +27,15 @@ use Rattle.trie_text_definitions.specs.VersionFaults.{Limit, Unused, Unlimited}
 use Rattle.trie_text_definitions.specs.VersionFaults as faults
 use Rattle.trie_text_definitions.specs.NodeValues.{has_unused}
 use Rattle.trie_text_definitions.specs.TrieForms.{has_too_many_pairs, has_wrong_delta}
-use Rattle.trie_text_definitions.specs.NodeLines.{compare_node_lines, node_line, node_line_over}
+use Rattle.trie_text_definitions.specs.NodeLines.{node_line, node_line_over}
 use Rattle.trie_text_definitions.specs.TrieTexts.{rule_line_in, root_line, root_lines}
-use Rattle.trie_text_definitions.specs.VersionSteps.{Kind, Head, Phase, Grammar, Plain, Rules, Node, Root, End, Told, Taken, head_told, trie_told, are_rooted, may_follow, lacks_limited, take_end, take_line}
+use Rattle.trie_text_definitions.specs.VersionSteps.{Kind, Phase, Grammar, Plain, Rules, Node, Root, End, Told, Taken, head_told, trie_told, are_rooted, may_follow, lacks_limited, take_end, take_line}
 use Rattle.trie_text_definitions.specs.VersionReadings.{Reading, Content, Fault, Asks, asking, read_on, read_lines, at_end}
 use Rattle.trie_text_definitions.proofs.NodeSteps.{node_lines_total, with_row, MayNode, with_root, MayRoot}
-use Rattle.trie_text_definitions.proofs.LimitedRuleSteps.{with_limited, took_limited}
-use Rattle.trie_text_definitions.proofs.ToldTries.{AreNodes, no_nodes, nodes_with_row, nodes_with_root}
+use Rattle.trie_text_definitions.proofs.LimitedRuleSteps.{took_limited}
+use Rattle.trie_text_definitions.proofs.ToldTries.{no_nodes, nodes_with_row, nodes_with_root}
 use Rattle.trie_text_definitions.proofs.VersionLines.{with_told, with_end, Took, a_name, a_grammar, a_pair, a_rule, a_limited, a_node, a_root, the_end, took_line}
-use Rattle.trie_text_definitions.proofs.VersionsSoFar.{IsTextRule, IsLawfulFront, IsLawful, NothingLater, HasGrammar, names_so_far, grammar_so_far, plain_so_far, rules_so_far, nodes_so_far, roots_so_far, lines_so_far, before_name, before_grammar, before_pair, before_rule, before_node, before_root, before_end, leads_more, root_lines_more, unlimited_told, limited_line}
+use Rattle.trie_text_definitions.proofs.VersionsSoFar.{IsTextRule, IsLawfulFront, IsLawful, NothingLater, HasGrammar, grammar_so_far, plain_so_far, rules_so_far, nodes_so_far, lines_so_far, before_name, before_grammar, before_pair, before_rule, before_node, before_root, before_end, leads_more, root_lines_more, unlimited_told, limited_line}
 
 -- what the line `end` tests
 pub record EndsWell (version : Version) (told : Told) : Type 0 where

@@ -1,9 +1,8 @@
 -- A rule's sets of phases as the lines of version 3 tell them: `*`, or the names of phases with `,` between (own).
-use Rattle.std.specs.Prelude.{ℕ, ◌+◌, ◌^◌, ◌==◌, not, ◌&&◌, nat_lt, bit_and, bit_or, Bool, true, false, if◌then◌else◌, Option, Some, None, option_map, option_and_then, List, [], ◌∷◌, ◌++◌, map, length, codes}
+use Rattle.std.specs.Prelude.{ℕ, ◌+◌, ◌^◌, ◌==◌, not, ◌&&◌, nat_lt, bit_and, bit_or, Bool, true, if◌then◌else◌, Option, Some, None, option_map, option_and_then, List, [], ◌∷◌, ◌++◌, map, length, codes}
 use Rattle.std.specs.List.{join_with_byte, position, slice_split}
 use Rattle.std.specs.Str.{bytes_eq}
 use Rattle.std.specs.declared.cmp.Ordering.{Ordering}
-use Rattle.std.specs.declared.cmp.Ordering.TheVariants.{Less}
 use Rattle.std.specs.Ordering.{is_lt, nat_cmp}
 use Rattle.lexicon_definitions.specs.Rules.{Rule, all_phases}
 use Rattle.lexicon_text_definitions.specs.LexiconTexts.{rule_line}

@@ -9,7 +9,6 @@ use Rattle.lexicon_definitions.specs.declared.limits.TheConstants.{MOST_FORM_LET
 use Rattle.lexicon_definitions.specs.Deltas.{Delta}
 use Rattle.lexicon_text_definitions.specs.FileContents.{is_tag_text}
 use Rattle.lexicon_text_definitions.specs.FileSteps.{one_letter}
-use Rattle.trie_text_definitions.specs.declared.limits.TheConstants.{MOST_NODE_DIGITS}
 use Rattle.trie_text_definitions.specs.LimitedRules.{all_there}
 
 -- ---- numbers and lists
@@ -18,9 +17,13 @@ use Rattle.trie_text_definitions.specs.LimitedRules.{all_there}
 abbrev pub number_of : List ℕ → Option ℕ
 number_of text = if bytes_eq text (decimal (digits_value 10 text)) then Some (digits_value 10 text) else None
 
+-- the number of a node has at most so many digits
+abbrev pub most_node_digits : ℕ
+most_node_digits = 9
+
 -- the number of a node, which has not too many digits
 abbrev pub node_number : List ℕ → Option ℕ
-node_number text = if nat_le (length text) MOST_NODE_DIGITS then number_of text else None
+node_number text = if nat_le (length text) most_node_digits then number_of text else None
 
 -- the texts with `,` between them; `-` is no text
 abbrev pub texts_of : List ℕ → List (List ℕ)

@@ -1,5 +1,5 @@
 -- What a line of versions 2 and 3 tells after those before it, or its first reason to be refused: each kind of line by itself (own).
-use Rattle.std.specs.Prelude.{ℕ, ◌==◌, not, ◌&&◌, ◌||◌, nat_le, nat_lt, nat_eq, Bool, true, false, if◌then◌else◌, Option, Some, None, Result, Ok, Err, List, [], ◌∷◌, ◌++◌, map, length, slice_index_or, codes}
+use Rattle.std.specs.Prelude.{ℕ, not, ◌&&◌, ◌||◌, nat_le, nat_lt, nat_eq, Bool, true, false, if◌then◌else◌, Option, Some, None, Result, Ok, Err, List, [], ◌∷◌, ◌++◌, map, length, slice_index_or, codes}
 use Rattle.std.specs.List.{list_any, list_all}
 use Rattle.std.specs.Str.{bytes_eq, is_utf8}
 use Rattle.std.specs.declared.cmp.Ordering.{Ordering}

@@ -1,5 +1,5 @@
 -- The versions of lexicon files that tell a trie, by their first line, and which rules each of them may have (own).
-use Rattle.std.specs.Prelude.{ℕ, ◌&&◌, ◌==◌, ◌||◌, not, Bool, if◌then◌else◌, Option, Some, None, List, [], ◌∷◌, length, codes, All, Contains}
+use Rattle.std.specs.Prelude.{ℕ, ◌&&◌, ◌==◌, ◌||◌, Bool, if◌then◌else◌, Option, Some, None, List, [], ◌∷◌, codes, All, Contains}
 use Rattle.std.specs.Str.{bytes_eq}
 use Rattle.list_laws.specs.EmptyLists.{is_empty}
 use Rattle.lexicon_definitions.specs.Rules.{Rule, IsUnlimited, all_phases}

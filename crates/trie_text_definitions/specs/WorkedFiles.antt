@@ -1,7 +1,7 @@
 -- Small files in which the definitions can be followed by hand.
 use Rattle.std.specs.Prelude.{ℕ, ◌-◌, Option, Some, None, List, [], ◌∷◌, ◌++◌, take, drop, codes}
 use Rattle.lexicon_definitions.specs.Rules.{Rule, unlimited_rule}
-use Rattle.lexicon_definitions.specs.Lexicons.{RuleSet, Form, Lexicon}
+use Rattle.lexicon_definitions.specs.Lexicons.{Form, Lexicon}
 use Rattle.lexicon_text_definitions.specs.FileReadings as first
 use Rattle.lexicon_text_definitions.specs.FileContents as contents
 use Rattle.lexicon_text_definitions.specs.LexiconTexts.{text_of_lines}

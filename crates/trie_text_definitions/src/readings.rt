@@ -1,6 +1,7 @@
-ghost use Rattle.std.specs.Prelude.{◌≡◌, ℕ, List, Ok};
-ghost use Rattle.lexicon_definitions.specs.Lexicons.{Lexicon};
-ghost use Rattle.lexicon_definitions.specs.Tries.{IsTrie};
+ghost use Rattle.std.specs.Prelude.{◌≡◌, ℕ, List, Ok, All};
+ghost use Rattle.lexicon_definitions.specs.Lexicons.{Lexicon, Form, IsPhase};
+ghost use Rattle.lexicon_definitions.specs.Tries.{Trie, IsTrie, IsTrieOf};
+ghost use Rattle.trie_text_definitions.specs.TrieForms.{phases_of};
 ghost use Rattle.trie_text_definitions.specs.Versions.{Version, version_of};
 ghost use Rattle.trie_text_definitions.specs.VersionFaults.{FileResult};
 ghost use Rattle.trie_text_definitions.specs.VersionReadings.{IsReadAs, HasContent, reading_in};
@@ -27,4 +28,9 @@ pub fn what_is_read_is_a_lexicon()
 /// Bytes that are read as a lexicon are its text in their version.
 pub fn what_any_version_is_read_as_has_this_text()
     ensures { (bytes : List ℕ) (lexicon : Lexicon) → IsReadAs bytes (Ok lexicon) → IsTextIn (version_of bytes) lexicon bytes }
+{}
+
+/// A trie of phases tells just these phases: the forms for which its roots stand, with their analyses.
+pub fn a_trie_tells_its_phases()
+    ensures { (trie : Trie) (phases : List (List Form)) → IsTrieOf trie phases → All IsPhase phases → phases_of trie ≡ phases }
 {}
