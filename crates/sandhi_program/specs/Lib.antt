@@ -12,5 +12,7 @@ pub mod Conversions
 pub mod Batches
 pub mod Demos
 pub mod Sessions
+pub mod OverLexicons
+pub mod Joins
 pub mod Sources
 pub mod SourceErrors

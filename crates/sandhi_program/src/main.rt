@@ -18,6 +18,7 @@ mod demo;
 mod ending;
 mod escaped;
 mod explanation;
+mod join;
 mod notes;
 mod read;
 mod reading;
