@@ -1,13 +1,20 @@
 //! Chains of forms and rules, from their text to the word that they derive.
 //!
 //! Proved: `read_chain` gives the chain that a text writes over a lexicon (`ok`), or the text's first fault (`fault`), which is one
-//! by `a_text_is_read_in_one_way` of `chain_definitions`.
+//! by `a_text_is_read_in_one_way` of `chain_definitions`. What a chain is joined to is its first overlap, or else the one word that it
+//! derives, with whether the chain is an answer for this word (`ok` of `join_chain`).
 #![tactic(auto)]
 
 mod chain_fault;
+mod joined;
+mod joining;
 mod link;
+mod overlapping;
 mod reading;
+mod writing;
 
 pub use chain_fault::{ChainError, ChainFault, ChainWhy};
+pub use joined::Joined;
+pub use joining::join_chain;
 pub use link::Link;
 pub use reading::read_chain;
