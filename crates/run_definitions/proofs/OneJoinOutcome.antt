@@ -1,5 +1,5 @@
 -- A text is read in one way over a lexicon, and its chain is joined to one thing; so `join` has one outcome.
-use Rattle.std.proofs.Common.{◌≡◌, ℕ, List, Result, Ok, Err, sym, ◌∙◌, ap, subst}
+use Rattle.std.proofs.Common.{◌≡◌, ℕ, List, Ok, Err, sym, ◌∙◌, ap, subst}
 use Rattle.outside.specs.Files.{Files}
 use Rattle.lexicon_definitions.specs.Lexicons.{Lexicon}
 use Rattle.segmentation_definitions.specs.Derivations.{Step}

@@ -14,5 +14,6 @@ pub mod Demos
 pub mod Sessions
 pub mod OverLexicons
 pub mod Joins
+pub mod Splits
 pub mod Sources
 pub mod SourceErrors

@@ -28,6 +28,7 @@ mod run;
 mod segment;
 mod source_files;
 mod source_refusal;
+mod split;
 mod status;
 #[cfg(test)]
 mod tests;

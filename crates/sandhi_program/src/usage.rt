@@ -1,5 +1,5 @@
 /// The name of each command, its line of usage, and what a person may want to know of it.
-static COMMANDS: [(&str, &str); 8] = [
+static COMMANDS: [(&str, &str); 9] = [
     (
         "segment",
         "segment [--in SCHEME] LEX TEXT    (SCHEME is slp1, wx, velthuis or devanagari; without it slp1)",
@@ -28,6 +28,10 @@ static COMMANDS: [(&str, &str); 8] = [
     (
         "join",
         "join LEX CHAIN    (CHAIN is an answer as it is printed, without its number, in quotes)",
+    ),
+    (
+        "split",
+        "split LEX TEXT N DEPTH    (the first N answers, 1 to 1000; fronts of DEPTH steps, 1 to 8, are listed side by side)",
     ),
 ];
 

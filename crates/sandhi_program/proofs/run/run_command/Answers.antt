@@ -30,3 +30,6 @@ returns-in-Convert-clause-ran g c = rw c.in-Convert.is (Apart refl c.run_convert
 
 pub returns-in-Join-clause-ran : goal.returns-in-Join-clause-ran
 returns-in-Join-clause-ran g c = rw c.in-Join.is (Apart refl c.run_join.ensures)
+
+pub returns-in-Split-clause-ran : goal.returns-in-Split-clause-ran
+returns-in-Split-clause-ran g c = rw c.in-Split.is (Apart refl c.run_split.ensures)
