@@ -1,5 +1,6 @@
 pub mod AnswerBounds
 pub mod ChosenItems
+pub mod CutLemmas
 pub mod CutLines
 pub mod ItemLines
 pub mod LineReplies

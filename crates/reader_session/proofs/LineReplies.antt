@@ -9,9 +9,9 @@ use Rattle.session_definitions.specs.declared.limits.TheConstants.{MOST_SESSION_
 use Rattle.session_definitions.specs.SessionLines.{without_return, line_text}
 use Rattle.session_definitions.specs.Requests.{request_of}
 use Rattle.session_definitions.specs.Replies.{Reply, refused, reply_in, IsReplyToText, IsReply}
-use Rattle.session_requests.specs.declared.request.Request as asked_data
-use Rattle.session_requests.specs.declared.request.Request.TheVariants as asked
-use Rattle.session_requests.specs.Meant.{request_meant}
+use Rattle.reader_session.specs.declared.request.Request as asked_data
+use Rattle.reader_session.specs.declared.request.Request.TheVariants as asked
+use Rattle.reader_session.specs.Meant.{request_meant}
 use Rattle.reader_session.specs.declared.after.After.TheVariants as after
 use Rattle.reader_session.specs.SessionValues.{SessionValue, HasReplied}
 use Rattle.reader_session.specs.Answered.{HasShortText}

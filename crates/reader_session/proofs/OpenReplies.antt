@@ -8,9 +8,9 @@ use Rattle.annotated_trie.specs.Searched.{SearchedLexicon}
 use Rattle.reader_session.specs.declared.reading.Reading.{Reading}
 use Rattle.reader_session.specs.Readings.{IsReadingOver, GoesOn, state_of}
 use Rattle.reader_session.proofs.RefusedReplies.{if_refused}
-use Rattle.session_requests.specs.declared.request.Request as asked_data
-use Rattle.session_requests.specs.declared.request.Request.TheVariants as asked
-use Rattle.session_requests.specs.Meant.{request_meant}
+use Rattle.reader_session.specs.declared.request.Request as asked_data
+use Rattle.reader_session.specs.declared.request.Request.TheVariants as asked
+use Rattle.reader_session.specs.Meant.{request_meant}
 use Rattle.reader_session.specs.declared.after.After.{After}
 use Rattle.reader_session.specs.declared.after.After.TheVariants as after
 use Rattle.reader_session.specs.Answered.{Answered, opened}

@@ -2,8 +2,8 @@
 use Rattle.std.specs.Prelude.{◌≡◌, ℕ, ◌^◌, ◌<◌, Option, Result, Ok, Err, List, ◌++◌, length}
 use Rattle.annotated_trie.specs.Searched.{SearchedLexicon}
 use Rattle.session_definitions.specs.Replies.{Reply}
-use Rattle.session_requests.specs.declared.request.Request.{Request}
-use Rattle.session_requests.specs.declared.request.Request.TheVariants.{Text, Page, Summary, Choose, Undo, Tags, Mark, Resume, Quit, NoWord}
+use Rattle.reader_session.specs.declared.request.Request.{Request}
+use Rattle.reader_session.specs.declared.request.Request.TheVariants.{Text, Page, Summary, Choose, Undo, Tags, Mark, Resume, Quit, NoWord}
 use Rattle.reader_session.specs.declared.after.After.{After}
 use Rattle.reader_session.specs.declared.after.After.TheVariants.{Open}
 use Rattle.reader_session.specs.declared.reading.Reading.{Reading}

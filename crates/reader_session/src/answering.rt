@@ -1,6 +1,6 @@
 ghost use Rattle.std.specs.Prelude.{◌≡◌, ◌^◌, ◌<◌, length, IfOk};
 ghost use Rattle.annotated_trie.specs.Searched.{IsSearchedLexicon};
-ghost use Rattle.session_requests.specs.Meant.{request_meant, IsSoundRequest};
+ghost use Rattle.reader_session.specs.Meant.{request_meant, IsSoundRequest};
 ghost use Rattle.session_definitions.specs.Replies.{IsReplyTo};
 ghost use Rattle.reader_session.specs.Readings.{IsReadingOver, state_of};
 ghost use Rattle.reader_session.specs.Answered.{Answered, HasShortText, opened};
@@ -11,6 +11,7 @@ use super::mark_reply::reply_with_mark;
 use super::page_reply::reply_with_page;
 use super::reading::Reading;
 use super::refusing::refuse;
+use super::request::Request;
 use super::resume_reply::reply_to_resume;
 use super::summary_reply::reply_with_summary;
 use super::tags_reply::reply_with_tags;
@@ -18,7 +19,6 @@ use super::text_reply::reply_to_text;
 use annotated_trie::Lexicon;
 use answer_printing::RuleTexts;
 use phoneme::Memory;
-use session_requests::Request;
 use std::alloc::Global;
 
 /// After this reply the session goes on.

@@ -2,7 +2,8 @@
 //! read piece by piece, each is answered, and its reply is written before the next line is looked at.
 //!
 //! `input` and `lines` cut the input into lines. A `Session` is the state between two lines; `answering` leads each request to the
-//! module that replies to it, which is named after its word. What is read, with the choices of the reader, is a `Reading`.
+//! module that replies to it, which is named after its word. What is read, with the choices of the reader, is a `Reading`. A line
+//! is read as a `Request` (`request`): its first word, and what comes after the first blank.
 //!
 //! Proved of `serve`, over every source and every sink, by the names of its contract:
 //!
@@ -21,8 +22,10 @@ mod after;
 mod answering;
 mod choice_reply;
 mod copying;
+mod cutting;
 mod form_analyses;
 mod input;
+mod item_number;
 mod laws;
 mod lines;
 mod mark_reply;
@@ -30,6 +33,7 @@ mod numbered_item;
 mod page_reply;
 mod reading;
 mod refusing;
+mod request;
 mod resume_reply;
 mod serve_end;
 mod session;

@@ -7,11 +7,11 @@ ghost use Rattle.reader_session.specs.SessionValues.{HasReplied};
 use super::after::After;
 use super::answering::answer;
 use super::reading::Reading;
+use super::request::read_request;
 use annotated_trie::Lexicon;
 use answer_printing::{RuleTexts, push_refusal};
 use phoneme::Memory;
 use session_definitions::MOST_SESSION_LINE_BYTES;
-use session_requests::read_request;
 use std::alloc::Global;
 use std::marker::Model;
 

@@ -2,7 +2,7 @@
 use Rattle.std.proofs.Common.{IfOk, sym, subst}
 use Rattle.session_definitions.specs.Replies.{IsReplyTo}
 use Rattle.reader_session.specs.Readings.{GoesOn, state_of}
-use Rattle.session_requests.specs.Meant.{request_meant}
+use Rattle.reader_session.specs.Meant.{request_meant}
 use Rattle.reader_session.proofs.OpenReplies.{goes_on, no_word, over}
 use Rattle.reader_session.proofs.answering.answer.Goals as goal
 

@@ -1,8 +1,8 @@
 -- The two parts tell what the line asks for.
 use Rattle.std.proofs.Common.{◌≡◌, IfOk, subst}
-use Rattle.session_requests.specs.Meant.{request_meant}
-use Rattle.session_requests.proofs.CutLemmas.{asked}
-use Rattle.session_requests.proofs.request.read_request.Goals as goal
+use Rattle.reader_session.specs.Meant.{request_meant}
+use Rattle.reader_session.proofs.CutLemmas.{asked}
+use Rattle.reader_session.proofs.request.read_request.Goals as goal
 
 pub returns-clause-ok : goal.returns-clause-ok
 returns-clause-ok c =

@@ -7,7 +7,7 @@ ghost use Rattle.bookmarks.specs.Values.{bookmark_of};
 ghost use Rattle.lexicon_text_definitions.specs.FileLines.{parts_of};
 ghost use Rattle.session_definitions.specs.Requests as definitions;
 ghost use Rattle.session_definitions.specs.Requests.{request_of};
-ghost use Rattle.session_requests.specs.Meant.{request_meant, IsSoundRequest};
+ghost use Rattle.reader_session.specs.Meant.{request_meant, IsSoundRequest};
 ghost use Rattle.text_line.specs.Values.{scheme_of};
 
 use crate::cutting::word_and_rest;
@@ -21,7 +21,7 @@ use text_line::{Scheme, count_up_to};
 /// What a line of a session asks for. `None` stands for what could not be read: a word that is no scheme's name, a text that is no
 /// number of this kind, or a text that is no bookmark.
 #[derive(Debug, Drop)]
-pub enum Request<'a> {
+pub(crate) enum Request<'a> {
     /// `text SCHEME TEXT`: a line of text is to be read.
     Text {
         scheme: Option<Scheme>,
@@ -138,7 +138,7 @@ fn request_with<'a>(alloc: Global, word: &[u8], rest: &'a [u8]) -> Result<Reques
 
 /// What the line asks for: its first word, up to the first blank, and the rest after this blank (own). Refused only for want
 /// of memory.
-pub fn read_request<'a>(alloc: Global, line: &'a [u8]) -> Result<Request<'a>, Memory>
+pub(crate) fn read_request<'a>(alloc: Global, line: &'a [u8]) -> Result<Request<'a>, Memory>
     ensures ok { IfOk result (λ request. request_meant request ≡ request_of line.now) }
     ensures sound { IfOk result IsSoundRequest }
 {

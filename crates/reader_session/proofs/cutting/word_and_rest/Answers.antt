@@ -2,8 +2,8 @@
 use Rattle.std.proofs.Common.{sym, ap}
 use Rattle.lexicon_text_definitions.specs.FileLines.{Parts}
 use Rattle.session_definitions.specs.Requests.{after_blank}
-use Rattle.session_requests.proofs.CutLemmas.{whole, in_two}
-use Rattle.session_requests.proofs.cutting.word_and_rest.Goals as goal
+use Rattle.reader_session.proofs.CutLemmas.{whole, in_two}
+use Rattle.reader_session.proofs.cutting.word_and_rest.Goals as goal
 
 pub returns-in-Some-clause-word : goal.returns-in-Some-clause-word
 returns-in-Some-clause-word c =

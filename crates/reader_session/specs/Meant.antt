@@ -5,8 +5,8 @@ use Rattle.text_line.specs.Values.{scheme_of}
 use Rattle.bookmark_definitions.specs.Bookmarks.{IsBookmark}
 use Rattle.bookmarks.specs.Values.{bookmark_of}
 use Rattle.session_definitions.specs.Requests as definitions
-use Rattle.session_requests.specs.declared.request.Request.{Request}
-use Rattle.session_requests.specs.declared.request.Request.TheVariants.{Text, Page, Summary, Choose, Undo, Tags, Mark, Resume, Quit, NoWord}
+use Rattle.reader_session.specs.declared.request.Request.{Request}
+use Rattle.reader_session.specs.declared.request.Request.TheVariants.{Text, Page, Summary, Choose, Undo, Tags, Mark, Resume, Quit, NoWord}
 
 -- the same request
 abbrev pub request_meant : Request → definitions.Request

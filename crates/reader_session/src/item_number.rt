@@ -1,6 +1,6 @@
 ghost use Rattle.std.specs.Prelude.{◌≡◌};
 ghost use Rattle.session_definitions.specs.Requests as definitions;
-ghost use Rattle.session_requests.specs.Meant.{IsFromOne};
+ghost use Rattle.reader_session.specs.Meant.{IsFromOne};
 
 use text_line::digits_up_to;
 
