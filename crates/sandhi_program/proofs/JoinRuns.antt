@@ -1,7 +1,7 @@
 -- What a run of `join` writes is the output of an outcome; and an overlap that a chain has can be printed.
-use Rattle.std.proofs.Common.{◌≡◌, ℕ, ◌<◌, List, [], ◌∷◌, length, None, refl, sym, ap, subst, inl, inr, arith}
+use Rattle.std.proofs.Common.{◌≡◌, ℕ, List, [], ◌∷◌, None, refl, sym, ◌∙◌, ap, subst, inl, inr, arith, ◌++◌, codes, append_assoc}
 use Rattle.outside.specs.Files.{Files, contents_of}
-use Rattle.lexicon_definitions.specs.Lexicons.{Lexicon}
+use Rattle.lexicon_definitions.specs.Lexicons.{Lexicon, IsLexicon}
 use Rattle.segmentation_definitions.specs.Derivations.{Step}
 use Rattle.segmentation_definitions.specs.Overlaps as overlaps
 use Rattle.segmentation_definitions.specs.Overlaps.{IsOverlap}
@@ -88,12 +88,20 @@ found_overlap lexicon number (step ∷ steps) phase form before after first = el
 
 -- so it can be printed
 pub overlap_printable : (lexicon : Lexicon) (steps : List Step) (phase : ℕ) (form : List ℕ) (before after : ℕ)
-    → length lexicon.phases ≡ length lexicon.rules.names → IsFirstOverlap lexicon 0 steps (Overlap phase form before after)
+    → IsLexicon lexicon → IsFirstOverlap lexicon 0 steps (Overlap phase form before after)
     → CanBePrinted lexicon.rules (record { phase = phase; form = form; before = before; after = after })
-overlap_printable lexicon steps phase form before after count first =
+overlap_printable lexicon steps phase form before after is first =
     let o = found_overlap lexicon 0 steps phase form before after first in
+    let count = is.count in
     record {
       phase = omega (arith, phase_within lexicon phase form o.of_phase, count);
       before = o.inner.0;
       after = o.rule;
     }
+
+-- ---- its word
+
+-- the line of the word, with what comes after it put last
+pub text_line : (spelled rest : List ℕ) → codes "text " ++ (spelled ++ (codes "\n" ++ rest)) ≡ ((codes "text " ++ spelled) ++ 10 ∷ []) ++ rest
+text_line spelled rest =
+    sym (append_assoc (codes "text ") spelled (codes "\n" ++ rest)) ∙ sym (append_assoc (codes "text " ++ spelled) (10 ∷ []) rest)

@@ -10,7 +10,7 @@ use Rattle.run_definitions.specs.Ends.{Outcome, outcome_over}
 use Rattle.run_definitions.specs.Refusals.{file_refusal}
 use Rattle.run_definitions.specs.LexiconTells.{Refused, Holds, DoesTell}
 use Rattle.sandhi_program.specs.declared.status.Status.{Status}
-use Rattle.sandhi_program.specs.declared.status.Status.TheVariants.{Usage, BadFile}
+use Rattle.sandhi_program.specs.declared.status.Status.TheVariants.{Usage}
 use Rattle.sandhi_program.specs.Faults.{Tells, file_fault}
 use Rattle.sandhi_program.specs.Ends.{Wrote, Nothing, Something}
 use Rattle.sandhi_program.specs.RunEnds.{HasOutcome}

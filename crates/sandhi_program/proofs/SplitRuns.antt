@@ -1,9 +1,9 @@
 -- What a run of `split` writes is the output of an outcome; and the texts of answers, a line each, are the printed page.
-use Rattle.std.proofs.Common.{◌≡◌, ℕ, ◌++◌, List, [], ◌∷◌, Bool, None, refl, sym, ◌∙◌, ap, subst, append_assoc}
+use Rattle.std.proofs.Common.{◌≡◌, ℕ, ◌++◌, List, [], ◌∷◌, None, refl, sym, ◌∙◌, ap, subst}
 use Rattle.outside.specs.Files.{Files, contents_of}
 use Rattle.lexicon_definitions.specs.Lexicons.{Lexicon, RuleSet}
 use Rattle.segmentation_definitions.specs.Derivations.{Step}
-use Rattle.segmentation_definitions.specs.PrintedAnswers.{output_line, printed_answer, printed_answers, printed_rest, printed_page, next_number}
+use Rattle.segmentation_definitions.specs.PrintedAnswers.{output_line, printed_answer, printed_answers, next_number}
 use Rattle.run_definitions.specs.Commands.{FileWord}
 use Rattle.run_definitions.specs.Ends as ends
 use Rattle.run_definitions.specs.Ends.{outcome_over}

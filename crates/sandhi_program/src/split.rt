@@ -1,4 +1,4 @@
-ghost use Rattle.std.specs.Prelude.{◌≡◌, ◌<◌, ◌≤◌, ◌^◌, [], ◌∷◌, ◌++◌, length, map, IfOk, OnOk, None, string_bytes};
+ghost use Rattle.std.specs.Prelude.{◌≡◌, [], ◌∷◌, map, IfOk, None, string_bytes};
 ghost use Rattle.run_definitions.specs.SplitOutcomes.{IsSplitOutcome};
 ghost use Rattle.command_words.specs.Meant.{word_meant};
 ghost use Rattle.sandhi_program.specs.Ends.{Wrote};
@@ -17,7 +17,7 @@ use command_words::SplitWords;
 use outside::{Gate, Shelf, Sink, Steps};
 use phoneme::{Line, Memory};
 use reader_choices::Choices;
-use search_split::{Page, page_split};
+use search_split::page_split;
 use std::alloc::Global;
 use std::thread::Threads;
 use summary_chart::Chart;
