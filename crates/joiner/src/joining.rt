@@ -1,6 +1,8 @@
-ghost use Rattle.std.specs.Prelude.{◌≡◌, ◌<◌, ◌↔◌, length, All, IsTrue, IfOk};
-ghost use Rattle.segmentation_definitions.specs.Derivations.{phases_of};
+ghost use Rattle.std.specs.Prelude.{◌≡◌, ◌↔◌, All, IsTrue, IfOk};
+ghost use Rattle.lexicon_definitions.specs.Lexicons.{IsPhaseWord};
+ghost use Rattle.segmentation_definitions.specs.Derivations.{AreForms, phases_of};
 ghost use Rattle.phase_automaton.specs.Automata.{state_after, is_accepting};
+ghost use Rattle.annotated_trie.specs.Searched.{IsSearchedLexicon};
 ghost use Rattle.chain_definitions.specs.Chains.{IsChain};
 ghost use Rattle.chain_definitions.specs.JoinedChains.{MakesAnswer, IsJoinedTo};
 ghost use Rattle.joiner.specs.Joining.{joined_of, HasNumberedPhase};
@@ -26,17 +28,27 @@ fn accepts_links(automaton: &Automaton, links: &[Link]) -> bool
     automaton.accepts(state)
 }
 
-/// Whether the word is no longer than a line may be, and the phases of the links are a word of the grammar.
-fn makes_answer(lexicon: &Lexicon, links: &[Link], word: &Word) -> bool
-    requires { All (HasNumberedPhase (length lexicon.now.lexicon.phases)) links.now }
-    ensures { IsTrue result ↔ MakesAnswer lexicon.now.lexicon links.now word.now }
+/// Whether the phases of the links are a word of the grammar.
+fn is_phase_word(lexicon: &Lexicon, links: &[Link]) -> bool
+    requires searched { IsSearchedLexicon lexicon.now }
+    requires forms { AreForms lexicon.now.lexicon links.now }
+    ensures { IsTrue result ↔ IsPhaseWord lexicon.now.lexicon.rules (phases_of links.now) }
 {
-    word.len() <= MOST_LINE_LETTERS && accepts_links(lexicon.automaton(), links)
+    accepts_links(lexicon.automaton(), links)
 }
 
-/// What the chain is joined to (after Huet 2005; answers are own): its first overlap, or else the one word that it derives. The word
-/// has at most `MOST_FORM_LETTERS` and `MOST_RULE_LETTERS` letters for each link, and there is no limit on the links. Refused only for
-/// want of memory.
+/// Whether the word is no longer than a line may be, and the phases of the links are a word of the grammar.
+fn makes_answer(lexicon: &Lexicon, links: &[Link], word: &Word) -> bool
+    requires searched { IsSearchedLexicon lexicon.now }
+    requires forms { AreForms lexicon.now.lexicon links.now }
+    ensures { IsTrue result ↔ MakesAnswer lexicon.now.lexicon links.now word.now }
+{
+    word.len() <= MOST_LINE_LETTERS && is_phase_word(lexicon, links)
+}
+
+/// What the chain is joined to (after Huet 2005; answers are own): its first overlap, or else the one word that it derives. There is
+/// no limit on the links; the word is no longer than their forms and the `w` of their rules together, which is at most
+/// `MOST_FORM_LETTERS` and `MOST_RULE_LETTERS` letters a link. Refused only for want of memory.
 pub fn join_chain(alloc: Global, lexicon: &Lexicon, links: &[Link]) -> Result<Joined, Memory>
     requires chain { IsChain lexicon.now.lexicon links.now }
     ensures ok { IfOk result (λ joined. IsJoinedTo lexicon.now.lexicon links.now (joined_of joined)) }

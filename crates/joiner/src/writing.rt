@@ -9,7 +9,7 @@ use sandhi_rules::RuleSet;
 use std::alloc::Global;
 
 /// The letters of the form between the `v` of the rule before and the `u` of the rule after.
-fn taken_letters(rules: &RuleSet, before: u32, link: &Link) -> &[Letter]
+fn taken_letters<'a>(rules: &RuleSet, before: u32, link: &'a Link) -> &'a [Letter]
     requires before { before ≤ length rules.now.rules }
     requires rule { HasNumber rules.now link.now }
     requires taken { (taken : List ℕ) × Takes rules.now before link.now taken }
