@@ -17,6 +17,7 @@ from trial import SAMPLES, arguments_of, try_all
 
 NO_MEMORY = 1
 LINE = "rAmo vanaM gacCati ca senAM"
+CHAIN = "rAmaH[noun] (aH|v>ov) vanam[noun] (m|g>Mg) gacCati[verb]"
 SESSION = f"text slp1 {LINE}\npage 1\nsummary\nkeep 1\nmark\ntags 1\nundo\npage 9\nquit\n"
 
 
@@ -38,6 +39,8 @@ ROWS = (
     Row(("build", "rules.toml", "tables.csv", "stems.csv", "out.lex"), out="out.lex"),
     Row(("demo", "0")),
     Row(("convert", "slp1", "iast", "verses", "out.text"), out="out.text"),
+    Row(("join", "made.lex", CHAIN)),
+    Row(("split", "made.lex", LINE, "9", "2")),
 )
 
 

@@ -96,6 +96,8 @@ def rows_of(trial):
         ),
         Row(("check", "rules.toml"), 5, ()),
         Row(("segment", "made.lex", "?"), 6, ()),
+        Row(("split", "made.lex", "?", "9", "1"), 6, ()),
+        Row(("join", "made.lex", "?"), 9, ()),
         Row(("read", "made.lex"), 7, (f"sandhi: the input has more than {MOST_INPUT} bytes",), {"input": b"\n" * (MOST_INPUT + 1)}),
         Row((*BUILD, "link.csv"), 0, (replaced.format("stems.csv"),)),
     ]

@@ -32,6 +32,8 @@ LISTS = {
     "batch": [(RUN, "BatchOutcomes", "IsBatchRun"), (RUN, "BatchOutcomes", "IsBatchSoFar")],
     "demo": [(RUN, "DemoOutcomes", "IsDemoRun")],
     "convert": [(RUN, "ConvertOutcomes", "IsConvertRun")],
+    "join": [(RUN, "JoinOutcomes", "IsJoinRun")],
+    "split": [(RUN, "SplitOutcomes", "IsSplitRun")],
     "the headline": [
         (PROGRAM, "Headline", "WroteAll"),
         (PROGRAM, "Headline", "WrotePrefix"),

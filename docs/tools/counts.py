@@ -88,7 +88,7 @@ def list_of(tree, what):
     if what == "session words":
         return tree.session_words()
     if what == "exit statuses":
-        return [str(number) for number, _ in enumerate(tree.variants("Status"))]
+        return tree.exit_statuses()
     if what == "worked rows":
         return sorted(str(path.relative_to(tree.root)) for path in tree.root.glob("worked/rows/*"))
     return tree.variants(what)

@@ -115,6 +115,10 @@ class Tree:
         """The commands of the program, as they are written."""
         return [name.lower() for name in self.variants("Command")]
 
+    def exit_statuses(self):
+        """The exit statuses of the program, in the order of its variants of Status."""
+        return [number for text in self.code() for number in re.findall(r"^            Status::\w+(?: \{ \.\. \})? => (\d+),$", text, re.MULTILINE)]
+
     def session_words(self):
         """The words of a session, in the order in which they are tried."""
         return [word for text in self.code() for word in re.findall(r'is_word\(word, b"([a-z]+)"\)', text)]

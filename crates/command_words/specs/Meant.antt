@@ -6,7 +6,7 @@ use Rattle.run_definitions.specs.Arguments as arguments
 use Rattle.run_definitions.specs.Commands as defined
 use Rattle.command_words.specs.declared.placed_word.PlacedWord.{PlacedWord}
 use Rattle.command_words.specs.declared.command.Command.{Command}
-use Rattle.command_words.specs.declared.command.Command.TheVariants.{Segment, Check, Build, Read, Batch, Demo, Convert}
+use Rattle.command_words.specs.declared.command.Command.TheVariants.{Segment, Check, Build, Read, Batch, Demo, Convert, Join, Split}
 use Rattle.command_words.specs.declared.given.Given.{Given}
 use Rattle.command_words.specs.declared.arguments.NextWord.{NextWord}
 use Rattle.command_words.specs.declared.arguments.NextWord.TheVariants.{Any, Value, Argument}
@@ -25,6 +25,8 @@ command_meant (Read lex) = defined.Read (word_meant lex)
 command_meant (Demo number) = defined.Demo number
 command_meant (Convert words) =
     defined.Convert (any_scheme_of words.input) (any_scheme_of words.output) (word_meant words.file) (word_meant words.out)
+command_meant (Join words) = defined.Join (word_meant words.lex) words.chain.name.now
+command_meant (Split words) = defined.Split (word_meant words.lex) words.text.name.now words.count words.depth
 command_meant (Batch words) = defined.Batch (word_meant words.lex) (scheme_of words.scheme) (word_meant words.file) words.count
 
 -- what a next word may be

@@ -10,10 +10,12 @@ use super::build_words::BuildWords;
 use super::convert_words::ConvertWords;
 use super::demo_number::demo_number_of;
 use super::given::{Given, given_of};
+use super::join_words::JoinWords;
 use super::placed_word::PlacedWord;
+use super::split_words::SplitWords;
 use more_schemes::AnyScheme;
 use phoneme::Memory;
-use run_definitions::MOST_WORD_BYTES;
+use run_definitions::{MOST_SPLIT_DEPTH, MOST_WORD_BYTES};
 use session_definitions::MOST_PAGE;
 use std::alloc::Global;
 use text_line::{Scheme, count_up_to};
@@ -45,6 +47,10 @@ pub enum Command<'a> {
     },
     /// The two schemes, the text file, and the file to write.
     Convert(ConvertWords<'a>),
+    /// The lexicon file, and the text of a chain.
+    Join(JoinWords<'a>),
+    /// The lexicon file, the text, the size of the page, and the depth to which the search is divided.
+    Split(SplitWords<'a>),
 }
 
 /// Whether no word is too long.
@@ -191,6 +197,44 @@ fn convert_with<'a>(given: &Given<'a>) -> Option<Command<'a>>
     }
 }
 
+/// `join` with what is given.
+fn join_with<'a>(given: &Given<'a>) -> Option<Command<'a>>
+    ensures some { IfSome result (λ command. (name_of_command (command_meant command) ≡ codes "join")
+        × Takes (command_meant command) (given_meant given.now).values (given_meant given.now).arguments) }
+    ensures none { IfNone result ((command : DefinedCommand) → name_of_command command ≡ codes "join"
+        → Takes command (given_meant given.now).values (given_meant given.now).arguments → ⊥) }
+{
+    match (given.values.as_slice(), given.arguments.as_slice()) {
+        ([], [lex, chain]) => Some(Command::Join(JoinWords {
+            lex: *lex,
+            chain: *chain,
+        })),
+        _ => None,
+    }
+}
+
+/// `split` with what is given.
+fn split_with<'a>(given: &Given<'a>) -> Option<Command<'a>>
+    ensures some { IfSome result (λ command. (name_of_command (command_meant command) ≡ codes "split")
+        × Takes (command_meant command) (given_meant given.now).values (given_meant given.now).arguments) }
+    ensures none { IfNone result ((command : DefinedCommand) → name_of_command command ≡ codes "split"
+        → Takes command (given_meant given.now).values (given_meant given.now).arguments → ⊥) }
+{
+    match (given.values.as_slice(), given.arguments.as_slice()) {
+        ([], [lex, text, count, depth]) => {
+            let count = count_up_to(4, MOST_PAGE, count.name.as_bytes())?;
+            let depth = count_up_to(1, MOST_SPLIT_DEPTH, depth.name.as_bytes())?;
+            Some(Command::Split(SplitWords {
+                lex: *lex,
+                text: *text,
+                count,
+                depth,
+            }))
+        }
+        _ => None,
+    }
+}
+
 /// The command of this name that takes what is given.
 fn command_with<'a>(name: &str, given: &Given<'a>) -> Option<Command<'a>>
     ensures some { IfSome result (λ command. (name.now ≡ name_of_command (command_meant command))
@@ -206,6 +250,8 @@ fn command_with<'a>(name: &str, given: &Given<'a>) -> Option<Command<'a>>
         "batch" => batch_with(given),
         "demo" => demo_with(given),
         "convert" => convert_with(given),
+        "join" => join_with(given),
+        "split" => split_with(given),
         _ => None,
     }
 }

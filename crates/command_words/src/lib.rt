@@ -18,11 +18,15 @@ mod command;
 mod convert_words;
 mod demo_number;
 mod given;
+mod join_words;
 mod line;
 mod placed_word;
+mod split_words;
 
 pub use batch_words::BatchWords;
 pub use build_words::BuildWords;
 pub use command::{Command, command_of};
 pub use convert_words::ConvertWords;
+pub use join_words::JoinWords;
 pub use placed_word::PlacedWord;
+pub use split_words::SplitWords;

@@ -55,7 +55,7 @@ plain_from_seam rules front last first rest h =
     let begins : first ≡ h.2 = let e = h.5 in cc in
     subst (λ (l : ℕ). IsPlain rules l first) (sym ends) (subst (λ (f : ℕ). IsPlain rules h.1 f) (sym begins) h.6)
 
-is_plain_seam : (rules : RuleSet) (left right : List ℕ) → Decided (IsPlainSeam rules left right)
+pub is_plain_seam : (rules : RuleSet) (left right : List ℕ) → Decided (IsPlainSeam rules left right)
 is_plain_seam rules [] right = inr (λ h. nothing_ends h.0 h.1 h.4)
   where
     nothing_ends : (front : List ℕ) (last : ℕ) → [] ≡ front ++ last ∷ [] → ⊥

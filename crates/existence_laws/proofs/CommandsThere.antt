@@ -16,8 +16,10 @@ use Rattle.run_definitions.specs.BatchOutcomes.{TakesBatch, AreBatchArguments}
 use Rattle.conversion_definitions.specs.AnySchemes as any
 use Rattle.conversion_definitions.specs.AnySchemes.{AnyScheme, name_of_any_scheme}
 use Rattle.run_definitions.specs.ConvertOutcomes.{TakesConvert, AreConvertArguments}
+use Rattle.run_definitions.specs.JoinOutcomes.{TakesJoin}
+use Rattle.run_definitions.specs.SplitOutcomes.{TakesSplit, AreSplitArguments, split_depth_of}
 use Rattle.run_definitions.specs.DemoOutcomes.{TakesDemo, AreDemoArguments, demo_number_of}
-use Rattle.run_definitions.specs.Commands.{Command, Segment, Check, Build, Read, Batch, Demo, Convert, AreWordsOf, AreOfNoCommand}
+use Rattle.run_definitions.specs.Commands.{Command, Segment, Check, Build, Read, Batch, Demo, Convert, Join, Split, AreWordsOf, AreOfNoCommand}
 use Rattle.existence_laws.proofs.Decisions.{Decided, told_by, both, is_at_most, is_same_word, is_same_list, holds_of_all, one_has}
 
 -- ---- what the words give
@@ -238,6 +240,38 @@ takes_convert values (a ∷ b ∷ c ∷ d ∷ []) =
     told_by (λ h. (h.1.0, (h.0, h.1.1))) (λ h. (h.1.0, (h.0, h.1.1))) (both (no_values values) (convert_arguments a b c d))
 takes_convert values (a ∷ b ∷ c ∷ d ∷ f ∷ arguments) = inr (λ h. let e = h.1.1.are in cc)
 
+takes_join : (values : List (List ℕ)) (arguments : List FileWord) → Decided ((c : FileWord × List ℕ) × TakesJoin c.0 c.1 values arguments)
+takes_join values [] = inr (λ h. let e = h.1.1.1 in cc)
+takes_join values (lex ∷ []) = inr (λ h. let e = h.1.1.1 in cc)
+takes_join values (lex ∷ chain ∷ []) = told_by (λ h. ((lex, chain.name), (h, (chain.place, refl)))) (λ h. h.1.0) (no_values values)
+takes_join values (lex ∷ chain ∷ other ∷ arguments) = inr (λ h. let e = h.1.1.1 in cc)
+
+split_arguments : (a b c d : FileWord)
+    → Decided ((x : FileWord × List ℕ × ℕ × ℕ) × AreSplitArguments x.0 x.1 x.2 x.3 (a ∷ b ∷ c ∷ d ∷ []))
+split_arguments a b c d =
+    told_by
+    (λ h. ((a, b.name, h.0.0, h.1.0), record { place = b.place; counted = c; deep = d; are = refl; counts = h.0.1; is_depth = h.1.1 })) back
+    (both (counts_to (page_size_of c.name)) (counts_to (split_depth_of d.name)))
+  where
+    back : (x : FileWord × List ℕ × ℕ × ℕ) × AreSplitArguments x.0 x.1 x.2 x.3 (a ∷ b ∷ c ∷ d ∷ [])
+        → ((count : ℕ) × (page_size_of c.name ≡ Some count)) × ((depth : ℕ) × (split_depth_of d.name ≡ Some depth))
+    back h =
+        let third : c ≡ h.1.counted = let e = h.1.are in cc in
+        let fourth : d ≡ h.1.deep = let e = h.1.are in cc in (
+          (h.0.2, ap (λ (w : FileWord). page_size_of w.name) third ∙ h.1.counts),
+          (h.0.3, ap (λ (w : FileWord). split_depth_of w.name) fourth ∙ h.1.is_depth),
+        )
+
+takes_split : (values : List (List ℕ)) (arguments : List FileWord)
+    → Decided ((x : FileWord × List ℕ × ℕ × ℕ) × TakesSplit x.0 x.1 x.2 x.3 values arguments)
+takes_split values [] = inr (λ h. let e = h.1.1.are in cc)
+takes_split values (a ∷ []) = inr (λ h. let e = h.1.1.are in cc)
+takes_split values (a ∷ b ∷ []) = inr (λ h. let e = h.1.1.are in cc)
+takes_split values (a ∷ b ∷ c ∷ []) = inr (λ h. let e = h.1.1.are in cc)
+takes_split values (a ∷ b ∷ c ∷ d ∷ []) =
+    told_by (λ h. (h.1.0, (h.0, h.1.1))) (λ h. (h.1.0, (h.0, h.1.1))) (both (no_values values) (split_arguments a b c d))
+takes_split values (a ∷ b ∷ c ∷ d ∷ f ∷ arguments) = inr (λ h. let e = h.1.1.are in cc)
+
 -- ---- the command
 
 -- the command whose words they are, or none
@@ -251,6 +285,8 @@ command_there words =
     (named (codes "batch") (λ (x : FileWord × Scheme × FileWord × ℕ). TakesBatch x.0 x.1 x.2 x.3) takes_batch words)
     (named (codes "demo") TakesDemo takes_demo words)
     (named (codes "convert") (λ (v : AnyScheme × AnyScheme × FileWord × FileWord). TakesConvert v.0 v.1 v.2 v.3) takes_convert words)
+    (named (codes "join") (λ (j : FileWord × List ℕ). TakesJoin j.0 j.1) takes_join words)
+    (named (codes "split") (λ (p : FileWord × List ℕ × ℕ × ℕ). TakesSplit p.0 p.1 p.2 p.3) takes_split words)
   where
     by_all : Decided ((c : FileWord × Scheme × List ℕ) × AreNamed (codes "segment") (TakesSegment c.0 c.1 c.2) words)
         → Decided ((lex : FileWord) × AreNamed (codes "check") (TakesCheck lex) words)
@@ -259,15 +295,19 @@ command_there words =
         → Decided ((x : FileWord × Scheme × FileWord × ℕ) × AreNamed (codes "batch") (TakesBatch x.0 x.1 x.2 x.3) words)
         → Decided ((number : ℕ) × AreNamed (codes "demo") (TakesDemo number) words)
         → Decided ((v : AnyScheme × AnyScheme × FileWord × FileWord) × AreNamed (codes "convert") (TakesConvert v.0 v.1 v.2 v.3) words)
+        → Decided ((j : FileWord × List ℕ) × AreNamed (codes "join") (TakesJoin j.0 j.1) words)
+        → Decided ((p : FileWord × List ℕ × ℕ × ℕ) × AreNamed (codes "split") (TakesSplit p.0 p.1 p.2 p.3) words)
         → Decided ((command : Command) × AreWordsOf command words)
-    by_all (inl c) check build read batch demo convert = inl (Segment c.0.0 c.0.1 c.0.2, c.1)
-    by_all (inr s) (inl c) build read batch demo convert = inl (Check c.0, c.1)
-    by_all (inr s) (inr c) (inl b) read batch demo convert = inl (Build b.0.0 b.0.1 b.0.2 b.0.3, b.1)
-    by_all (inr s) (inr c) (inr b) (inl r) batch demo convert = inl (Read r.0, r.1)
-    by_all (inr s) (inr c) (inr b) (inr r) (inl x) demo convert = inl (Batch x.0.0 x.0.1 x.0.2 x.0.3, x.1)
-    by_all (inr s) (inr c) (inr b) (inr r) (inr x) (inl d) convert = inl (Demo d.0, d.1)
-    by_all (inr s) (inr c) (inr b) (inr r) (inr x) (inr d) (inl v) = inl (Convert v.0.0 v.0.1 v.0.2 v.0.3, v.1)
-    by_all (inr s) (inr c) (inr b) (inr r) (inr x) (inr d) (inr v) = inr (λ h. none h.0 h.1)
+    by_all (inl c) check build read batch demo convert join split = inl (Segment c.0.0 c.0.1 c.0.2, c.1)
+    by_all (inr s) (inl c) build read batch demo convert join split = inl (Check c.0, c.1)
+    by_all (inr s) (inr c) (inl b) read batch demo convert join split = inl (Build b.0.0 b.0.1 b.0.2 b.0.3, b.1)
+    by_all (inr s) (inr c) (inr b) (inl r) batch demo convert join split = inl (Read r.0, r.1)
+    by_all (inr s) (inr c) (inr b) (inr r) (inl x) demo convert join split = inl (Batch x.0.0 x.0.1 x.0.2 x.0.3, x.1)
+    by_all (inr s) (inr c) (inr b) (inr r) (inr x) (inl d) convert join split = inl (Demo d.0, d.1)
+    by_all (inr s) (inr c) (inr b) (inr r) (inr x) (inr d) (inl v) join split = inl (Convert v.0.0 v.0.1 v.0.2 v.0.3, v.1)
+    by_all (inr s) (inr c) (inr b) (inr r) (inr x) (inr d) (inr v) (inl j) split = inl (Join j.0.0 j.0.1, j.1)
+    by_all (inr s) (inr c) (inr b) (inr r) (inr x) (inr d) (inr v) (inr j) (inl p) = inl (Split p.0.0 p.0.1 p.0.2 p.0.3, p.1)
+    by_all (inr s) (inr c) (inr b) (inr r) (inr x) (inr d) (inr v) (inr j) (inr p) = inr (λ h. none h.0 h.1)
       where
         none : (command : Command) → AreWordsOf command words → ⊥
         none (Segment lex scheme text) h = s ((lex, scheme, text), h)
@@ -277,6 +317,8 @@ command_there words =
         none (Batch lex scheme file count) h = x ((lex, scheme, file, count), h)
         none (Demo number) h = d (number, h)
         none (Convert from to file out) h = v ((from, to, file, out), h)
+        none (Join lex chain) h = j ((lex, chain), h)
+        none (Split lex text count depth) h = p ((lex, text, count, depth), h)
 
 pub command_or_none : (words : List (List ℕ)) → ((command : Command) × AreWordsOf command words) ⊎ AreOfNoCommand words
 command_or_none words = elim (command_there words) [ inl c ↦ inl c | inr none ↦ inr (λ command are. none (command, are)) ]

@@ -9,5 +9,6 @@ pub mod FilesThere
 pub mod OverlapsThere
 pub mod SourcesSound
 pub mod LexiconsThere
+pub mod ChainsThere
 pub mod CommandsThere
 pub mod OutcomesThere

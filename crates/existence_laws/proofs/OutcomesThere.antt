@@ -29,9 +29,9 @@ use Rattle.demo_definitions.proofs.StemsRead.{stems_read}
 use Rattle.demo_definitions.proofs.LinesRead.{line_read}
 use Rattle.run_definitions.specs.declared.limits.TheConstants.{CHECK_OVERLAPS, SEGMENT_PAGE}
 use Rattle.run_definitions.specs.Arguments.{FileWord}
-use Rattle.run_definitions.specs.Commands.{Command, Segment, Check, Build, Read, Batch, Demo, Convert, AreWordsOf}
-use Rattle.run_definitions.specs.Ends.{Outcome, Spelling, Done, ReadFault, BadFile, BadText, AnyFault, Rules, Tables, Stems, outcome_over}
-use Rattle.run_definitions.specs.Refusals.{file_refusal, text_refusal, usage_outcome}
+use Rattle.run_definitions.specs.Commands.{Command, Segment, Check, Build, Read, Batch, Demo, Convert, Join, Split, AreWordsOf}
+use Rattle.run_definitions.specs.Ends.{Outcome, Spelling, Done, ReadFault, BadFile, BadText, BadChain, AnyFault, Rules, Tables, Stems, outcome_over}
+use Rattle.run_definitions.specs.Refusals.{file_refusal, text_refusal, chain_refusal, usage_outcome}
 use Rattle.run_definitions.specs.LexiconTells as lexicons
 use Rattle.run_definitions.specs.LexiconTells.{FileTells, DoesTell}
 use Rattle.run_definitions.specs.SourceTells as sources
@@ -48,6 +48,15 @@ use Rattle.run_definitions.specs.BatchOutcomes.{IsLineReply, numbered_reply, Are
 use Rattle.conversion_definitions.specs.AnySchemes.{AnyScheme}
 use Rattle.conversion_definitions.specs.Conversions.{converted_text}
 use Rattle.run_definitions.specs.ConvertOutcomes.{with_count, IsConversion, printed_lines, IsConvertedOutcome, IsConvertOutcome}
+use Rattle.segmentation_definitions.specs.Derivations.{Step}
+use Rattle.chain_definitions.specs.ChainFaults.{Fault}
+use Rattle.chain_definitions.specs.ChainReadings.{IsChainRead}
+use Rattle.chain_definitions.proofs.ReadChains.{chain_if_read}
+use Rattle.run_definitions.specs.JoinOutcomes as join
+use Rattle.run_definitions.specs.JoinOutcomes.{printed_joined, IsChainOutcome, IsJoinOutcomeWith, IsJoinOutcome}
+use Rattle.text_definitions.specs.Schemes.{Slp1}
+use Rattle.run_definitions.specs.SplitOutcomes as split
+use Rattle.run_definitions.specs.SplitOutcomes.{IsSplitTextOutcome, IsSplitOutcomeWith, IsSplitOutcome}
 use Rattle.run_definitions.specs.DemoOutcomes.{DemoCounts, IsDemoLexicon, printed_demo, IsDemoOutcome}
 use Rattle.run_definitions.specs.Outcomes.{IsOutcomeOf, IsOutcome, IsSoFar, OfNoCommand, OfCommand, OfNone, OfOne}
 use Rattle.run_definitions.proofs.SoFar.{all_is_so_far}
@@ -57,6 +66,7 @@ use Rattle.existence_laws.proofs.SessionsThere.{session_there}
 use Rattle.existence_laws.proofs.FilesThere.{rules_read_there, lexicon_told_there, source_told_there}
 use Rattle.existence_laws.proofs.OverlapsThere.{overlaps_there}
 use Rattle.existence_laws.proofs.LexiconsThere.{lexicon_there}
+use Rattle.existence_laws.proofs.ChainsThere.{chain_read_there, joined_there}
 use Rattle.existence_laws.proofs.CommandsThere.{command_there}
 
 -- what a file holds is a lexicon
@@ -295,6 +305,53 @@ convert_there from to text out files =
     (record { output = printed_lines conversion.lines; files = with_file files out.name conversion.bytes; end = Done }, refl)) in
     (outcome.0, record { tells = told.0; do_tell = told.1; is_outcome = outcome.1 })
 
+-- ---- join
+
+chain_there : (lexicon : Lexicon) (chain : List ℕ) (files : Files) (read : Result (List Step) Fault) → IsChainRead lexicon chain read
+    → (outcome : Outcome) × IsChainOutcome lexicon chain files outcome
+chain_there lexicon chain files (Err fault) r = (outcome_over files (chain_refusal fault) (BadChain fault), join.OfFault fault r refl)
+chain_there lexicon chain files (Ok steps) r =
+    let joined = joined_there lexicon steps (chain_if_read lexicon chain steps r).chain in (
+      outcome_over files (printed_joined lexicon.rules joined.0) Done,
+      join.OfSteps steps r (record { joined = joined.0; is_joined = joined.1; is = refl }),
+    )
+
+join_with : (tells : FileTells) (lex : FileWord) (chain : List ℕ) (files : Files) → (outcome : Outcome) × IsJoinOutcomeWith tells lex chain files outcome
+join_with lexicons.NotThere lex chain files = (outcome_over files [] ReadFault, refl)
+join_with (lexicons.Refused fault) lex chain files = (outcome_over files (file_refusal lex.name fault) (BadFile lex.place fault), refl)
+join_with (lexicons.Holds lexicon) lex chain files =
+    let read = chain_read_there lexicon chain in chain_there lexicon chain files read.0 read.1
+
+pub join_there : (lex : FileWord) (chain : List ℕ) (files : Files) → (outcome : Outcome) × IsJoinOutcome lex chain files outcome
+join_there lex chain files =
+    let told = lexicon_told_there files lex.name in
+    let outcome = join_with told.0 lex chain files in
+    (outcome.0, record { tells = told.0; does_tell = told.1; is_outcome = outcome.1 })
+
+-- ---- split
+
+split_text : (lexicon : Lexicon) → IsLexicon lexicon → (text : List ℕ) (count : ℕ) (files : Files) (read : Result Line LineFault)
+    → line_of_text Slp1 text ≡ read → (outcome : Outcome) × IsSplitTextOutcome lexicon text count files outcome
+split_text lexicon is text count files (Err fault) e = (outcome_over files (text_refusal fault) (BadText fault), split.OfText fault e refl)
+split_text lexicon is text count files (Ok line) e =
+    let page = page_there lexicon line [] is BeforeFirst count in (
+      outcome_over files (printed_page lexicon.rules 1 page.0 page.1) Done,
+      split.OfPage line e (record { answers = page.0; more = page.1; page = page.2; is = refl }),
+    )
+
+split_with : (tells : FileTells) → ((lexicon : Lexicon) → tells ≡ lexicons.Holds lexicon → IsLexicon lexicon) → (lex : FileWord)
+    (text : List ℕ) (count : ℕ) (files : Files) → (outcome : Outcome) × IsSplitOutcomeWith tells lex text count files outcome
+split_with lexicons.NotThere is lex text count files = (outcome_over files [] ReadFault, refl)
+split_with (lexicons.Refused fault) is lex text count files = (outcome_over files (file_refusal lex.name fault) (BadFile lex.place fault), refl)
+split_with (lexicons.Holds lexicon) is lex text count files =
+    split_text lexicon (is lexicon refl) text count files (line_of_text Slp1 text) refl
+
+pub split_there : (lex : FileWord) (text : List ℕ) (count : ℕ) (files : Files) → (outcome : Outcome) × IsSplitOutcome lex text count files outcome
+split_there lex text count files =
+    let told = lexicon_told_there files lex.name in
+    let outcome = split_with told.0 (λ lexicon e. held_is_lexicon files lex.name told.0 lexicon told.1 e) lex text count files in
+    (outcome.0, record { tells = told.0; does_tell = told.1; is_outcome = outcome.1 })
+
 -- ---- a run
 
 of_command : (words : List (List ℕ)) (files : Files) (input : Option (List ℕ)) → IsToldWhereServed words files input
@@ -306,6 +363,8 @@ of_command words files input told (Read lex) are = read_there lex files input (�
 of_command words files input told (Batch lex scheme word count) are = batch_there lex scheme word count files
 of_command words files input told (Demo number) are = demo_there number files
 of_command words files input told (Convert from to text out) are = convert_there from to text out files
+of_command words files input told (Join lex chain) are = join_there lex chain files
+of_command words files input told (Split lex text count depth) are = split_there lex text count files
 
 pub outcome_there : (words : List (List ℕ)) (files : Files) (input : Option (List ℕ)) → IsToldWhereServed words files input
     → (outcome : Outcome) × IsOutcome words files input outcome

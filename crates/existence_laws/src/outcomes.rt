@@ -9,10 +9,12 @@ ghost use Rattle.run_definitions.specs.CheckOutcomes.{IsCheckOutcome};
 ghost use Rattle.run_definitions.specs.Commands.{Command, FileWord, AreWordsOf, AreOfNoCommand};
 ghost use Rattle.run_definitions.specs.ConvertOutcomes.{IsConvertOutcome};
 ghost use Rattle.run_definitions.specs.DemoOutcomes.{IsDemoOutcome};
+ghost use Rattle.run_definitions.specs.JoinOutcomes.{IsJoinOutcome};
 ghost use Rattle.run_definitions.specs.LexiconTells.{Holds, DoesTell};
 ghost use Rattle.run_definitions.specs.Outcomes.{Outcome, IsOutcome, IsSoFar};
 ghost use Rattle.run_definitions.specs.ReadOutcomes.{IsReadOutcome, IsToldWhereServed};
 ghost use Rattle.run_definitions.specs.SegmentOutcomes.{IsSegmentOutcome};
+ghost use Rattle.run_definitions.specs.SplitOutcomes.{IsSplitOutcome};
 
 /// Words are those of a command, or of none.
 pub fn words_are_of_a_command_or_of_none()
@@ -58,6 +60,17 @@ pub fn demo_has_an_outcome()
 pub fn convert_has_an_outcome()
     ensures { (from to : AnyScheme) (file out : FileWord) (files : Files)
         → (outcome : Outcome) × IsConvertOutcome from to file out files outcome }
+{}
+
+/// `join` has an outcome over any files.
+pub fn join_has_an_outcome()
+    ensures { (lex : FileWord) (chain : List ℕ) (files : Files) → (outcome : Outcome) × IsJoinOutcome lex chain files outcome }
+{}
+
+/// `split` has an outcome over any files.
+pub fn split_has_an_outcome()
+    ensures { (lex : FileWord) (text : List ℕ) (count : ℕ) (files : Files)
+        → (outcome : Outcome) × IsSplitOutcome lex text count files outcome }
 {}
 
 /// A run has an outcome, whatever its words and files are, where the input is told if a session is served. All of its output is

@@ -6,6 +6,8 @@ pub mod OneBuildOutcome
 pub mod OneBatchOutcome
 pub mod OneDemoOutcome
 pub mod OneConvertOutcome
+pub mod OneJoinOutcome
+pub mod OneSplitOutcome
 pub mod OneOutcome
 pub mod BatchSoFar
 pub mod SoFar

@@ -1,13 +1,14 @@
 -- Words give one list of values and one of arguments; and a command is read back from its name and these.
 use Rattle.std.proofs.Common.{◌≡◌, ℕ, List, [], ◌∷◌, Option, Some, None, sym, ◌∙◌, ap, refl}
-use Rattle.std.specs.Prelude.{◌==◌, if◌then◌else◌, codes, slice_index, option_map}
+use Rattle.std.specs.Prelude.{◌==◌, if◌then◌else◌, codes, slice_index, option_map, option_and_then}
 use Rattle.std.specs.Str.{bytes_eq}
 use Rattle.text_definitions.specs.Schemes.{Scheme, Slp1, Wx, Velthuis, Devanagari, name_of_scheme}
 use Rattle.conversion_definitions.specs.AnySchemes as any
 use Rattle.conversion_definitions.specs.AnySchemes.{AnyScheme, name_of_any_scheme}
 use Rattle.session_definitions.specs.Numbers.{page_size_of}
+use Rattle.run_definitions.specs.SplitOutcomes.{split_depth_of}
 use Rattle.run_definitions.specs.Arguments.{Given, given_by}
-use Rattle.run_definitions.specs.Commands.{Command, Segment, Check, Build, Read, Batch, Demo, Convert, FileWord, demo_number_of, GiveScheme, name_of_command, Takes, AreWordsOf}
+use Rattle.run_definitions.specs.Commands.{Command, Segment, Check, Build, Read, Batch, Demo, Convert, Join, Split, FileWord, demo_number_of, GiveScheme, name_of_command, Takes, AreWordsOf}
 
 -- schemes are told by the first byte of their names
 scheme_begun : List ℕ → Scheme
@@ -76,6 +77,15 @@ convert_from : List FileWord → Option Command
 convert_from (first ∷ second ∷ file ∷ out ∷ others) = Some (Convert (any_scheme_begun first.name) (any_scheme_begun second.name) file out)
 convert_from arguments = None
 
+join_from : List FileWord → Option Command
+join_from (lex ∷ chain ∷ others) = Some (Join lex chain.name)
+join_from arguments = None
+
+split_from : List FileWord → Option Command
+split_from (lex ∷ text ∷ counted ∷ deep ∷ others) =
+    option_and_then (λ count. option_map (λ depth. Split lex text.name count depth) (split_depth_of deep.name)) (page_size_of counted.name)
+split_from arguments = None
+
 command_from : List ℕ → List (List ℕ) → List FileWord → Option Command
 command_from name values arguments =
     if bytes_eq name (codes "segment") then segment_from values arguments
@@ -83,11 +93,13 @@ command_from name values arguments =
     else (if bytes_eq name (codes "build") then build_from arguments
     else (if bytes_eq name (codes "read") then read_from arguments
     else (if bytes_eq name (codes "batch") then batch_from arguments
-    else (if bytes_eq name (codes "convert") then convert_from arguments else demo_from arguments)))))
+    else (if bytes_eq name (codes "convert") then convert_from arguments
+    else (if bytes_eq name (codes "join") then join_from arguments
+    else (if bytes_eq name (codes "split") then split_from arguments else demo_from arguments)))))))
 
 read_back : (command : Command) (values : List (List ℕ)) (arguments : List FileWord) → Takes command values arguments
     → command_from (name_of_command command) values arguments ≡ Some command
-unfolding command_from segment_from check_from build_from read_from batch_from convert_from demo_from
+unfolding command_from segment_from check_from build_from read_from batch_from convert_from join_from split_from demo_from
 read_back (Segment lex scheme text) values arguments takes =
     ap (segment_from values) takes.1.1 ∙ ap (λ s. Some (Segment lex s text)) (given_back values scheme takes.0)
 read_back (Check lex) values arguments takes = ap check_from takes.1
@@ -105,6 +117,12 @@ read_back (Convert from to file out) values arguments takes =
     ∙ ap (λ s. Some (Convert s (any_scheme_begun is.second.name) file out)) (any_named_back from)
     ∙ ap (λ name. Some (Convert from (any_scheme_begun name) file out)) is.names_to
     ∙ ap (λ s. Some (Convert from s file out)) (any_named_back to)
+read_back (Join lex chain) values arguments takes = ap join_from takes.1.1
+read_back (Split lex text count depth) values arguments takes =
+    let is = takes.1 in
+    ap split_from is.are
+    ∙ ap (option_and_then (λ n. option_map (λ d. Split lex text n d) (split_depth_of is.deep.name))) is.counts
+    ∙ ap (option_map (λ d. Split lex text count d)) is.is_depth
 
 -- words are those of one command
 pub one_command : (words : List (List ℕ)) (left right : Command) → AreWordsOf left words → AreWordsOf right words → left ≡ right

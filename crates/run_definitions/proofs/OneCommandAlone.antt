@@ -23,7 +23,11 @@ use Rattle.run_definitions.specs.DemoOutcomes as demo
 use Rattle.run_definitions.specs.DemoOutcomes.{IsDemoRun}
 use Rattle.run_definitions.specs.ConvertOutcomes as convert
 use Rattle.run_definitions.specs.ConvertOutcomes.{IsConvertRun}
-use Rattle.run_definitions.specs.Commands.{Command, Segment, Check, Build, Read, Batch, Demo, Convert, name_of_command, AreWordsOf, AreOfNoCommand, out_of, DoWrite, ReadsInput, DoReadInput}
+use Rattle.run_definitions.specs.JoinOutcomes as join
+use Rattle.run_definitions.specs.JoinOutcomes.{IsJoinRun}
+use Rattle.run_definitions.specs.SplitOutcomes as split
+use Rattle.run_definitions.specs.SplitOutcomes.{IsSplitRun}
+use Rattle.run_definitions.specs.Commands.{Command, Segment, Check, Build, Read, Batch, Demo, Convert, Join, Split, name_of_command, AreWordsOf, AreOfNoCommand, out_of, DoWrite, ReadsInput, DoReadInput}
 use Rattle.run_definitions.specs.Outcomes.{IsOutcome, IsOutcomeOf, OfNoCommand, OfCommand, IsSoFar, IsSoFarOf, OfNone, OfOne}
 use Rattle.run_definitions.proofs.OneCommand.{one_command}
 
@@ -93,6 +97,8 @@ only_segment P own (Read lex) e = absurd (not_both (ap (is_named (codes "segment
 only_segment P own (Batch lex scheme file count) e = absurd (not_both (ap (is_named (codes "segment")) e))
 only_segment P own (Demo number) e = absurd (not_both (ap (is_named (codes "segment")) e))
 only_segment P own (Convert from to file out) e = absurd (not_both (ap (is_named (codes "segment")) e))
+only_segment P own (Join lex chain) e = absurd (not_both (ap (is_named (codes "segment")) e))
+only_segment P own (Split lex text count depth) e = absurd (not_both (ap (is_named (codes "segment")) e))
 
 only_check : (P : Command → Type 0) → ((lex : FileWord) → P (Check lex))
     → (command : Command) → name_of_command command ≡ codes "check" → P command
@@ -103,6 +109,8 @@ only_check P own (Read lex) e = absurd (not_both (ap (is_named (codes "check")) 
 only_check P own (Batch lex scheme file count) e = absurd (not_both (ap (is_named (codes "check")) e))
 only_check P own (Demo number) e = absurd (not_both (ap (is_named (codes "check")) e))
 only_check P own (Convert from to file out) e = absurd (not_both (ap (is_named (codes "check")) e))
+only_check P own (Join lex chain) e = absurd (not_both (ap (is_named (codes "check")) e))
+only_check P own (Split lex text count depth) e = absurd (not_both (ap (is_named (codes "check")) e))
 
 only_build : (P : Command → Type 0) → ((rules tables stems out : FileWord) → P (Build rules tables stems out))
     → (command : Command) → name_of_command command ≡ codes "build" → P command
@@ -113,6 +121,8 @@ only_build P own (Read lex) e = absurd (not_both (ap (is_named (codes "build")) 
 only_build P own (Batch lex scheme file count) e = absurd (not_both (ap (is_named (codes "build")) e))
 only_build P own (Demo number) e = absurd (not_both (ap (is_named (codes "build")) e))
 only_build P own (Convert from to file out) e = absurd (not_both (ap (is_named (codes "build")) e))
+only_build P own (Join lex chain) e = absurd (not_both (ap (is_named (codes "build")) e))
+only_build P own (Split lex text count depth) e = absurd (not_both (ap (is_named (codes "build")) e))
 
 only_read : (P : Command → Type 0) → ((lex : FileWord) → P (Read lex))
     → (command : Command) → name_of_command command ≡ codes "read" → P command
@@ -123,6 +133,8 @@ only_read P own (Read lex) e = own lex
 only_read P own (Batch lex scheme file count) e = absurd (not_both (ap (is_named (codes "read")) e))
 only_read P own (Demo number) e = absurd (not_both (ap (is_named (codes "read")) e))
 only_read P own (Convert from to file out) e = absurd (not_both (ap (is_named (codes "read")) e))
+only_read P own (Join lex chain) e = absurd (not_both (ap (is_named (codes "read")) e))
+only_read P own (Split lex text count depth) e = absurd (not_both (ap (is_named (codes "read")) e))
 
 only_batch : (P : Command → Type 0) → ((lex : FileWord) (scheme : Scheme) (file : FileWord) (count : ℕ) → P (Batch lex scheme file count))
     → (command : Command) → name_of_command command ≡ codes "batch" → P command
@@ -133,6 +145,8 @@ only_batch P own (Read lex) e = absurd (not_both (ap (is_named (codes "batch")) 
 only_batch P own (Batch lex scheme file count) e = own lex scheme file count
 only_batch P own (Demo number) e = absurd (not_both (ap (is_named (codes "batch")) e))
 only_batch P own (Convert from to file out) e = absurd (not_both (ap (is_named (codes "batch")) e))
+only_batch P own (Join lex chain) e = absurd (not_both (ap (is_named (codes "batch")) e))
+only_batch P own (Split lex text count depth) e = absurd (not_both (ap (is_named (codes "batch")) e))
 
 only_demo : (P : Command → Type 0) → ((number : ℕ) → P (Demo number))
     → (command : Command) → name_of_command command ≡ codes "demo" → P command
@@ -143,6 +157,8 @@ only_demo P own (Read lex) e = absurd (not_both (ap (is_named (codes "demo")) e)
 only_demo P own (Batch lex scheme file count) e = absurd (not_both (ap (is_named (codes "demo")) e))
 only_demo P own (Demo number) e = own number
 only_demo P own (Convert from to file out) e = absurd (not_both (ap (is_named (codes "demo")) e))
+only_demo P own (Join lex chain) e = absurd (not_both (ap (is_named (codes "demo")) e))
+only_demo P own (Split lex text count depth) e = absurd (not_both (ap (is_named (codes "demo")) e))
 
 only_convert : (P : Command → Type 0) → ((from to : AnyScheme) (file out : FileWord) → P (Convert from to file out))
     → (command : Command) → name_of_command command ≡ codes "convert" → P command
@@ -153,6 +169,32 @@ only_convert P own (Read lex) e = absurd (not_both (ap (is_named (codes "convert
 only_convert P own (Batch lex scheme file count) e = absurd (not_both (ap (is_named (codes "convert")) e))
 only_convert P own (Demo number) e = absurd (not_both (ap (is_named (codes "convert")) e))
 only_convert P own (Convert from to file out) e = own from to file out
+only_convert P own (Join lex chain) e = absurd (not_both (ap (is_named (codes "convert")) e))
+only_convert P own (Split lex text count depth) e = absurd (not_both (ap (is_named (codes "convert")) e))
+
+only_join : (P : Command → Type 0) → ((lex : FileWord) (chain : List ℕ) → P (Join lex chain))
+    → (command : Command) → name_of_command command ≡ codes "join" → P command
+only_join P own (Segment lex scheme text) e = absurd (not_both (ap (is_named (codes "join")) e))
+only_join P own (Check lex) e = absurd (not_both (ap (is_named (codes "join")) e))
+only_join P own (Build rules tables stems out) e = absurd (not_both (ap (is_named (codes "join")) e))
+only_join P own (Read lex) e = absurd (not_both (ap (is_named (codes "join")) e))
+only_join P own (Batch lex scheme file count) e = absurd (not_both (ap (is_named (codes "join")) e))
+only_join P own (Demo number) e = absurd (not_both (ap (is_named (codes "join")) e))
+only_join P own (Convert from to file out) e = absurd (not_both (ap (is_named (codes "join")) e))
+only_join P own (Join lex chain) e = own lex chain
+only_join P own (Split lex text count depth) e = absurd (not_both (ap (is_named (codes "join")) e))
+
+only_split : (P : Command → Type 0) → ((lex : FileWord) (text : List ℕ) (count depth : ℕ) → P (Split lex text count depth))
+    → (command : Command) → name_of_command command ≡ codes "split" → P command
+only_split P own (Segment lex scheme text) e = absurd (not_both (ap (is_named (codes "split")) e))
+only_split P own (Check lex) e = absurd (not_both (ap (is_named (codes "split")) e))
+only_split P own (Build rules tables stems out) e = absurd (not_both (ap (is_named (codes "split")) e))
+only_split P own (Read lex) e = absurd (not_both (ap (is_named (codes "split")) e))
+only_split P own (Batch lex scheme file count) e = absurd (not_both (ap (is_named (codes "split")) e))
+only_split P own (Demo number) e = absurd (not_both (ap (is_named (codes "split")) e))
+only_split P own (Convert from to file out) e = absurd (not_both (ap (is_named (codes "split")) e))
+only_split P own (Join lex chain) e = absurd (not_both (ap (is_named (codes "split")) e))
+only_split P own (Split lex text count depth) e = own lex text count depth
 
 -- the command has the first word as its name
 named : (words : List (List ℕ)) (name : List ℕ) (following : List (List ℕ)) (command : Command) → words ≡ name ∷ following
@@ -260,3 +302,31 @@ module _ (words following : List (List ℕ)) (files : Files) (input : Option (Li
 
   pub convert_run_alone : words ≡ codes "convert" ∷ following → IsOutcome words files input outcome ↔ IsConvertRun words files outcome
   convert_run_alone e = (convert_run e, of_convert_run e)
+
+  join_run : words ≡ codes "join" ∷ following → IsOutcome words files input outcome → IsJoinRun words files outcome
+  join_run e (OfNoCommand none is) = join.OfOthers (λ lex chain are. none (Join lex chain) are) is
+  join_run e (OfCommand command are is) =
+      only_join (λ c. AreWordsOf c words → IsOutcomeOf c files input outcome → IsJoinRun words files outcome)
+      (λ lex chain. join.OfWords lex chain) command (named words (codes "join") following command e are) are is
+
+  of_join_run : words ≡ codes "join" ∷ following → IsJoinRun words files outcome → IsOutcome words files input outcome
+  of_join_run e (join.OfWords lex chain are is) = OfCommand (Join lex chain) are is
+  of_join_run e (join.OfOthers none is) =
+      OfNoCommand (λ command are. only_join (λ c. AreWordsOf c words → ⊥) none command (named words (codes "join") following command e are) are) is
+
+  pub join_run_alone : words ≡ codes "join" ∷ following → IsOutcome words files input outcome ↔ IsJoinRun words files outcome
+  join_run_alone e = (join_run e, of_join_run e)
+
+  split_run : words ≡ codes "split" ∷ following → IsOutcome words files input outcome → IsSplitRun words files outcome
+  split_run e (OfNoCommand none is) = split.OfOthers (λ lex text count depth are. none (Split lex text count depth) are) is
+  split_run e (OfCommand command are is) =
+      only_split (λ c. AreWordsOf c words → IsOutcomeOf c files input outcome → IsSplitRun words files outcome)
+      (λ lex text count depth. split.OfWords lex text count depth) command (named words (codes "split") following command e are) are is
+
+  of_split_run : words ≡ codes "split" ∷ following → IsSplitRun words files outcome → IsOutcome words files input outcome
+  of_split_run e (split.OfWords lex text count depth are is) = OfCommand (Split lex text count depth) are is
+  of_split_run e (split.OfOthers none is) =
+      OfNoCommand (λ command are. only_split (λ c. AreWordsOf c words → ⊥) none command (named words (codes "split") following command e are) are) is
+
+  pub split_run_alone : words ≡ codes "split" ∷ following → IsOutcome words files input outcome ↔ IsSplitRun words files outcome
+  split_run_alone e = (split_run e, of_split_run e)

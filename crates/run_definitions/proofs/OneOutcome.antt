@@ -12,7 +12,7 @@ use Rattle.segmentation_definitions.proofs.Listings.{same_page}
 use Rattle.session_definitions.specs.Sessions.{IsSession}
 use Rattle.session_definitions.proofs.OneSession.{one_session}
 use Rattle.run_definitions.specs.declared.limits.TheConstants.{CHECK_OVERLAPS, SEGMENT_PAGE}
-use Rattle.run_definitions.specs.Commands.{Command, Segment, Check, Build, Read, Batch, Demo, Convert, FileWord}
+use Rattle.run_definitions.specs.Commands.{Command, Segment, Check, Build, Read, Batch, Demo, Convert, Join, Split, FileWord}
 use Rattle.run_definitions.specs.Ends as ends
 use Rattle.run_definitions.specs.Ends.{Outcome, Done, Large, outcome_over}
 use Rattle.run_definitions.specs.Refusals.{text_refusal}
@@ -25,6 +25,10 @@ use Rattle.run_definitions.specs.BatchOutcomes.{IsBatchOutcomeWith, IsBatchOutco
 use Rattle.run_definitions.proofs.OneBatchOutcome.{one_text_outcome}
 use Rattle.run_definitions.proofs.OneDemoOutcome.{one_demo_outcome}
 use Rattle.run_definitions.proofs.OneConvertOutcome.{one_convert_outcome}
+use Rattle.run_definitions.specs.JoinOutcomes.{IsJoinOutcomeWith, IsJoinOutcome}
+use Rattle.run_definitions.proofs.OneJoinOutcome.{one_chain_outcome}
+use Rattle.run_definitions.specs.SplitOutcomes.{IsSplitOutcomeWith, IsSplitOutcome}
+use Rattle.run_definitions.proofs.OneSplitOutcome.{one_split_text}
 use Rattle.run_definitions.proofs.OneBuildOutcome.{one_build_outcome}
 use Rattle.run_definitions.proofs.OneCommand.{one_command}
 use Rattle.run_definitions.proofs.OneContent.{same_bytes, not_missing}
@@ -158,6 +162,30 @@ module _ (one : (bytes : List ℕ) (left right : FileResult) → IsReadAs bytes 
       let same = one_telling files lex.name p.tells q.tells p.does_tell q.does_tell in
       one_batch_with q.tells lex scheme file count files a b (subst (λ (t : FileTells). IsBatchOutcomeWith t lex scheme file count files a) same p.is_outcome) q.is_outcome
 
+  one_join_with : (tells : FileTells) (lex : FileWord) (chain : List ℕ) (files : Files) (a b : Outcome)
+      → IsJoinOutcomeWith tells lex chain files a → IsJoinOutcomeWith tells lex chain files b → a ≡ b
+  one_join_with NotThere lex chain files a b p q = p ∙ sym q
+  one_join_with (Refused fault) lex chain files a b p q = p ∙ sym q
+  one_join_with (Holds lexicon) lex chain files a b p q = one_chain_outcome lexicon chain files a b p q
+
+  pub one_join_outcome : (lex : FileWord) (chain : List ℕ) (files : Files) (a b : Outcome) → IsJoinOutcome lex chain files a
+      → IsJoinOutcome lex chain files b → a ≡ b
+  one_join_outcome lex chain files a b p q =
+      let same = one_telling files lex.name p.tells q.tells p.does_tell q.does_tell in
+      one_join_with q.tells lex chain files a b (subst (λ (t : FileTells). IsJoinOutcomeWith t lex chain files a) same p.is_outcome) q.is_outcome
+
+  one_split_with : (tells : FileTells) (lex : FileWord) (text : List ℕ) (count : ℕ) (files : Files) (a b : Outcome)
+      → IsSplitOutcomeWith tells lex text count files a → IsSplitOutcomeWith tells lex text count files b → a ≡ b
+  one_split_with NotThere lex text count files a b p q = p ∙ sym q
+  one_split_with (Refused fault) lex text count files a b p q = p ∙ sym q
+  one_split_with (Holds lexicon) lex text count files a b p q = one_split_text lexicon text count files a b p q
+
+  pub one_split_outcome : (lex : FileWord) (text : List ℕ) (count : ℕ) (files : Files) (a b : Outcome)
+      → IsSplitOutcome lex text count files a → IsSplitOutcome lex text count files b → a ≡ b
+  one_split_outcome lex text count files a b p q =
+      let same = one_telling files lex.name p.tells q.tells p.does_tell q.does_tell in
+      one_split_with q.tells lex text count files a b (subst (λ (t : FileTells). IsSplitOutcomeWith t lex text count files a) same p.is_outcome) q.is_outcome
+
   -- each command has one outcome at most
   pub one_outcome_of : (command : Command) (files : Files) (input : Option (List ℕ)) (a b : Outcome) → IsOutcomeOf command files input a
       → IsOutcomeOf command files input b → a ≡ b
@@ -168,6 +196,8 @@ module _ (one : (bytes : List ℕ) (left right : FileResult) → IsReadAs bytes 
   one_outcome_of (Batch lex scheme file count) files input a b p q = one_batch_outcome lex scheme file count files a b p q
   one_outcome_of (Demo number) files input a b p q = one_demo_outcome number files a b p q
   one_outcome_of (Convert from to file out) files input a b p q = one_convert_outcome from to file out files a b p q
+  one_outcome_of (Join lex chain) files input a b p q = one_join_outcome lex chain files a b p q
+  one_outcome_of (Split lex text count depth) files input a b p q = one_split_outcome lex text count files a b p q
 
   -- and so has a run
   pub one_outcome : (words : List (List ℕ)) (files : Files) (input : Option (List ℕ)) (a b : Outcome)

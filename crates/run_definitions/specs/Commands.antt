@@ -11,6 +11,8 @@ use Rattle.run_definitions.specs.BuildOutcomes.{TakesBuild}
 use Rattle.run_definitions.specs.ReadOutcomes.{TakesRead}
 use Rattle.run_definitions.specs.BatchOutcomes.{TakesBatch}
 use Rattle.run_definitions.specs.ConvertOutcomes.{TakesConvert}
+use Rattle.run_definitions.specs.JoinOutcomes.{TakesJoin}
+use Rattle.run_definitions.specs.SplitOutcomes.{TakesSplit}
 use Rattle.run_definitions.specs.DemoOutcomes.{TakesDemo}
 pub use Rattle.run_definitions.specs.DemoOutcomes.{demo_number_of}
 
@@ -23,6 +25,8 @@ pub data Command : Type 0 where
   Batch : (lex : FileWord) → (scheme : Scheme) → (file : FileWord) → (count : ℕ) → Command
   Demo : (number : ℕ) → Command
   Convert : (from to : AnyScheme) → (file out : FileWord) → Command
+  Join : (lex : FileWord) → (chain : List ℕ) → Command
+  Split : (lex : FileWord) → (text : List ℕ) → (count depth : ℕ) → Command
 
 -- the files that the command reads, in their order
 abbrev pub files_of : Command → List FileWord
@@ -33,6 +37,8 @@ files_of (Read lex) = lex ∷ []
 files_of (Batch lex scheme file count) = lex ∷ file ∷ []
 files_of (Demo number) = []
 files_of (Convert from to file out) = file ∷ []
+files_of (Join lex chain) = lex ∷ []
+files_of (Split lex text count depth) = lex ∷ []
 
 -- the file that the command writes, where it writes one
 abbrev pub out_of : Command → Option FileWord
@@ -43,6 +49,8 @@ out_of (Read lex) = None
 out_of (Batch lex scheme file count) = None
 out_of (Demo number) = None
 out_of (Convert from to file out) = Some out
+out_of (Join lex chain) = None
+out_of (Split lex text count depth) = None
 
 -- the command reads the input
 abbrev pub ReadsInput : Command → Type 0
@@ -53,6 +61,8 @@ ReadsInput (Read lex) = Unit {0}
 ReadsInput (Batch lex scheme file count) = ⊥
 ReadsInput (Demo number) = ⊥
 ReadsInput (Convert from to file out) = ⊥
+ReadsInput (Join lex chain) = ⊥
+ReadsInput (Split lex text count depth) = ⊥
 
 -- the first word of a command
 abbrev pub name_of_command : Command → List ℕ
@@ -63,6 +73,8 @@ name_of_command (Read lex) = codes "read"
 name_of_command (Batch lex scheme file count) = codes "batch"
 name_of_command (Demo number) = codes "demo"
 name_of_command (Convert from to file out) = codes "convert"
+name_of_command (Join lex chain) = codes "join"
+name_of_command (Split lex text count depth) = codes "split"
 
 -- these values of `--in` and these arguments are the command's
 abbrev pub Takes : Command → List (List ℕ) → List FileWord → Type 0
@@ -73,6 +85,8 @@ Takes (Read lex) values arguments = TakesRead lex values arguments
 Takes (Batch lex scheme file count) values arguments = TakesBatch lex scheme file count values arguments
 Takes (Demo number) values arguments = TakesDemo number values arguments
 Takes (Convert from to file out) values arguments = TakesConvert from to file out values arguments
+Takes (Join lex chain) values arguments = TakesJoin lex chain values arguments
+Takes (Split lex text count depth) values arguments = TakesSplit lex text count depth values arguments
 
 -- the words are those of the command
 abbrev pub AreWordsOf : Command → List (List ℕ) → Type 0

@@ -8,6 +8,7 @@ use Rattle.paradigm_file_definitions.specs.Records as records
 use Rattle.paradigm_file_definitions.specs.TableFaults.{TableWhy}
 use Rattle.paradigm_file_definitions.specs.StemFaults.{StemWhy}
 use Rattle.conversion_definitions.specs.Conversions.{ConversionFault}
+use Rattle.chain_definitions.specs.ChainFaults as chain
 
 -- why a file is refused: it is too large, or it has this fault as a lexicon file, a rule file, a table file, a stem file, or a text
 -- in a scheme
@@ -27,6 +28,7 @@ pub data End : Type 0 where
   ReadFault : End
   BadFile : (word : ℕ) → (fault : AnyFault) → End
   BadText : (fault : LineFault) → End
+  BadChain : (fault : chain.Fault) → End
   TooMuch : End
 
 -- what a run writes, the files after it, and how it ends
@@ -47,3 +49,4 @@ status_of_end ReadFault = 3
 status_of_end (BadFile word fault) = 5
 status_of_end (BadText fault) = 6
 status_of_end TooMuch = 7
+status_of_end (BadChain fault) = 9

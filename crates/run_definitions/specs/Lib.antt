@@ -13,5 +13,7 @@ pub mod DemoOutcomes
 pub mod ReadOutcomes
 pub mod BatchOutcomes
 pub mod ConvertOutcomes
+pub mod JoinOutcomes
+pub mod SplitOutcomes
 pub mod Commands
 pub mod Outcomes

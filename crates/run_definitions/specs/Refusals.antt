@@ -1,4 +1,4 @@
--- The lines in which words, files and texts are refused (own).
+-- The lines in which words, files, texts and chains are refused (own).
 use Rattle.std.specs.Prelude.{ℕ, List, ◌++◌, codes}
 use Rattle.std.specs.Fmt.{decimal}
 use Rattle.outside.specs.Files.{Files}
@@ -10,6 +10,7 @@ use Rattle.rule_file_definitions.specs.EntryWhys as entry
 use Rattle.rule_file_definitions.specs.RuleFileFaults as rule_file
 use Rattle.paradigm_file_definitions.specs.TableFaults as table
 use Rattle.paradigm_file_definitions.specs.StemFaults as stem
+use Rattle.chain_definitions.specs.ChainFaults as chain
 use Rattle.run_definitions.specs.Ends as ends
 use Rattle.run_definitions.specs.Ends.{AnyFault, Large, Lexicon, Rules, Tables, Stems, Spelling, Outcome, outcome_over}
 
@@ -94,3 +95,16 @@ abbrev pub text_refusal : LineFault → List ℕ
 text_refusal (Misspelled fault) = output_line (codes "bad text spelling " ++ decimal (place_of fault))
 text_refusal NoLetters = output_line (codes "bad text no letters")
 text_refusal TooLong = output_line (codes "bad text too long")
+
+-- the name of a reason of a chain
+abbrev pub name_of_chain_why : chain.Why → List ℕ
+name_of_chain_why chain.Shape = codes "Shape"
+name_of_chain_why chain.Phase = codes "Phase"
+name_of_chain_why chain.Form = codes "Form"
+name_of_chain_why chain.Rule = codes "Rule"
+name_of_chain_why chain.Barred = codes "Barred"
+name_of_chain_why chain.Meet = codes "Meet"
+
+-- `bad chain step N: WHY`
+abbrev pub chain_refusal : chain.Fault → List ℕ
+chain_refusal fault = output_line (codes "bad chain step " ++ decimal fault.step ++ codes ": " ++ name_of_chain_why fault.why)

@@ -12,7 +12,9 @@ ghost use Rattle.run_definitions.specs.BatchOutcomes.{AreBatchWords, IsBatchOutc
 ghost use Rattle.run_definitions.specs.DemoOutcomes.{AreDemoWords, IsDemoOutcome, IsDemoRun};
 ghost use Rattle.conversion_definitions.specs.AnySchemes.{AnyScheme};
 ghost use Rattle.run_definitions.specs.ConvertOutcomes.{AreConvertWords, IsConvertOutcome, IsConvertRun};
-ghost use Rattle.run_definitions.specs.Commands.{Command, Segment, Check, Build, Read, Batch, Demo, Convert};
+ghost use Rattle.run_definitions.specs.JoinOutcomes.{AreJoinWords, IsJoinOutcome, IsJoinRun};
+ghost use Rattle.run_definitions.specs.SplitOutcomes.{AreSplitWords, IsSplitOutcome, IsSplitRun};
+ghost use Rattle.run_definitions.specs.Commands.{Command, Segment, Check, Build, Read, Batch, Demo, Convert, Join, Split};
 ghost use Rattle.run_definitions.specs.Commands.{name_of_command, AreWordsOf, DoWrite, WriteNoFile, DoReadInput};
 ghost use Rattle.run_definitions.specs.Outcomes.{IsOutcome, IsSoFar};
 
@@ -119,6 +121,36 @@ pub fn convert_alone()
         ↔ ((outcome : Outcome) × IsConvertOutcome from to file out files outcome × (output ≡ outcome.output)) }
     ensures writes { (from to : AnyScheme) (file out : FileWord) (words : List (List ℕ)) (other : FileWord) → AreConvertWords from to file out words → DoWrite words other → other ≡ out }
     ensures input { (from to : AnyScheme) (file out : FileWord) (words : List (List ℕ)) → AreConvertWords from to file out words → DoReadInput words → ⊥ }
+{}
+
+/// The outcomes of a run whose first word is `join` are just those that the definitions of `join` alone give; so is what it may have
+/// come to write where it stops.
+pub fn join_alone()
+    ensures words { (lex : FileWord) (chain : List ℕ) (words : List (List ℕ)) → AreJoinWords lex chain words ↔ AreWordsOf (Join lex chain) words }
+    ensures run { (words following : List (List ℕ)) (files : Files) (input : Option (List ℕ)) (outcome : Outcome)
+        → words ≡ codes "join" ∷ following → IsOutcome words files input outcome ↔ IsJoinRun words files outcome }
+    ensures outcome { (lex : FileWord) (chain : List ℕ) (words : List (List ℕ)) (files : Files) (input : Option (List ℕ)) (outcome : Outcome)
+        → AreJoinWords lex chain words → IsOutcome words files input outcome ↔ IsJoinOutcome lex chain files outcome }
+    ensures so_far { (lex : FileWord) (chain : List ℕ) (words : List (List ℕ)) (files : Files) (input : Option (List ℕ)) (output : List ℕ)
+        → AreJoinWords lex chain words → IsSoFar words files input output
+        ↔ ((outcome : Outcome) × IsJoinOutcome lex chain files outcome × (output ≡ outcome.output)) }
+    ensures writes { (lex : FileWord) (chain : List ℕ) (words : List (List ℕ)) → AreJoinWords lex chain words → WriteNoFile words }
+    ensures input { (lex : FileWord) (chain : List ℕ) (words : List (List ℕ)) → AreJoinWords lex chain words → DoReadInput words → ⊥ }
+{}
+
+/// The outcomes of a run whose first word is `split` are just those that the definitions of `split` alone give; so is what it may have
+/// come to write where it stops.
+pub fn split_alone()
+    ensures words { (lex : FileWord) (text : List ℕ) (count depth : ℕ) (words : List (List ℕ)) → AreSplitWords lex text count depth words ↔ AreWordsOf (Split lex text count depth) words }
+    ensures run { (words following : List (List ℕ)) (files : Files) (input : Option (List ℕ)) (outcome : Outcome)
+        → words ≡ codes "split" ∷ following → IsOutcome words files input outcome ↔ IsSplitRun words files outcome }
+    ensures outcome { (lex : FileWord) (text : List ℕ) (count depth : ℕ) (words : List (List ℕ)) (files : Files) (input : Option (List ℕ)) (outcome : Outcome)
+        → AreSplitWords lex text count depth words → IsOutcome words files input outcome ↔ IsSplitOutcome lex text count files outcome }
+    ensures so_far { (lex : FileWord) (text : List ℕ) (count depth : ℕ) (words : List (List ℕ)) (files : Files) (input : Option (List ℕ)) (output : List ℕ)
+        → AreSplitWords lex text count depth words → IsSoFar words files input output
+        ↔ ((outcome : Outcome) × IsSplitOutcome lex text count files outcome × (output ≡ outcome.output)) }
+    ensures writes { (lex : FileWord) (text : List ℕ) (count depth : ℕ) (words : List (List ℕ)) → AreSplitWords lex text count depth words → WriteNoFile words }
+    ensures input { (lex : FileWord) (text : List ℕ) (count depth : ℕ) (words : List (List ℕ)) → AreSplitWords lex text count depth words → DoReadInput words → ⊥ }
 {}
 
 /// A run whose first word is the name of no command, or that has no word, is refused with `usage`.

@@ -13,6 +13,8 @@ ghost use Rattle.run_definitions.specs.ReadOutcomes.{IsReadOutcome};
 ghost use Rattle.run_definitions.specs.BatchOutcomes.{IsBatchOutcome};
 ghost use Rattle.conversion_definitions.specs.AnySchemes.{AnyScheme};
 ghost use Rattle.run_definitions.specs.ConvertOutcomes.{IsConvertOutcome};
+ghost use Rattle.run_definitions.specs.JoinOutcomes.{IsJoinOutcome};
+ghost use Rattle.run_definitions.specs.SplitOutcomes.{IsSplitOutcome};
 ghost use Rattle.run_definitions.specs.SegmentOutcomes.{IsSegmentOutcome};
 
 /// Words are those of one command at most.
@@ -66,6 +68,18 @@ pub fn batch_has_one_outcome()
 pub fn convert_has_one_outcome()
     ensures { (from to : AnyScheme) (file out : FileWord) (files : Files) (left right : Outcome)
         → IsConvertOutcome from to file out files left → IsConvertOutcome from to file out files right → left ≡ right }
+{}
+
+/// With one file and one text of a chain, `join` has one outcome at most over the same files.
+pub fn join_has_one_outcome()
+    ensures { (lex : FileWord) (chain : List ℕ) (files : Files) (left right : Outcome)
+        → IsJoinOutcome lex chain files left → IsJoinOutcome lex chain files right → left ≡ right }
+{}
+
+/// With one file, one text and a size of the page, `split` has one outcome at most over the same files.
+pub fn split_has_one_outcome()
+    ensures { (lex : FileWord) (text : List ℕ) (count : ℕ) (files : Files) (left right : Outcome)
+        → IsSplitOutcome lex text count files left → IsSplitOutcome lex text count files right → left ≡ right }
 {}
 
 /// A run has one outcome at most: these words over these files and this input write one output, leave one set of files,

@@ -6,3 +6,6 @@ pub const SEGMENT_PAGE: u32 = 10_000;
 
 /// The overlaps that `check` prints are at most this many.
 pub const CHECK_OVERLAPS: u32 = 1_000;
+
+/// `split` divides the search at most so many steps deep.
+pub const MOST_SPLIT_DEPTH: u32 = 8;

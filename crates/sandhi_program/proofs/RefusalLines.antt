@@ -1,5 +1,5 @@
--- The lines in which files are refused, with their line end put last.
-use Rattle.std.proofs.Common.{◌≡◌, ℕ, List, [], ◌∷◌, ◌++◌, codes, refl, sym, ap, append_assoc}
+-- The lines in which files and chains are refused, with their line end put last.
+use Rattle.std.proofs.Common.{◌≡◌, ℕ, List, [], ◌∷◌, ◌++◌, codes, refl, sym, ◌∙◌, ap, append_assoc}
 use Rattle.list_laws.proofs.Elements.{six_regrouped}
 use Rattle.text_definitions.specs.LineTexts.{place_of}
 use Rattle.latin_schemes.specs.declared.spell_fault.SpellFault.{SpellFault}
@@ -35,3 +35,10 @@ source_line name rest = ap (λ r. codes "bad file " ++ r) (sym (append_assoc nam
 
 pub rule_line : (number why : List ℕ) → codes " rule " ++ (number ++ (codes ": " ++ why)) ≡ codes " rule " ++ number ++ codes ": " ++ why
 rule_line number why = ap (λ r. codes " rule " ++ r) (sym (append_assoc number (codes ": ") why))
+
+-- of a chain
+pub chain_line : (number why : List ℕ)
+    → codes "bad chain step " ++ (number ++ (codes ": " ++ (why ++ codes "\n"))) ≡ (codes "bad chain step " ++ number ++ codes ": " ++ why) ++ 10 ∷ []
+chain_line number why =
+    ap (λ rest. codes "bad chain step " ++ rest)
+    (sym (append_assoc number (codes ": ") (why ++ 10 ∷ [])) ∙ sym (append_assoc (number ++ codes ": ") why (10 ∷ [])))

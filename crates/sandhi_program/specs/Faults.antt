@@ -7,8 +7,9 @@ use Rattle.lexicon_file.specs.Contents as files
 use Rattle.rule_file.specs.Faults as rules
 use Rattle.paradigms.specs.Answers.{table_why, stem_why}
 use Rattle.more_schemes.specs.Values.{conversion_fault}
+use Rattle.joiner.specs.Faults as chains
 use Rattle.sandhi_program.specs.declared.status.Status.{Status}
-use Rattle.sandhi_program.specs.declared.status.Status.TheVariants.{Done, Memory, Usage, ReadFault, WriteFault, BadFile, BadText, TooMuch}
+use Rattle.sandhi_program.specs.declared.status.Status.TheVariants.{Done, Memory, Usage, ReadFault, WriteFault, BadFile, BadText, TooMuch, BadChain}
 use Rattle.sandhi_program.specs.declared.status.AnyFault.{AnyFault}
 use Rattle.sandhi_program.specs.declared.status.AnyFault.TheVariants.{Large, Lexicon, Rules, Tables, Stems, Spelling}
 
@@ -29,6 +30,7 @@ Tells ReadFault end = end ≡ ends.ReadFault
 Tells (BadFile word fault) end = end ≡ ends.BadFile word (file_fault fault)
 Tells (BadText fault) end = end ≡ ends.BadText (text_fault fault)
 Tells TooMuch end = end ≡ ends.TooMuch
+Tells (BadChain fault) end = end ≡ ends.BadChain (chains.fault_of fault)
 Tells Memory end = ⊥
 Tells WriteFault end = ⊥
 

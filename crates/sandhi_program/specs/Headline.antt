@@ -4,7 +4,7 @@ use Rattle.outside.specs.Files.{Files}
 use Rattle.outside.specs.Told.{GrowsByPrefix}
 use Rattle.run_definitions.specs.Ends.{Outcome, status_of_end}
 use Rattle.sandhi_program.specs.declared.status.Status.{Status}
-use Rattle.sandhi_program.specs.declared.status.Status.TheVariants.{Done, Memory, Usage, ReadFault, WriteFault, BadFile, BadText, TooMuch}
+use Rattle.sandhi_program.specs.declared.status.Status.TheVariants.{Done, Memory, Usage, ReadFault, WriteFault, BadFile, BadText, TooMuch, BadChain}
 
 -- the exit status of the process
 abbrev pub exit_status : Status → ℕ
@@ -16,6 +16,7 @@ exit_status WriteFault = 4
 exit_status (BadFile word fault) = 5
 exit_status (BadText fault) = 6
 exit_status TooMuch = 7
+exit_status (BadChain fault) = 9
 
 -- the status is neither of a device that failed nor of want of memory
 abbrev pub IsNoFault : Status → Type 0
@@ -24,6 +25,7 @@ IsNoFault Usage = Unit {0}
 IsNoFault (BadFile word fault) = Unit {0}
 IsNoFault (BadText fault) = Unit {0}
 IsNoFault TooMuch = Unit {0}
+IsNoFault (BadChain fault) = Unit {0}
 IsNoFault ReadFault = ⊥
 IsNoFault WriteFault = ⊥
 IsNoFault Memory = ⊥
@@ -38,6 +40,7 @@ MayEndNoCommand ReadFault = ⊥
 MayEndNoCommand (BadFile word fault) = ⊥
 MayEndNoCommand (BadText fault) = ⊥
 MayEndNoCommand TooMuch = ⊥
+MayEndNoCommand (BadChain fault) = ⊥
 
 -- the run wrote all the output of such an outcome, the files are as it leaves them, and the exit status is that of its end
 pub record WroteAll (IsIt : Outcome → Type 0) (after : Option Files) (old : List ℕ) (written : Option (List ℕ)) (result : Status) : Type 0 where

@@ -12,5 +12,8 @@ pub mod Conversions
 pub mod Batches
 pub mod Demos
 pub mod Sessions
+pub mod OverLexicons
+pub mod Joins
+pub mod Splits
 pub mod Sources
 pub mod SourceErrors

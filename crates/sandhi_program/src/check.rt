@@ -61,7 +61,11 @@ fn print_rule_of(alloc: Global, rules: &RuleSet, number: u32) -> Result<String, 
 }
 
 /// The line of an overlap.
-fn print_overlap(alloc: Global, rules: &RuleSet, overlap: &Overlap) -> Result<String, Memory>
+pub(crate) fn print_overlap(
+    alloc: Global,
+    rules: &RuleSet,
+    overlap: &Overlap,
+) -> Result<String, Memory>
     requires { CanBePrinted rules.now overlap.now }
     ensures ok { IfOk result (λ text. string_bytes text ≡ output_line (printed_overlap rules.now overlap.now)) }
 {

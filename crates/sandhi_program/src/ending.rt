@@ -1,12 +1,14 @@
-ghost use Rattle.run_definitions.specs.Refusals.{file_refusal, text_refusal};
+ghost use Rattle.joiner.specs.Faults as chains;
+ghost use Rattle.run_definitions.specs.Refusals.{file_refusal, text_refusal, chain_refusal};
 ghost use Rattle.sandhi_program.specs.Headline.{IsNoFault};
 ghost use Rattle.text_line.specs.Values.{text_fault};
 ghost use Rattle.sandhi_program.specs.Ends.{Finishes, Refuses};
 ghost use Rattle.sandhi_program.specs.Faults.{file_fault};
 
-use super::refusal::{print_file_refusal, print_text_refusal};
+use super::refusal::{print_chain_refusal, print_file_refusal, print_text_refusal};
 use super::status::{AnyFault, Status};
 use command_words::PlacedWord;
+use joiner::ChainFault;
 use outside::{Sink, WriteError, write_all};
 use phoneme::Memory;
 use std::alloc::Global;
@@ -52,6 +54,16 @@ pub(crate) fn refuse_text<O: Sink>(alloc: Global, fault: TextFault, out: &mut O)
 {
     match print_text_refusal(alloc, fault) {
         Ok(output) => finish(out, output.as_bytes(), Status::BadText { fault }),
+        Err(Memory) => Status::Memory,
+    }
+}
+
+/// Writes the refusal of the text of a chain.
+pub(crate) fn refuse_chain<O: Sink>(alloc: Global, fault: ChainFault, out: &mut O) -> Status
+    ensures { Refuses (Status.BadChain fault) result (O.written out.old) (O.written out.new) (O.faults out.old) (O.faults out.new) (chain_refusal (chains.fault_of fault)) }
+{
+    match print_chain_refusal(alloc, fault) {
+        Ok(output) => finish(out, output.as_bytes(), Status::BadChain { fault }),
         Err(Memory) => Status::Memory,
     }
 }

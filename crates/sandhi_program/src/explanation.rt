@@ -40,7 +40,11 @@ impl<'a> Explanation<'a> {
                 None => Some(Explanation::UnwrittenFile(faults.disk?)),
             },
             Status::TooMuch => Some(Explanation::TooMuch),
-            Status::Done | Status::Usage | Status::BadFile { .. } | Status::BadText { .. } => None,
+            Status::Done
+            | Status::Usage
+            | Status::BadFile { .. }
+            | Status::BadText { .. }
+            | Status::BadChain { .. } => None,
         }
     }
 }

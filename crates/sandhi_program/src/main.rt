@@ -18,6 +18,7 @@ mod demo;
 mod ending;
 mod escaped;
 mod explanation;
+mod join;
 mod notes;
 mod read;
 mod reading;
@@ -27,6 +28,7 @@ mod run;
 mod segment;
 mod source_files;
 mod source_refusal;
+mod split;
 mod status;
 #[cfg(test)]
 mod tests;

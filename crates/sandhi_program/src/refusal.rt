@@ -1,11 +1,13 @@
 ghost use Rattle.std.specs.Prelude.{◌≡◌, IfOk, string_bytes};
 ghost use Rattle.lexicon_file.specs.Faults.{why_of};
-ghost use Rattle.run_definitions.specs.Refusals.{name_of_why, file_refusal, text_refusal};
+ghost use Rattle.joiner.specs.Faults as chains;
+ghost use Rattle.run_definitions.specs.Refusals.{name_of_why, file_refusal, text_refusal, name_of_chain_why, chain_refusal};
 ghost use Rattle.text_line.specs.Values.{text_fault};
 ghost use Rattle.sandhi_program.specs.Faults.{file_fault};
 
 use super::source_refusal::{name_of_stem_why, name_of_table_why, record_refusal, rules_refusal};
 use super::status::AnyFault;
+use joiner::{ChainFault, ChainWhy};
 use lexicon_file::FileWhy;
 use phoneme::Memory;
 use std::alloc::Global;
@@ -79,4 +81,27 @@ pub(crate) fn print_text_refusal(alloc: Global, fault: TextFault) -> Result<Stri
         TextFault::NoLetters => Ok(String::from_str(alloc, "bad text no letters\n")?),
         TextFault::TooLong => Ok(String::from_str(alloc, "bad text too long\n")?),
     }
+}
+
+/// The name of a reason of a chain.
+fn name_of_chain_why(why: ChainWhy) -> &'static str
+    ensures { result.now ≡ name_of_chain_why (chains.why_of why) }
+{
+    match why {
+        ChainWhy::Shape => "Shape",
+        ChainWhy::Phase => "Phase",
+        ChainWhy::Form => "Form",
+        ChainWhy::Rule => "Rule",
+        ChainWhy::Barred => "Barred",
+        ChainWhy::Meet => "Meet",
+    }
+}
+
+/// `bad chain step N: WHY`.
+pub(crate) fn print_chain_refusal(alloc: Global, fault: ChainFault) -> Result<String, Memory>
+    ensures ok { IfOk result (λ text. string_bytes text ≡ chain_refusal (chains.fault_of fault)) }
+{
+    let step = fault.step;
+    let why = name_of_chain_why(fault.why);
+    Ok(format!(in alloc; "bad chain step {step}: {why}\n")?)
 }

@@ -21,9 +21,11 @@ use super::check::run_check;
 use super::convert::run_convert;
 use super::demo::run_demo;
 use super::ending::finish;
+use super::join::run_join;
 use super::read::run_read;
 use super::segment::run_segment;
 use super::source_files::run_build;
+use super::split::run_split;
 use super::status::Status;
 use command_words::{Command, command_of};
 use outside::{Gate, Shelf, Sink, Source};
@@ -59,12 +61,15 @@ fn run_command<R: Threads + Sync, H: Shelf, I: Source, O: Sink, G: Gate + Sync>(
         Command::Batch(words) => run_batch(rt, alloc, words, shelf, out, gate),
         Command::Demo { number } => run_demo(rt, alloc, *number, out),
         Command::Convert(words) => run_convert(alloc, words, shelf, out),
+        Command::Join(words) => run_join(alloc, words, shelf, out),
+        Command::Split(words) => run_split(rt, alloc, words, shelf, out, gate),
     }
 }
 
 /// Does what the words of the command line say, over the devices, and answers how the run ended. `words` are the
-/// program's words without its name. `usage` and the refusals of files and texts are written to `out`, a line each; where a
-/// file is not read nothing is written. Each worker that answers a line for `batch` passes the gate first.
+/// program's words without its name. `usage` and the refusals of files, texts and chains are written to `out`, a line each; where a
+/// file is not read nothing is written. Each worker that answers a line for `batch` or a part for `split` passes the
+/// gate first.
 pub fn run<R: Threads + Sync, H: Shelf, I: Source, O: Sink, G: Gate + Sync>(
     rt: &R,
     alloc: Global,

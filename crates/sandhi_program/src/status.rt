@@ -1,6 +1,7 @@
 ghost use Rattle.std.specs.Prelude.{◌≡◌};
 ghost use Rattle.sandhi_program.specs.Headline.{exit_status};
 
+use joiner::ChainFault;
 use lexicon_file::FileFault;
 use more_schemes::ConvertFault;
 use paradigms::{StemFault, TableFault};
@@ -26,6 +27,8 @@ pub enum Status {
     BadText { fault: TextFault },
     /// The input of a session is too long, and no line of its first bytes ends the session.
     TooMuch,
+    /// The text of a chain is refused.
+    BadChain { fault: ChainFault },
 }
 
 /// Why a file is refused: it has more than `MOST_FILE_BYTES` bytes, or a fault of its format. The fault of stems with the
@@ -42,7 +45,7 @@ pub enum AnyFault {
 
 impl Status {
     /// The exit status of the process: 0 for `Done`, 1 `Memory`, 2 `Usage`, 3 `ReadFault`, 4 `WriteFault`, 5 `BadFile`,
-    /// 6 `BadText` and 7 `TooMuch`.
+    /// 6 `BadText`, 7 `TooMuch` and 9 `BadChain`.
     pub fn exit_code(self) -> u8
         ensures { result ≡ exit_status self }
     {
@@ -55,6 +58,7 @@ impl Status {
             Status::BadFile { .. } => 5,
             Status::BadText { .. } => 6,
             Status::TooMuch => 7,
+            Status::BadChain { .. } => 9,
         }
     }
 }

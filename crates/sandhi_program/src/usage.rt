@@ -1,5 +1,5 @@
 /// The name of each command, its line of usage, and what a person may want to know of it.
-static COMMANDS: [(&str, &str); 7] = [
+static COMMANDS: [(&str, &str); 9] = [
     (
         "segment",
         "segment [--in SCHEME] LEX TEXT    (SCHEME is slp1, wx, velthuis or devanagari; without it slp1)",
@@ -24,6 +24,14 @@ static COMMANDS: [(&str, &str); 7] = [
     (
         "convert",
         "convert FROM TO FILE OUT    (a text from scheme to scheme: slp1, wx, velthuis, devanagari, iast or hk)",
+    ),
+    (
+        "join",
+        "join LEX CHAIN    (CHAIN is an answer as it is printed, without its number, in quotes)",
+    ),
+    (
+        "split",
+        "split LEX TEXT N DEPTH    (the first N answers, 1 to 1000; fronts of DEPTH steps, 1 to 8, are listed side by side)",
     ),
 ];
 

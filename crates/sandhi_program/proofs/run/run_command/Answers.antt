@@ -27,3 +27,9 @@ returns-in-Demo-clause-ran g c = rw c.in-Demo.is (Apart refl (c.run_demo.ensures
 
 pub returns-in-Convert-clause-ran : goal.returns-in-Convert-clause-ran
 returns-in-Convert-clause-ran g c = rw c.in-Convert.is (Apart refl c.run_convert.ensures)
+
+pub returns-in-Join-clause-ran : goal.returns-in-Join-clause-ran
+returns-in-Join-clause-ran g c = rw c.in-Join.is (Apart refl c.run_join.ensures)
+
+pub returns-in-Split-clause-ran : goal.returns-in-Split-clause-ran
+returns-in-Split-clause-ran g c = rw c.in-Split.is (Apart refl c.run_split.ensures)

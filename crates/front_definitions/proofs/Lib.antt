@@ -1,0 +1,3 @@
+pub mod NextOnes
+pub mod KeyListFronts
+pub mod SameFronts
