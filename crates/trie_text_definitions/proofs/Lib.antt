@@ -15,3 +15,4 @@ pub mod LexiconsTold
 pub mod RootNodes
 pub mod TrieTextsRead
 pub mod TrieLexicons
+pub mod OneTrie
