@@ -16,3 +16,4 @@ pub mod RootNodes
 pub mod TrieTextsRead
 pub mod TrieLexicons
 pub mod OneTrie
+pub mod OneText

@@ -6,7 +6,7 @@ ghost use Rattle.trie_text_definitions.specs.Versions.{Version, version_of};
 ghost use Rattle.trie_text_definitions.specs.VersionFaults.{FileResult};
 ghost use Rattle.trie_text_definitions.specs.VersionReadings.{IsReadAs, HasContent, reading_in};
 ghost use Rattle.trie_text_definitions.specs.VersionSteps.{Told, trie_told};
-ghost use Rattle.trie_text_definitions.specs.VersionTexts.{HasTextIn, IsTextIn};
+ghost use Rattle.trie_text_definitions.specs.VersionTexts.{HasTextIn, IsTextIn, IsTrieText, IsNewestText};
 
 /// The bytes of a lexicon file of any version are read in one way at most: as one lexicon, or with one first fault.
 pub fn a_file_of_any_version_is_read_in_one_way()
@@ -33,4 +33,10 @@ pub fn what_any_version_is_read_as_has_this_text()
 /// A trie of phases tells just these phases: the forms for which its roots stand, with their analyses.
 pub fn a_trie_tells_its_phases()
     ensures { (trie : Trie) (phases : List (List Form)) → IsTrieOf trie phases → All IsPhase phases → phases_of trie ≡ phases }
+{}
+
+/// A lexicon has one text at most in version 2, one in version 3, and one newest text.
+pub fn a_lexicon_has_one_text_in_a_version()
+    ensures version { (version : Version) (lexicon : Lexicon) (left right : List ℕ) → IsTrieText version lexicon left → IsTrieText version lexicon right → left ≡ right }
+    ensures newest { (lexicon : Lexicon) (left right : List ℕ) → IsNewestText lexicon left → IsNewestText lexicon right → left ≡ right }
 {}
