@@ -1,7 +1,7 @@
 -- A lexicon has one text in a version, since its phases have one ordered trie; and one newest text, since a lexicon with a limited rule has
 -- none in version 2.
 use Rattle.std.proofs.Common.{◌≡◌, ℕ, List, refl, sym, ◌∙◌, ap, subst}
-use Rattle.std.specs.Prelude.{All, Contains, length}
+use Rattle.std.specs.Prelude.{length}
 use Rattle.std.proofs.lemmas.List.Elements.{All-contains}
 use Rattle.lexicon_definitions.specs.Rules.{Rule, IsUnlimited}
 use Rattle.lexicon_definitions.specs.Lexicons.{Lexicon}

@@ -1,10 +1,9 @@
 -- Phases have one ordered trie. Nodes of two such tries are mates where they have the same suffixes, and each node has a mate. Where the rows
 -- agree below a number, the row at this number is that of its mate; no mate stands before, and if both stood after, each of two lines would be
 -- below the other. So the rows agree one after another, and roots are told by their suffixes.
-use Rattle.std.proofs.Common.{◌≡◌, ◌≢◌, ◌↔◌, inl, inr, ℕ, zero, suc, ◌+◌, ◌<◌, ◌≤◌, Option, Some, None, List, [], ◌∷◌, ◌++◌, length, get_or, refl, sym, ◌∙◌, ap, subst, arith}
-use Rattle.std.specs.Prelude.{Contains, IsSome, is_some}
+use Rattle.std.proofs.Common.{◌≡◌, ◌↔◌, inl, inr, ℕ, zero, suc, ◌<◌, ◌≤◌, Option, Some, None, List, [], ◌∷◌, ◌++◌, length, get_or, refl, sym, ◌∙◌, ap, subst, arith}
+use Rattle.std.specs.Prelude.{Contains, is_some}
 use Rattle.std.specs.List.{AllByRecursion}
-use Rattle.std.specs.Ordering.{nat_cmp, on}
 use Rattle.std.proofs.lemmas.Bool.{cases_lt}
 use Rattle.std.proofs.lemmas.Cmp.{nat_cmp_total, on_total}
 use Rattle.std.proofs.lemmas.List.{append-nil, get_or_default}
@@ -24,7 +23,7 @@ use Rattle.trie_text_definitions.specs.NodeLines.{NodeLine, compare_node_lines, 
 use Rattle.trie_text_definitions.specs.VersionTexts.{IsOrderedTrieOf}
 use Rattle.trie_text_definitions.proofs.NodeSteps.{node_lines_total}
 use Rattle.trie_text_definitions.proofs.NodeValueLaws.{length-values, same_heights}
-use Rattle.trie_text_definitions.proofs.RootNodes.{reached_by, Ending, ending_below}
+use Rattle.trie_text_definitions.proofs.RootNodes.{reached_by, ending_below}
 use Rattle.trie_text_definitions.proofs.ToldTries.{no_line, heights_at, line_at}
 
 -- ---- suffixes through children
@@ -160,9 +159,11 @@ module _ (rows others : List Row) (are : AreRows rows) (are_others : AreRows oth
   heights_agree (child ∷ children) node h below same =
       let before = h.0.before in
       let many = length-values node_line_over rows in
-      let many_others = length-values node_line_over others in
-      (heights_at (node_lines rows) child.1 (omega (arith, before, below, within, many)) ∙ ap (λ (n : NodeLine). n.height) (same child.1 before)
-      ∙ sym (heights_at (node_lines others) child.1 (omega (arith, before, below, within_others, many_others))), heights_agree children node h.1 below same)
+      let many_others = length-values node_line_over others in (
+        heights_at (node_lines rows) child.1 (omega (arith, before, below, within, many)) ∙ ap (λ (n : NodeLine). n.height) (same child.1 before)
+            ∙ sym (heights_at (node_lines others) child.1 (omega (arith, before, below, within_others, many_others))),
+        heights_agree children node h.1 below same,
+      )
 
   -- the line of a row over both
   over_both : (node : ℕ) → node < length rows → node ≤ bound → ((k : ℕ) → k < node → get_or (node_lines rows) k no_line ≡ get_or (node_lines others) k no_line)
@@ -192,8 +193,8 @@ suffixes_told : (rows : List Row) (forms : List Form) (front : List ℕ) (node :
 suffixes_told rows forms front node is word delta = (
   λ has. (is.deltas word has.reached has.walked delta).0 has.has_delta,
   λ d.
-  let (reached, walked) = reached_by (walk rows node word) ((is.walks word).1 (inr (record { form = d.form; is_among = d.is_among; rest = []; has_letters = d.has_letters ∙ sym (append-nil (front ++ word)) }))) in
-  record { reached = reached; walked = walked; has_delta = (is.deltas word reached walked delta).1 d },
+      let (reached, walked) = reached_by (walk rows node word) ((is.walks word).1 (inr (record { form = d.form; is_among = d.is_among; rest = []; has_letters = d.has_letters ∙ sym (append-nil (front ++ word)) }))) in
+      record { reached = reached; walked = walked; has_delta = (is.deltas word reached walked delta).1 d },
 )
 
 mates_by : (rows others : List Row) (forms : List Form) (front : List ℕ) (node other : ℕ) → IsNodeAfter rows forms front node → IsNodeAfter others forms front other → AreMates rows others node other
@@ -219,7 +220,7 @@ module _ (left right : Trie) (phases : List (List Form)) (h : IsOrderedTrieOf le
         other,
         omega (arith, within, root_low),
         mates_by left.rows right.rows forms led.word node other
-        (IsNodeAfter-walk left.rows forms [] led.word led.root node here led.walked) (IsNodeAfter-walk right.rows forms [] led.word root other there walked),
+            (IsNodeAfter-walk left.rows forms [] led.word led.root node here led.walked) (IsNodeAfter-walk right.rows forms [] led.word root other there walked),
       )
 
   -- where the rows agree below a node, its row is that of a node that does not stand before

@@ -12,9 +12,9 @@ mod readings;
 mod worked;
 
 pub use readings::{
-    a_file_of_any_version_is_read_in_one_way, a_lexicon_has_one_text_in_a_version, a_trie_tells_its_phases,
-    tries_that_are_read_are_shared, what_any_version_is_read_as_has_this_text,
-    what_is_read_is_a_lexicon,
+    a_file_of_any_version_is_read_in_one_way, a_lexicon_has_one_text_in_a_version,
+    a_trie_tells_its_phases, tries_that_are_read_are_shared,
+    what_any_version_is_read_as_has_this_text, what_is_read_is_a_lexicon,
 };
 pub use worked::{
     a_small_trie_is_read, an_inflected_trie_is_read, limited_rules_are_read,
