@@ -17,3 +17,4 @@ pub mod TrieTextsRead
 pub mod TrieLexicons
 pub mod OneTrie
 pub mod OneText
+pub mod EndTests

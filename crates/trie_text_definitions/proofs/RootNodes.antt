@@ -35,7 +35,7 @@ in_range from (suc count) k l h =
       | inr here ↦ let same : from ≡ k = omega (arith, l, here) in subst (λ n. Contains (from ∷ range_with_len (from + 1) count) n) same (Contains-first from (range_with_len (from + 1) count))
     ]
 
-any_contained : {X : Type 0} (test : X → Bool) (xs : List X) (x : X) → Contains xs x → test x ≡ true → list_any test xs ≡ true
+pub any_contained : {X : Type 0} (test : X → Bool) (xs : List X) (x : X) → Contains xs x → test x ≡ true → list_any test xs ≡ true
 any_contained test xs x (k, below, is) t = list_any_at test xs k x below (ap test (is) ∙ t)
 
 front_of : (front rest : List ℕ) → take (length front) (front ++ rest) ≡ front

@@ -53,7 +53,7 @@ least_from form stem (suc more) cut e n =
     in go (may_cut form stem cut) refl
 
 -- a stem that begins with the front of a form is this front and the rest
-stem_parts : (stem front : List ℕ) → starts_with nat_eq stem front ≡ true → front ++ drop (length front) stem ≡ stem
+pub stem_parts : (stem front : List ℕ) → starts_with nat_eq stem front ≡ true → front ++ drop (length front) stem ≡ stem
 stem_parts stem front h =
     let same = bytes_same front (take (length front) stem) h in
     ap (λ (f : List ℕ). f ++ drop (length front) stem) same ∙ take-append-drop (length front) stem
