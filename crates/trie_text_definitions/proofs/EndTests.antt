@@ -1,10 +1,9 @@
 -- The trie of a lexicon passes what is asked at `end`: each node is led to, each delta is the right one, and since an analysis has one delta
 -- there are as many deltas of a form as analyses.
-use Rattle.std.proofs.Common.{◌≡◌, ◌≢◌, inl, inr, ℕ, zero, suc, ◌+◌, ◌-◌, ◌<◌, ◌≤◌, ◌==◌, Bool, true, false, not, leb, eqb, Option, Some, None, List, [], ◌∷◌, ◌++◌, length, map, take, drop, get_or, refl, sym, ◌∙◌, ap, subst, arith}
-use Rattle.std.specs.Prelude.{All, Contains, nat_eq, sum_by}
-use Rattle.std.specs.List.{AllByRecursion, list_all, list_any, range_with_len, starts_with, flat_map}
+use Rattle.std.proofs.Common.{◌≡◌, ◌≢◌, inl, inr, ℕ, zero, suc, ◌+◌, ◌-◌, ◌<◌, ◌≤◌, ◌==◌, Bool, true, false, not, leb, Option, Some, None, List, [], ◌∷◌, length, map, take, drop, get_or, refl, sym, ◌∙◌, ap, subst, arith}
+use Rattle.std.specs.Prelude.{All, Contains, sum_by}
+use Rattle.std.specs.List.{list_all, list_any, range_with_len, flat_map}
 use Rattle.std.specs.List.Sorted.{IsStrictlySortedBy}
-use Rattle.std.specs.Cmp.{IsTotalOrder}
 use Rattle.std.specs.declared.cmp.Ordering.{Ordering}
 use Rattle.std.specs.declared.cmp.Ordering.TheVariants.{Less, Equal, Greater}
 use Rattle.std.proofs.lemmas.Bool.{and_from, not_from_false, not_from_true, false_from_ne_true, le-leb, le-ltb, eq-eqb}
@@ -13,9 +12,8 @@ use Rattle.std.proofs.lemmas.Map.Lookups.{CmpEqualImpliesEq}
 use Rattle.std.proofs.lemmas.List.{get_or_default}
 use Rattle.std.proofs.lemmas.List.Folds.{list_any_none}
 use Rattle.std.proofs.lemmas.List.Sums.{sum_by-cons}
-use Rattle.std.proofs.lemmas.List.Elements.{All-contains, All-get_or, All-from_recursion, Contains-get_or}
+use Rattle.std.proofs.lemmas.List.Elements.{All-contains, All-get_or, All-from_recursion}
 use Rattle.list_laws.specs.RisingSets.{put, with_element, with_elements}
-use Rattle.list_laws.proofs.FirstOnes.{Contains-map_cases}
 use Rattle.list_laws.proofs.RisingSetLaws.{Contains-with_element}
 use Rattle.list_laws.proofs.Sorted.{Contains-first, Contains-later, Contains-cons_cases, not_Contains-nil, not_Less-itself, All-from_Contains}
 use Rattle.text_definitions.specs.Words.{IsWord}
@@ -31,7 +29,7 @@ use Rattle.lexicon_definitions.proofs.TrieGrowth.{walk-child, walk-none, walk-wi
 use Rattle.lexicon_definitions.proofs.TrieSuffixes.{compare_deltas-total}
 use Rattle.lexicon_text_definitions.specs.TextsOf.{HasSpelledStems}
 use Rattle.trie_text_definitions.specs.NodeValues.{nodes_from, is_led_to, has_unused, Suffix, suffixes_of}
-use Rattle.trie_text_definitions.specs.TrieForms.{analyses_by, form_of_suffix, forms_of_root, phases_of, count_pairs, has_too_many_pairs, is_stem_length, is_right_delta, has_right_deltas, has_wrong_delta, may_cut}
+use Rattle.trie_text_definitions.specs.TrieForms.{form_of_suffix, forms_of_root, count_pairs, has_too_many_pairs, is_stem_length, is_right_delta, has_right_deltas, has_wrong_delta, may_cut}
 use Rattle.trie_text_definitions.specs.VersionTexts.{IsOrderedTrieOf}
 use Rattle.trie_text_definitions.proofs.RootForms.{analyses_exact}
 use Rattle.trie_text_definitions.proofs.RootNodes.{any_contained, right_is_delta, one_delta}
