@@ -15,3 +15,6 @@ pub mod LexiconsTold
 pub mod RootNodes
 pub mod TrieTextsRead
 pub mod TrieLexicons
+pub mod OneTrie
+pub mod OneText
+pub mod EndTests

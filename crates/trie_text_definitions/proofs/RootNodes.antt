@@ -35,7 +35,7 @@ in_range from (suc count) k l h =
       | inr here ↦ let same : from ≡ k = omega (arith, l, here) in subst (λ n. Contains (from ∷ range_with_len (from + 1) count) n) same (Contains-first from (range_with_len (from + 1) count))
     ]
 
-any_contained : {X : Type 0} (test : X → Bool) (xs : List X) (x : X) → Contains xs x → test x ≡ true → list_any test xs ≡ true
+pub any_contained : {X : Type 0} (test : X → Bool) (xs : List X) (x : X) → Contains xs x → test x ≡ true → list_any test xs ≡ true
 any_contained test xs x (k, below, is) t = list_any_at test xs k x below (ap test (is) ∙ t)
 
 front_of : (front rest : List ℕ) → take (length front) (front ++ rest) ≡ front
@@ -130,11 +130,11 @@ module _ (rows : List Row) (are : AreRows rows) where
       in go (child_in rows node letter) refl
 
   -- a word that leads from the node to one with deltas
-  record Ending (node : ℕ) : Type 0 where
-    word : List ℕ
-    reached : ℕ
-    walked : walk rows node word ≡ Some reached
-    some : (row_of rows reached).deltas ≢ []
+  pub record Ending (node : ℕ) : Type 0 where
+    pub word : List ℕ
+    pub reached : ℕ
+    pub walked : walk rows node word ≡ Some reached
+    pub some : (row_of rows reached).deltas ≢ []
 
   ending_by : (node : ℕ) → node < length rows → row_of rows node ≢ empty_row → (deltas : List Delta) → (row_of rows node).deltas ≡ deltas
       → (children : List (ℕ × ℕ)) → (row_of rows node).children ≡ children
@@ -153,7 +153,7 @@ module _ (rows : List Row) (are : AreRows rows) where
         some = rest.some;
       }
 
-  ending_below : (bound node : ℕ) → node < bound → node < length rows → row_of rows node ≢ empty_row → Ending node
+  pub ending_below : (bound node : ℕ) → node < bound → node < length rows → row_of rows node ≢ empty_row → Ending node
   ending_below zero node below low some = absurd (omega (arith, below))
   ending_below (suc bound) node below low some =
       ending_by node low some (row_of rows node).deltas refl (row_of rows node).children refl (λ child among.

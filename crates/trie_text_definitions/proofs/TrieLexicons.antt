@@ -1,15 +1,15 @@
 -- A trie of phases tells just these phases: each analysis has a delta, the least cut that gives its stem, so a root's suffixes have just the
 -- forms of the phase, with just their analyses; and both lists rise.
-use Rattle.std.proofs.Common.{◌≡◌, ◌≢◌, ◌⊎◌, ◌↔◌, inl, inr, ℕ, zero, suc, ◌+◌, ◌-◌, ◌<◌, ◌≤◌, Bool, true, false, Option, Some, None, List, [], ◌∷◌, ◌++◌, length, map, take, drop, get_or, refl, sym, ◌∙◌, ap, subst, arith, true≢false}
-use Rattle.std.specs.Prelude.{All, Contains, IsSome, nat_eq, is_some}
+use Rattle.std.proofs.Common.{◌≡◌, inl, inr, ℕ, zero, suc, ◌+◌, ◌-◌, ◌<◌, ◌≤◌, Bool, true, false, List, [], ◌∷◌, ◌++◌, length, map, take, drop, get_or, refl, sym, ◌∙◌, ap, subst, arith, true≢false}
+use Rattle.std.specs.Prelude.{All, Contains, nat_eq}
 use Rattle.std.specs.List.{starts_with}
 use Rattle.std.specs.List.Sorted.{IsStrictlySortedBy}
 use Rattle.std.specs.Ordering.{on}
 use Rattle.std.specs.declared.cmp.Ordering.TheVariants.{Less}
 use Rattle.std.proofs.lemmas.Bool.{cases_lt}
-use Rattle.std.proofs.lemmas.Cmp.{nat_list_cmp_total, on_total}
+use Rattle.std.proofs.lemmas.Cmp.{nat_list_cmp_total}
 use Rattle.std.proofs.lemmas.List.{append-nil, length-map, get_or-map, take-append-drop}
-use Rattle.std.proofs.lemmas.List.Elements.{All-contains, All-get_or, Contains-get_or}
+use Rattle.std.proofs.lemmas.List.Elements.{All-contains, All-get_or}
 use Rattle.std.proofs.lemmas.Map.Keys.{sorted_tail}
 use Rattle.list_laws.proofs.Elements.{some_element, some_by_element}
 use Rattle.list_laws.proofs.FirstOnes.{Contains-map, Contains-map_cases, sorted-map}
@@ -20,13 +20,13 @@ use Rattle.text_definitions.specs.Words.{compare_words}
 use Rattle.lexicon_definitions.specs.Analyses.{Analysis, compare_analyses}
 use Rattle.lexicon_definitions.specs.Deltas.{Delta, replace_end, analysis_by, IsDelta}
 use Rattle.lexicon_definitions.specs.Lexicons.{Form, IsFormEntry, IsPhase}
-use Rattle.lexicon_definitions.specs.Tries.{Row, Trie, AreRows, BeginsForm, HasDelta, IsNodeAfter, IsTrieOf, row_of, walk}
+use Rattle.lexicon_definitions.specs.Tries.{Row, Trie, AreRows, IsNodeAfter, IsTrieOf, row_of, walk}
 use Rattle.lexicon_definitions.proofs.FormsWithEntry.{analyses_total, by_letters, forms_total}
 use Rattle.trie_text_definitions.specs.NodeValues.{Suffix, suffixes_of}
 use Rattle.trie_text_definitions.specs.TrieForms.{analyses_by, form_of_suffix, forms_of_root, phases_of, may_cut}
 use Rattle.trie_text_definitions.proofs.RootForms.{analyses_exact, analysis_from, analysis_there}
 use Rattle.trie_text_definitions.proofs.RootNodes.{begins_with, reached_by}
-use Rattle.trie_text_definitions.proofs.SuffixLaws.{IsSuffix, suffix_by, suffix_there, suffixes_rise}
+use Rattle.trie_text_definitions.proofs.SuffixLaws.{suffix_by, suffix_there, suffixes_rise}
 
 -- ---- each analysis has a delta
 
@@ -53,7 +53,7 @@ least_from form stem (suc more) cut e n =
     in go (may_cut form stem cut) refl
 
 -- a stem that begins with the front of a form is this front and the rest
-stem_parts : (stem front : List ℕ) → starts_with nat_eq stem front ≡ true → front ++ drop (length front) stem ≡ stem
+pub stem_parts : (stem front : List ℕ) → starts_with nat_eq stem front ≡ true → front ++ drop (length front) stem ≡ stem
 stem_parts stem front h =
     let same = bytes_same front (take (length front) stem) h in
     ap (λ (f : List ℕ). f ++ drop (length front) stem) same ∙ take-append-drop (length front) stem

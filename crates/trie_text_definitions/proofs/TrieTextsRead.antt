@@ -48,7 +48,7 @@ module _ (rows : List Row) (are : AreRows rows) where
       let same = value_before nodes_over rows child.1 node [] h.0.before low in
       λ i. same i ++ same_nodes node low children h.1 i
 
-  nodes_are : (node : ℕ) → node < length rows → nodes_from rows node ≡ node ∷ flat_map (λ (child : ℕ × ℕ). nodes_from rows child.1) (row_of rows node).children
+  pub nodes_are : (node : ℕ) → node < length rows → nodes_from rows node ≡ node ∷ flat_map (λ (child : ℕ × ℕ). nodes_from rows child.1) (row_of rows node).children
   nodes_are node low =
       value_at nodes_over rows node [] low
       ∙ (λ i. length-before nodes_over rows node low i ∷ same_nodes node low (row_of rows node).children (recursion_from_All (IsChild rows node) (row_of rows node).children (are.each node low).children) i)
