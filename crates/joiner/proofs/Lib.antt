@@ -1,2 +1,9 @@
 pub mod LinkSteps
 pub mod FoundOverlaps
+pub mod HandedOn
+pub mod PartsRead
+pub mod StepsRead
+pub mod FormsFound
+pub mod RulesFound
+pub mod LinksNamed
+pub mod LinksMet

@@ -1,2 +1,4 @@
 pub mod Faults
 pub mod Joining
+pub mod Triples
+pub mod Shapes

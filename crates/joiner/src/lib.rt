@@ -6,12 +6,20 @@
 #![tactic(auto)]
 
 mod chain_fault;
+mod change;
+mod forms;
 mod joined;
 mod joining;
 mod link;
+mod meeting;
+mod naming;
 mod overlapping;
+mod parts;
 mod reading;
+mod shape;
+mod shape_error;
 mod writing;
+mod written_step;
 
 pub use chain_fault::{ChainError, ChainFault, ChainWhy};
 pub use joined::Joined;
