@@ -14,7 +14,7 @@ answer_texts rules number [] = []
 answer_texts rules number (steps ∷ answers) = printed_answer rules number steps ∷ answer_texts rules (next_number number) answers
 
 -- these are the texts of the page of so many answers before the first answer, numbered from 1, and whether an answer is left
-pub record IsPrintedPage (lexicon : Lexicon) (line : Line) (choices : List Choice) (limit : ℕ) (page : Page) : Type 0 where
+pub record IsPrintedPage (lexicon : Lexicon) (line : Line) (choices : List Choice) (limit : ℕ) (printed : Page) : Type 0 where
   pub answers : List (List Step)
-  pub page : IsPage lexicon line choices BeforeFirst limit answers page.more
-  pub texts : map string_bytes page.answers.items ≡ answer_texts lexicon.rules 1 answers
+  pub page : IsPage lexicon line choices BeforeFirst limit answers printed.more
+  pub texts : map string_bytes printed.answers.items ≡ answer_texts lexicon.rules 1 answers
