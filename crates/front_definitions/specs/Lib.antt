@@ -1,0 +1,2 @@
+pub mod NextOnes
+pub mod Fronts

@@ -1,0 +1,5 @@
+pub mod KeysTaken
+pub mod CopiedStacks
+pub mod FrontsReached
+pub mod PartsFound
+pub mod CurrentFronts
