@@ -1,14 +1,14 @@
 -- First ones of a property: they are found one after another, each the least of those left; and those of one property come after all
 -- those of another.
-use Rattle.std.proofs.Common.{◌≡◌, ◌≢◌, ◌⊎◌, ◌↔◌, inl, inr, ℕ, ◌+◌, ◌-◌, ◌<◌, ◌≤◌, min, Bool, true, false, IsTrue, List, [], ◌∷◌, ◌++◌, length, take, drop, refl, sym, ap, ◌∙◌, subst, arith}
-use Rattle.std.specs.List.{All, Contains}
+use Rattle.std.proofs.Common.{◌≡◌, ◌≢◌, ◌⊎◌, ◌↔◌, inl, inr, ℕ, ◌+◌, ◌-◌, ◌<◌, ◌≤◌, min, Bool, true, false, IsTrue, List, [], ◌∷◌, ◌++◌, length, take, drop, refl, sym, ap, subst, arith}
+use Rattle.std.specs.List.{Contains}
 use Rattle.std.specs.List.Sorted.{IsStrictlySortedBy}
 use Rattle.std.specs.Cmp.{IsTotalOrder}
 use Rattle.std.specs.declared.cmp.Ordering.{Ordering}
 use Rattle.std.specs.declared.cmp.Ordering.TheVariants.{Less, Equal, Greater}
-use Rattle.std.proofs.lemmas.List.{append-nil, take-append-drop, length-take, length-drop, length-append}
+use Rattle.std.proofs.lemmas.List.{take-append-drop, length-take, length-drop, length-append}
 use Rattle.std.proofs.lemmas.List.Elements.{All-nil, All-cons, All-append, All-contains, All-weaker, Contains-append_left, Contains-append_right, Contains-append_cases}
-use Rattle.list_laws.specs.Firsts.{ComesAfter, AreFirst, AreAll}
+use Rattle.list_laws.specs.Firsts.{ComesAfter, AreAll}
 use Rattle.list_laws.proofs.Sorted.{Contains-first, Contains-cons_cases, not_Contains-nil, Contains-from_take, Contains-from_drop, Contains-parts, All-from_Contains, sorted_nil, sorted_append, sorted_front, following_front, not_after, same_fronts, same_sorted}
 use Rattle.list_laws.proofs.Elements.{some_element, some_by_element}
 use Rattle.front_definitions.specs.NextOnes.{AreNext}

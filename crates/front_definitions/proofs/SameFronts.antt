@@ -8,7 +8,6 @@ use Rattle.segmentation_definitions.specs.Items.{Choice}
 use Rattle.segmentation_definitions.specs.Listings.{Key, compare_key_lists}
 use Rattle.segmentation_definitions.proofs.KeyLists.{compare_keys_total}
 use Rattle.front_definitions.specs.Fronts.{IsFront, IsFrontAbove, AreFronts, AreNextFronts}
-use Rattle.front_definitions.specs.NextOnes.{AreNext}
 use Rattle.front_definitions.proofs.NextOnes.{same_all, same_next, front_of_all, next_with}
 
 pub key_lists_total : IsTotalOrder compare_key_lists

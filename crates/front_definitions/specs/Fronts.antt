@@ -1,6 +1,7 @@
 -- The fronts of answers, which are their first keys, and the fronts of a listing (own).
-use Rattle.std.specs.Prelude.{◌≡◌, ◌≢◌, ℕ, Bool, Option, Some, None, List, take}
+use Rattle.std.specs.Prelude.{◌≡◌, ◌≢◌, ℕ, ◌⊎◌, Bool, Option, Some, None, List, take, Contains}
 use Rattle.std.specs.declared.cmp.Ordering.TheVariants.{Less, Greater}
+use Rattle.std.specs.List.Sorted.{IsStrictlySortedBy}
 use Rattle.text_definitions.specs.Lines.{Line}
 use Rattle.lexicon_definitions.specs.Lexicons.{Lexicon, RuleSet}
 use Rattle.segmentation_definitions.specs.Derivations.{Step}
@@ -46,3 +47,29 @@ AreNextFronts lexicon line choices depth earlier most fronts more =
 pub record IsFirstOfFront (lexicon : Lexicon) (line : Line) (choices : List Choice) (depth : ℕ) (front : List Key) (answer : List Step) : Type 0 where
   pub has : HasFront lexicon line choices depth front answer
   pub least : (other : List Step) → HasFront lexicon line choices depth front other → compare_answers lexicon.rules answer other ≢ Greater
+
+-- the first answer whose front comes after the earlier one
+pub record IsFirstAfter (lexicon : Lexicon) (line : Line) (choices : List Choice) (depth : ℕ) (earlier : Option (List Key)) (answer : List Step) :
+    Type 0 where
+  pub is_answer : IsAnswer lexicon line choices answer
+  pub after : IsAfterFront earlier (front_of lexicon.rules depth answer)
+  pub least : (other : List Step) → IsAnswer lexicon line choices other → IsAfterFront earlier (front_of lexicon.rules depth other)
+      → compare_answers lexicon.rules answer other ≢ Greater
+
+-- no answer has a front that comes after the earlier one
+abbrev pub HasNoneAfter : Lexicon → Line → List Choice → ℕ → Option (List Key) → Type 0
+HasNoneAfter lexicon line choices depth earlier =
+    (answer : List Step) → IsAnswer lexicon line choices answer → IsAfterFront earlier (front_of lexicon.rules depth answer) → ⊥
+
+-- the answer has one of these fronts
+abbrev pub IsAmongFronts : Lexicon → Line → List Choice → ℕ → List (List Key) → List Step → Type 0
+IsAmongFronts lexicon line choices depth fronts answer =
+    IsAnswer lexicon line choices answer × Contains fronts (front_of lexicon.rules depth answer)
+
+-- these are all fronts up to the earlier one, rising
+pub record AreFrontsTo (lexicon : Lexicon) (line : Line) (choices : List Choice) (depth : ℕ) (earlier : Option (List Key)) (fronts : List (List Key)) :
+    Type 0 where
+  pub rising : IsStrictlySortedBy compare_key_lists fronts
+  pub only : (front : List Key) → Contains fronts front → IsFront lexicon line choices depth front
+  pub complete : (front : List Key) → IsFront lexicon line choices depth front → Contains fronts front ⊎ IsAfterFront earlier front
+  pub below : (front later : List Key) → Contains fronts front → IsAfterFront earlier later → compare_key_lists front later ≡ Less

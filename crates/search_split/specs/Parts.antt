@@ -1,9 +1,9 @@
 -- Parts of a search: the answers of one front each, to be listed from the first of them on (own).
-use Rattle.std.specs.Prelude.{◌≡◌, ℕ, Option, List, map, All}
+use Rattle.std.specs.Prelude.{◌≡◌, ℕ, Option, Some, None, List, map, All}
 use Rattle.text_definitions.specs.Lines.{Line}
 use Rattle.segmentation_definitions.specs.Derivations.{Step}
 use Rattle.segmentation_definitions.specs.Items.{Choice}
-use Rattle.segmentation_definitions.specs.Listings.{Key, AtAnswer}
+use Rattle.segmentation_definitions.specs.Listings.{Key, Cursor, BeforeFirst, AtAnswer}
 use Rattle.front_definitions.specs.Fronts.{IsFirstOfFront, AreNextFronts}
 use Rattle.derivation.specs.Steps.{keys_meant}
 use Rattle.annotated_trie.specs.Searched.{SearchedLexicon}
@@ -28,3 +28,8 @@ pub record AreNextParts (searched : SearchedLexicon) (line : Line) (choices : Li
     (most : ℕ) (parts : Parts) : Type 0 where
   pub fronts : AreNextFronts searched.lexicon line choices depth earlier most (map front_in parts.list.items) parts.more
   pub each : All (IsPart searched line choices depth) parts.list.items
+
+-- where the part's search stands, or before the first answer where there is no part
+abbrev pub cursor_of_part : SearchedLexicon → Line → Option Part → Cursor
+cursor_of_part searched line None = BeforeFirst
+cursor_of_part searched line (Some part) = cursor_of searched line part.from

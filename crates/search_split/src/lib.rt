@@ -1,6 +1,13 @@
-//! One listing cut into parts that workers list at once, each part the answers of one front (own).
+//! A listing cut into parts: the answers of one front each, which is the list of the first keys of an answer. Each part can be listed
+//! by itself, from the place in the search that it keeps, so several workers may list one listing at once (own).
+//!
+//! Proved of `split`: it gives the first fronts after that of a part, or from the first on, as many as are asked for, in the order of
+//! their answers, and says whether a front is left; each part keeps a search that stands at the first answer of its front (`ok`). It is
+//! refused only for want of memory. Proved of `page_split`: it gives the page before the first answer, each answer printed with its
+//! number, and says whether one is left (`ok`). It lists on one thread.
 #![tactic(auto)]
 
+mod fronts;
 mod page;
 mod paging;
 mod part;

@@ -1,0 +1,6 @@
+pub mod KeysTaken
+pub mod CopiedStacks
+pub mod FrontsReached
+pub mod PartsFound
+pub mod CurrentFronts
+pub mod ListedPages
