@@ -1,6 +1,6 @@
 -- The text of a note: the compact JSON text of one object, and a line feed (own; JSON after RFC 8259). The members of each
 -- object stand in the order of their names' bytes.
-use Rattle.std.specs.Prelude.{ℕ, List, [], ◌∷◌, map, codes}
+use Rattle.std.specs.Prelude.{ℕ, List, map, codes}
 use Rattle.text_definitions.specs.Slp1.{slp1_of_word}
 use Rattle.serde_json.specs.Data.{Data, number, unsigned, string, array, object, no_members, member}
 use Rattle.serde_json.specs.View.{items_of}

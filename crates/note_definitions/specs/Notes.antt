@@ -1,6 +1,6 @@
 -- Notes of finished readings: a line and choices that leave one answer, with this answer (own; choices after Goyal and Huet
 -- 2016).
-use Rattle.std.specs.Prelude.{◌≡◌, ℕ, ◌<◌, ◌≤◌, List, length, All}
+use Rattle.std.specs.Prelude.{◌≡◌, ◌<◌, ◌≤◌, List, length, All}
 use Rattle.text_definitions.specs.Lines.{Line, IsLine}
 use Rattle.lexicon_definitions.specs.Lexicons.{Lexicon}
 use Rattle.segmentation_definitions.specs.declared.limits.TheConstants.{MOST_CHOICES}

@@ -1,14 +1,15 @@
-ghost use Rattle.std.specs.Prelude.{◌≡◌, ◌↔◌, ℕ, List, Result, Ok, Some};
-ghost use Rattle.text_definitions.specs.Lines.{Line};
+ghost use Rattle.std.specs.Prelude.{◌≡◌, ◌≤◌, ℕ, List, length, All, Result, Ok, Some};
+ghost use Rattle.text_definitions.specs.Lines.{Line, IsLine};
 ghost use Rattle.lexicon_definitions.specs.Lexicons.{Lexicon, IsLexicon};
 ghost use Rattle.lexicon_definitions.specs.Limits.{IsWithinLimits};
+ghost use Rattle.segmentation_definitions.specs.declared.limits.TheConstants.{MOST_CHOICES};
 ghost use Rattle.segmentation_definitions.specs.Derivations.{Step};
 ghost use Rattle.segmentation_definitions.specs.Items.{Choice};
 ghost use Rattle.segmentation_definitions.specs.Listings.{IsListing};
 ghost use Rattle.note_definitions.specs.NoteFaults.{Why};
-ghost use Rattle.note_definitions.specs.Notes.{Note, IsNote};
+ghost use Rattle.note_definitions.specs.Notes.{Note, IsChoiceOver, IsNote};
 ghost use Rattle.note_definitions.specs.NoteTexts.{value_of_note, text_of_note};
-ghost use Rattle.note_definitions.specs.NoteOutcomes.{Outcome, IsOutcome, outcome_of};
+ghost use Rattle.note_definitions.specs.NoteOutcomes.{Outcome, Written, IsOutcome, outcome_of};
 ghost use Rattle.note_definitions.specs.NoteReadings.{IsNoteRead, value_of_bytes};
 
 /// Writing the note of a line and choices has one outcome at most.
@@ -36,8 +37,11 @@ pub fn what_is_read_is_a_note()
         → value_of_bytes bytes ≡ Some (value_of_note lexicon note) }
 {}
 
-/// The text of a note over a lexicon is read as this note.
+/// The text of a note over a lexicon is read as this note, and so what is written is read as the note of its line and choices.
 pub fn a_note_is_read_back()
-    ensures { (lexicon : Lexicon) (note : Note) → IsLexicon lexicon → IsWithinLimits lexicon → IsNote lexicon note
+    ensures written { (lexicon : Lexicon) (line : Line) (choices : List Choice) (text : List ℕ) → IsLexicon lexicon → IsWithinLimits lexicon
+        → IsLine line → length choices ≤ MOST_CHOICES → All (IsChoiceOver lexicon) choices → IsOutcome lexicon line choices (Written text)
+        → (steps : List Step) × IsNoteRead lexicon text (Ok (record { line = line; choices = choices; steps = steps })) }
+    ensures note { (lexicon : Lexicon) (note : Note) → IsLexicon lexicon → IsWithinLimits lexicon → IsNote lexicon note
         → IsNoteRead lexicon (text_of_note lexicon note) (Ok note) }
 {}
