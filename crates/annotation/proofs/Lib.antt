@@ -1,0 +1,4 @@
+mod LinesPrinted
+mod FoundAnswers
+mod WrittenSegments
+mod WrittenNotes

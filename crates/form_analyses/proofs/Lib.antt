@@ -1,0 +1,3 @@
+pub mod PhaseAnalyses
+pub mod PutAnalyses
+pub mod SearchedForms
