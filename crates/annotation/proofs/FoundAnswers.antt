@@ -16,7 +16,7 @@ use Rattle.derivation.proofs.PlacedSteps.{same_keys as kept_keys}
 use Rattle.segmenter.specs.Searches.{SearchValue, MovedOn, HasEnded, IsCurrent}
 use Rattle.note_definitions.specs.Notes.{IsOnlyAnswer}
 use Rattle.note_definitions.specs.NoteOutcomes.{NoAnswer, Several, IsOutcome}
-use Rattle.annotation.specs.Answers.{AreOnly}
+use Rattle.annotation.specs.Answers.{AreOnly, AreCurrent, HasNextSteps}
 
 -- neither above nor below is equal
 equal_if_neither : (o : Ordering) → o ≢ Greater → (o ≡ Less → ⊥) → o ≡ Equal
@@ -54,10 +54,6 @@ steps_by : (search : SearchValue) (answer : List Step) (steps : List ProgramStep
     → AreStepsOf search answer steps
 steps_by search answer steps current = record { same = ap (steps_at answer) (sym current.0); stand = current.1 }
 
--- what is known of the steps at which a search stands, wherever it stands
-abbrev pub AreCurrent : SearchValue → List ProgramStep → Type 0
-AreCurrent search steps = (answer : List Step) → search.cursor ≡ AtAnswer answer → IsCurrent search (Some steps)
-
 steps_moved : (old new : SearchValue) (moved : MovedOn old new) (steps : List ProgramStep) → AreCurrent new steps
     → AreStepsOf old moved.answer steps
 steps_moved old new moved steps current =
@@ -70,10 +66,11 @@ pub none_found : (old new : SearchValue) → old.cursor ≡ BeforeFirst → HasE
     → IsOutcome old.searched.lexicon old.line old.choices NoAnswer
 none_found old new before ended = λ steps answer. ended.none steps answer (subst (λ (c : Cursor). IsAbove old.searched.lexicon.rules c steps) (sym before) tt)
 
-pub one_found : (old mid new : SearchValue) (steps : List ProgramStep) → old.cursor ≡ BeforeFirst → MovedOn old mid → AreCurrent mid steps
+pub one_found : (old mid new : SearchValue) (steps : List ProgramStep) → old.cursor ≡ BeforeFirst → HasNextSteps old mid steps
     → HasEnded mid new → AreOnly old.searched.lexicon old.line old.choices steps
-one_found old mid new steps before moved current ended =
-    let are = steps_moved old mid moved steps current in
+one_found old mid new steps before next ended =
+    let moved = next.moved in
+    let are = steps_moved old mid moved steps next.current in
     let first = subst (λ (c : Cursor). IsNext old.searched.lexicon old.line old.choices c moved.answer) before moved.next in
     let none = subst (λ (s : SearchValue). (other : List Step) → IsAnswer s.searched.lexicon s.line s.choices other → IsAbove s.searched.lexicon.rules s.cursor other → ⊥)
     moved.is ended.none in
@@ -90,12 +87,14 @@ same_keys search answer steps are =
     kept_keys search.searched.lexicon.rules search.line.letters steps are.stand ∙ ap (keys_of search.searched.lexicon.rules) are.same
 
 pub two_found : (old mid new : SearchValue) (left right : List ProgramStep) (first second : List Key) → old.cursor ≡ BeforeFirst
-    → MovedOn old mid → AreCurrent mid left → MovedOn mid new → AreCurrent new right
+    → HasNextSteps old mid left → HasNextSteps mid new right
     → first ≡ step_keys left → second ≡ step_keys right
     → IsOutcome old.searched.lexicon old.line old.choices (Several first second)
-two_found old mid new left right first second before moved current later following e f =
-    let one = steps_moved old mid moved left current in
-    let two = steps_moved mid new later right following in
+two_found old mid new left right first second before next after e f =
+    let moved = next.moved in
+    let later = after.moved in
+    let one = steps_moved old mid moved left next.current in
+    let two = steps_moved mid new later right after.current in
     let at : mid ≡ standing_at old moved.answer = moved.is in (
       moved.answer,
       later.answer,

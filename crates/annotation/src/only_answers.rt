@@ -3,7 +3,7 @@ ghost use Rattle.segmentation_definitions.specs.Derivations.{Step as AnswerStep}
 ghost use Rattle.segmentation_definitions.specs.Listings.{BeforeFirst, AtAnswer};
 ghost use Rattle.derivation.specs.Steps.{keys_of as step_keys, keys_meant};
 ghost use Rattle.segmenter.specs.Searches.{IsCurrent};
-ghost use Rattle.annotation.specs.Answers.{IsOnlyFound};
+ghost use Rattle.annotation.specs.Answers.{HasSteps, IsOnlyFound};
 
 use crate::NoteError;
 use derivation::{Key, Step};
@@ -35,24 +35,36 @@ fn current_steps<D: SearchGuide>(alloc: Global, search: &Search<D>) -> Result<Ve
     }
 }
 
-/// The steps of the only answer, found by a search that stands before the first.
-pub(crate) fn only_answer<D: SearchGuide>(
+/// Moves to the next answer and gives its steps. `None` where no answer is left.
+fn next_steps<D: SearchGuide>(
     alloc: Global,
-    search: Search<D>,
-) -> Result<Vec<Step>, NoteError>
-    requires before { search.cursor ≡ BeforeFirst }
-    ensures found { IsOnlyFound search result }
+    search: &mut Search<D>,
+) -> Result<Option<Vec<Step>>, Memory>
+    ensures ok { IfOk result (HasSteps search.old search.new) }
 {
-    let mut search = search;
     let mut steps = Steps::<()>::new();
     if !search.advance(&mut steps) {
+        return Ok(None);
+    }
+    let found = current_steps(alloc, search)?;
+    Ok(Some(found))
+}
+
+/// The steps of the only answer, found by a search that stands before the first.
+#[tactic(auto, using(crate::proofs::FoundAnswers::none_found, crate::proofs::FoundAnswers::one_found, crate::proofs::FoundAnswers::two_found))]
+pub(crate) fn only_answer<D: SearchGuide>(
+    alloc: Global,
+    search: &mut Search<D>,
+) -> Result<Vec<Step>, NoteError>
+    requires before { search.old.cursor ≡ BeforeFirst }
+    ensures found { IsOnlyFound search.old result }
+{
+    let Some(only) = next_steps(alloc, search)? else {
         return Err(NoteError::NoAnswer);
-    }
-    let only = current_steps(alloc, &search)?;
-    if !search.advance(&mut steps) {
+    };
+    let Some(next) = next_steps(alloc, search)? else {
         return Ok(only);
-    }
-    let next = current_steps(alloc, &search)?;
+    };
     let first = keys_of(alloc, only.as_slice())?;
     let second = keys_of(alloc, next.as_slice())?;
     Err(NoteError::Several { first, second })
