@@ -1,0 +1,5 @@
+mod LinesPrinted
+mod FoundAnswers
+mod WrittenObjects
+mod WrittenSegments
+mod WrittenNotes

@@ -1,0 +1,16 @@
+//! Notes of finished readings: a reading that the choices have narrowed to one answer is written as a JSON text.
+//!
+//! Proved: `write_note` gives the text of the note where the line and the choices have exactly one answer, answers `NoAnswer` exactly
+//! where they have none, and `Several` exactly where they have two or more, with the keys of the first two; otherwise it is refused
+//! only for want of memory (`written`). Whether there is one answer is told by a chart and two moves of a search.
+#![tactic(auto)]
+
+mod error;
+mod line_texts;
+mod only_answers;
+mod segments;
+mod values;
+mod writing;
+
+pub use error::NoteError;
+pub use writing::write_note;
