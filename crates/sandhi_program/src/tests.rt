@@ -11,11 +11,9 @@ mod streams;
 
 use super::run::run;
 use super::status::Status;
-use outside::{
-    Failed, Gate, MemoryShelf, MemorySink, MemorySource, NoGate, Sink, Source, WriteError,
-};
+use outside::{Failed, MemoryShelf, MemorySink, MemorySource, NoGate, Sink, Source, WriteError};
 use std::process::Abort;
-use std::sync::atomic::{AtomicBool, AtomicU64, Ordering};
+use std::sync::atomic::{AtomicU64, Ordering};
 use std::test::Fail;
 use std::thread::Threads;
 
@@ -429,61 +427,4 @@ fn inputs_and_files_are_long_cut_or_damaged(rt: HostRuntime) -> Result<(), Fail>
     grammars_of_brackets(&rt)?;
     files_that_are_cut_or_damaged(&rt)?;
     a_source_that_waits_for_replies(&rt)
-}
-
-/// How often the worker of the first part looks whether that of the second has passed.
-const MOST_TURNS: u32 = 100_000_000;
-
-/// A gate of two parts. The worker of the first turns in it until that of the second has passed, or for so long that it gives up.
-#[derive(Drop)]
-struct Meeting {
-    passed: AtomicBool,
-    met: AtomicBool,
-}
-
-impl Gate for Meeting {
-    fn pass(&self, piece: u64) {
-        if piece == 1 {
-            self.passed.store(true, Ordering::SeqCst);
-        }
-        if piece != 0 {
-            return;
-        }
-        for _ in 0..MOST_TURNS {
-            if self.passed.load(Ordering::SeqCst) {
-                self.met.store(true, Ordering::SeqCst);
-                return;
-            }
-        }
-    }
-}
-
-#[test]
-fn two_parts_of_a_page_are_listed_at_once(rt: HostRuntime) -> Result<(), Fail> {
-    let alloc = rt.alloc();
-    let mut shelf = MemoryShelf::new(alloc, Vec::new(alloc));
-    shelf.put("l", ALL_A.as_bytes())?;
-    let words = words_of(&rt, "split/l/aaa/9/1")?;
-    let mut source = MemorySource::new(Vec::new(alloc), 4_096, Vec::new(alloc));
-    let mut sink = MemorySink::new(alloc, 4_096, Vec::new(alloc));
-    let gate = Meeting {
-        passed: AtomicBool::new(false),
-        met: AtomicBool::new(false),
-    };
-    let status = run(
-        &rt,
-        alloc,
-        &words,
-        &mut shelf,
-        &mut source,
-        &mut sink,
-        &gate,
-    );
-    assert!(rt; status == Status::Done);
-    assert!(rt; gate.met.load(Ordering::SeqCst));
-    assert_eq!(rt;
-        sink.bytes(),
-        b"1: aa[word] + a[word]\n2: a[word] + aa[word]\n3: a[word] + a[word] + a[word]\nend\n".as_slice()
-    );
-    Ok(())
 }
