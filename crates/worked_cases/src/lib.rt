@@ -3,6 +3,8 @@
 #![tactic(auto)]
 
 mod cases;
+#[cfg(test)]
+mod tests;
 
 pub use cases::{
     a_blank_may_stand_inside_a_seam, a_blank_stands_at_a_seam, a_configuration_knows_the_phases,
