@@ -3,3 +3,5 @@ pub mod CopiedStacks
 pub mod FrontsReached
 pub mod PartsFound
 pub mod CurrentFronts
+pub mod PagesListed
+pub mod CurrentTexts

@@ -3,12 +3,17 @@
 //!
 //! Proved of `split`: it gives the first fronts after that of a part, or from the first on, as many as are asked for, in the order of
 //! their answers, and says whether a front is left; each part keeps a search that stands at the first answer of its front (`ok`). It is
-//! refused only for want of memory.
+//! refused only for want of memory. `page_split` gives the text of each answer on the page of so many before the first, after its
+//! number, and says whether an answer is left (`ok`). So far it lists on one thread.
 #![tactic(auto)]
 
 mod fronts;
+mod page;
+mod paging;
 mod part;
 mod splitting;
 
+pub use page::Page;
+pub use paging::page_split;
 pub use part::{Part, Parts};
 pub use splitting::split;
