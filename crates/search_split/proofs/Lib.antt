@@ -3,4 +3,8 @@ pub mod CopiedStacks
 pub mod FrontsReached
 pub mod PartsFound
 pub mod CurrentFronts
-pub mod ListedPages
+pub mod PartsListed
+pub mod TextsPut
+pub mod OutcomesPut
+pub mod BlocksListed
+pub mod SharedListers

@@ -1,3 +1,4 @@
 pub mod Parts
 pub mod NextFronts
 pub mod PrintedPages
+pub mod Listing

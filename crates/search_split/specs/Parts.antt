@@ -8,8 +8,16 @@ use Rattle.front_definitions.specs.Fronts.{IsFirstOfFront, AreNextFronts}
 use Rattle.derivation.specs.Steps.{keys_meant}
 use Rattle.annotated_trie.specs.Searched.{SearchedLexicon}
 use Rattle.segmenter.specs.Searches.{IsStackOf, cursor_of}
+use Rattle.search_frames.specs.Guided.{IsGuideOf}
+use Rattle.summary_chart.specs.Charts.{CoversPlace, says_of}
+use Rattle.summary_chart.specs.PlaceWays.{ChartValue, IsChartOf}
 use Rattle.search_split.specs.declared.part.Part.{Part}
 use Rattle.search_split.specs.declared.part.Parts.{Parts}
+
+-- the chart is a guide for the lexicon, the line and the choices, and is theirs
+pub record IsChartFor (searched : SearchedLexicon) (line : Line) (choices : List Choice) (chart : ChartValue) : Type 0 where
+  pub guide : IsGuideOf searched line choices (CoversPlace chart.table) (says_of chart.table)
+  pub is : IsChartOf searched line choices chart
 
 -- the front of a part
 abbrev pub front_in : Part → List Key

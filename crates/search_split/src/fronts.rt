@@ -27,6 +27,23 @@ fn front_of(alloc: Global, steps: &[Step], depth: u32) -> Result<Vec<Key>, Memor
     Ok(front)
 }
 
+/// Whether these are the keys of the first steps, as many as `depth`, or of all of them where they are fewer.
+#[tactic(auto, using(crate::proofs::KeysTaken::front_same, crate::proofs::KeysTaken::front_shorter, crate::proofs::KeysTaken::front_differs, crate::proofs::KeysTaken::both_with_next))]
+pub(crate) fn has_front(steps: &[Step], depth: u32, front: &[Key]) -> bool
+    ensures { IsTrue result ↔ (take depth (keys_of steps.now) ≡ keys_meant front.now) }
+{
+    let count = steps.len().min(depth as usize);
+    if count != front.len() {
+        return false;
+    }
+    for place in 0..count {
+        if steps[place].key() != front[place] {
+            return false;
+        }
+    }
+    true
+}
+
 /// The front of the answer at which the search stands.
 pub(crate) fn front_at<D: SearchGuide>(
     alloc: Global,

@@ -3,11 +3,17 @@
 //!
 //! Proved of `split`: it gives the first fronts after that of a part, or from the first on, as many as are asked for, in the order of
 //! their answers, and says whether a front is left; each part keeps a search that stands at the first answer of its front (`ok`). It is
-//! refused only for want of memory. Proved of `page_split`: it gives the page before the first answer, each answer printed with its
-//! number, and says whether one is left (`ok`). It lists on one thread.
+//! refused only for want of memory. `page_split` gives the text of each answer on the page of so many before the first, after its
+//! number, and says whether an answer is left, whatever the number of threads (`ok`): the parts of the next 16 fronts are listed side by
+//! side by the runtime's join, until the page is full or no front is left.
+//!
+//! That two parts are listed at once is only tested, by a gate at which the worker of the first part waits for that of the second. No
+//! clause speaks of the gate, of the workers or of time.
 #![tactic(auto)]
 
 mod fronts;
+mod lister;
+mod listing;
 mod page;
 mod paging;
 mod part;

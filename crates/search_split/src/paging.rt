@@ -1,89 +1,156 @@
-ghost use Rattle.std.specs.Prelude.{◌≡◌, ◌≤◌, IfOk, string_bytes};
-ghost use Rattle.segmentation_definitions.specs.PrintedAnswers.{next_number};
+ghost use Rattle.std.specs.Prelude.{◌≡◌, ◌⊎◌, ◌+◌, ◌^◌, ◌<◌, ◌≤◌, ◌++◌, true, List, length, map, All, MatchOption, IfOk, OnOk, string_bytes};
+ghost use Rattle.std.specs.List.{AllZip};
+ghost use Rattle.std.specs.List.Sorted.{IsStrictlySortedBy};
 ghost use Rattle.std.specs.Option.{option_map};
+ghost use Rattle.segmentation_definitions.specs.Listings.{Key, compare_key_lists};
 ghost use Rattle.search_frames.specs.Guided.{IsGuideOf};
 ghost use Rattle.summary_chart.specs.Charts.{CoversPlace, says_of};
 ghost use Rattle.summary_chart.specs.PlaceWays.{IsChartOf};
-ghost use Rattle.search_split.specs.PrintedPages.{HasToldNext, IsPageAfter, IsPrintedPage};
+ghost use Rattle.search_split.specs.declared.part.Part.{Part as PartValue};
+ghost use Rattle.search_split.specs.Parts.{IsPart, IsChartFor, AreNextParts, front_in};
+ghost use Rattle.search_split.specs.Listing.{AreSteps, IsOutcome, IsPageOfFronts, answers_in, HasPut};
+ghost use Rattle.search_split.specs.PrintedPages.{IsPrintedPage, answer_texts};
 
+use super::lister::Lister;
+use super::listing::{Listed, list_parts};
 use super::page::Page;
+use super::part::{Part, Parts};
+use super::splitting::split;
 use annotated_trie::Lexicon;
-use derivation::print_derivation;
-use outside::{Gate, Steps};
+use derivation::{Step, print_derivation};
+use outside::Gate;
 use phoneme::{Line, Memory};
 use reader_choices::Choices;
-use sandhi_rules::RuleSet;
-use search_frames::SearchGuide;
-use segmentation_definitions::LAST_ANSWER_NUMBER;
-use segmenter::Search;
 use std::alloc::Global;
 use std::thread::Threads;
 use summary_chart::Chart;
 
-/// Moves to the next answer, and gives its text with this number. `None` where no answer is left; then the search stands past the last.
-fn text_of_next<D: SearchGuide>(
+/// A block has at most this many parts, which are listed at once.
+const BLOCK_PARTS: u32 = 16;
+
+/// Prints these answers after those that are printed, with the numbers after theirs.
+fn print_answers(
     alloc: Global,
-    rules: &RuleSet,
+    lexicon: &Lexicon,
     line: &Line,
-    search: &mut Search<D>,
-    number: u64,
-) -> Result<Option<String>, Memory>
-    requires rules { search.old.searched.lexicon.rules ≡ rules.now }
-    requires line { search.old.line ≡ line.now }
-    ensures ok { IfOk result (λ text. HasToldNext search.old search.new number (option_map string_bytes text)) }
+    answers: &[Vec<Step>],
+    texts: &mut Vec<String>,
+) -> Result<(), Memory>
+    requires steps { All (AreSteps lexicon.now line.now) answers.now }
+    requires few { length texts.old.items + length answers.now ≤ 1_000 }
+    ensures ok { OnOk result (map string_bytes texts.new.items ≡ map string_bytes texts.old.items
+        ++ answer_texts lexicon.now.lexicon.rules (length texts.old.items + 1) (answers_in lexicon.now line.now answers.now)) }
 {
-    let mut steps = Steps::<()>::new();
-    if !search.advance(&mut steps) {
-        return Ok(None);
+    for steps in answers {
+        let number = texts.len() as u64 + 1;
+        let text = print_derivation(alloc, lexicon.rules(), line, steps.as_slice(), number)?;
+        texts.push(text)?;
     }
-    match search.current() {
-        None => Ok(None),
-        Some(found) => {
-            let text = print_derivation(alloc, rules, line, found, number)?;
-            Ok(Some(text))
+    Ok(())
+}
+
+/// Puts the answers of the next front after those of the page, as many as there is room for.
+fn put_after<G: Gate>(
+    alloc: Global,
+    lister: &Lister<'_, G>,
+    page: &mut Page,
+    listed: &Listed,
+) -> Result<(), Memory>
+    requires steps { All (AreSteps lister.now.lexicon.now lister.now.line.now) listed.now.answers.items }
+    requires room { length page.old.answers.items ≤ lister.now.limit }
+    ensures ok { OnOk result (HasPut lister.now.lexicon.now lister.now.line.now lister.now.limit listed.now page.old page.new) }
+{
+    let room = lister.limit as usize - page.answers.len();
+    let fits = room.min(listed.answers.len());
+    let answers = &listed.answers.as_slice()[..fits];
+    print_answers(
+        alloc,
+        lister.lexicon,
+        lister.line,
+        answers,
+        &mut page.answers,
+    )?;
+    page.more = page.more || listed.more || fits < listed.answers.len();
+    Ok(())
+}
+
+/// Puts what the workers of the next parts listed after the answers of the page, as far as there is room.
+fn put_all<G: Gate>(
+    alloc: Global,
+    lister: &Lister<'_, G>,
+    page: &mut Page,
+    lists: &[Result<Listed, Memory>],
+) -> Result<(), Memory>
+    requires room { length page.old.answers.items ≤ lister.now.limit }
+    requires listed { (parts : List PartValue) × AllZip (IsOutcome lister.now.lexicon.now lister.now.line.now lister.now.choices.now lister.now.depth lister.now.limit) parts lists.now }
+    ensures room { OnOk result (length page.new.answers.items ≤ lister.now.limit) }
+    ensures grows { OnOk result ((length page.new.answers.items ≡ lister.now.limit) ⊎ (length page.old.answers.items + length lists.now ≤ length page.new.answers.items)) }
+    ensures ok { OnOk result ((fronts : List (List Key)) (parts : List PartValue)
+        → AllZip (IsOutcome lister.now.lexicon.now lister.now.line.now lister.now.choices.now lister.now.depth lister.now.limit) parts lists.now
+        → IsStrictlySortedBy compare_key_lists (fronts ++ map front_in parts)
+        → IsPageOfFronts lister.now.lexicon.now lister.now.line.now lister.now.choices.now lister.now.depth lister.now.limit fronts page.old
+        → IsPageOfFronts lister.now.lexicon.now lister.now.line.now lister.now.choices.now lister.now.depth lister.now.limit (fronts ++ map front_in parts) page.new) }
+{
+    for outcome in lists {
+        match outcome {
+            Ok(listed) => put_after(alloc, lister, page, listed)?,
+            Err(_refused) => return Err(Memory),
         }
     }
+    Ok(())
 }
 
-/// The number of the next answer.
-fn number_of_next(number: u64) -> u64
-    requires { number ≤ LAST_ANSWER_NUMBER }
-    ensures { result ≡ next_number number }
-{
-    LAST_ANSWER_NUMBER.min(number + 1)
-}
-
-/// The next answers as a page of at most `limit`, numbered from 1.
-fn page_of_next<D: SearchGuide>(
+/// Lists the parts of the next block side by side, and puts their answers after those of the page. The first part passes the gate with
+/// the number `passed`.
+fn add_block<R: Threads + Sync, G: Gate + Sync>(
+    rt: &R,
     alloc: Global,
-    rules: &RuleSet,
-    line: &Line,
-    search: &mut Search<D>,
-    limit: u32,
-) -> Result<Page, Memory>
-    requires rules { search.old.searched.lexicon.rules ≡ rules.now }
-    requires line { search.old.line ≡ line.now }
-    ensures ok { IfOk result (IsPageAfter search.old limit) }
+    lister: &Lister<'_, G>,
+    page: &mut Page,
+    after: Option<&Part>,
+    passed: u64,
+) -> Result<Parts, Memory>
+    requires chart { IsChartFor lister.now.lexicon.now lister.now.line.now lister.now.choices.now lister.now.chart.now }
+    requires after { MatchOption after (Unit {0}) (λ part. IsPart lister.now.lexicon.now lister.now.line.now lister.now.choices.now lister.now.depth part.now) }
+    requires numbers { passed + 16 < 2 ^ 64 }
+    requires room { length page.old.answers.items ≤ lister.now.limit }
+    ensures parts { IfOk result (λ parts. AreNextParts lister.now.lexicon.now lister.now.line.now lister.now.choices.now lister.now.depth (option_map (λ part. front_in part.now) after.entry) 16 parts) }
+    ensures room { IfOk result (λ parts. length page.new.answers.items ≤ lister.now.limit) }
+    ensures grows { IfOk result (λ parts. (length page.new.answers.items ≡ lister.now.limit) ⊎ (length page.old.answers.items + length parts.list.items ≤ length page.new.answers.items)) }
+    ensures page { IfOk result (λ parts. (fronts : List (List Key)) → IsStrictlySortedBy compare_key_lists (fronts ++ map front_in parts.list.items)
+        → IsPageOfFronts lister.now.lexicon.now lister.now.line.now lister.now.choices.now lister.now.depth lister.now.limit fronts page.old
+        → IsPageOfFronts lister.now.lexicon.now lister.now.line.now lister.now.choices.now lister.now.depth lister.now.limit (fronts ++ map front_in parts.list.items) page.new) }
 {
-    let mut answers = Vec::with_capacity(alloc, limit as usize)?;
-    let mut number = 1;
-    for _ in 0..limit {
-        let Some(text) = text_of_next(alloc, rules, line, search, number)? else {
-            return Ok(Page {
-                answers,
-                more: false,
-            });
-        };
-        answers.push(text)?;
-        number = number_of_next(number);
-    }
-    let mut steps = Steps::<()>::new();
-    let more = search.advance(&mut steps);
-    Ok(Page { answers, more })
+    let parts = split(
+        alloc,
+        lister.lexicon,
+        lister.line,
+        lister.choices,
+        lister.chart,
+        after,
+        lister.depth,
+        BLOCK_PARTS,
+    )?;
+    let lists = list_parts(rt, alloc, lister, parts.list.as_slice(), passed)?;
+    put_all(alloc, lister, page, lists.as_slice())?;
+    Ok(parts)
 }
 
-/// The page of the first `limit` answers (own). The chart is that of the lexicon, the line and the choices. Refused only for want of
-/// memory. It lists on one thread, which passes the gate with the number 0.
+/// The page, where answers may be left besides those that it knows of.
+fn with_rest(page: Page, more: bool) -> Page
+    ensures answers { result.answers ≡ page.answers }
+    ensures told { (page.more ≡ true) ⊎ (more ≡ true) → result.more ≡ true }
+    ensures says { result.more ≡ true → (page.more ≡ true) ⊎ (more ≡ true) }
+{
+    Page {
+        answers: page.answers,
+        more: page.more || more,
+    }
+}
+
+/// The page of the first `limit` answers, whose parts are listed side by side: those of the next 16 fronts of `depth` keys at once,
+/// each by a worker that first passes the gate with the number of its part, counted from 0, until the page is full or no part is left
+/// (own). The chart is that of the lexicon, the line and the choices. Refused only for want of memory.
 pub fn page_split<R: Threads + Sync, G: Gate + Sync>(
     rt: &R,
     alloc: Global,
@@ -103,8 +170,27 @@ pub fn page_split<R: Threads + Sync, G: Gate + Sync>(
     requires few_answers { limit ≤ 1_000 }
     ensures ok { IfOk result (IsPrintedPage lexicon.now.lexicon line.now choices.now limit) }
 {
-    let _workers = rt;
-    gate.pass(0);
-    let mut search = Search::new(alloc, lexicon, line, choices, chart)?;
-    page_of_next(alloc, lexicon.rules(), line, &mut search, limit)
+    let lister = Lister {
+        lexicon,
+        line,
+        choices,
+        chart,
+        depth,
+        limit,
+        gate,
+    };
+    let mut page = Page {
+        answers: Vec::new(alloc),
+        more: false,
+    };
+    let mut after = None;
+    let mut passed = 0;
+    let mut more = true;
+    while more && page.answers.len() < limit as usize {
+        let mut parts = add_block(rt, alloc, &lister, &mut page, after.as_ref(), passed)?;
+        passed += parts.list.len() as u64;
+        more = parts.more;
+        after = parts.list.pop();
+    }
+    Ok(with_rest(page, more))
 }
