@@ -68,7 +68,8 @@ fn run_command<R: Threads + Sync, H: Shelf, I: Source, O: Sink, G: Gate + Sync>(
 
 /// Does what the words of the command line say, over the devices, and answers how the run ended. `words` are the
 /// program's words without its name. `usage` and the refusals of files, texts and chains are written to `out`, a line each; where a
-/// file is not read nothing is written. Each worker that answers a line for `batch` passes the gate first, and `split` passes it once.
+/// file is not read nothing is written. Each worker that answers a line for `batch` or a part for `split` passes the
+/// gate first.
 pub fn run<R: Threads + Sync, H: Shelf, I: Source, O: Sink, G: Gate + Sync>(
     rt: &R,
     alloc: Global,

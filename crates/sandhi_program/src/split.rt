@@ -35,7 +35,7 @@ fn print_lines_of(alloc: Global, texts: &[String]) -> Result<String, Memory>
     Ok(output)
 }
 
-/// The page of the line's first answers, and then whether an answer is left.
+/// The page of the line's first answers, whose parts were listed side by side, and then whether an answer is left.
 fn print_split<R: Threads + Sync, G: Gate + Sync>(
     rt: &R,
     alloc: Global,
@@ -107,7 +107,7 @@ fn write_split<R: Threads + Sync, O: Sink, G: Gate + Sync>(
     }
 }
 
-/// `split LEX TEXT N DEPTH`: reads the lexicon and the text, and writes one page of the answers.
+/// `split LEX TEXT N DEPTH`: reads the lexicon and the text, and writes one page of the answers, whose parts are listed side by side.
 pub(crate) fn run_split<R: Threads + Sync, H: Shelf, O: Sink, G: Gate + Sync>(
     rt: &R,
     alloc: Global,

@@ -31,7 +31,7 @@ static COMMANDS: [(&str, &str); 9] = [
     ),
     (
         "split",
-        "split LEX TEXT N DEPTH    (the first N answers, 1 to 1000; DEPTH is 1 to 8 steps)",
+        "split LEX TEXT N DEPTH    (the first N answers, 1 to 1000; fronts of DEPTH steps, 1 to 8, are listed side by side)",
     ),
 ];
 
