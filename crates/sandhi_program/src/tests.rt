@@ -3,6 +3,7 @@
 
 ghost use Rattle.std.specs.Prelude.{◌<◌, None};
 
+mod fronts;
 mod meeting;
 mod scripted_clock;
 mod scripted_input;
