@@ -3,7 +3,7 @@ ghost use Rattle.lexicon_text_definitions.specs.FileLines.{Line as TextLine};
 ghost use Rattle.text_line.specs.Values.{scheme_of};
 ghost use Rattle.batch_reader.specs.Blocks.{AreRead, HasReadBlock};
 
-use lexicon_file::first_line;
+use form_file::first_line;
 use phoneme::{Line, Memory};
 use std::alloc::Global;
 use text_line::{Scheme, TextFault, read_line};

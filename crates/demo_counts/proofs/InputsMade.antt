@@ -15,8 +15,8 @@ use Rattle.demo_definitions.specs.SourceContents.{stem_spelled, stems_spelled, l
 use Rattle.demo_definitions.proofs.StemTexts.{stems_are_texts, some_stems}
 use Rattle.demo_definitions.proofs.LinesRead.{line_read}
 use Rattle.run_definitions.specs.DemoOutcomes.{AreDemoCounts}
-use Rattle.lexicon_file.specs.declared.contents.Contents.{Contents}
-use Rattle.lexicon_file.specs.Contents.{lexicon_of}
+use Rattle.form_file.specs.declared.contents.Contents.{Contents}
+use Rattle.form_file.specs.Contents.{lexicon_of}
 use Rattle.demo_counts.specs.declared.counting.PageCount.{PageCount}
 use Rattle.demo_counts.specs.Pages.{IsPageCount}
 use Rattle.demo_counts.specs.Inputs.{AreInput, AreDemoContents, counts_told}

@@ -29,8 +29,8 @@ use Rattle.demo_definitions.proofs.LinesRead.{line_read}
 use Rattle.run_definitions.specs.SourceLexicons.{IsLexiconOf}
 use Rattle.run_definitions.specs.DemoOutcomes.{IsDemoLexicon}
 use Rattle.run_definitions.proofs.OneBuildOutcome.{one_decided}
-use Rattle.lexicon_file.specs.declared.contents.Contents.{Contents}
-use Rattle.lexicon_file.specs.Contents.{lexicon_of}
+use Rattle.form_file.specs.declared.contents.Contents.{Contents}
+use Rattle.form_file.specs.Contents.{lexicon_of}
 use Rattle.lexicon_builder.specs.Sources.{AreSources, HaveTooManyLines}
 use Rattle.lexicon_builder.proofs.SourcesRead.{sources_read}
 use Rattle.demo_counts.specs.Inputs.{IsStemFile, AreDemoContents}

@@ -4,8 +4,8 @@ use Rattle.lexicon_definitions.specs.declared.limits.TheConstants.{MOST_FORM_LIN
 use Rattle.lexicon_definitions.specs.Lexicons.{tree_of}
 use Rattle.lexicon_definitions.specs.Limits.{count_lines}
 use Rattle.phase_automaton.specs.Automata.{Recognizes}
-use Rattle.lexicon_file.specs.declared.contents.Contents.{Contents}
-use Rattle.lexicon_file.specs.Contents.{lexicon_of}
+use Rattle.form_file.specs.declared.contents.Contents.{Contents}
+use Rattle.form_file.specs.Contents.{lexicon_of}
 use Rattle.demo_definitions.specs.DrawnStems.{stems_of_number}
 use Rattle.demo_definitions.specs.DrawnTexts.{text_of_number}
 use Rattle.demo_definitions.specs.SourceTexts.{demo_stems}

@@ -10,7 +10,7 @@ use crate::sources::build;
 use crate::stems::{StemText, draw_stems, stem_file};
 use crate::text::draw_text;
 use annotated_trie::Lexicon;
-use lexicon_file::Contents;
+use form_file::Contents;
 use phoneme::{Line, Memory};
 use std::alloc::Global;
 use std::thread::Threads;

@@ -6,8 +6,8 @@ ghost use Rattle.demo_definitions.specs.SourceTexts.{demo_stems};
 ghost use Rattle.demo_definitions.specs.SourceContents.{demo_rule_set, demo_classes};
 ghost use Rattle.demo_counts.specs.Inputs.{AreDemoContents, IsStemFile};
 
+use form_file::Contents;
 use lexicon_builder::{BuildError, build_lexicon};
-use lexicon_file::Contents;
 use paradigms::{StemError, Stems, TableError, Tables, read_stems, read_tables};
 use phoneme::Memory;
 use rule_file::{RuleError, RuleFile, read};

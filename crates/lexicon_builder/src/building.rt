@@ -2,13 +2,13 @@ ghost use Rattle.std.specs.Prelude.{◌≡◌, ◌≤◌, ◌<◌, length, IfOk,
 ghost use Rattle.lexicon_text_definitions.specs.LexiconTexts.{text_of};
 ghost use Rattle.lexicon_text_definitions.specs.TextsOf.{HasText};
 ghost use Rattle.run_definitions.specs.SourceLexicons.{IsLexiconOf};
-ghost use Rattle.lexicon_file.specs.Contents.{lexicon_of};
+ghost use Rattle.form_file.specs.Contents.{lexicon_of};
 ghost use Rattle.lexicon_builder.specs.Sources.{AreSources, HaveTooManyLines, IfLimit};
 
 use crate::BuildError;
 use crate::collecting::{lists_of, sort_entries};
+use form_file::{Contents, write};
 use lexicon_definitions::MOST_FORM_LINES;
-use lexicon_file::{Contents, write};
 use lexicon_text_definitions::MOST_FILE_BYTES;
 use paradigms::{Stems, Tables, inflect_all};
 use phase_automaton::Automaton;

@@ -4,8 +4,8 @@ use Rattle.lexicon_definitions.specs.Lexicons.{IsLexicon, tree_of}
 use Rattle.lexicon_text_definitions.specs.FileReadings.{IsReadAs}
 use Rattle.lexicon_text_definitions.proofs.WholeTexts.{read_text}
 use Rattle.phase_automaton.specs.Automata.{Recognizes}
-use Rattle.lexicon_file.specs.declared.contents.Contents.{Contents}
-use Rattle.lexicon_file.specs.Contents.{lexicon_of}
+use Rattle.form_file.specs.declared.contents.Contents.{Contents}
+use Rattle.form_file.specs.Contents.{lexicon_of}
 use Rattle.sandhi_program.specs.Segments.{IsBuildable}
 
 pub can_be_built : (contents : Contents) (bytes : List ℕ) → IsReadAs bytes (Ok (lexicon_of contents))

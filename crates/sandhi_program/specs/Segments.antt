@@ -10,8 +10,8 @@ use Rattle.lexicon_definitions.specs.Lexicons.{Lexicon, tree_of}
 use Rattle.lexicon_definitions.specs.Limits.{count_lines}
 use Rattle.lexicon_text_definitions.specs.declared.limits.TheConstants.{MOST_FILE_BYTES}
 use Rattle.lexicon_text_definitions.specs.FileReadings.{IsReadAs}
-use Rattle.lexicon_file.specs.declared.contents.Contents.{Contents}
-use Rattle.lexicon_file.specs.Contents.{fault_of}
+use Rattle.form_file.specs.declared.contents.Contents.{Contents}
+use Rattle.form_file.specs.Contents.{fault_of}
 use Rattle.phase_automaton.specs.Automata.{Recognizes}
 use Rattle.segmentation_definitions.specs.Derivations.{Step}
 use Rattle.segmentation_definitions.specs.Listings.{BeforeFirst, IsPage}

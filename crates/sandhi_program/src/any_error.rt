@@ -1,8 +1,8 @@
 ghost use Rattle.std.specs.Prelude.{◌≡◌};
 
 use super::status::AnyFault;
+use form_file::FileError;
 use lexicon_builder::BuildError;
-use lexicon_file::FileError;
 use more_schemes::ConvertError;
 use paradigms::{StemError, StemFault, StemWhy, TableError};
 use phoneme::Memory;

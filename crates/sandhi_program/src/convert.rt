@@ -13,7 +13,7 @@ use super::ending::{finish, refuse_file};
 use super::reading::read_file;
 use super::status::{AnyFault, Status};
 use command_words::ConvertWords;
-use lexicon_file::first_line;
+use form_file::first_line;
 use lexicon_text_definitions::MOST_FILE_BYTES;
 use more_schemes::{AnyScheme, convert};
 use outside::{Shelf, Sink, WriteError};

@@ -1,5 +1,5 @@
 ghost use Rattle.std.specs.Prelude.{◌≡◌, IfOk, string_bytes};
-ghost use Rattle.lexicon_file.specs.Faults.{why_of};
+ghost use Rattle.form_file.specs.Faults.{why_of};
 ghost use Rattle.joiner.specs.Faults as chains;
 ghost use Rattle.run_definitions.specs.Refusals.{name_of_why, file_refusal, text_refusal, name_of_chain_why, chain_refusal};
 ghost use Rattle.text_line.specs.Values.{text_fault};
@@ -7,8 +7,8 @@ ghost use Rattle.sandhi_program.specs.Faults.{file_fault};
 
 use super::source_refusal::{name_of_stem_why, name_of_table_why, record_refusal, rules_refusal};
 use super::status::AnyFault;
+use form_file::FileWhy;
 use joiner::{ChainFault, ChainWhy};
-use lexicon_file::FileWhy;
 use phoneme::Memory;
 use std::alloc::Global;
 use text_line::TextFault;

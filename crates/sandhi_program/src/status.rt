@@ -1,8 +1,8 @@
 ghost use Rattle.std.specs.Prelude.{◌≡◌};
 ghost use Rattle.sandhi_program.specs.Headline.{exit_status};
 
+use form_file::FileFault;
 use joiner::ChainFault;
-use lexicon_file::FileFault;
 use more_schemes::ConvertFault;
 use paradigms::{StemFault, TableFault};
 use rule_file::RuleFault;

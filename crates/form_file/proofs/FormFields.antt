@@ -1,0 +1,82 @@
+-- The answers to a line of a form, by its four fields: the phase's number, the tag, and the two words that are spelled.
+use Rattle.std.proofs.Common.{◌≡◌, ℕ, ◌<◌, ◌≤◌, Option, Some, None, Result, Ok, Err, List, [], ◌∷◌, ◌++◌, length, refl, sym, ◌∙◌, ap, subst, arith}
+use Rattle.std.specs.List.{join_with_byte, position}
+use Rattle.std.specs.Str.{bytes_eq}
+use Rattle.std.proofs.lemmas.Bool.{false_from_ne_true}
+use Rattle.std.proofs.lemmas.List.{length-append}
+use Rattle.std.proofs.lemmas.List.Splits.{join_with_byte-slice_split}
+use Rattle.text_definitions.specs.Spellings.{Reading}
+use Rattle.text_definitions.specs.Slp1.{word_of_slp1}
+use Rattle.lexicon_definitions.specs.Tags.{IsTagText}
+use Rattle.lexicon_text_definitions.specs.FileFaults as faults
+use Rattle.lexicon_text_definitions.specs.FileLines.{fields_of}
+use Rattle.lexicon_text_definitions.specs.FileContents.{Told, is_tag_text}
+use Rattle.lexicon_text_definitions.specs.FileSteps.{Taken, some_word, take_form_line, take_analysis, take_entry, take_form}
+use Rattle.lexicon_text_definitions.proofs.TagTests.{tag_from_test, test_from_tag}
+use Rattle.form_file.specs.declared.take_error.TakeError.{TakeError}
+use Rattle.form_file.specs.Fields.{four_of}
+use Rattle.form_file.specs.Told.{IsAnswer}
+use Rattle.list_laws.proofs.Booleans.{when_true, when_false}
+
+-- ---- no field is longer than the text
+
+pub four_fit : (text name letters stem tag : List ℕ) → fields_of (Some text) ≡ name ∷ letters ∷ stem ∷ tag ∷ [] → (length letters ≤ length text) × (length stem ≤ length text)
+four_fit text name letters stem tag e =
+    let joined : name ++ 32 ∷ (letters ++ 32 ∷ (stem ++ 32 ∷ tag)) ≡ text = ap (join_with_byte 32) (sym e) ∙ join_with_byte-slice_split 32 text in
+    let long = ap length joined in
+    let first = length-append name (32 ∷ (letters ++ 32 ∷ (stem ++ 32 ∷ tag))) in
+    let second = length-append letters (32 ∷ (stem ++ 32 ∷ tag)) in
+    let third = length-append stem (32 ∷ tag) in
+    (omega (arith, long, first, second, third), omega (arith, long, first, second, third))
+
+-- ---- answers
+
+pub not_four : (told : Told) (fields : List (List ℕ)) → four_of fields ≡ None → take_form told fields ≡ Err faults.Field
+unfolding take_form
+not_four told [] h = refl
+not_four told (name ∷ []) h = refl
+not_four told (name ∷ letters ∷ []) h = refl
+not_four told (name ∷ letters ∷ stem ∷ []) h = refl
+not_four told (name ∷ letters ∷ stem ∷ tag ∷ []) h = absurd (cc)
+not_four told (name ∷ letters ∷ stem ∷ tag ∷ more ∷ fields) h = refl
+
+four_taken : (told : Told) (name letters stem tag : List ℕ) → take_form told (name ∷ letters ∷ stem ∷ tag ∷ []) ≡ take_entry told (position (bytes_eq name) told.names) letters stem tag
+unfolding take_form
+four_taken told name letters stem tag = refl
+
+-- the phase with the name, where the line has four fields
+pub by_phase : (told : Told) (fields : List (List ℕ)) (name letters stem tag : List ℕ) (phase : Option ℕ) → fields ≡ name ∷ letters ∷ stem ∷ tag ∷ [] → phase ≡ position (bytes_eq name) told.names
+    → take_form told fields ≡ take_entry told phase letters stem tag
+by_phase told fields name letters stem tag phase e p =
+    ap (take_form told) e ∙ four_taken told name letters stem tag ∙ ap (λ (phase : Option ℕ). take_entry told phase letters stem tag) (sym p)
+
+pub no_tag : (told : Told) (phase : ℕ) (letters stem tag : List ℕ) → (IsTagText tag → ⊥) → take_entry told (Some phase) letters stem tag ≡ Err faults.Field
+no_tag told phase letters stem tag n = when_false (is_tag_text tag) _ _ _ (false_from_ne_true (is_tag_text tag) (λ e. n (tag_from_test tag e))) refl
+
+pub by_words : (told : Told) (phase : ℕ) (letters stem tag : List ℕ) → IsTagText tag
+    → take_entry told (Some phase) letters stem tag ≡ take_analysis told phase tag (some_word (word_of_slp1 letters)) (some_word (word_of_slp1 stem))
+by_words told phase letters stem tag t = when_true (is_tag_text tag) _ _ _ (test_from_tag tag t) refl
+
+pub no_letters : (told : Told) (phase : ℕ) (tag : List ℕ) (letters stem : Option (List ℕ)) → letters ≡ None → take_analysis told phase tag letters stem ≡ Err faults.Spelling
+no_letters told phase tag None stem h = refl
+no_letters told phase tag (Some letters) stem h = absurd (cc)
+
+pub no_stem : (told : Told) (phase : ℕ) (tag : List ℕ) (letters stem : Option (List ℕ)) → stem ≡ None → take_analysis told phase tag letters stem ≡ Err faults.Spelling
+no_stem told phase tag None stem h = refl
+no_stem told phase tag (Some letters) None h = refl
+no_stem told phase tag (Some letters) (Some stem) h = absurd (cc)
+
+-- the entry, where both words are read
+pub both_words : (told : Told) (phase : ℕ) (tag text letters stem : List ℕ) (form root : Option (List ℕ)) → form ≡ Some letters → root ≡ Some stem → text ≡ tag
+    → take_analysis told phase tag form root ≡ take_form_line told (record { phase = phase; letters = letters; analysis = record { stem = stem; tag = text } })
+both_words told phase tag text letters stem form root f r t =
+    (λ i. take_analysis told phase tag (f i) (r i)) ∙ ap (λ text. take_form_line told (record { phase = phase; letters = letters; analysis = record { stem = stem; tag = text } })) (sym t)
+
+pub some_letter : (reading : Reading) (word : List ℕ) → some_word reading ≡ Some word → 0 < length word
+some_letter (Ok []) word h = absurd (cc)
+some_letter (Ok (letter ∷ letters)) word h =
+    let same : letter ∷ letters ≡ word = cc in subst (λ word. 0 < length word) same (omega arith)
+some_letter (Err fault) word h = absurd (cc)
+
+pub answer_moved : (A : Type 0) (taken other : Taken) (result : Result A TakeError) (after : Told) → other ≡ taken → IsAnswer taken result after → IsAnswer other result after
+answer_moved A taken other result after e h = subst (λ (taken : Taken). IsAnswer taken result after) (sym e) h

@@ -1,0 +1,42 @@
+-- A rule is a twin of another exactly where it has its triple, word by word.
+use Rattle.std.proofs.Common.{◌≡◌, ℕ, Bool, true, false, not, if◌then◌else◌, Err, ◌&&◌, ◌||◌, List, [], ◌∷◌, ◌++◌, map, nat_eq, refl, sym, ◌∙◌, ap, subst}
+use Rattle.std.specs.List.{list_any}
+use Rattle.std.specs.Str.{bytes_eq}
+use Rattle.lexicon_definitions.specs.Rules.{Rule, is_twin}
+use Rattle.lexicon_text_definitions.specs.FileContents.{has_triple}
+use Rattle.sandhi_rules.specs.contracts.triple.TriplePartialEq.TheImpl.{eq-value as triple_eq}
+use Rattle.form_file.specs.declared.error.FileWhy.TheVariants.{Twice}
+use Rattle.form_file.specs.declared.take_error.TakeError.{TakeError}
+use Rattle.form_file.specs.declared.take_error.TakeError.TheVariants.{Why}
+use Rattle.sandhi_rules.specs.declared.triple.Triple.{Triple}
+use Rattle.form_file.specs.Added.{IsAdded, has_twin}
+use Rattle.sandhi_rules.specs.Triples.{triple_of}
+use Rattle.list_laws.proofs.Texts.{bytes_same, bytes_itself}
+use Rattle.std.specs.Cmp.{both_ways}
+use Rattle.sandhi_rules.proofs.TripleLemmas.{twin_told as twin_by_test}
+
+-- both tests of two words say the same, whichever word is first
+same_words : (x y : List ℕ) → bytes_eq x y ≡ bytes_eq y x
+same_words x y =
+    both_ways (bytes_eq x y) (bytes_eq y x)
+    (λ e. subst (λ w. bytes_eq w x ≡ true) (bytes_same x y e) (bytes_itself x))
+    (λ e. subst (λ w. bytes_eq w y ≡ true) (bytes_same y x e) (bytes_itself y))
+
+same_test : (new rule : Rule) → is_twin new rule ≡ has_triple new.u new.v new.w rule
+same_test new rule = λ i. same_words new.u rule.u i && same_words new.v rule.v i && same_words new.w rule.w i
+
+-- one of the rules is a twin of the new one exactly where one has its triple
+same_tests : (new : Rule) (rules : List Rule) → list_any (is_twin new) rules ≡ has_twin rules new
+same_tests new [] = refl
+same_tests new (rule ∷ rules) = λ i. same_test new rule i || same_tests new rules i
+
+-- one of the rules has the triple exactly where it was not new
+pub twin_told : (old before : List Rule) (rule : Rule) (triples : List Triple) (triple : Triple) (is_new : Bool) → before ≡ old
+    → triples ≡ map triple_of before → triple ≡ triple_of rule → is_new ≡ not (list_any (triple_eq.it triple) triples) → has_twin old rule ≡ not is_new
+twin_told old before rule triples triple is_new same alike is added =
+    sym (same_tests rule old) ∙ twin_by_test old before rule triples triple is_new same alike is added
+
+-- where it was there the rules stay
+pub refused : (old now : List Rule) (rule : Rule) (error : TakeError) → error ≡ Why Twice → has_twin old rule ≡ true → now ≡ old
+    → IsAdded {A = Unit {0}} old rule (Err error) now
+refused old now rule error why twin same = subst (λ (e : TakeError). IsAdded {A = Unit {0}} old rule (Err e) now) (sym why) (refl, twin, same)

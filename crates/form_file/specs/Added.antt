@@ -1,0 +1,26 @@
+-- What is kept of the rules that were read, and what becomes of them when one more comes.
+use Rattle.std.specs.Prelude.{◌≡◌, ℕ, ◌++◌, Bool, true, false, Result, Ok, Err, List, [], ◌∷◌, map}
+use Rattle.std.specs.List.{list_any}
+use Rattle.lexicon_definitions.specs.Rules.{Rule}
+use Rattle.lexicon_text_definitions.specs.FileContents.{has_triple, different_v}
+use Rattle.form_file.specs.declared.error.FileWhy.TheVariants.{Twice}
+use Rattle.form_file.specs.declared.take_error.TakeError.{TakeError}
+use Rattle.form_file.specs.declared.take_error.TakeError.TheVariants.{Why, Memory}
+use Rattle.sandhi_rules.specs.declared.triple.Triple.{Triple}
+use Rattle.sandhi_rules.specs.Triples.{triple_of}
+
+-- these are the triples of the rules, in their order, and these are their leads
+pub record AreKept (rules : List Rule) (triples : List Triple) (leads : List (List ℕ)) : Type 0 where
+  pub alike : triples ≡ map triple_of rules
+  pub leading : leads ≡ different_v rules
+
+-- one of the rules has the triple of this one
+abbrev pub has_twin : List Rule → Rule → Bool
+has_twin rules new = list_any (has_triple new.u new.v new.w) rules
+
+-- the rule is appended where no rule has its triple, and it is a twin where one has; memory may be wanting; a refusal leaves all
+-- as it was
+abbrev pub IsAdded : {A : Type 0} → List Rule → Rule → Result A TakeError → List Rule → Type 0
+IsAdded old rule (Ok done) new = (has_twin old rule ≡ false) × (new ≡ old ++ rule ∷ [])
+IsAdded old rule (Err (Why why)) new = (why ≡ Twice) × (has_twin old rule ≡ true) × (new ≡ old)
+IsAdded old rule (Err Memory) new = new ≡ old

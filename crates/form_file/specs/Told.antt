@@ -1,0 +1,67 @@
+-- What the reader keeps of the lines so far, and what it answers to a line.
+use Rattle.std.specs.Prelude.{◌≡◌, ℕ, ◌<◌, ◌≤◌, ◌⊎◌, Option, Result, Ok, Err, List, [], length, slice_index_or, IfSome, IsSome}
+use Rattle.lexicon_definitions.specs.declared.limits.TheConstants.{MOST_PHASES}
+use Rattle.lexicon_definitions.specs.GrammarTexts.{grammar_of}
+use Rattle.lexicon_definitions.specs.GrammarFaults.{Fault, IsFirstFault, IsGrammarTextWithinLimits}
+use Rattle.lexicon_definitions.specs.Lexicons.{Form}
+use Rattle.phase_automaton.specs.Automata.{StateMachine, Recognizes}
+use Rattle.lexicon_text_definitions.specs.FileFaults as faults
+use Rattle.lexicon_text_definitions.specs.FileLines as lines
+use Rattle.lexicon_text_definitions.specs.FileContents.{Told, entries_from}
+use Rattle.lexicon_text_definitions.specs.FileSteps.{Taken}
+use Rattle.form_file.specs.declared.take_error.TakeError.{TakeError}
+use Rattle.form_file.specs.declared.take_error.TakeError.TheVariants.{Why, Memory}
+use Rattle.form_file.specs.declared.error.FileWhy.TheVariants.{NoEnd}
+use Rattle.form_file.specs.Faults.{why_of}
+
+-- no phase after this one has a form; and where this one has no form, no phase has a form
+pub record IsLastPhase (lists : List (List Form)) (last : ℕ) : Type 0 where
+  pub within : last < length lists
+  pub none_after : (phase : ℕ) → last < phase → slice_index_or lists phase [] ≡ []
+  pub none_at_all : slice_index_or lists last [] ≡ [] → entries_from 0 lists ≡ []
+
+-- what is kept besides, once the grammar was told: its automaton, a list for each phase, and the last phase with a form
+pub record IsBody (names : List (List ℕ)) (grammar : List ℕ) (automaton : Option StateMachine) (lists : List (List Form)) (last : ℕ) : Type 0 where
+  pub some : 0 < length names
+  pub as_many : length lists ≡ length names
+  pub last_phase : IsLastPhase lists last
+  pub has_automaton : IsSome automaton
+  pub recognizes : IfSome automaton (λ machine. Recognizes machine (grammar_of names grammar))
+  pub phases : IfSome automaton (λ machine. machine.phases ≡ length names)
+
+-- what is kept after a line of each kind
+abbrev pub IsStage : lines.Kind → Told → Option StateMachine → List (List Form) → ℕ → Type 0
+IsStage lines.Opening told automaton lists last = lists ≡ []
+IsStage lines.Head told automaton lists last = lists ≡ []
+IsStage lines.Phase told automaton lists last = (0 < length told.names) × (lists ≡ [])
+IsStage kind told automaton lists last = IsBody told.names told.grammar automaton lists last
+
+pub record IsKept (told : Told) (automaton : Option StateMachine) (lists : List (List Form)) (last : ℕ) : Type 0 where
+  pub few : length told.names ≤ MOST_PHASES
+  pub stage : IsStage told.last told automaton lists last
+
+-- the answer to a line but a grammar's that is taken so: what is told after it, or why it is refused
+abbrev pub IsAnswer : {A : Type 0} → Taken → Result A TakeError → Told → Type 0
+IsAnswer taken (Ok done) after = taken ≡ Ok after
+IsAnswer taken (Err (Why why)) after = taken ≡ Err (why_of why)
+IsAnswer taken (Err Memory) after = Unit {0}
+
+-- the text of a grammar line that is taken has a fault, which is the reason
+pub record IsGrammarFault (taken : Taken) (why : faults.Why) : Type 0 where
+  pub told : Told
+  pub taken_so : taken ≡ Ok told
+  pub grammar_line : told.last ≡ lines.Grammar
+  pub fault : Fault
+  pub first : IsFirstFault told.names told.grammar fault
+  pub is : why ≡ faults.Grammar fault
+
+-- the answer to any line: after a grammar line its text is one within the limits
+abbrev pub IsLineAnswer : {A : Type 0} → Taken → Result A TakeError → Told → Type 0
+IsLineAnswer taken (Ok done) after = (taken ≡ Ok after) × (after.last ≡ lines.Grammar → IsGrammarTextWithinLimits after.names after.grammar)
+IsLineAnswer taken (Err (Why why)) after = (taken ≡ Err (why_of why)) ⊎ IsGrammarFault taken (why_of why)
+IsLineAnswer taken (Err Memory) after = Unit {0}
+
+-- the only reason is that the end is missing, and then it is; memory may be wanting
+abbrev pub IsNoEnd : TakeError → Type 0 → Type 0
+IsNoEnd (Why why) Ended = (why ≡ NoEnd) × (Ended → ⊥)
+IsNoEnd Memory Ended = Unit {0}

@@ -1,0 +1,105 @@
+ghost use Rattle.std.specs.Prelude.{◌≡◌, ◌<◌, ◌||◌, nat_le, nat_lt, [], length, IsOk, OnOk};
+ghost use Rattle.lexicon_text_definitions.specs.FileContents.{with_v, different_v};
+ghost use Rattle.form_file.specs.Added.{IsAdded};
+ghost use Rattle.indexmap.specs.IndexSet.{spare};
+
+use crate::FileWhy;
+use crate::take_error::TakeError;
+use indexmap::IndexSet;
+use lexicon_definitions::{MOST_LEADS, MOST_RULES};
+use phoneme::{Memory, Word};
+use sandhi_rules::{Rule, Triple};
+use std::alloc::Global;
+use std::marker::Model;
+
+/// The rules that were read, in their order, their triples, and their different `v` that are not empty.
+#[derive(Debug, Drop)]
+pub(crate) struct RulesSoFar {
+    rules: Vec<Rule>,
+    triples: IndexSet<Triple>,
+    leads: IndexSet<Word>,
+}
+
+impl Model for RulesSoFar {
+    ghost use Rattle.std.specs.Prelude.{List};
+    ghost use Rattle.lexicon_definitions.specs.Rules.{Rule as RuleValue};
+    ghost use Rattle.form_file.specs.Added.{AreKept};
+
+    ghost Value = { List RuleValue };
+
+    ghost view = { λ r. r.rules.items };
+
+    ghost invariant = { λ r. AreKept r.rules.items r.triples.keys r.leads.keys };
+}
+
+/// Puts a rule's `v` among the leads, unless it is empty or already there. Wants no memory where there is room for one more.
+fn add_lead(leads: &mut IndexSet<Word>, v: Word) -> Result<(), Memory>
+    ensures ok { OnOk result (leads.new.keys ≡ with_v leads.old.keys v) }
+    ensures room { 0 < spare leads.old → IsOk result }
+{
+    if !v.is_empty() {
+        leads.insert(v)?;
+    }
+    Ok(())
+}
+
+impl RulesSoFar {
+    pub(crate) fn new(alloc: Global) -> RulesSoFar
+        ensures { result ≡ [] }
+    {
+        RulesSoFar {
+            rules: Vec::new(alloc),
+            triples: IndexSet::new(alloc),
+            leads: IndexSet::new(alloc),
+        }
+    }
+
+    /// The rules, in their order.
+    pub(crate) fn into_rules(self) -> Vec<Rule>
+        ensures { result.items ≡ self }
+    {
+        let RulesSoFar {
+            rules,
+            triples: _,
+            leads: _,
+        } = self;
+        rules
+    }
+
+    /// How many different `v` that are not empty the rules have together with this `v`.
+    fn leads_with(&self, v: &Word) -> usize
+        ensures { result ≡ length (with_v (different_v self.now) v.now) }
+    {
+        if v.is_empty() || self.leads.contains(v) {
+            self.leads.len()
+        } else {
+            self.leads.len() + 1
+        }
+    }
+
+    /// Whether with a rule that has this `v` there are too many rules or leads.
+    pub(crate) fn is_full(&self, v: &Word) -> bool
+        ensures { result ≡ (nat_le MOST_RULES (length self.now) || nat_lt MOST_LEADS (length (with_v (different_v self.now) v.now))) }
+    {
+        self.rules.len() >= MOST_RULES || self.leads_with(v) > MOST_LEADS
+    }
+
+    /// Appends the rule. `Twice` where one of the same triple is there. A refusal leaves the rules as they were.
+    pub(crate) fn add(&mut self, rule: Rule) -> Result<(), TakeError>
+        requires { length self.old < MOST_RULES }
+        ensures { IsAdded self.old rule result self.new }
+    {
+        let alloc = *self.rules.allocator();
+        let triple = Triple::of(alloc, &rule)?;
+        let lead = rule.v.copy(alloc)?;
+        // Room is taken first, so that the rule and its lead are put in wherever its triple was.
+        self.rules.reserve(1)?;
+        self.leads.reserve(1)?;
+        if !self.triples.insert(triple)? {
+            return Err(FileWhy::Twice.into());
+        }
+        add_lead(&mut self.leads, lead)?;
+        self.rules.push(rule)?;
+        Ok(())
+    }
+}

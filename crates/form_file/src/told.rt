@@ -1,0 +1,391 @@
+ghost use Rattle.std.specs.Prelude.{◌≡◌, ◌<◌, ◌||◌, nat_le, nat_lt, ◌≤◌, ◌^◌, length, map, true, IfOk, IfErr, Some, IfSome};
+ghost use Rattle.std.specs.List.{list_all, position};
+ghost use Rattle.std.specs.Str.{bytes_eq};
+ghost use Rattle.std.specs.String.{string_bytes};
+ghost use Rattle.lexicon_definitions.specs.Lexicons.{IsRuleSet, tree_of, compare_pairs};
+ghost use Rattle.lexicon_definitions.specs.Limits.{IsRuleSetWithinLimits};
+ghost use Rattle.phase_automaton.specs.Automata.{Recognizes};
+ghost use Rattle.lexicon_text_definitions.specs.FileLines.{Opening, End, may_follow, Phase, Grammar, Plain, Rule as RuleLine, Form, fields_of, parts_of};
+ghost use Rattle.lexicon_text_definitions.specs.FileContents.{Told as ToldValue, nothing_told, rules_told, lexicon_told, compare_entries, compare_last as compare_last_of};
+ghost use Rattle.lexicon_text_definitions.specs.FileSteps.{if_rising, passes_rule_limits as passes_rule_limits_of, take_triple as take_triple_of, take_line as take_line_of, take_head as take_head_of, take_end as take_end_of, take_phase as take_phase_of, take_grammar as take_grammar_of, take_plain as take_plain_of, take_rule as take_rule_of, take_form as take_form_of, take_kind as take_kind_of, take_parts as take_parts_of, take_form_line};
+ghost use Rattle.form_lists.specs.Lists.{text_entry};
+ghost use Rattle.form_file.specs.Told.{IsAnswer, IsLineAnswer, IsNoEnd};
+ghost use Rattle.form_file.specs.Fields.{text_of_rest};
+ghost use Rattle.form_file.specs.Contents.{lexicon_of};
+ghost use Rattle.form_file.specs.Kinds.{kind_of};
+
+use crate::cutting::{four_fields, kind_and_rest, one_field, rule_parts, two_fields};
+use crate::kind::Kind;
+use crate::rules_so_far::RulesSoFar;
+use crate::take_error::TakeError;
+use crate::words::{read_letter, read_some_word, read_word};
+use crate::{Contents, FileWhy};
+use form_lists::FormLists;
+use form_tags::{Analysis, Entry, read_tag};
+use lexicon_definitions::{MOST_FORM_LETTERS, MOST_FORM_LINES, MOST_PHASES, MOST_RULE_LETTERS};
+use phase_automaton::{Automaton, GrammarError, read_grammar};
+use phoneme::{Letter, Memory, Word};
+use sandhi_rules::{Rule, RuleSet, is_phase_name, phase_named};
+use std::alloc::Global;
+use std::cmp::Ordering;
+use std::marker::Model;
+
+/// What the lines so far told: the kind of the last line, the names of the phases, the grammar's text with its automaton, the
+/// plain pairs, the rules, and the forms, of which the last one is of the last phase.
+#[derive(Debug, Drop)]
+pub(crate) struct Told {
+    last: Kind,
+    names: Vec<String>,
+    grammar: Vec<u8>,
+    automaton: Option<Automaton>,
+    plain: Vec<(Letter, Letter)>,
+    rules: RulesSoFar,
+    lists: FormLists,
+    last_phase: u32,
+}
+
+impl Model for Told {
+    ghost use Rattle.std.specs.Prelude.{map, string_bytes};
+    ghost use Rattle.lexicon_text_definitions.specs.FileContents.{Told as ToldValue, entries_from};
+    ghost use Rattle.form_file.specs.Kinds.{kind_of};
+    ghost use Rattle.form_file.specs.Told.{IsKept};
+
+    ghost Value = { ToldValue };
+
+    ghost view = { λ t. record { last = kind_of t.last; names = map string_bytes t.names.items; grammar = t.grammar.items; plain = t.plain.items; rules = t.rules; forms = entries_from 0 t.lists } };
+
+    ghost invariant = { λ t. IsKept (record { last = kind_of t.last; names = map string_bytes t.names.items; grammar = t.grammar.items; plain = t.plain.items; rules = t.rules; forms = entries_from 0 t.lists }) t.automaton t.lists t.last_phase };
+}
+
+/// The reason that comes from how a new one compares with the last before it.
+fn rising(order: Ordering) -> Result<(), TakeError>
+    ensures { (told : ToldValue) → IsAnswer (if_rising order told) result told }
+{
+    match order {
+        Ordering::Less => Ok(()),
+        Ordering::Equal => Err(FileWhy::Twice.into()),
+        Ordering::Greater => Err(FileWhy::Falling.into()),
+    }
+}
+
+/// How the last pair compares with a new one; `Less` where there is no pair yet.
+fn compare_last_pair(pairs: &[(Letter, Letter)], pair: &(Letter, Letter)) -> Ordering
+    ensures { result ≡ compare_last_of compare_pairs pairs.now pair.now }
+{
+    match pairs {
+        [] => Ordering::Less,
+        [.., last] => last.cmp(pair),
+    }
+}
+
+/// Whether no entry may come after so many, or the entry's form or its stem is too long.
+fn passes_form_limits(lines: usize, entry: &Entry) -> bool
+    ensures { result ≡ (nat_le MOST_FORM_LINES lines || nat_lt MOST_FORM_LETTERS (length entry.now.form) || nat_lt MOST_FORM_LETTERS (length entry.now.analysis.stem)) }
+{
+    lines >= MOST_FORM_LINES
+        || entry.form.len() > MOST_FORM_LETTERS
+        || entry.analysis.stem.len() > MOST_FORM_LETTERS
+}
+
+impl Told {
+    pub(crate) fn new(alloc: Global) -> Result<Told, Memory>
+        ensures { IfOk result (λ told. told ≡ nothing_told) }
+    {
+        Ok(Told {
+            last: Kind::Opening,
+            names: Vec::new(alloc),
+            grammar: Vec::new(alloc),
+            automaton: None,
+            plain: Vec::new(alloc),
+            rules: RulesSoFar::new(alloc),
+            lists: FormLists::new(alloc, 0)?,
+            last_phase: 0,
+        })
+    }
+
+    fn take_head(&mut self, line: &[u8]) -> Result<(), TakeError>
+        requires { self.old.last ≡ Opening }
+        ensures { IsAnswer (take_head_of self.old line.now) result self.new }
+    {
+        if line != b"slx 1".as_slice() {
+            return Err(FileWhy::Head.into());
+        }
+        self.last = Kind::Head;
+        Ok(())
+    }
+
+    fn phase_named(&self, name: &[u8]) -> Option<usize>
+        ensures named { result ≡ position (bytes_eq name.now) self.now.names }
+        ensures within { IfSome result (λ phase. phase < length self.now.names) }
+        ensures few { length self.now.names ≤ MOST_PHASES }
+    {
+        phase_named(self.names.as_slice(), name)
+    }
+
+    fn take_phase(&mut self, alloc: Global, text: &[u8]) -> Result<(), TakeError>
+        requires follows { may_follow self.old.last Phase ≡ true }
+        requires fits { length text.now < 2 ^ 32 }
+        ensures { IsAnswer (take_phase_of self.old (fields_of (Some text.now))) result self.new }
+    {
+        let Some(name) = one_field(text) else {
+            return Err(FileWhy::Field.into());
+        };
+        if !is_phase_name(name) {
+            return Err(FileWhy::Field.into());
+        }
+        if self.names.len() >= MOST_PHASES {
+            return Err(FileWhy::Limit.into());
+        }
+        if self.phase_named(name).is_some() {
+            return Err(FileWhy::Twice.into());
+        }
+        let Ok(name) = std::str::from_utf8(name) else {
+            return Err(FileWhy::Field.into());
+        };
+        self.names.push(String::from_str(alloc, name)?)?;
+        self.last = Kind::Phase;
+        Ok(())
+    }
+
+    fn take_grammar(&mut self, alloc: Global, text: &[u8]) -> Result<(), TakeError>
+        requires follows { may_follow self.old.last Grammar ≡ true }
+        requires fits { length text.now < 2 ^ 32 }
+        ensures { IsLineAnswer (take_grammar_of self.old (Some text.now)) result self.new }
+    {
+        let automaton = match read_grammar(alloc, text, self.names.as_slice()) {
+            Ok(automaton) => automaton,
+            Err(GrammarError::Fault(fault)) => return Err(FileWhy::Grammar(fault).into()),
+            Err(GrammarError::Memory) => return Err(TakeError::Memory),
+        };
+        self.grammar = Vec::from_slice(alloc, text)?;
+        self.lists = FormLists::new(alloc, self.names.len() as u32)?;
+        self.automaton = Some(automaton);
+        self.last_phase = 0;
+        self.last = Kind::Grammar;
+        Ok(())
+    }
+
+    fn take_plain(&mut self, alloc: Global, text: &[u8]) -> Result<(), TakeError>
+        requires follows { may_follow self.old.last Plain ≡ true }
+        requires fits { length text.now < 2 ^ 32 }
+        ensures { IsAnswer (take_plain_of self.old (fields_of (Some text.now))) result self.new }
+    {
+        let Some((left, right)) = two_fields(text) else {
+            return Err(FileWhy::Field.into());
+        };
+        let left = read_letter(alloc, left)?;
+        let right = read_letter(alloc, right)?;
+        let pair = (left, right);
+        rising(compare_last_pair(self.plain.as_slice(), &pair))?;
+        self.plain.push(pair)?;
+        self.last = Kind::Plain;
+        Ok(())
+    }
+
+    /// Whether with this rule there are too many rules or leads, or a part of it is too long.
+    fn passes_rule_limits(&self, u: &Word, v: &Word, w: &Word) -> bool
+        ensures { result ≡ passes_rule_limits_of self.now u.now v.now w.now }
+    {
+        self.rules.is_full(v)
+            || u.len() > MOST_RULE_LETTERS
+            || v.len() > MOST_RULE_LETTERS
+            || w.len() > MOST_RULE_LETTERS
+    }
+
+    fn take_triple(&mut self, u: Word, v: Word, w: Word) -> Result<(), TakeError>
+        requires { may_follow self.old.last RuleLine ≡ true }
+        ensures { IsAnswer (take_triple_of self.old u v w) result self.new }
+    {
+        if u.is_empty() || w.is_empty() {
+            return Err(FileWhy::Strict.into());
+        }
+        if self.passes_rule_limits(&u, &v, &w) {
+            return Err(FileWhy::Limit.into());
+        }
+        let rule = Rule::unlimited(self.names.len(), u, v, w);
+        self.rules.add(rule)?;
+        self.last = Kind::Rule;
+        Ok(())
+    }
+
+    fn take_rule(&mut self, alloc: Global, text: &[u8]) -> Result<(), TakeError>
+        requires follows { may_follow self.old.last RuleLine ≡ true }
+        requires fits { length text.now < 2 ^ 32 }
+        ensures { IsAnswer (take_rule_of self.old (fields_of (Some text.now))) result self.new }
+    {
+        let Some(field) = one_field(text) else {
+            return Err(FileWhy::Field.into());
+        };
+        let Some((u, v, w)) = rule_parts(field) else {
+            return Err(FileWhy::Field.into());
+        };
+        let u = read_word(alloc, u)?;
+        let v = read_word(alloc, v)?;
+        let w = read_word(alloc, w)?;
+        self.take_triple(u, v, w)
+    }
+
+    /// How the last entry compares with a new one; `Less` where there is no entry yet.
+    fn compare_last(&self, entry: &Entry) -> Ordering
+        requires { may_follow self.now.last Form ≡ true }
+        ensures { result ≡ compare_last_of compare_entries self.now.forms (text_entry entry.now) }
+    {
+        if self.lists.lines() == 0 {
+            return Ordering::Less;
+        }
+        let forms = self.lists.forms(self.last_phase);
+        let place = forms.len() - 1;
+        let analyses = self.lists.analyses(self.last_phase, place as u32);
+        let within_phase = forms[place]
+            .compare(&entry.form)
+            .then(analyses[analyses.len() - 1].compare(&entry.analysis));
+        self.last_phase.cmp(&entry.phase).then(within_phase)
+    }
+
+    fn take_entry(&mut self, entry: Entry) -> Result<(), TakeError>
+        requires follows { may_follow self.old.last Form ≡ true }
+        requires phase { entry.phase < length self.old.names }
+        requires form { 0 < length entry.form }
+        requires stem { 0 < length entry.analysis.stem }
+        ensures { IsAnswer (take_form_line self.old (text_entry entry)) result self.new }
+    {
+        if passes_form_limits(self.lists.lines() as usize, &entry) {
+            return Err(FileWhy::Limit.into());
+        }
+        rising(self.compare_last(&entry))?;
+        let phase = entry.phase;
+        self.lists.insert(entry)?;
+        self.last_phase = phase;
+        self.last = Kind::Form;
+        Ok(())
+    }
+
+    fn take_form(&mut self, alloc: Global, text: &[u8]) -> Result<(), TakeError>
+        requires follows { may_follow self.old.last Form ≡ true }
+        requires fits { length text.now < 2 ^ 32 }
+        ensures { IsAnswer (take_form_of self.old (fields_of (Some text.now))) result self.new }
+    {
+        let Some((phase, form, stem, tag)) = four_fields(text) else {
+            return Err(FileWhy::Field.into());
+        };
+        let Some(phase) = self.phase_named(phase) else {
+            return Err(FileWhy::Field.into());
+        };
+        let Some(tag) = read_tag(tag) else {
+            return Err(FileWhy::Field.into());
+        };
+        let form = read_some_word(alloc, form)?;
+        let stem = read_some_word(alloc, stem)?;
+        self.take_entry(Entry {
+            phase: phase as u32,
+            form,
+            analysis: Analysis { stem, tag },
+        })
+    }
+
+    fn take_end(&mut self, rest: Option<&[u8]>) -> Result<(), TakeError>
+        requires { may_follow self.old.last End ≡ true }
+        ensures { IsAnswer (take_end_of self.old (text_of_rest rest.entry)) result self.new }
+    {
+        if rest.is_some() {
+            return Err(FileWhy::Field.into());
+        }
+        self.last = Kind::End;
+        Ok(())
+    }
+
+    /// Takes a line of a kind that may come next, with what comes after its blank.
+    fn take_kind(&mut self, alloc: Global, kind: Kind, rest: Option<&[u8]>) -> Result<(), TakeError>
+        requires follows { may_follow self.old.last (kind_of kind) ≡ true }
+        requires fits { IfSome rest (λ text. length text.now < 2 ^ 32) }
+        ensures { IsLineAnswer (take_kind_of self.old (kind_of kind) (text_of_rest rest.entry)) result self.new }
+    {
+        if kind == Kind::End {
+            return self.take_end(rest);
+        }
+        let Some(text) = rest else {
+            return Err(FileWhy::Field.into());
+        };
+        match kind {
+            Kind::Phase => self.take_phase(alloc, text),
+            Kind::Grammar => self.take_grammar(alloc, text),
+            Kind::Plain => self.take_plain(alloc, text),
+            Kind::Rule => self.take_rule(alloc, text),
+            Kind::Form => self.take_form(alloc, text),
+            Kind::Opening | Kind::Head | Kind::End => Err(FileWhy::Order.into()),
+        }
+    }
+
+    /// Takes a line after the first.
+    fn take_parts(&mut self, alloc: Global, line: &[u8]) -> Result<(), TakeError>
+        requires { length line.now < 2 ^ 32 }
+        ensures { IsLineAnswer (take_parts_of self.old (parts_of line.now)) result self.new }
+    {
+        let (name, rest) = kind_and_rest(line);
+        let Some(kind) = Kind::named(name) else {
+            return Err(FileWhy::Order.into());
+        };
+        if !kind.may_come_after(self.last) {
+            return Err(FileWhy::Order.into());
+        }
+        self.take_kind(alloc, kind, rest)
+    }
+
+    /// Takes the next line, whether a line end comes after it or not.
+    pub(crate) fn take_line(
+        &mut self,
+        alloc: Global,
+        line: &[u8],
+        ended: bool,
+    ) -> Result<(), TakeError>
+        requires { length line.now < 2 ^ 32 }
+        ensures { IsLineAnswer (take_line_of self.old (record { bytes = line.now; ended = ended })) result self.new }
+    {
+        if self.last == Kind::End {
+            return Err(FileWhy::Trailing.into());
+        }
+        if !ended {
+            return Err(FileWhy::NoEnd.into());
+        }
+        if std::str::from_utf8(line).is_err() {
+            return Err(FileWhy::NotUtf8.into());
+        }
+        if self.last == Kind::Opening {
+            return self.take_head(line);
+        }
+        self.take_parts(alloc, line)
+    }
+
+    /// The contents of the file, where the last line was its end.
+    pub(crate) fn finish(self, alloc: Global) -> Result<Contents, TakeError>
+        requires set { self.last ≡ End → IsRuleSet (rules_told self) }
+        requires limits { self.last ≡ End → IsRuleSetWithinLimits (rules_told self) }
+        ensures ok { IfOk result (λ contents. (self.last ≡ End) × (lexicon_of contents ≡ lexicon_told self)) }
+        ensures automaton { IfOk result (λ contents. Recognizes contents.automaton (tree_of (rules_told self))) }
+        ensures phases { IfOk result (λ contents. contents.automaton.phases ≡ length contents.rules.names) }
+        ensures no_end { IfErr result (λ error. IsNoEnd error (self.last ≡ End)) }
+    {
+        let Told {
+            last,
+            names,
+            grammar,
+            automaton,
+            plain,
+            rules,
+            lists,
+            last_phase: _,
+        } = self;
+        let Some(automaton) = automaton else {
+            return Err(FileWhy::NoEnd.into());
+        };
+        if last != Kind::End {
+            return Err(FileWhy::NoEnd.into());
+        }
+        let rules = RuleSet::new(alloc, names, grammar, plain, rules.into_rules())?;
+        Ok(Contents {
+            rules,
+            automaton,
+            lists,
+        })
+    }
+}

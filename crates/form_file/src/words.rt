@@ -1,0 +1,46 @@
+ghost use Rattle.std.specs.Prelude.{◌≡◌, ◌<◌, ◌^◌, length, Some, Ok};
+ghost use Rattle.text_definitions.specs.Slp1.{word_of_slp1};
+ghost use Rattle.lexicon_text_definitions.specs.FileSteps.{one_letter, some_word};
+ghost use Rattle.form_file.specs.Words.{IsRead, IsSpelled};
+
+use crate::FileWhy;
+use crate::take_error::TakeError;
+use latin_schemes::{SpellError, read_slp1};
+use phoneme::{Letter, Word};
+use std::alloc::Global;
+
+/// The word that the bytes spell in SLP1.
+pub(crate) fn read_word(alloc: Global, text: &[u8]) -> Result<Word, TakeError>
+    requires { length text.now < 2 ^ 32 }
+    ensures { IsSpelled (word_of_slp1 text.now) result }
+{
+    match read_slp1(alloc, text) {
+        Ok(word) => Ok(word),
+        Err(SpellError::Fault(_)) => Err(FileWhy::Spelling.into()),
+        Err(SpellError::Memory) => Err(TakeError::Memory),
+    }
+}
+
+/// The word that the bytes spell in SLP1, which has some letter.
+pub(crate) fn read_some_word(alloc: Global, text: &[u8]) -> Result<Word, TakeError>
+    requires { length text.now < 2 ^ 32 }
+    ensures { IsRead (some_word (word_of_slp1 text.now)) result }
+{
+    let word = read_word(alloc, text)?;
+    if word.is_empty() {
+        return Err(FileWhy::Spelling.into());
+    }
+    Ok(word)
+}
+
+/// The one letter that the bytes spell in SLP1.
+pub(crate) fn read_letter(alloc: Global, text: &[u8]) -> Result<Letter, TakeError>
+    requires { length text.now < 2 ^ 32 }
+    ensures { IsRead (one_letter (word_of_slp1 text.now)) result }
+{
+    let word = read_word(alloc, text)?;
+    match word.as_slice() {
+        [letter] => Ok(*letter),
+        _ => Err(FileWhy::Spelling.into()),
+    }
+}
