@@ -7,10 +7,16 @@
 
 mod error;
 mod line_texts;
+mod note;
 mod only_answers;
+mod read_error;
+mod reading;
 mod segments;
 mod values;
 mod writing;
 
 pub use error::NoteError;
+pub use note::Note;
+pub use read_error::{NoteWhy, ReadNoteError};
+pub use reading::read_note;
 pub use writing::write_note;
