@@ -1,6 +1,6 @@
-mod OnlyAnswers
-mod OneOutcome
-mod ReadOnce
+pub mod OnlyAnswers
+pub mod OneOutcome
+pub mod ReadOnce
 mod ReadNotes
 mod EndedTexts
 mod WrittenValues
@@ -8,4 +8,4 @@ mod PlacedBounds
 mod PlainTexts
 mod NoteValues
 mod NoteShapesWritten
-mod NotesBack
+pub mod NotesBack
