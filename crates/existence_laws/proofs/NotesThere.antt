@@ -222,8 +222,8 @@ module _ (lexicon : Lexicon) (is : IsLexicon lexicon) where
     | inr none ↦ (
       outcome_over files (output_line (codes "bad mark")) BadMark,
       OfNoMark (λ other over.
-      let same : Some other ≡ Some mark = sym over.read ∙ e in
-      none (over.cursor, of_one_mark other mark same over.cursor over.is_cursor)) refl,
+          let same : Some other ≡ Some mark = sym over.read ∙ e in
+          none (over.cursor, of_one_mark other mark same over.cursor over.is_cursor)) refl,
     )
   ]
 
