@@ -1,4 +1,3 @@
-mod LinesPrinted
 mod FoundAnswers
 mod WrittenObjects
 mod WrittenSegments

@@ -6,7 +6,6 @@
 #![tactic(auto)]
 
 mod error;
-mod line_texts;
 mod note;
 mod only_answers;
 mod read_error;
