@@ -2,3 +2,4 @@ mod FoundAnswers
 mod WrittenObjects
 mod WrittenSegments
 mod WrittenNotes
+mod ShapeTests

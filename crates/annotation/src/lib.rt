@@ -11,6 +11,7 @@ mod only_answers;
 mod read_error;
 mod reading;
 mod segments;
+mod shapes;
 mod values;
 mod writing;
 
