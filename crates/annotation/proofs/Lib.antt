@@ -1,5 +1,5 @@
-mod LinesPrinted
 mod FoundAnswers
 mod WrittenObjects
 mod WrittenSegments
 mod WrittenNotes
+mod ShapeTests

@@ -6,12 +6,12 @@
 #![tactic(auto)]
 
 mod error;
-mod line_texts;
 mod note;
 mod only_answers;
 mod read_error;
 mod reading;
 mod segments;
+mod shapes;
 mod values;
 mod writing;
 

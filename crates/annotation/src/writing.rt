@@ -9,11 +9,11 @@ ghost use Rattle.annotation.specs.Answers.{IsNoteWritten};
 ghost use Rattle.annotation.specs.Objects.{note_with};
 
 use crate::NoteError;
-use crate::line_texts::print_line;
 use crate::only_answers::only_answer;
 use crate::segments::segments_value;
 use crate::values::choices_value;
 use annotated_trie::Lexicon;
+use bookmarks::print_line;
 use derivation::{Choice, Step};
 use outside::Steps;
 use phoneme::{Line, Memory};
