@@ -2,7 +2,7 @@
 //!
 //! Proved: `write_note` gives the text of the note where the line and the choices have exactly one answer, answers `NoAnswer` exactly
 //! where they have none, and `Several` exactly where they have two or more, with the keys of the first two; otherwise it is refused
-//! only for want of memory (`written`). Whether there is one answer is told by a chart and two moves of a search.
+//! only for want of memory (`written`). `write_counted_note` does the same and counts the segments. Whether there is one answer is told by a chart and two moves of a search.
 #![tactic(auto)]
 
 mod error;
@@ -14,9 +14,11 @@ mod segments;
 mod shapes;
 mod values;
 mod writing;
+mod written_note;
 
 pub use error::NoteError;
 pub use note::Note;
 pub use read_error::{NoteWhy, ReadNoteError};
 pub use reading::read_note;
-pub use writing::write_note;
+pub use writing::{write_counted_note, write_note};
+pub use written_note::WrittenNote;
