@@ -1,7 +1,7 @@
 pub mod OnlyAnswers
 pub mod OneOutcome
 pub mod ReadOnce
-mod ReadNotes
+pub mod ReadNotes
 mod EndedTexts
 mod WrittenValues
 mod PlacedBounds
