@@ -3,3 +3,4 @@ mod WrittenObjects
 mod WrittenSegments
 mod WrittenNotes
 mod ShapeTests
+mod ChoicesRead

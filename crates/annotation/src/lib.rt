@@ -12,6 +12,7 @@ mod read_error;
 mod reading;
 mod segments;
 mod shapes;
+mod told;
 mod values;
 mod writing;
 

@@ -10,6 +10,7 @@ use note_definitions::MOST_NOTE_NUMBER;
 use serde_json::{Map, Value};
 
 /// What a note says of its line and of its choices: two texts and a list of texts.
+#[derive(Drop)]
 pub(crate) struct NoteParts<'a> {
     pub(crate) text: &'a str,
     pub(crate) choices: &'a [Value],
