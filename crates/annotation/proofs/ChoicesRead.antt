@@ -96,11 +96,6 @@ module _ (lexicon : Lexicon) (values : List Value) (at : ℕ) (value : Value) (t
   error_there (Fault why) h = (h.0, text_refused h.1)
   error_there Memory h = tt
 
-  pub too_many : length choices ≡ MOST_CHOICES → choices_of lexicon (texts_in values) ≡ None
-  too_many full =
-      let many : MOST_CHOICES < length (texts_in values) = omega (arith, length-map values text_in, inside, so_far.count, full) in
-      choices_if lexicon (texts_in values) false _ (lt-leb (length (texts_in values)) MOST_CHOICES many) refl
-
   pub one_more : (choice : Choice) (new : List Choice) → choice_over lexicon text ≡ Some choice → (length choices ≡ MOST_CHOICES → ⊥)
       → new ≡ choices ++ choice ∷ [] → AreReadUpTo lexicon values (at + 1) new
   one_more choice new h room is = record {

@@ -4,3 +4,4 @@ mod WrittenSegments
 mod WrittenNotes
 mod ShapeTests
 mod ChoicesRead
+mod NotesRead

@@ -1,14 +1,19 @@
 -- What the call that reads a note answers (own).
-use Rattle.std.specs.Prelude.{◌≡◌, ℕ, nat_lt, if◌then◌else◌, Option, Some, None, option_and_then, Result, Ok, Err, List, length}
+use Rattle.std.specs.Prelude.{◌≡◌, ℕ, nat_lt, if◌then◌else◌, Option, Some, None, option_and_then, Result, Ok, Err, List, length, Vec}
+use Rattle.std.specs.Global.{Global}
 use Rattle.serde_json.specs.Data.{Data}
+use Rattle.text_definitions.specs.Lines.{Line}
 use Rattle.lexicon_definitions.specs.Lexicons.{Lexicon}
+use Rattle.segmentation_definitions.specs.Derivations.{Step}
 use Rattle.segmentation_definitions.specs.Items.{Choice as ChoiceValue}
 use Rattle.bookmark_definitions.specs.BookmarkReadings.{choice_of}
+use Rattle.derivation.specs.declared.step.Step.{Step as ProgramStep}
 use Rattle.derivation.specs.Steps.{StandIn, steps_of}
 use Rattle.note_definitions.specs.NoteFaults as faults
 use Rattle.note_definitions.specs.NoteFaults.{Why}
-use Rattle.note_definitions.specs.Notes.{Note}
+use Rattle.note_definitions.specs.Notes.{Note, IsOnlyAnswer}
 use Rattle.note_definitions.specs.NoteReadings.{Told, IsNoteRead}
+use Rattle.annotation.specs.Answers.{AreOnly}
 use Rattle.annotation.specs.declared.note.Note.{Note as ProgramNote}
 use Rattle.annotation.specs.declared.read_error.NoteWhy.{NoteWhy}
 use Rattle.annotation.specs.declared.read_error.NoteWhy.TheVariants.{Json, Shape, Text, Choice, NotOnly, Segments}
@@ -54,6 +59,13 @@ abbrev pub IsToldAs : {A B : Type 0} → Result B ReadNoteError → Result A Why
 IsToldAs (Ok read) told value = told ≡ Ok (value read)
 IsToldAs (Err (Fault fault)) told value = told ≡ Err (why_of fault)
 IsToldAs (Err Memory) told value = Unit {0}
+
+-- the program's steps of the only answer, or that there is not exactly one; memory may be wanting
+abbrev pub AreStepsTold : Lexicon → Line → List ChoiceValue → Result (Vec ProgramStep Global) ReadNoteError → Type 0
+AreStepsTold lexicon line choices (Ok steps) = AreOnly lexicon line choices steps.items
+AreStepsTold lexicon line choices (Err (Fault why)) =
+    (why_of why ≡ faults.NotOnly) × ((steps : List Step) → IsOnlyAnswer lexicon line choices steps → ⊥)
+AreStepsTold lexicon line choices (Err Memory) = Unit {0}
 
 -- what is told beside this value
 abbrev pub told_of : Data → ProgramTold → Told

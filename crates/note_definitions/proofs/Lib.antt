@@ -1,4 +1,4 @@
-mod OnlyAnswers
+pub mod OnlyAnswers
 mod OneOutcome
 mod ReadOnce
 mod ReadNotes

@@ -1,7 +1,6 @@
--- One text more is read, or refused; the first that is one too many is refused where the choices are full.
-use Rattle.std.proofs.Common.{◌≡◌, Ok, Err}
+-- One text more is read, or refused.
 use Rattle.std.proofs.lemmas.Result.{err_from_is_err_and}
-use Rattle.annotation.proofs.ChoicesRead.{error_there, too_many, one_more, all_read}
+use Rattle.annotation.proofs.ChoicesRead.{error_there, one_more, all_read}
 use Rattle.annotation.proofs.told.read_choices.Goals as goal
 
 pub returns-in_err-choice : goal.returns-in_err-choice
