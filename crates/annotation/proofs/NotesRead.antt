@@ -23,7 +23,7 @@ use Rattle.note_definitions.specs.NoteTexts.{tags_of, segment_of, value_of_note}
 use Rattle.note_definitions.specs.NoteReadings.{Told, value_of_bytes, told_with_value, told_by_bytes, IsReadAfterTold, IsNoteRead}
 use Rattle.note_definitions.proofs.OnlyAnswers.{none_after_only}
 use Rattle.annotation.specs.Answers.{AreOnly}
-use Rattle.annotation.specs.Readings.{IsNoteReadAs, IsReadOr, IsToldAs, AreStepsTold, told_of, why_of, note_of}
+use Rattle.annotation.specs.Readings.{IsNoteReadAs, IsReadOr, IsToldAs, AreStepsTold, IsReadBack, told_of, why_of, note_of}
 use Rattle.annotation.specs.declared.note.Note.{Note as ProgramNote}
 use Rattle.annotation.specs.declared.told.Told.{Told as ProgramTold}
 use Rattle.annotation.specs.declared.read_error.ReadNoteError.{ReadNoteError}
@@ -113,3 +113,25 @@ module _ (lexicon : Lexicon) (bytes : List ℕ) where
 
         pub its_value : value ≡ value_of_note lexicon its_note → IsNoteRead lexicon bytes (Ok its_note)
         its_value same = after_this (Ok its_note) (record { line = refl; choices = refl; answer = only.answer; value = same })
+
+-- ---- what was written
+
+abbrev note_with : Line → List Choice → List Step → Note
+note_with line choices steps = record { line = line; choices = choices; steps = steps }
+
+-- this note, as what is read
+abbrev read_as : Line → List Choice → List Step → Result Note Why
+read_as line choices steps = Ok (note_with line choices steps)
+
+-- bytes that are read as a note of this line and these choices are read as nothing else
+pub read_back : (lexicon : Lexicon) (line : Line) (choices : List Choice) (bytes : List ℕ) (steps : List Step) (result : Result ProgramNote ReadNoteError)
+    → ((other : Result Note Why) → IsNoteRead lexicon bytes other → read_as line choices steps ≡ other)
+    → IsNoteReadAs lexicon bytes result → IsReadBack line choices result
+read_back lexicon line choices bytes steps (Ok note) one h =
+    let same : read_as line choices steps ≡ Ok (note_of lexicon note) = one (Ok (note_of lexicon note)) h.read in
+    let is : note_with line choices steps ≡ note_of lexicon note = cc in
+    (ap (λ (n : Note). n.line) (sym is), ap (λ (n : Note). n.choices) (sym is))
+read_back lexicon line choices bytes steps (Err (Fault why)) one h =
+    let same : read_as line choices steps ≡ Err (why_of why) = one (Err (why_of why)) h in
+    cc
+read_back lexicon line choices bytes steps (Err Memory) one h = tt

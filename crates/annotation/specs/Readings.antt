@@ -46,6 +46,12 @@ IsNoteReadAs lexicon bytes (Ok note) = IsGiven lexicon bytes note
 IsNoteReadAs lexicon bytes (Err (Fault why)) = IsNoteRead lexicon bytes (Err (why_of why))
 IsNoteReadAs lexicon bytes (Err Memory) = Unit {0}
 
+-- the answer is a note of this line and these choices; memory may be wanting
+abbrev pub IsReadBack : Line → List ChoiceValue → Result ProgramNote ReadNoteError → Type 0
+IsReadBack line choices (Ok note) = (note.line ≡ line) × (note.choices ≡ choices)
+IsReadBack line choices (Err (Fault why)) = ⊥
+IsReadBack line choices (Err Memory) = Unit {0}
+
 -- ---- for private clauses
 
 -- the answer stands for what is told; this fault comes only where nothing is told; memory may be wanting

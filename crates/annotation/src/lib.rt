@@ -6,6 +6,7 @@
 #![tactic(auto)]
 
 mod error;
+mod laws;
 mod note;
 mod only_answers;
 mod read_error;
@@ -17,6 +18,7 @@ mod values;
 mod writing;
 
 pub use error::NoteError;
+pub use laws::what_is_written_is_read;
 pub use note::Note;
 pub use read_error::{NoteWhy, ReadNoteError};
 pub use reading::read_note;
