@@ -1,9 +1,9 @@
 -- The choices of a note are read one after another: to read all texts and then to ask for the phases of all is to do both text by
 -- text, by induction.
-use Rattle.std.proofs.Common.{◌≡◌, ℕ, ◌+◌, ◌<◌, ◌≤◌, Bool, true, false, cond, ◌&&◌, Option, Some, None, option_map, option_and_then, Err, List, [], ◌∷◌, ◌++◌, length, map, take, drop, get_or, leb, refl, sym, ◌∙◌, ap, arith, add-one, length-append}
+use Rattle.std.proofs.Common.{◌≡◌, ℕ, ◌+◌, ◌<◌, ◌≤◌, Bool, true, false, cond, ◌&&◌, Option, Some, None, option_map, option_and_then, Err, List, [], ◌∷◌, ◌++◌, length, take, drop, get_or, leb, refl, sym, ◌∙◌, ap, arith, add-one, length-append}
 use Rattle.std.specs.List.{list_all}
 use Rattle.std.specs.Prelude.{nat_lt}
-use Rattle.std.proofs.lemmas.Bool.{le-leb, lt-leb}
+use Rattle.std.proofs.lemmas.Bool.{le-leb}
 use Rattle.std.proofs.lemmas.List.{take_more, take_all, map-append, length-map, take-append-drop}
 use Rattle.std.proofs.Math.Seq.{drop-cons}
 use Rattle.serde_json.specs.declared.value.Value.{Value}
@@ -16,7 +16,6 @@ use Rattle.note_definitions.specs.NoteFaults as faults
 use Rattle.note_definitions.specs.NoteReadings.{if_phases, choices_of}
 use Rattle.annotation.specs.Objects.{text_in, texts_in}
 use Rattle.annotation.specs.Readings.{IsReadOr, if_phase, choice_over}
-use Rattle.annotation.specs.declared.read_error.NoteWhy.{NoteWhy}
 use Rattle.annotation.specs.declared.read_error.ReadNoteError.{ReadNoteError}
 use Rattle.annotation.specs.declared.read_error.ReadNoteError.TheVariants.{Fault, Memory}
 

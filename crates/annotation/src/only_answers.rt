@@ -1,4 +1,4 @@
-ghost use Rattle.std.specs.Prelude.{◌≡◌, map, IfOk, Some, List};
+ghost use Rattle.std.specs.Prelude.{◌≡◌, IfOk, Some, List};
 ghost use Rattle.segmentation_definitions.specs.Derivations.{Step as AnswerStep};
 ghost use Rattle.segmentation_definitions.specs.Listings.{BeforeFirst, AtAnswer};
 ghost use Rattle.derivation.specs.Steps.{keys_of as step_keys, keys_meant};

@@ -1,5 +1,4 @@
 -- The text is read as the note, and as nothing else.
-use Rattle.std.proofs.Common.{Ok}
 use Rattle.annotation.proofs.NotesRead.{read_back}
 use Rattle.annotation.proofs.laws.what_is_written_is_read.Goals as goal
 

@@ -1,5 +1,5 @@
 -- The value of a note has no float and is not deep.
-use Rattle.std.proofs.Common.{◌≡◌, ◌≤◌, false, ◌∙◌, ap, sym, subst}
+use Rattle.std.proofs.Common.{◌≤◌, ◌∙◌, ap, sym, subst}
 use Rattle.serde_json.specs.Data.{Data, depth}
 use Rattle.serde_json.specs.Read.{max_depth}
 use Rattle.serde_json.specs.Written.{has_float}
