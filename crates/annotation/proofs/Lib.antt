@@ -3,3 +3,5 @@ mod WrittenObjects
 mod WrittenSegments
 mod WrittenNotes
 mod ShapeTests
+mod ChoicesRead
+mod NotesRead

@@ -1,16 +1,16 @@
 -- The tests of a note's shape, value by value: a list of values is tested as the list of what they are, by induction; and what is
 -- found under a name is of its kind, by cases on the value.
-use Rattle.std.proofs.Common.{◌≡◌, ℕ, Bool, true, false, cond, ◌&&◌, Option, Some, None, option_and_then, List, [], ◌∷◌, map, codes, string_bytes, refl, sym, ◌∙◌, ap}
+use Rattle.std.proofs.Common.{◌≡◌, ℕ, Bool, true, false, cond, ◌&&◌, Option, Some, None, option_and_then, List, [], ◌∷◌, map, codes, string_bytes, refl, ◌∙◌, ap}
 use Rattle.std.specs.Prelude.{String, is_some, unwrap_or}
 use Rattle.std.specs.Global.{Global}
 use Rattle.std.specs.List.{list_all, list_any}
 use Rattle.std.specs.Str.{bytes_eq}
-use Rattle.serde_json.specs.Data.{Data, null, boolean, number, string, array, object, Items, no_items, item, Members, no_members, member}
-use Rattle.serde_json.specs.Find.{get, as_str, as_array, as_object, get_member}
+use Rattle.serde_json.specs.Data.{Data, null, boolean, number, string, array, object, Items, item, Members}
+use Rattle.serde_json.specs.Find.{get, as_str, as_array, as_object}
 use Rattle.serde_json.specs.View.{view, items_view, members_view}
 use Rattle.serde_json.specs.declared.value.Value.{Value}
-use Rattle.note_definitions.specs.NoteShapes.{NoteParts, has_only, is_number, is_one, is_text, is_some_texts, with_text, as_text, as_texts, texts_of, segment_names, is_segment, are_segments, is_segments, note_names, parts_with, parts_of_members, parts_of_value}
-use Rattle.annotation.specs.Objects.{text_in, texts_in}
+use Rattle.note_definitions.specs.NoteShapes.{has_only, is_one, is_some_texts, with_text, as_text, as_texts, texts_of, is_segment, are_segments, is_segments, note_names, parts_with, parts_of_value}
+use Rattle.annotation.specs.Objects.{texts_in}
 
 -- ---- lists of values
 

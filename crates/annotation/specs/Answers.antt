@@ -61,6 +61,6 @@ HasSteps old new None = HasEnded old new
 HasSteps old new (Some steps) = HasNextSteps old new steps.items
 
 -- the steps of the only answer, or why there is none
-abbrev pub IsOnlyFound : SearchValue → Result (Vec Step Global) NoteError → Type 0
-IsOnlyFound search (Ok steps) = AreOnly search.searched.lexicon search.line search.choices steps.items
-IsOnlyFound search (Err error) = IsRefused search.searched.lexicon search.line search.choices error
+abbrev pub IsOnlyFound : Lexicon → Line → List Choice → Result (Vec Step Global) NoteError → Type 0
+IsOnlyFound lexicon line choices (Ok steps) = AreOnly lexicon line choices steps.items
+IsOnlyFound lexicon line choices (Err error) = IsRefused lexicon line choices error

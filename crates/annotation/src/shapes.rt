@@ -9,7 +9,8 @@ ghost use Rattle.annotation.specs.Objects.{texts_in};
 use note_definitions::MOST_NOTE_NUMBER;
 use serde_json::{Map, Value};
 
-/// What a note says of its line and of its choices: two texts and a list of texts.
+/// What a note says of its line and its choices: a text, and a list of values, each of which is a text.
+#[derive(Drop)]
 pub(crate) struct NoteParts<'a> {
     pub(crate) text: &'a str,
     pub(crate) choices: &'a [Value],

@@ -8,20 +8,17 @@ ghost use Rattle.note_definitions.specs.NoteTexts.{value_of_note, text_of_note};
 ghost use Rattle.annotation.specs.Answers.{IsNoteWritten, IsCountedNote};
 ghost use Rattle.annotation.specs.Objects.{note_with};
 
-use crate::only_answers::only_answer;
+use crate::only_answers::only_steps;
 use crate::segments::segments_value;
 use crate::values::choices_value;
 use crate::{NoteError, WrittenNote};
 use annotated_trie::Lexicon;
 use bookmarks::print_line;
 use derivation::{Choice, Step};
-use outside::Steps;
 use phoneme::{Line, Memory};
 use reader_choices::Choices;
-use segmenter::Search;
 use serde_json::{Map, Value, put};
 use std::alloc::{AllocError, Global};
-use summary_chart::Chart;
 
 /// The object of a note with these choices, segments and text.
 fn note_object(
@@ -41,7 +38,7 @@ fn note_object(
 }
 
 /// The JSON value of the note.
-fn note_value(
+pub(crate) fn note_value(
     alloc: Global,
     lexicon: &Lexicon,
     line: &Line,
@@ -96,10 +93,7 @@ pub fn write_counted_note(
     requires choices { All (IsChoiceOver lexicon.now.lexicon) choices.now }
     ensures written { IsCountedNote lexicon.now.lexicon line.now choices.now result }
 {
-    let mut steps = Steps::<()>::new();
-    let chart = Chart::build(alloc, lexicon, line, choices, &mut steps)?;
-    let mut search = Search::new(alloc, lexicon, line, choices, &chart)?;
-    let only = only_answer(alloc, &mut search)?;
+    let only = only_steps(alloc, lexicon, line, choices)?;
     let text = note_text(alloc, lexicon, line, choices.list(), only.as_slice())?;
     let segments = only.len();
     Ok(WrittenNote { text, segments })
