@@ -182,10 +182,10 @@ module _ (lexicon : Lexicon) (line : Line) (choices : List Choice) (out : FileWo
     told = refl;
     is_it = OfOnly is.steps is.answer
         (λ i. record {
-      output = (printed ∙ ap (λ n. output_line (codes "segments " ++ decimal n)) is.segments) i;
-      files = with_file told out.name (is.text i);
-      end = ends.Done;
-    });
+          output = (printed ∙ ap (λ n. output_line (codes "segments " ++ decimal n)) is.segments) i;
+          files = with_file told out.name (is.text i);
+          end = ends.Done;
+        });
   }
 
   -- or that there is no answer

@@ -40,11 +40,7 @@ fn print_segments(alloc: Global, segments: usize) -> Result<String, Memory>
 }
 
 /// `several`, and the first two answers of the line with its choices.
-fn print_several(
-    alloc: Global,
-    lexicon: &Lexicon,
-    marked: &MarkedLine,
-) -> Result<Vec<u8>, Memory>
+fn print_several(alloc: Global, lexicon: &Lexicon, marked: &MarkedLine) -> Result<Vec<u8>, Memory>
     ensures ok { IfOk result (λ output. IsPrintedSeveral lexicon.now.lexicon marked.now.line marked.now.choices output.items) }
 {
     let mut steps = Steps::<()>::new();
