@@ -12,4 +12,5 @@ pub mod LexiconsThere
 pub mod ChainsThere
 pub mod CommandsThere
 pub mod NotesThere
+pub mod NotesReread
 pub mod OutcomesThere
