@@ -1,0 +1,11 @@
+pub mod OneMore
+pub mod SuffixSteps
+pub mod DepthSteps
+pub mod PutSteps
+pub mod PutBackSteps
+pub mod RightDeltas
+pub mod WrongTries
+pub mod UsedNodes
+pub mod PairCounts
+pub mod LetterBits
+pub mod MarkSteps

@@ -1,0 +1,5 @@
+pub mod Bounds
+pub mod Marks
+pub mod NodeDepths
+pub mod LettersPut
+pub mod PutBack
