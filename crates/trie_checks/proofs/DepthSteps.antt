@@ -63,13 +63,9 @@ module _ (rows : List Row) (are : AreRows rows) (node : ℕ) (low : node < lengt
   )
 
   -- one node more
-  pub depths_next : (least ends : List ℕ) (least_below least_own end_below end_own : ℕ) → AreDepths rows node least ends
-      → IsGreatest (λ (child : ℕ × ℕ). get_or least child.1 0 - 1) children least_below → IsGreatest letters_needed deltas least_own
-      → IsLeastEnd (λ (child : ℕ × ℕ). get_or ends child.1 0 - 1) children end_below → IsLeastEnd letters_end deltas end_own
-      → AreDepths rows (node + 1) (least ++ max least_below least_own ∷ []) (ends ++ min end_below end_own ∷ [])
-  depths_next least ends least_below least_own end_below end_own known a b c d =
-      let from = max least_below least_own in
-      let end = min end_below end_own in
+  depths_more : (least ends : List ℕ) (from end : ℕ) → AreDepths rows node least ends → IsDepth rows node from end
+      → AreDepths rows (node + 1) (least ++ from ∷ []) (ends ++ end ∷ [])
+  depths_more least ends from end known is_depth =
       let many = known.least_count in
       let many_ends = known.ends_count in
       record {
@@ -87,13 +83,21 @@ module _ (rows : List Row) (are : AreRows rows) (node : ℕ) (low : node < lengt
                   let at = get_or_push least from 0 node many in
                   let at_end = get_or_push ends end 0 node many_ends in
                   subst (λ k. IsDepth rows k (get_or (least ++ from ∷ []) k 0) (get_or (ends ++ end ∷ []) k 0)) is
-                  (subst (λ k. IsDepth rows node k (get_or (ends ++ end ∷ []) node 0)) (sym at)
-                  (subst (IsDepth rows node from) (sym at_end) (record {
-                    from_least = least_after least least_below least_own (λ k l. (known.each k l).from_least) a b;
-                    below_end = end_after ends end_below end_own (λ k l. (known.each k l).below_end) c d;
-                  })))
+                  (subst (λ k. IsDepth rows node k (get_or (ends ++ end ∷ []) node 0)) (sym at) (subst (IsDepth rows node from) (sym at_end) is_depth))
             ];
       }
+
+  pub depths_next : (least ends new_least new_ends : List ℕ) (least_below least_own end_below end_own from end : ℕ) → AreDepths rows node least ends
+      → IsGreatest (λ (child : ℕ × ℕ). get_or least child.1 0 - 1) children least_below → IsGreatest letters_needed deltas least_own
+      → IsLeastEnd (λ (child : ℕ × ℕ). get_or ends child.1 0 - 1) children end_below → IsLeastEnd letters_end deltas end_own
+      → from ≡ max least_below least_own → end ≡ min end_below end_own → new_least ≡ least ++ from ∷ [] → new_ends ≡ ends ++ end ∷ []
+      → AreDepths rows (node + 1) new_least new_ends
+  depths_next least ends new_least new_ends least_below least_own end_below end_own from end known a b c d from_is end_is least_pushed ends_pushed =
+      let is_depth : IsDepth rows node from end = record {
+        from_least = subst (λ n. (before : ℕ) → (n ≤ before) ↔ HasLettersAfter rows node before) (sym from_is) (least_after least least_below least_own (λ k l. (known.each k l).from_least) a b);
+        below_end = subst (λ n. (before : ℕ) → before + node < 2 ^ 32 → (before < n) ↔ HasShortStemsAfter rows node before) (sym end_is) (end_after ends end_below end_own (λ k l. (known.each k l).below_end) c d);
+      } in
+      subst (λ ls. AreDepths rows (node + 1) ls new_ends) (sym least_pushed) (subst (AreDepths rows (node + 1) (least ++ from ∷ [])) (sym ends_pushed) (depths_more least ends from end known is_depth))
 
 -- no nodes
 pub no_depths : (rows : List Row) → AreDepths rows 0 [] []

@@ -1,8 +1,8 @@
 -- One mark more: the node is marked, and all others are as they were.
-use Rattle.std.proofs.Common.{◌≡◌, ℕ, ◌<◌, ◌↔◌, ◌⊎◌, inl, inr, Bool, true, false, List, [], ◌∷◌, ◌++◌, length, get_or, set, sym, ◌∙◌, ap, subst, arith}
+use Rattle.std.proofs.Common.{◌≡◌, ℕ, ◌<◌, ◌↔◌, ◌⊎◌, inl, inr, Bool, true, false, List, [], ◌∷◌, ◌++◌, length, take, drop, get_or, set, sym, ◌∙◌, ap, subst, arith}
 use Rattle.std.specs.Prelude.{Contains}
 use Rattle.std.proofs.lemmas.Bool.{cases_eq}
-use Rattle.std.proofs.lemmas.List.{get_or-set_same, get_or-set_other}
+use Rattle.std.proofs.lemmas.List.{get_or-set_same, get_or-set_other, append-nil, take_all, drop_all}
 use Rattle.std.proofs.lemmas.List.Elements.{Contains-append_left, Contains-push, Contains-push_cases}
 use Rattle.trie_checks.specs.Marks.{IsMarked, LeadTo}
 
@@ -65,3 +65,9 @@ child_marked before marks children child place is low node known =
         ]
       ],
     )
+
+-- a slice that is written back as a whole
+pub written_back : {X : Type 0} (count : ℕ) (new old : List X) → length old ≡ count → length new ≡ length old → take count (new ++ drop (length new) old) ≡ new
+written_back count new old many long =
+    let none = drop_all (length new) old (omega (arith, long)) in
+    ap (λ rest. take count (new ++ rest)) none ∙ ap (take count) (append-nil new) ∙ take_all count new (omega (arith, many, long))

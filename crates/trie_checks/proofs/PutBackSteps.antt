@@ -1,8 +1,9 @@
 -- Below a node a delta puts back a letter where it puts the letter of a child there, or below a child.
 use Rattle.std.proofs.Common.{◌≡◌, ℕ, suc, ◌+◌, ◌<◌, ◌↔◌, ◌⊎◌, inl, inr, Bool, List, [], ◌∷◌, ◌++◌, length, get_or, refl, sym, subst, arith}
-use Rattle.std.specs.Prelude.{Contains, IsTrue, true, false}
+use Rattle.std.specs.Prelude.{All, Contains, IsTrue, true, false}
 use Rattle.std.proofs.lemmas.Bool.{cases_lt}
 use Rattle.std.proofs.lemmas.List.{get_or_append_left, get_or_push, length_push}
+use Rattle.std.proofs.lemmas.List.Elements.{All-contains}
 use Rattle.lexicon_definitions.specs.Deltas.{Delta}
 use Rattle.lexicon_definitions.specs.Tries.{Row, AreRows, HasSuffix, row_of}
 use Rattle.trie_checks.specs.Bounds.{HasOne}
@@ -58,18 +59,26 @@ module _ (rows : List Row) (are : AreRows rows) (node : ℕ) (low : node < lengt
       let to : IsTrue found → IsPutBack rows node = λ t.
       let (child, m, either) = told.0 t in
       let less = child_before rows are node low child m in
-      put_back_from (child, m, elim either [
-        | inl has ↦ inl ((put.each child.1 (omega (arith, less, low)) child.0).0 has)
-        | inr mark ↦ inr ((known.each child.1 less).0 mark)
-      ])
+      put_back_from (
+        child,
+        m,
+        elim either [
+          | inl has ↦ inl ((put.each child.1 (omega (arith, less, low)) child.0).0 has)
+          | inr mark ↦ inr ((known.each child.1 less).0 mark)
+        ],
+      )
       in
       let from : IsPutBack rows node → IsTrue found = λ is.
       let (child, m, either) = put_back_cases is.word is.delta is.has is.puts_back in
       let less = child_before rows are node low child m in
-      told.1 (child, m, elim either [
-        | inl there ↦ inl ((put.each child.1 (omega (arith, less, low)) child.0).1 there)
-        | inr back ↦ inr ((known.each child.1 less).1 back)
-      ])
+      told.1 (
+        child,
+        m,
+        elim either [
+          | inl there ↦ inl ((put.each child.1 (omega (arith, less, low)) child.0).1 there)
+          | inr back ↦ inr ((known.each child.1 less).1 back)
+        ],
+      )
       in
       record {
         length_is = let long = length_push marks found in omega (arith, long, many);
@@ -85,3 +94,12 @@ module _ (rows : List Row) (are : AreRows rows) (node : ℕ) (low : node < lengt
                   (subst (λ b. (b ≡ true) ↔ IsPutBack rows node) (sym at) (to, from))
             ];
       }
+
+-- the marks of the roots tell whether a letter is put back below one
+pub marked_roots : (rows : List Row) (marks : List Bool) (roots : List ℕ) (found : Bool) → AreMarked rows (length rows) marks → All (λ root. root < length rows) roots
+    → IsTrue found ↔ HasOne (IsMarked marks) roots → IsTrue found ↔ HasOne (IsPutBack rows) roots
+marked_roots rows marks roots found known low told =
+    let within = λ (root : ℕ) (m : Contains roots root). All-contains (λ (r : ℕ). r < length rows) roots root low m in (
+      λ t. let h = told.0 t in (h.0, h.1, (known.each h.0 (within h.0 h.1)).0 h.2),
+      λ h. told.1 (h.0, h.1, (known.each h.0 (within h.0 h.1)).1 h.2),
+    )

@@ -1,12 +1,13 @@
 -- The letters that deltas put before a node are those of its own deltas, and those that are put one letter farther before its children; in a
 -- pass from the last node down the children of a node are still to come. Where fewer letters need come before a node, no letter is put.
-use Rattle.std.proofs.Common.{◌≡◌, ℕ, suc, ◌+◌, ◌-◌, ◌<◌, ◌≤◌, ◌↔◌, ◌⊎◌, inl, inr, List, [], ◌∷◌, length, get_or, set, refl, sym, ◌∙◌, ap, subst, arith}
+use Rattle.std.proofs.Common.{◌≡◌, ℕ, suc, ◌+◌, ◌-◌, ◌<◌, ◌≤◌, ◌↔◌, ◌⊎◌, inl, inr, List, [], ◌∷◌, length, get_or, set, replicate, refl, sym, ◌∙◌, ap, subst, arith}
 use Rattle.std.specs.Prelude.{Contains}
 use Rattle.std.proofs.lemmas.Bool.{cases_lt, cases_eq}
-use Rattle.std.proofs.lemmas.List.{get_or-set_same, get_or-set_other, length-set}
+use Rattle.std.proofs.lemmas.List.{get_or-set_same, get_or-set_other, length-set, get_or-replicate, length-replicate}
 use Rattle.lexicon_definitions.specs.Deltas.{Delta}
 use Rattle.lexicon_definitions.specs.Tries.{Row, AreRows, HasSuffix, row_of}
-use Rattle.trie_checks.specs.Bounds.{HasOne}
+use Rattle.std.proofs.lemmas.List.Elements.{All-get_or}
+use Rattle.trie_checks.specs.Bounds.{HasOne, IsGreatest}
 use Rattle.trie_checks.specs.LettersPut.{HasLetter, PutsLetter, IsPut, IsSetPut, AreSetsPut}
 use Rattle.trie_checks.specs.NodeDepths.{HasLeast, HasLettersAfter}
 use Rattle.trie_checks.proofs.SuffixSteps.{suffix_own, suffix_here, suffix_rest, suffix_later, child_before}
@@ -16,6 +17,14 @@ pub record AreSetsBetween (rows : List Row) (before left : ℕ) (sets : List ℕ
   pub count : length sets ≡ length rows
   pub done : (node : ℕ) → left ≤ node → node < length rows → IsSetPut rows node before (get_or sets node 0)
   pub to_do : (node : ℕ) → node < left → node < length rows → IsSetPut rows node (before + 1) (get_or sets node 0)
+
+-- where fewer letters need come before the node, no letter is put so far before it
+pub none_put : (rows : List Row) (least : List ℕ) → HasLeast rows least → (node before letter : ℕ) → node < length rows → get_or least node 0 < before
+    → IsPut rows node before letter → ⊥
+none_put rows least has node before letter low less is =
+    let needs = (has.each node low (get_or least node 0)).0 (omega arith) is.word is.delta is.has in
+    let cut = is.puts.cut in
+    omega (arith, needs, cut, less)
 
 module _ (rows : List Row) (are : AreRows rows) where
   module _ (node : ℕ) (low : node < length rows) (before letter : ℕ) where
@@ -74,14 +83,6 @@ module _ (rows : List Row) (are : AreRows rows) where
     ]),
   )
 
-  -- where fewer letters need come before the node, no letter is put so far before it
-  pub none_put : (least : List ℕ) → HasLeast rows least → (node before letter : ℕ) → node < length rows → get_or least node 0 < before
-      → IsPut rows node before letter → ⊥
-  none_put least has node before letter low less is =
-      let needs = (has.each node low (get_or least node 0)).0 (omega arith) is.word is.delta is.has in
-      let cut = is.puts.cut in
-      omega (arith, needs, cut, less)
-
   pub pass_begins : (before : ℕ) (sets : List ℕ) → AreSetsPut rows (before + 1) sets → AreSetsBetween rows before (length rows) sets
   pass_begins before sets h = record {
     count = h.count;
@@ -103,8 +104,8 @@ module _ (rows : List Row) (are : AreRows rows) where
           | inr same ↦
               let is : node ≡ n = omega (arith, high, same) in
               subst (λ k. IsSetPut rows k before (get_or sets k 0)) is (λ letter. (
-                λ here. absurd (none_put least has node (before + 1) letter low (omega (arith, less)) ((h.to_do node (omega arith) low letter).0 here)),
-                λ put. absurd (none_put least has node before letter low less put),
+                λ here. absurd (none_put rows least has node (before + 1) letter low (omega (arith, less)) ((h.to_do node (omega arith) low letter).0 here)),
+                λ put. absurd (none_put rows least has node before letter low less put),
               ))
         ];
     to_do = λ n lower within. h.to_do n (omega (arith, lower)) within;
@@ -137,3 +138,18 @@ module _ (rows : List Row) (are : AreRows rows) where
             let apart = get_or-set_other sets node n new 0 (λ e. omega (arith, lower, e)) in
             subst (IsSetPut rows n (before + 1)) (sym apart) (h.to_do n (omega (arith, lower)) within);
       }
+
+-- before the first pass no letter is put anywhere
+pub passes_begin : (rows : List Row) (least : List ℕ) → HasLeast rows least → (greatest : ℕ) → IsGreatest (λ n. n) least greatest
+    → (empty : ℕ) → ((letter : ℕ) → HasLetter empty letter → ⊥) → (sets : List ℕ) → sets ≡ replicate (length least) empty → AreSetsPut rows (greatest + 1) sets
+passes_begin rows least has greatest most empty none sets are_empty =
+    let many = has.count in
+    record {
+      count = ap length are_empty ∙ length-replicate (length least) empty ∙ many;
+      each = λ node low letter.
+          let at : get_or sets node 0 ≡ empty = ap (λ (ss : List ℕ). get_or ss node 0) are_empty ∙ get_or-replicate (length least) node empty 0 (omega (arith, low, many)) in
+          let within = All-get_or (λ n. n ≤ greatest) least node 0 (omega (arith, low, many)) ((most greatest).0 (omega arith)) in (
+            λ h. absurd (none letter (subst (λ set. HasLetter set letter) at h)),
+            λ put. absurd (none_put rows least has node (greatest + 1) letter low (omega (arith, within)) put),
+          );
+    }

@@ -57,11 +57,11 @@ module _ (rows : List Row) where
           → All (P before) (row_of rows node).deltas × All (λ (child : ℕ × ℕ). AllAfter child.1 (before + 1)) (row_of rows node).children
       all_after_parts node before low h = (
         All-from_Contains (P before) (row_of rows node).deltas (λ delta m.
-        let none : 0 + before ≡ before = omega arith in
-        subst (λ n. P n delta) none (h [] delta (suffix_here node delta m))),
+            let none : 0 + before ≡ before = omega arith in
+            subst (λ n. P n delta) none (h [] delta (suffix_here node delta m))),
         All-from_Contains (λ (child : ℕ × ℕ). AllAfter child.1 (before + 1)) (row_of rows node).children (λ child m word delta has.
-        let more : length (child.0 ∷ word) + before ≡ length word + (before + 1) = omega arith in
-        subst (λ n. P n delta) more (h (child.0 ∷ word) delta (suffix_later node low child m word delta has))),
+            let more : length (child.0 ∷ word) + before ≡ length word + (before + 1) = omega arith in
+            subst (λ n. P n delta) more (h (child.0 ∷ word) delta (suffix_later node low child m word delta has))),
       )
 
       pub all_after_from : (node before : ℕ) → All (P before) (row_of rows node).deltas

@@ -3,7 +3,7 @@
 use Rattle.std.proofs.Common.{◌≡◌, ℕ, zero, suc, ◌+◌, ◌<◌, ◌≤◌, ◌==◌, ◌↔◌, ◌⊎◌, inl, inr, Bool, true, false, not, List, [], ◌∷◌, length, get_or, refl, sym, ◌∙◌, ap, subst, arith}
 use Rattle.std.specs.Prelude.{Contains, All}
 use Rattle.std.specs.List.{list_any, flat_map, range_with_len}
-use Rattle.std.proofs.lemmas.Bool.{eqb-true, eq-eqb, not-false, not_from_true, true_from_ne_false, false_from_ne_true, true≢false, cases_Bool}
+use Rattle.std.proofs.lemmas.Bool.{cases_lt, eqb-true, eq-eqb, not-false, not_from_true, true_from_ne_false, false_from_ne_true, true≢false, cases_Bool}
 use Rattle.std.proofs.lemmas.List.{get_or_default}
 use Rattle.std.proofs.lemmas.List.Elements.{All-contains}
 use Rattle.std.proofs.lemmas.List.Folds.{Any-from_list_any, list_any_at, list_any_none}
@@ -22,6 +22,36 @@ pub record HasParent (rows : List Row) (count node : ℕ) : Type 0 where
   pub parent : ℕ
   pub within : parent < count
   pub leads : LeadTo (row_of rows parent).children node
+
+-- the children of one node more
+parent_next : (rows : List Row) (count node : ℕ) → HasParent rows (count + 1) node ↔ (HasParent rows count node ⊎ LeadTo (row_of rows count).children node)
+parent_next rows count node = (
+  λ h.
+      let within = h.within in
+      elim (cases_lt h.parent count) [
+        | inl less ↦ inl (record { parent = h.parent; within = less; leads = h.leads })
+        | inr here ↦ let same : h.parent ≡ count = omega (arith, within, here) in inr (subst (λ p. LeadTo (row_of rows p).children node) same h.leads)
+      ],
+  elim [
+    | inl h ↦ record { parent = h.parent; within = let less = h.within in omega (arith, less); leads = h.leads }
+    | inr leads ↦ record { parent = count; within = omega arith; leads = leads }
+  ],
+)
+
+pub marks_next : (rows : List Row) (roots : List ℕ) (count : ℕ) (old new : List Bool) (node : ℕ)
+    → IsMarked new node ↔ (IsMarked old node ⊎ LeadTo (row_of rows count).children node)
+    → IsMarked old node ↔ (Contains roots node ⊎ HasParent rows count node) → IsMarked new node ↔ (Contains roots node ⊎ HasParent rows (count + 1) node)
+marks_next rows roots count old new node marked known =
+    let next = parent_next rows count node in (
+      λ h. elim (marked.0 h) [
+        | inl before ↦ elim (known.0 before) [ inl root ↦ inl root | inr parent ↦ inr (next.1 (inl parent)) ]
+        | inr leads ↦ inr (next.1 (inr leads))
+      ],
+      elim [
+        | inl root ↦ marked.1 (inl (known.1 (inl root)))
+        | inr h ↦ elim (next.0 h) [ inl parent ↦ marked.1 (inl (known.1 (inr parent))) | inr leads ↦ marked.1 (inr leads) ]
+      ],
+    )
 
 any_there : {X : Type 0} (test : X → Bool) (xs : List X) → list_any test xs ≡ true → (x : X) × Contains xs x × (test x ≡ true)
 any_there test xs h = let (k, x, below, is, passed) = Any-from_list_any test xs h in (x, (k, below, is), passed)

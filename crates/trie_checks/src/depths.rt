@@ -1,4 +1,5 @@
-ghost use Rattle.std.specs.Prelude.{◌≡◌, ◌≢◌, ℕ, ◌-◌, ◌<◌, ◌↔◌, length, map, slice_index, All, Contains, IfOk, IsTrue};
+ghost use Rattle.std.specs.Prelude.{◌≡◌, ◌≢◌, ℕ, ◌-◌, ◌<◌, ◌^◌, ◌↔◌, length, map, slice_index, All, Contains, IfOk, IsTrue};
+ghost use Rattle.lexicon_definitions.specs.Tries.{IsTrie};
 ghost use Rattle.form_tags.specs.Analyses.{text_delta};
 ghost use Rattle.trie_checks.specs.Bounds.{IsGreatest, IsLeastEnd};
 ghost use Rattle.trie_checks.specs.NodeDepths.{AreDepths, letters_needed, letters_end};
@@ -20,6 +21,8 @@ pub(crate) struct Depths {
 
 /// Goes over the nodes by rising number, so that the children of each are known before it.
 pub(crate) fn node_depths(alloc: Global, store: &Store) -> Result<Depths, Memory>
+    ensures trie { IsTrie store.now }
+    ensures size { length store.now.rows < 2 ^ 32 }
     ensures ok { IfOk result (λ depths. AreDepths store.now.rows (length store.now.rows) depths.least.items depths.ends.items) }
 {
     let mut least = Vec::with_capacity(alloc, store.len() as usize)?;
@@ -105,7 +108,11 @@ fn needed(delta: &Delta) -> u64
     ensures { result ≡ letters_needed (text_delta delta.now) }
 {
     let cut = u64::from(delta.cut);
-    if delta.append.is_empty() { cut + 1 } else { cut }
+    if delta.append.is_empty() {
+        cut + 1
+    } else {
+        cut
+    }
 }
 
 /// With so many letters or more the stem is too long.

@@ -31,7 +31,9 @@ fn pairs_below(own: usize, children: &[(Letter, Node)], counts: &[u32]) -> u32
 {
     let mut sum = own.min(TOO_MANY as usize) as u32;
     for (_, child) in children {
-        sum = sum.saturating_add(counts[child.number() as usize]).min(TOO_MANY);
+        sum = sum
+            .saturating_add(counts[child.number() as usize])
+            .min(TOO_MANY);
     }
     sum
 }
@@ -42,7 +44,9 @@ fn pairs_of_all(roots: &[Node], counts: &[u32]) -> u32
 {
     let mut sum = 0u32;
     for root in roots {
-        sum = sum.saturating_add(counts[root.number() as usize]).min(TOO_MANY);
+        sum = sum
+            .saturating_add(counts[root.number() as usize])
+            .min(TOO_MANY);
     }
     sum
 }

@@ -49,11 +49,7 @@ fn any_put_back(alloc: Global, store: &Store, letters: &[LetterSet]) -> Result<b
 }
 
 /// Whether a delta puts back a letter below a node with these children.
-fn put_back_below(
-    children: &[(Letter, Node)],
-    letters: &[LetterSet],
-    put_back: &[bool],
-) -> bool
+fn put_back_below(children: &[(Letter, Node)], letters: &[LetterSet], put_back: &[bool]) -> bool
     requires letters { All (λ (child : ℕ × ℕ). child.1 < length letters.now) children.now }
     requires put_back { All (λ (child : ℕ × ℕ). child.1 < length put_back.now) children.now }
     ensures { IsTrue result ↔ HasOne (λ (child : ℕ × ℕ). HasLetter (slice_index letters.now child.1) child.0 ⊎ IsMarked put_back.now child.1) children.now }
