@@ -7,5 +7,6 @@ pub mod RightDeltas
 pub mod WrongTries
 pub mod UsedNodes
 pub mod PairCounts
-pub mod LetterBits
+pub mod NumberBits
 pub mod MarkSteps
+pub mod PlaceSteps

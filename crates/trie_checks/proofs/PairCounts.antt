@@ -1,6 +1,6 @@
 -- The pairs of a suffix of a node and one of its deltas: as many as the node's own deltas and those of its children together, also where sums
 -- stop at a number.
-use Rattle.std.proofs.Common.{◌≡◌, ℕ, ◌+◌, ◌<◌, ◌≤◌, inl, inr, Bool, List, [], ◌∷◌, ◌++◌, length, map, take, get_or, min, ltb, refl, sym, ◌∙◌, ap, subst, arith}
+use Rattle.std.proofs.Common.{◌≡◌, ℕ, ◌+◌, ◌<◌, inl, inr, List, [], ◌∷◌, ◌++◌, length, map, take, get_or, min, ltb, refl, sym, ◌∙◌, ap, subst, arith}
 use Rattle.std.specs.Prelude.{Contains, All, sum_by}
 use Rattle.std.specs.List.{flat_map}
 use Rattle.std.proofs.lemmas.Bool.{cases_lt, lt-ltb, le-ltb}
@@ -10,7 +10,7 @@ use Rattle.std.proofs.lemmas.List.Sums.{sum_by-cons, sum_by-append, sum_by_push}
 use Rattle.list_laws.proofs.Sorted.{Contains-first, Contains-later}
 use Rattle.lexicon_definitions.specs.declared.limits.TheConstants.{MOST_FORM_LINES}
 use Rattle.lexicon_definitions.specs.Deltas.{Delta}
-use Rattle.lexicon_definitions.specs.Tries.{Row, Trie, IsTrie, AreRows, IsChild, row_of}
+use Rattle.lexicon_definitions.specs.Tries.{Row, Trie, AreRows, row_of}
 use Rattle.trie_text_definitions.specs.NodeValues.{values_of, Suffix, after_letter, own_suffix, child_suffixes, suffixes_over, suffixes_of}
 use Rattle.trie_text_definitions.specs.TrieForms.{count_pairs, has_too_many_pairs}
 use Rattle.trie_text_definitions.proofs.NodeValueLaws.{value_at, value_before}

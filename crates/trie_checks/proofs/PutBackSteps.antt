@@ -1,5 +1,5 @@
 -- Below a node a delta puts back a letter where it puts the letter of a child there, or below a child.
-use Rattle.std.proofs.Common.{◌≡◌, ℕ, suc, ◌+◌, ◌<◌, ◌↔◌, ◌⊎◌, inl, inr, Bool, List, [], ◌∷◌, ◌++◌, length, get_or, refl, sym, subst, arith}
+use Rattle.std.proofs.Common.{◌≡◌, ℕ, ◌+◌, ◌<◌, ◌↔◌, ◌⊎◌, inl, inr, Bool, List, [], ◌∷◌, ◌++◌, length, get_or, sym, subst, arith}
 use Rattle.std.specs.Prelude.{All, Contains, IsTrue, true, false}
 use Rattle.std.proofs.lemmas.Bool.{cases_lt}
 use Rattle.std.proofs.lemmas.List.{get_or_append_left, get_or_push, length_push}
@@ -8,7 +8,8 @@ use Rattle.lexicon_definitions.specs.Deltas.{Delta}
 use Rattle.lexicon_definitions.specs.Tries.{Row, AreRows, HasSuffix, row_of}
 use Rattle.trie_checks.specs.Bounds.{HasOne}
 use Rattle.trie_checks.specs.Marks.{IsMarked}
-use Rattle.trie_checks.specs.LettersPut.{HasLetter, PutsLetter, IsPut, AreSetsPut}
+use Rattle.trie_checks.specs.LettersPut.{IsPut, AreSetsPut}
+use Rattle.trie_checks.specs.NumberSets.{HasNumber}
 use Rattle.trie_checks.specs.PutBack.{PutsBack, IsPutBack}
 use Rattle.trie_checks.proofs.SuffixSteps.{suffix_rest, suffix_later, child_before}
 
@@ -52,7 +53,7 @@ module _ (rows : List Row) (are : AreRows rows) (node : ℕ) (low : node < lengt
 
   -- one node more
   pub marked_next : (sets : List ℕ) (marks : List Bool) (found : Bool) → AreSetsPut rows 1 sets → AreMarked rows node marks
-      → IsTrue found ↔ HasOne (λ (child : ℕ × ℕ). HasLetter (get_or sets child.1 0) child.0 ⊎ IsMarked marks child.1) (row_of rows node).children
+      → IsTrue found ↔ HasOne (λ (child : ℕ × ℕ). HasNumber (get_or sets child.1 0) child.0 ⊎ IsMarked marks child.1) (row_of rows node).children
       → AreMarked rows (node + 1) (marks ++ found ∷ [])
   marked_next sets marks found put known told =
       let many = known.length_is in

@@ -1,15 +1,15 @@
 -- The letters that deltas put before a node are those of its own deltas, and those that are put one letter farther before its children; in a
--- pass from the last node down the children of a node are still to come. Where fewer letters need come before a node, no letter is put.
-use Rattle.std.proofs.Common.{◌≡◌, ℕ, suc, ◌+◌, ◌-◌, ◌<◌, ◌≤◌, ◌↔◌, ◌⊎◌, inl, inr, List, [], ◌∷◌, length, get_or, set, replicate, refl, sym, ◌∙◌, ap, subst, arith}
-use Rattle.std.specs.Prelude.{Contains}
-use Rattle.std.proofs.lemmas.Bool.{cases_lt, cases_eq}
+-- pass from the last node down the children of a node are still to come.
+use Rattle.std.proofs.Common.{◌≡◌, ℕ, ◌+◌, ◌<◌, ◌≤◌, ◌↔◌, ◌⊎◌, inl, inr, List, [], ◌∷◌, length, get_or, set, replicate, sym, ◌∙◌, ap, subst, arith}
+use Rattle.std.proofs.lemmas.Bool.{cases_lt}
 use Rattle.std.proofs.lemmas.List.{get_or-set_same, get_or-set_other, length-set, get_or-replicate, length-replicate}
 use Rattle.lexicon_definitions.specs.Deltas.{Delta}
 use Rattle.lexicon_definitions.specs.Tries.{Row, AreRows, HasSuffix, row_of}
 use Rattle.std.proofs.lemmas.List.Elements.{All-get_or}
 use Rattle.trie_checks.specs.Bounds.{HasOne, IsGreatest}
-use Rattle.trie_checks.specs.LettersPut.{HasLetter, PutsLetter, IsPut, IsSetPut, AreSetsPut}
-use Rattle.trie_checks.specs.NodeDepths.{HasLeast, HasLettersAfter}
+use Rattle.trie_checks.specs.LettersPut.{PutsLetter, IsPut, IsSetPut, AreSetsPut, NonePutAbove}
+use Rattle.trie_checks.specs.NumberSets.{HasNumber}
+use Rattle.trie_checks.specs.NodeDepths.{HasLeast}
 use Rattle.trie_checks.proofs.SuffixSteps.{suffix_own, suffix_here, suffix_rest, suffix_later, child_before}
 
 -- the sets of a pass that goes down: those of the first nodes, so many of them, are one letter farther
@@ -18,13 +18,17 @@ pub record AreSetsBetween (rows : List Row) (before left : ℕ) (sets : List ℕ
   pub done : (node : ℕ) → left ≤ node → node < length rows → IsSetPut rows node before (get_or sets node 0)
   pub to_do : (node : ℕ) → node < left → node < length rows → IsSetPut rows node (before + 1) (get_or sets node 0)
 
--- where fewer letters need come before the node, no letter is put so far before it
-pub none_put : (rows : List Row) (least : List ℕ) → HasLeast rows least → (node before letter : ℕ) → node < length rows → get_or least node 0 < before
-    → IsPut rows node before letter → ⊥
-none_put rows least has node before letter low less is =
-    let needs = (has.each node low (get_or least node 0)).0 (omega arith) is.word is.delta is.has in
-    let cut = is.puts.cut in
-    omega (arith, needs, cut, less)
+-- no letter is put farther before a node than letters need come before it
+pub none_put_above : (rows : List Row) (least : List ℕ) → HasLeast rows least → (farthest : ℕ) → IsGreatest (λ n. n) least farthest → NonePutAbove rows farthest
+none_put_above rows least has farthest greatest =
+    let many = has.count in
+    record {
+      none = λ node before letter low above is.
+          let within = All-get_or (λ n. n ≤ farthest) least node 0 (omega (arith, low, many)) ((greatest farthest).0 (omega arith)) in
+          let needs = (has.each node low (get_or least node 0)).0 (omega arith) is.word is.delta is.has in
+          let cut = is.puts.cut in
+          omega (arith, within, needs, cut, above);
+    }
 
 module _ (rows : List Row) (are : AreRows rows) where
   module _ (node : ℕ) (low : node < length rows) (before letter : ℕ) where
@@ -62,10 +66,10 @@ module _ (rows : List Row) (are : AreRows rows) where
 
   -- the set of a node, from its deltas and from the sets of its children
   set_put : (node before own below : ℕ) (sets : List ℕ) → node < length rows
-      → ((letter : ℕ) → HasLetter own letter ↔ HasOne (PutsLetter before letter) (row_of rows node).deltas)
-      → ((letter : ℕ) → HasLetter below letter ↔ HasOne (λ (child : ℕ × ℕ). HasLetter (get_or sets child.1 0) letter) (row_of rows node).children)
+      → ((letter : ℕ) → HasNumber own letter ↔ HasOne (PutsLetter before letter) (row_of rows node).deltas)
+      → ((letter : ℕ) → HasNumber below letter ↔ HasOne (λ (child : ℕ × ℕ). HasNumber (get_or sets child.1 0) letter) (row_of rows node).children)
       → ((n : ℕ) → n < node → n < length rows → IsSetPut rows n (before + 1) (get_or sets n 0))
-      → (new : ℕ) → ((letter : ℕ) → HasLetter new letter ↔ (HasLetter own letter ⊎ HasLetter below letter)) → IsSetPut rows node before new
+      → (new : ℕ) → ((letter : ℕ) → HasNumber new letter ↔ (HasNumber own letter ⊎ HasNumber below letter)) → IsSetPut rows node before new
   set_put node before own below sets low of_deltas of_children known new either letter = (
     λ h. put_from node low before letter (elim ((either letter).0 h) [
       | inl here ↦ inl ((of_deltas letter).0 here)
@@ -93,10 +97,10 @@ module _ (rows : List Row) (are : AreRows rows) where
   pub pass_ends : (before : ℕ) (sets : List ℕ) → AreSetsBetween rows before 0 sets → AreSetsPut rows before sets
   pass_ends before sets h = record { count = h.count; each = λ node low. h.done node (omega arith) low }
 
-  -- a node is passed over
-  pub pass_over : (least : List ℕ) → HasLeast rows least → (before node : ℕ) (sets : List ℕ) → node < length rows → get_or least node 0 < before
-      → AreSetsBetween rows before (node + 1) sets → AreSetsBetween rows before node sets
-  pass_over least has before node sets low less h = record {
+  -- a node before which no letter is put so far, nor one letter farther, is passed over
+  pub pass_over : (before node : ℕ) (sets : List ℕ) → node < length rows → ((letter : ℕ) → IsPut rows node before letter → ⊥)
+      → ((letter : ℕ) → IsPut rows node (before + 1) letter → ⊥) → AreSetsBetween rows before (node + 1) sets → AreSetsBetween rows before node sets
+  pass_over before node sets low here farther h = record {
     count = h.count;
     done = λ n high within.
         elim (cases_lt node n) [
@@ -104,8 +108,8 @@ module _ (rows : List Row) (are : AreRows rows) where
           | inr same ↦
               let is : node ≡ n = omega (arith, high, same) in
               subst (λ k. IsSetPut rows k before (get_or sets k 0)) is (λ letter. (
-                λ here. absurd (none_put rows least has node (before + 1) letter low (omega (arith, less)) ((h.to_do node (omega arith) low letter).0 here)),
-                λ put. absurd (none_put rows least has node before letter low less put),
+                λ has. absurd (farther letter ((h.to_do node (omega arith) low letter).0 has)),
+                λ put. absurd (here letter put),
               ))
         ];
     to_do = λ n lower within. h.to_do n (omega (arith, lower)) within;
@@ -113,9 +117,9 @@ module _ (rows : List Row) (are : AreRows rows) where
 
   -- a node gets its set
   pub pass_sets : (before node own below new : ℕ) (sets : List ℕ) → node < length rows
-      → ((letter : ℕ) → HasLetter own letter ↔ HasOne (PutsLetter before letter) (row_of rows node).deltas)
-      → ((letter : ℕ) → HasLetter below letter ↔ HasOne (λ (child : ℕ × ℕ). HasLetter (get_or sets child.1 0) letter) (row_of rows node).children)
-      → ((letter : ℕ) → HasLetter new letter ↔ (HasLetter own letter ⊎ HasLetter below letter))
+      → ((letter : ℕ) → HasNumber own letter ↔ HasOne (PutsLetter before letter) (row_of rows node).deltas)
+      → ((letter : ℕ) → HasNumber below letter ↔ HasOne (λ (child : ℕ × ℕ). HasNumber (get_or sets child.1 0) letter) (row_of rows node).children)
+      → ((letter : ℕ) → HasNumber new letter ↔ (HasNumber own letter ⊎ HasNumber below letter))
       → AreSetsBetween rows before (node + 1) sets → AreSetsBetween rows before node (set sets node new)
   pass_sets before node own below new sets low of_deltas of_children either h =
       let long = length-set sets node new in
@@ -140,16 +144,13 @@ module _ (rows : List Row) (are : AreRows rows) where
       }
 
 -- before the first pass no letter is put anywhere
-pub passes_begin : (rows : List Row) (least : List ℕ) → HasLeast rows least → (greatest : ℕ) → IsGreatest (λ n. n) least greatest
-    → (empty : ℕ) → ((letter : ℕ) → HasLetter empty letter → ⊥) → (sets : List ℕ) → sets ≡ replicate (length least) empty → AreSetsPut rows (greatest + 1) sets
-passes_begin rows least has greatest most empty none sets are_empty =
-    let many = has.count in
-    record {
-      count = ap length are_empty ∙ length-replicate (length least) empty ∙ many;
-      each = λ node low letter.
-          let at : get_or sets node 0 ≡ empty = ap (λ (ss : List ℕ). get_or ss node 0) are_empty ∙ get_or-replicate (length least) node empty 0 (omega (arith, low, many)) in
-          let within = All-get_or (λ n. n ≤ greatest) least node 0 (omega (arith, low, many)) ((most greatest).0 (omega arith)) in (
-            λ h. absurd (none letter (subst (λ set. HasLetter set letter) at h)),
-            λ put. absurd (none_put rows least has node (greatest + 1) letter low (omega (arith, within)) put),
-          );
-    }
+pub passes_begin : (rows : List Row) (farthest : ℕ) → NonePutAbove rows farthest → (empty : ℕ) → ((letter : ℕ) → HasNumber empty letter → ⊥) → (sets : List ℕ)
+    → sets ≡ replicate (length rows) empty → AreSetsPut rows (farthest + 1) sets
+passes_begin rows farthest above empty none sets are_empty = record {
+  count = ap length are_empty ∙ length-replicate (length rows) empty;
+  each = λ node low letter.
+      let at : get_or sets node 0 ≡ empty = ap (λ (ss : List ℕ). get_or ss node 0) are_empty ∙ get_or-replicate (length rows) node empty 0 low in (
+        λ h. absurd (none letter (subst (λ set. HasNumber set letter) at h)),
+        λ put. absurd (above.none node (farthest + 1) letter low (omega arith) put),
+      );
+}

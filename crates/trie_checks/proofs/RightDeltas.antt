@@ -1,7 +1,7 @@
 -- A delta is right for a form where the form has the letters that it needs, the stem is not too long, and no letter is put back. For the
 -- smaller cut that leaves one letter more gives the same stem where this letter is the first one that is appended, and any other smaller cut
 -- leaves this letter too: by induction on the form.
-use Rattle.std.proofs.Common.{◌≡◌, ℕ, zero, suc, ◌+◌, ◌-◌, ◌<◌, ◌≤◌, ◌⊎◌, inl, inr, Bool, true, false, not, leb, List, [], ◌∷◌, ◌++◌, length, take, drop, refl, sym, ◌∙◌, ap, subst, arith}
+use Rattle.std.proofs.Common.{◌≡◌, ℕ, zero, suc, ◌+◌, ◌-◌, ◌<◌, ◌≤◌, inl, inr, true, leb, List, [], ◌∷◌, ◌++◌, length, take, drop, sym, ◌∙◌, ap, arith}
 use Rattle.std.specs.Prelude.{Contains}
 use Rattle.std.specs.List.{list_any, range_with_len}
 use Rattle.std.proofs.lemmas.Bool.{and_from, and_parts, not_from_false, false_from_ne_true, leb-true, le-leb, cases_lt}
@@ -9,13 +9,11 @@ use Rattle.std.proofs.lemmas.List.{length-append, length-take}
 use Rattle.std.proofs.lemmas.List.Folds.{Any-from_list_any}
 use Rattle.list_laws.proofs.Sorted.{Contains-cons_cases, not_Contains-nil}
 use Rattle.lexicon_definitions.specs.declared.limits.TheConstants.{MOST_FORM_LETTERS}
-use Rattle.lexicon_definitions.specs.Analyses.{Analysis}
 use Rattle.lexicon_definitions.specs.Deltas.{Delta, replace_end, analysis_by}
 use Rattle.trie_text_definitions.specs.TrieForms.{is_stem_length, is_right_delta, may_cut}
 use Rattle.trie_text_definitions.proofs.RootNodes.{right_is_delta}
 use Rattle.trie_text_definitions.proofs.TrieLexicons.{stem_parts}
 use Rattle.trie_checks.specs.NodeDepths.{letters_needed, letters_end}
-use Rattle.trie_checks.specs.LettersPut.{PutsLetter}
 use Rattle.trie_checks.specs.PutBack.{PutsBack}
 
 abbrev stem_of : List ℕ → Delta → List ℕ

@@ -1,14 +1,14 @@
 -- A node is led to where it is a root, or a child of a node that is led to; and since a child has a smaller number than its parent, it is enough
 -- that each node is a root or a child: by induction from the last node down.
-use Rattle.std.proofs.Common.{◌≡◌, ℕ, zero, suc, ◌+◌, ◌<◌, ◌≤◌, ◌==◌, ◌↔◌, ◌⊎◌, inl, inr, Bool, true, false, not, List, [], ◌∷◌, length, get_or, refl, sym, ◌∙◌, ap, subst, arith}
-use Rattle.std.specs.Prelude.{Contains, All}
+use Rattle.std.proofs.Common.{◌≡◌, ℕ, zero, suc, ◌+◌, ◌<◌, ◌≤◌, ◌==◌, ◌↔◌, ◌⊎◌, inl, inr, Bool, true, false, not, List, length, get_or, refl, sym, ◌∙◌, ap, subst, arith}
+use Rattle.std.specs.Prelude.{Contains}
 use Rattle.std.specs.List.{list_any, flat_map, range_with_len}
-use Rattle.std.proofs.lemmas.Bool.{cases_lt, eqb-true, eq-eqb, not-false, not_from_true, true_from_ne_false, false_from_ne_true, true≢false, cases_Bool}
+use Rattle.std.proofs.lemmas.Bool.{cases_lt, eqb-true, eq-eqb, not_from_true, true_from_ne_false, true≢false, cases_Bool}
 use Rattle.std.proofs.lemmas.List.{get_or_default}
 use Rattle.std.proofs.lemmas.List.Elements.{All-contains}
 use Rattle.std.proofs.lemmas.List.Folds.{Any-from_list_any, list_any_at, list_any_none}
-use Rattle.list_laws.proofs.Sorted.{Contains-first, Contains-later, Contains-cons_cases, not_Contains-nil, All-from_Contains}
-use Rattle.lexicon_definitions.specs.Tries.{Row, Trie, IsTrie, AreRows, IsChild, row_of}
+use Rattle.list_laws.proofs.Sorted.{Contains-first, Contains-later, Contains-cons_cases, All-from_Contains}
+use Rattle.lexicon_definitions.specs.Tries.{Row, Trie, IsTrie, AreRows, row_of}
 use Rattle.trie_text_definitions.specs.NodeValues.{nodes_from, is_led_to, has_unused}
 use Rattle.trie_text_definitions.proofs.RootNodes.{any_contained, in_range}
 use Rattle.trie_text_definitions.proofs.SuffixLaws.{Contains-flat_map, Contains-flat_map_cases}

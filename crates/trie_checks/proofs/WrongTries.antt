@@ -1,8 +1,8 @@
 -- A trie has no wrong delta where for each suffix of a root, which is a form, each delta is right.
-use Rattle.std.proofs.Common.{◌≡◌, ◌≢◌, ℕ, ◌+◌, ◌<◌, ◌≤◌, ◌^◌, inl, inr, Bool, true, false, Result, Ok, Err, List, [], length, get_or, refl, sym, ◌∙◌, subst, arith}
+use Rattle.std.proofs.Common.{◌≡◌, ◌≢◌, ℕ, ◌<◌, ◌^◌, inl, inr, Bool, true, false, Result, Ok, Err, List, [], length, get_or, refl, sym, ◌∙◌, subst, arith}
 use Rattle.std.specs.Prelude.{Contains, All, IsTrue, IfOk, ◌↔◌}
 use Rattle.std.specs.List.{list_all}
-use Rattle.std.proofs.lemmas.Bool.{not_from_true, not-false, true_from_ne_false, false_from_ne_true, cases_Bool}
+use Rattle.std.proofs.lemmas.Bool.{not_from_true, not-false, true_from_ne_false, cases_Bool}
 use Rattle.std.proofs.lemmas.List.Elements.{All-contains}
 use Rattle.std.proofs.lemmas.List.Sums.{list_all-from_AllPass}
 use Rattle.list_laws.proofs.Sorted.{not_Contains-nil, All-from_Contains}
@@ -14,7 +14,7 @@ use Rattle.trie_text_definitions.proofs.RootForms.{passes_all}
 use Rattle.trie_text_definitions.proofs.SuffixLaws.{suffix_by, suffix_there}
 use Rattle.trie_checks.specs.Bounds.{HasOne}
 use Rattle.trie_checks.specs.NodeDepths.{AreDepths, HasLettersAfter, HasShortStemsAfter}
-use Rattle.trie_checks.specs.PutBack.{IsPutBack, PutsBack}
+use Rattle.trie_checks.specs.PutBack.{IsPutBack}
 use Rattle.trie_checks.proofs.RightDeltas.{IsRight, right_passes, right_from}
 
 -- all deltas below a root are right

@@ -1,5 +1,5 @@
 -- A delta puts back the first letter that it cuts off: then a smaller cut gives the same stem.
-use Rattle.std.specs.Prelude.{◌≡◌, ℕ, ◌+◌, ◌⊎◌, List, [], ◌∷◌, length}
+use Rattle.std.specs.Prelude.{ℕ, ◌+◌, ◌⊎◌, List, [], ◌∷◌, length}
 use Rattle.lexicon_definitions.specs.Deltas.{Delta}
 use Rattle.lexicon_definitions.specs.Tries.{Row, HasSuffix}
 use Rattle.trie_checks.specs.LettersPut.{PutsLetter}

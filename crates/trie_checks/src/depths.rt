@@ -57,6 +57,17 @@ impl Depths {
         }
         true
     }
+
+    /// The greatest of the least numbers of letters.
+    pub(crate) fn farthest(&self) -> u64
+        ensures { IsGreatest (λ n. n) self.now.least.items result }
+    {
+        let mut farthest = 0;
+        for least in self.least.as_slice() {
+            farthest = farthest.max(*least);
+        }
+        farthest
+    }
 }
 
 /// After how many letters the deltas of a node itself let it stand.

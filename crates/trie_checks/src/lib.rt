@@ -7,10 +7,11 @@
 #![tactic(auto)]
 
 mod depths;
-mod letter_set;
 mod letters_put;
+mod number_set;
 mod pairs;
 mod put_back;
+mod put_places;
 mod unused;
 mod wrong_deltas;
 

@@ -16,5 +16,5 @@ pub fn has_wrong_delta(alloc: Global, store: &Store) -> Result<bool, Memory>
     if !depths.may_begin(store.roots()) {
         return Ok(true);
     }
-    has_put_back(alloc, store, depths.least.as_slice())
+    has_put_back(alloc, store, depths.farthest())
 }

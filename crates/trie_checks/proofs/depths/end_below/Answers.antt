@@ -1,5 +1,5 @@
 -- one child more
-use Rattle.std.proofs.Common.{◌≡◌, ℕ, ◌-◌, List, take, get_or, min, ◌∙◌, ap}
+use Rattle.std.proofs.Common.{ℕ, ◌-◌, List, take, get_or, min, ◌∙◌, ap}
 use Rattle.trie_checks.specs.Bounds.{IsLeastEnd}
 use Rattle.trie_checks.proofs.OneMore.{one_taken, all_taken, least_next}
 use Rattle.trie_checks.proofs.depths.end_below.Goals as goal

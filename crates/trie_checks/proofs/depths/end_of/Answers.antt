@@ -1,5 +1,5 @@
 -- one delta more
-use Rattle.std.proofs.Common.{◌≡◌, ℕ, ◌≤◌, ◌^◌, List, take, map, min, ◌∙◌, ap, arith}
+use Rattle.std.proofs.Common.{List, take, map, min, ◌∙◌, ap}
 use Rattle.lexicon_definitions.specs.Deltas.{Delta as TextDelta}
 use Rattle.form_tags.specs.Analyses.{text_delta}
 use Rattle.form_tags.specs.declared.delta.Delta.{Delta}

@@ -1,5 +1,5 @@
 -- one child more
-use Rattle.std.proofs.Common.{◌≡◌, ℕ, ◌-◌, List, take, get_or, max, ◌∙◌, ap}
+use Rattle.std.proofs.Common.{ℕ, ◌-◌, List, take, get_or, max, ◌∙◌, ap}
 use Rattle.trie_checks.specs.Bounds.{IsGreatest}
 use Rattle.trie_checks.proofs.OneMore.{ord_max-nat, one_taken, all_taken, greatest_next}
 use Rattle.trie_checks.proofs.depths.least_below.Goals as goal

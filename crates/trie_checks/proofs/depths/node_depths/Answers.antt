@@ -1,10 +1,10 @@
 -- one node more, whose children are known since they have smaller numbers
-use Rattle.std.proofs.Common.{◌≡◌, ℕ, ◌+◌, ◌-◌, ◌<◌, List, [], ◌∷◌, ◌++◌, length, map, get_or, max, min, sym, ◌∙◌, ap, subst, arith}
+use Rattle.std.proofs.Common.{◌≡◌, ℕ, ◌-◌, ◌<◌, List, [], ◌∷◌, ◌++◌, length, map, get_or, ◌∙◌, ap, subst, arith}
 use Rattle.lexicon_definitions.specs.Deltas.{Delta as TextDelta}
 use Rattle.lexicon_definitions.specs.Tries.{row_of}
 use Rattle.form_tags.specs.Analyses.{text_delta}
 use Rattle.trie_checks.specs.Bounds.{IsGreatest, IsLeastEnd}
-use Rattle.trie_checks.specs.NodeDepths.{AreDepths, letters_needed, letters_end}
+use Rattle.trie_checks.specs.NodeDepths.{letters_needed, letters_end}
 use Rattle.trie_checks.proofs.DepthSteps.{depths_next}
 use Rattle.trie_checks.proofs.depths.node_depths.Goals as goal
 

@@ -1,7 +1,6 @@
 -- one child more
-use Rattle.std.proofs.Common.{◌≡◌, ℕ, ◌+◌, List, ◌∷◌, [], ◌++◌, take, get_or, min, sym, ◌∙◌, ap, arith}
+use Rattle.std.proofs.Common.{◌≡◌, ℕ, ◌+◌, List, take, get_or, min, ◌∙◌, ap}
 use Rattle.std.specs.Prelude.{sum_by}
-use Rattle.std.proofs.lemmas.List.Sums.{sum_by_push}
 use Rattle.trie_checks.proofs.OneMore.{one_taken, all_taken}
 use Rattle.trie_checks.proofs.PairCounts.{stopped_next}
 use Rattle.trie_checks.proofs.pairs.pairs_below.Goals as goal

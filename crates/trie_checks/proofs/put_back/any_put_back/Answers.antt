@@ -3,9 +3,8 @@ use Rattle.std.proofs.Common.{◌≡◌, ℕ, ◌+◌, ◌<◌, ◌↔◌, ◌�
 use Rattle.std.specs.Prelude.{IsTrue}
 use Rattle.lexicon_definitions.specs.Tries.{row_of}
 use Rattle.trie_checks.specs.Bounds.{HasOne}
-use Rattle.trie_checks.specs.LettersPut.{HasLetter}
+use Rattle.trie_checks.specs.NumberSets.{HasNumber}
 use Rattle.trie_checks.specs.Marks.{IsMarked}
-use Rattle.trie_checks.specs.PutBack.{IsPutBack}
 use Rattle.trie_checks.proofs.PutBackSteps.{AreMarked, marked_next, marked_roots}
 use Rattle.trie_checks.proofs.put_back.any_put_back.Goals as goal
 
@@ -21,8 +20,8 @@ loop-number-preserved c =
     let children : c.children-children.result.now ≡ (row_of rows node).children = c.children-children.ensures.value ∙ ap (λ n. (row_of rows n).children) at in
     let pushed : c.push.new.self.items ≡ marks ++ found ∷ [] = c.in_ok-push.ensures.items in
     subst (AreMarked rows (node + 1)) (sym pushed) (marked_next rows c.len.ensures.trie.rows node low sets marks found c.requires.letters c.loop-number.invariant
-    (subst (λ (ms : List Bool). IsTrue found ↔ HasOne (λ (child : ℕ × ℕ). HasLetter (get_or sets child.1 0) child.0 ⊎ IsMarked ms child.1) (row_of rows node).children) c.as_slice.ensures.value
-    (subst (λ (cs : List (ℕ × ℕ)). IsTrue found ↔ HasOne (λ (child : ℕ × ℕ). HasLetter (get_or sets child.1 0) child.0 ⊎ IsMarked c.as_slice.result.now child.1) cs) children c.put_back_below-found.ensures)))
+    (subst (λ (ms : List Bool). IsTrue found ↔ HasOne (λ (child : ℕ × ℕ). HasNumber (get_or sets child.1 0) child.0 ⊎ IsMarked ms child.1) (row_of rows node).children) c.as_slice.ensures.value
+    (subst (λ (cs : List (ℕ × ℕ)). IsTrue found ↔ HasOne (λ (child : ℕ × ℕ). HasNumber (get_or sets child.1 0) child.0 ⊎ IsMarked c.as_slice.result.now child.1) cs) children c.put_back_below-found.ensures)))
 
 pub returns : goal.returns
 returns c =

@@ -1,9 +1,8 @@
 -- the children of one node more are marked; and some node is unmarked exactly where one is unused
-use Rattle.std.proofs.Common.{◌≡◌, ℕ, ◌+◌, ◌<◌, ◌↔◌, ◌⊎◌, Bool, true, false, List, ◌++◌, length, take, drop, refl, sym, ◌∙◌, ap, subst, arith}
+use Rattle.std.proofs.Common.{◌≡◌, ℕ, ◌+◌, ◌↔◌, ◌⊎◌, Bool, List, length, refl, sym, ◌∙◌, ap, subst, arith}
 use Rattle.std.specs.Prelude.{Contains}
 use Rattle.std.specs.List.{list_any}
 use Rattle.lexicon_definitions.specs.Tries.{row_of}
-use Rattle.trie_text_definitions.specs.NodeValues.{has_unused}
 use Rattle.trie_checks.specs.Marks.{IsMarked, LeadTo}
 use Rattle.trie_checks.proofs.UsedNodes.{HasParent, marks_next, unused_told}
 use Rattle.trie_checks.proofs.MarkSteps.{written_back}

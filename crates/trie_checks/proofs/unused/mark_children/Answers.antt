@@ -1,5 +1,5 @@
 -- one child more
-use Rattle.std.proofs.Common.{◌≡◌, ℕ, ◌<◌, ◌↔◌, ◌⊎◌, List, length, take, set, true, sym, ◌∙◌, ap, subst, arith}
+use Rattle.std.proofs.Common.{ℕ, ◌<◌, ◌↔◌, ◌⊎◌, List, length, take, set, true, ap, arith}
 use Rattle.trie_checks.specs.Marks.{IsMarked, LeadTo}
 use Rattle.trie_checks.proofs.OneMore.{one_taken, all_taken}
 use Rattle.trie_checks.proofs.MarkSteps.{child_marked}

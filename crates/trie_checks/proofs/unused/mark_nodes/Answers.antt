@@ -1,5 +1,5 @@
 -- one node more
-use Rattle.std.proofs.Common.{◌≡◌, ℕ, ◌<◌, ◌↔◌, ◌⊎◌, List, length, take, set, true, sym, ◌∙◌, subst, arith}
+use Rattle.std.proofs.Common.{ℕ, ◌<◌, ◌↔◌, ◌⊎◌, List, length, take, set, true, arith}
 use Rattle.std.specs.Prelude.{Contains}
 use Rattle.trie_checks.specs.Marks.{IsMarked}
 use Rattle.trie_checks.proofs.OneMore.{one_taken, all_taken}

@@ -1,8 +1,8 @@
 -- a root that may not stand after no letters has a wrong delta; otherwise whether a letter is put back decides
-use Rattle.std.proofs.Common.{◌≡◌, ℕ, ◌<◌, List, get_or, true, false, refl, sym, ◌∙◌, ap, subst}
-use Rattle.std.specs.Prelude.{All, IsTrue}
-use Rattle.trie_checks.specs.NodeDepths.{HasLeast}
+use Rattle.std.proofs.Common.{◌≡◌, ℕ, ◌<◌, List, get_or, sym, subst}
+use Rattle.std.specs.Prelude.{All}
 use Rattle.trie_checks.proofs.DepthSteps.{least_of_depths}
+use Rattle.trie_checks.proofs.PutSteps.{none_put_above}
 use Rattle.trie_checks.proofs.WrongTries.{told_by_answer, wrong_by_lengths, lengths_right}
 use Rattle.trie_checks.proofs.wrong_deltas.has_wrong_delta.Goals as goal
 
@@ -19,9 +19,11 @@ returns-then-not-may_begin c =
     }
 
 pub has_put_back-requires : goal.has_put_back-requires
-has_put_back-requires c = record {
-  least = subst (HasLeast c.args.store.now.rows) (sym c.as_slice.ensures.value) (least_of_depths c.args.store.now.rows c.in_ok-depths.depths.least.items c.in_ok-depths.depths.ends.items c.in_ok-depths.ensures.ok);
-}
+has_put_back-requires c =
+    let least = c.in_ok-depths.depths.least.items in
+    record {
+      farthest = none_put_above c.args.store.now.rows least (least_of_depths c.args.store.now.rows least c.in_ok-depths.depths.ends.items c.in_ok-depths.ensures.ok) c.farthest.result c.farthest.ensures;
+    }
 
 pub returns : goal.returns
 returns c =
