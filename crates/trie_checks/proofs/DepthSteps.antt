@@ -98,10 +98,6 @@ module _ (rows : List Row) (are : AreRows rows) (node : ℕ) (low : node < lengt
       } in
       subst (λ ls. AreDepths rows (node + 1) ls new_ends) (sym least_pushed) (subst (AreDepths rows (node + 1) (least ++ from ∷ [])) (sym ends_pushed) (depths_more least ends from end known is_depth))
 
--- no nodes
-pub no_depths : (rows : List Row) → AreDepths rows 0 [] []
-no_depths rows = record { least_count = omega arith; ends_count = omega arith; each = λ node less. absurd (omega (arith, less)) }
-
 -- the depths of all nodes tell the least ones
 pub least_of_depths : (rows : List Row) (least ends : List ℕ) → AreDepths rows (length rows) least ends → HasLeast rows least
 least_of_depths rows least ends are = record { count = are.least_count; each = λ node low. (are.each node low).from_least }

@@ -41,11 +41,12 @@ numbers_of_both left right n =
       elim [ inl holds ↦ omega (arith, both, second, holds) | inr holds ↦ omega (arith, both, first, holds) ],
     )
 
-pub number_lowered : (set n : ℕ) → HasNumber set (n + 1) → HasNumber (set / 2) n
+pub number_lowered : (set n : ℕ) → HasNumber (set / 2) n ↔ HasNumber set (n + 1)
 unfolding HasNumber
-number_lowered set n has =
+number_lowered set n =
     let next : n + 1 ≡ suc n = omega arith in
-    sym (bit_at-suc set n) ∙ sym (ap (bit_at set) next) ∙ has
+    let same = ap (bit_at set) next ∙ bit_at-suc set n in
+    (λ has. same ∙ has, λ has. sym same ∙ has)
 
 pub number_tested : (set n : ℕ) → n < 64 → IsTrue (not (bit_and set (1 * 2 ^ n % 2 ^ 64) == 0)) ↔ HasNumber set n
 unfolding HasNumber

@@ -1,12 +1,12 @@
 -- Lists with one element more, for loops: what holds of each element or of one, and the greatest and the least of their numbers; each by the
 -- element being among the first ones or the last.
-use Rattle.std.proofs.Common.{◌≡◌, ℕ, ◌+◌, ◌<◌, ◌≤◌, ◌^◌, ◌↔◌, ◌⊎◌, inl, inr, List, [], ◌∷◌, ◌++◌, length, take, get_or, map, max, min, nat_cmp, sym, subst, arith}
+use Rattle.std.proofs.Common.{◌≡◌, ℕ, ◌+◌, ◌<◌, ◌≤◌, ◌↔◌, ◌⊎◌, inl, inr, List, [], ◌∷◌, ◌++◌, length, take, get_or, map, max, min, nat_cmp, sym, subst, arith}
 use Rattle.std.specs.Prelude.{All}
 use Rattle.std.specs.Ordering.{ord_max}
 use Rattle.std.proofs.lemmas.Bool.Decides.{nat_tests}
 use Rattle.std.proofs.lemmas.List.{take_more, take_all, map_push}
-use Rattle.std.proofs.lemmas.List.Elements.{All-nil, All-push, All-contains, Contains-append_left, Contains-push, Contains-push_cases}
-use Rattle.list_laws.proofs.Sorted.{not_Contains-nil, All-from_Contains}
+use Rattle.std.proofs.lemmas.List.Elements.{All-push, All-contains, Contains-append_left, Contains-push, Contains-push_cases}
+use Rattle.list_laws.proofs.Sorted.{All-from_Contains}
 use Rattle.trie_checks.specs.Bounds.{IsGreatest, IsLeastEnd, HasOne}
 
 pub ord_max-nat : (m n : ℕ) → ord_max nat_cmp m n ≡ max m n
@@ -35,9 +35,6 @@ module _ {X : Type 0} where
     All-contains P (xs ++ x ∷ []) x h (Contains-push xs x),
   )
 
-  pub HasOne-nil : (P : X → Type 0) → HasOne P [] → ⊥
-  HasOne-nil P h = not_Contains-nil h.0 h.1
-
   pub HasOne-push : (P : X → Type 0) (xs : List X) (x : X) → HasOne P (xs ++ x ∷ []) ↔ (HasOne P xs ⊎ P x)
   HasOne-push P xs x = (
     λ h. elim (Contains-push_cases xs x h.0 h.1) [
@@ -57,9 +54,6 @@ module _ {X : Type 0} where
     λ h. new.1 (elim ((HasOne-push P xs x).0 h) [ inl before ↦ inl (old.1 before) | inr here ↦ inr here ]),
   )
 
-  pub greatest_none : (number : X → ℕ) → IsGreatest number [] 0
-  greatest_none number n = (λ l. All-nil (λ x. number x ≤ n), λ a. omega arith)
-
   pub greatest_next : (number : X → ℕ) (xs : List X) (x : X) (greatest next : ℕ) → next ≡ max greatest (number x) → IsGreatest number xs greatest
       → IsGreatest number (xs ++ x ∷ []) next
   greatest_next number xs x greatest next e is n = (
@@ -69,9 +63,6 @@ module _ {X : Type 0} where
         let before = (is n).1 rest in
         omega (arith, before, last, e),
   )
-
-  pub least_none : (number : X → ℕ) (top : ℕ) → 2 ^ 32 ≤ top → IsLeastEnd number [] top
-  least_none number top high n low = (λ l. All-nil (λ x. n < number x), λ a. omega (arith, high, low))
 
   pub least_next : (number : X → ℕ) (xs : List X) (x : X) (least next : ℕ) → next ≡ min least (number x) → IsLeastEnd number xs least
       → IsLeastEnd number (xs ++ x ∷ []) next

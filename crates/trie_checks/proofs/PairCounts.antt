@@ -95,9 +95,6 @@ pub record AreCounts (rows : List Row) (most count : ℕ) (counts : List ℕ) : 
   pub length_is : length counts ≡ count
   pub each : (node : ℕ) → node < count → get_or counts node 0 ≡ min (pairs_from rows node) most
 
-pub no_counts : (rows : List Row) (most : ℕ) → AreCounts rows most 0 []
-no_counts rows most = record { length_is = omega arith; each = λ node less. absurd (omega (arith, less)) }
-
 -- one node more
 pub counts_next : (rows : List Row) (most node own new : ℕ) (counts : List ℕ) → AreRows rows → node < length rows → AreCounts rows most node counts
     → own ≡ length (row_of rows node).deltas → new ≡ min (own + sum_by (λ (child : ℕ × ℕ). get_or counts child.1 0) (row_of rows node).children) most

@@ -1,7 +1,7 @@
 -- The places before a node at which letters are put: one letter nearer than before a child, or where a delta of its own begins to cut.
-use Rattle.std.proofs.Common.{◌≡◌, ℕ, ◌+◌, ◌<◌, ◌≤◌, ◌⊎◌, ◌↔◌, inl, inr, List, [], ◌∷◌, ◌++◌, length, get_or, replicate, sym, ◌∙◌, ap, subst, arith}
+use Rattle.std.proofs.Common.{◌≡◌, ℕ, ◌+◌, ◌<◌, ◌≤◌, ◌⊎◌, ◌↔◌, inl, inr, List, [], ◌∷◌, ◌++◌, length, get_or, sym, subst, arith}
 use Rattle.std.proofs.lemmas.Bool.{cases_lt}
-use Rattle.std.proofs.lemmas.List.{get_or_append_left, get_or_push, length_push, get_or-replicate, length-replicate}
+use Rattle.std.proofs.lemmas.List.{get_or_append_left, get_or_push, length_push}
 use Rattle.lexicon_definitions.specs.Deltas.{Delta}
 use Rattle.lexicon_definitions.specs.Tries.{Row, AreRows, row_of}
 use Rattle.trie_checks.specs.Bounds.{HasOne}
@@ -13,22 +13,6 @@ use Rattle.trie_checks.proofs.PutSteps.{put_parts}
 -- where no letter is put farther than so many letters before a node, none is put farther than more letters
 pub none_farther : (rows : List Row) (farthest more : ℕ) → farthest ≤ more → NonePutAbove rows farthest → NonePutAbove rows more
 none_farther rows farthest more le h = record { none = λ node before letter low above is. h.none node before letter low (omega (arith, le, above)) is }
-
--- sets of all numbers allow everything
-pub all_allow : (rows : List Row) (every : ℕ) → ((n : ℕ) → n < 64 → HasNumber every n) → (places : List ℕ) → places ≡ replicate (length rows) every → ArePlaces rows (length rows) places
-all_allow rows every has places are_all = record {
-  length_is = ap length are_all ∙ length-replicate (length rows) every;
-  each = λ node low place letter is.
-      let at : get_or places node 0 ≡ every = ap (λ (ss : List ℕ). get_or ss node 0) are_all ∙ get_or-replicate (length rows) node every 0 low in
-      elim (cases_lt place 64) [
-        | inl near ↦ inr (subst (λ set. HasNumber set place) (sym at) (has place near))
-        | inr far ↦ inl far
-      ];
-}
-
--- no nodes
-pub no_places : (rows : List Row) → ArePlaces rows 0 []
-no_places rows = record { length_is = omega arith; each = λ node less. absurd (omega (arith, less)) }
 
 -- one node more
 pub places_next : (rows : List Row) (node : ℕ) (places : List ℕ) (own below new : ℕ) → AreRows rows → NonePutAbove rows 64 → node < length rows → ArePlaces rows node places

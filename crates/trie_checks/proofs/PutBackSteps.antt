@@ -18,9 +18,6 @@ pub record AreMarked (rows : List Row) (count : ℕ) (marks : List Bool) : Type 
   pub length_is : length marks ≡ count
   pub each : (node : ℕ) → node < count → IsMarked marks node ↔ IsPutBack rows node
 
-pub none_marked : (rows : List Row) → AreMarked rows 0 []
-none_marked rows = record { length_is = omega arith; each = λ node less. absurd (omega (arith, less)) }
-
 module _ (rows : List Row) (are : AreRows rows) (node : ℕ) (low : node < length rows) where
   abbrev IsBelow : ℕ × ℕ → Type 0
   IsBelow child = IsPut rows child.1 1 child.0 ⊎ IsPutBack rows child.1

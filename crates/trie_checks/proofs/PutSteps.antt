@@ -87,16 +87,6 @@ module _ (rows : List Row) (are : AreRows rows) where
     ]),
   )
 
-  pub pass_begins : (before : ℕ) (sets : List ℕ) → AreSetsPut rows (before + 1) sets → AreSetsBetween rows before (length rows) sets
-  pass_begins before sets h = record {
-    count = h.count;
-    done = λ node high low. absurd (omega (arith, high, low));
-    to_do = λ node less low. h.each node low;
-  }
-
-  pub pass_ends : (before : ℕ) (sets : List ℕ) → AreSetsBetween rows before 0 sets → AreSetsPut rows before sets
-  pass_ends before sets h = record { count = h.count; each = λ node low. h.done node (omega arith) low }
-
   -- a node before which no letter is put so far, nor one letter farther, is passed over
   pub pass_over : (before node : ℕ) (sets : List ℕ) → node < length rows → ((letter : ℕ) → IsPut rows node before letter → ⊥)
       → ((letter : ℕ) → IsPut rows node (before + 1) letter → ⊥) → AreSetsBetween rows before (node + 1) sets → AreSetsBetween rows before node sets

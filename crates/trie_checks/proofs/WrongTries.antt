@@ -1,5 +1,5 @@
 -- A trie has no wrong delta where for each suffix of a root, which is a form, each delta is right.
-use Rattle.std.proofs.Common.{◌≡◌, ◌≢◌, ℕ, ◌<◌, ◌^◌, inl, inr, Bool, true, false, Result, Ok, Err, List, [], length, get_or, refl, sym, ◌∙◌, subst, arith}
+use Rattle.std.proofs.Common.{◌≡◌, ◌≢◌, ℕ, ◌<◌, ◌^◌, inl, inr, Bool, true, false, Result, Ok, Err, List, [], length, refl, sym, ◌∙◌, subst, arith}
 use Rattle.std.specs.Prelude.{Contains, All, IsTrue, IfOk, ◌↔◌}
 use Rattle.std.specs.List.{list_all}
 use Rattle.std.proofs.lemmas.Bool.{not_from_true, not-false, true_from_ne_false, cases_Bool}
@@ -13,7 +13,7 @@ use Rattle.trie_text_definitions.specs.TrieForms.{is_right_delta, has_right_delt
 use Rattle.trie_text_definitions.proofs.RootForms.{passes_all}
 use Rattle.trie_text_definitions.proofs.SuffixLaws.{suffix_by, suffix_there}
 use Rattle.trie_checks.specs.Bounds.{HasOne}
-use Rattle.trie_checks.specs.NodeDepths.{AreDepths, HasLettersAfter, HasShortStemsAfter}
+use Rattle.trie_checks.specs.NodeDepths.{AreDepths, MayBegin, HasLettersAfter, HasShortStemsAfter}
 use Rattle.trie_checks.specs.PutBack.{IsPutBack}
 use Rattle.trie_checks.proofs.RightDeltas.{IsRight, right_passes, right_from}
 
@@ -98,21 +98,18 @@ module _ (trie : Trie) (is : IsTrie trie) where
   told_by_answer (Err e) right told = tt
 
   module _ (few : length rows < 2 ^ 32) (least ends : List ℕ) (known : AreDepths rows (length rows) least ends) where
-    abbrev MayBegin : ℕ → Type 0
-    MayBegin root = (get_or least root 0 ≡ 0) × (0 < get_or ends root 0)
-
     -- where the roots may stand after no letters, the lengths are right
-    pub lengths_right : All MayBegin trie.roots → (root : ℕ) → Contains trie.roots root → HasLettersAfter rows root 0 × HasShortStemsAfter rows root 0
+    pub lengths_right : All (MayBegin least ends) trie.roots → (root : ℕ) → Contains trie.roots root → HasLettersAfter rows root 0 × HasShortStemsAfter rows root 0
     lengths_right begin root m =
         let low = low_root root m in
         let is_depth = known.each root low in
-        let (none, some) = All-contains MayBegin trie.roots root begin m in
+        let (none, some) = All-contains (MayBegin least ends) trie.roots root begin m in
         ((is_depth.from_least 0).0 (omega (arith, none)), (is_depth.below_end 0 (omega (arith, low, few))).0 some)
 
     -- where one may not, a delta is wrong
-    pub wrong_by_lengths : (All MayBegin trie.roots → ⊥) → has_wrong_delta trie ≡ true
+    pub wrong_by_lengths : (All (MayBegin least ends) trie.roots → ⊥) → has_wrong_delta trie ≡ true
     wrong_by_lengths not_all =
-        true_from_ne_false (has_wrong_delta trie) (λ none. not_all (All-from_Contains MayBegin trie.roots (λ root m.
+        true_from_ne_false (has_wrong_delta trie) (λ none. not_all (All-from_Contains (MayBegin least ends) trie.roots (λ root m.
         let low = low_root root m in
         let is_depth = known.each root low in
         let right = right_root none root m in

@@ -23,8 +23,8 @@ abbrev pub HasShortStemsAfter : List Row → ℕ → ℕ → Type 0
 HasShortStemsAfter rows node before =
     (word : List ℕ) (delta : Delta) → HasSuffix rows node word delta → length word + before < letters_end delta
 
--- the node may stand after so many letters or more, and after fewer than so many; of numbers from 2^32 on, so few letters are between
--- nodes, nothing is said
+-- the node may stand after `least` letters or more, and after fewer than `end`; the end is told only as far as a node can stand, since there
+-- are fewer than 2^32 nodes
 pub record IsDepth (rows : List Row) (node least end : ℕ) : Type 0 where
   pub from_least : (before : ℕ) → (least ≤ before) ↔ HasLettersAfter rows node before
   pub below_end : (before : ℕ) → before + node < 2 ^ 32 → (before < end) ↔ HasShortStemsAfter rows node before
@@ -33,6 +33,10 @@ pub record IsDepth (rows : List Row) (node least end : ℕ) : Type 0 where
 pub record HasLeast (rows : List Row) (least : List ℕ) : Type 0 where
   pub count : length least ≡ length rows
   pub each : (node : ℕ) → node < length rows → (before : ℕ) → (slice_index least node ≤ before) ↔ HasLettersAfter rows node before
+
+-- by these numbers the node may stand after no letters
+abbrev pub MayBegin : List ℕ → List ℕ → ℕ → Type 0
+MayBegin least ends node = (slice_index least node ≡ 0) × (0 < slice_index ends node)
 
 -- these are the depths of the first nodes, so many of them
 pub record AreDepths (rows : List Row) (count : ℕ) (least ends : List ℕ) : Type 0 where

@@ -1,8 +1,8 @@
-ghost use Rattle.std.specs.Prelude.{◌≡◌, ◌≢◌, ℕ, ◌-◌, ◌<◌, ◌^◌, ◌↔◌, length, map, slice_index, All, Contains, IfOk, IsTrue};
+ghost use Rattle.std.specs.Prelude.{◌≡◌, ℕ, ◌-◌, ◌<◌, ◌^◌, ◌↔◌, length, map, slice_index, All, IfOk, IsTrue};
 ghost use Rattle.lexicon_definitions.specs.Tries.{IsTrie};
 ghost use Rattle.form_tags.specs.Analyses.{text_delta};
 ghost use Rattle.trie_checks.specs.Bounds.{IsGreatest, IsLeastEnd};
-ghost use Rattle.trie_checks.specs.NodeDepths.{AreDepths, letters_needed, letters_end};
+ghost use Rattle.trie_checks.specs.NodeDepths.{AreDepths, MayBegin, letters_needed, letters_end};
 
 use form_tags::Delta;
 use lexicon_definitions::MOST_FORM_LETTERS;
@@ -23,7 +23,8 @@ pub(crate) struct Depths {
 pub(crate) fn node_depths(alloc: Global, store: &Store) -> Result<Depths, Memory>
     ensures trie { IsTrie store.now }
     ensures size { length store.now.rows < 2 ^ 32 }
-    ensures ok { IfOk result (λ depths. AreDepths store.now.rows (length store.now.rows) depths.least.items depths.ends.items) }
+    ensures ok { IfOk result (λ depths.
+        AreDepths store.now.rows (length store.now.rows) depths.least.items depths.ends.items) }
 {
     let mut least = Vec::with_capacity(alloc, store.len() as usize)?;
     let mut ends = Vec::with_capacity(alloc, store.len() as usize)?;
@@ -44,7 +45,7 @@ impl Depths {
     pub(crate) fn may_begin(&self, roots: &[Node]) -> bool
         requires least { All (λ root. root < length self.now.least.items) roots.now }
         requires ends { All (λ root. root < length self.now.ends.items) roots.now }
-        ensures { IsTrue result ↔ All (λ root. (slice_index self.now.least.items root ≡ 0) × (0 < slice_index self.now.ends.items root)) roots.now }
+        ensures { IsTrue result ↔ All (MayBegin self.now.least.items self.now.ends.items) roots.now }
     {
         for root in roots {
             let number = root.number() as usize;
@@ -58,7 +59,7 @@ impl Depths {
         true
     }
 
-    /// The greatest of the least numbers of letters.
+    /// The greatest of the least numbers of letters: no delta cuts so far that it begins more letters before a node.
     pub(crate) fn farthest(&self) -> u64
         ensures { IsGreatest (λ n. n) self.now.least.items result }
     {
@@ -70,28 +71,29 @@ impl Depths {
     }
 }
 
-/// After how many letters the deltas of a node itself let it stand.
+/// After how many letters at least the deltas of a node let it stand.
 fn least_of(deltas: &[Delta]) -> u64
     ensures { IsGreatest letters_needed (map text_delta deltas.now) result }
 {
     let mut least = 0;
     for delta in deltas {
-        least = least.max(needed(delta));
+        least = least.max(letters_needed(delta));
     }
     least
 }
 
+/// From how many letters on the deltas of a node don't let it stand.
 fn end_of(deltas: &[Delta]) -> u64
     ensures { IsLeastEnd letters_end (map text_delta deltas.now) result }
 {
     let mut end = u64::MAX;
     for delta in deltas {
-        end = end.min(needed_end(delta));
+        end = end.min(letters_end(delta));
     }
     end
 }
 
-/// After how many letters its children let it stand, each of which stands after one more.
+/// After how many letters at least the children of a node let it stand, each of which stands after one more.
 fn least_below(children: &[(Letter, Node)], least: &[u64]) -> u64
     requires { All (λ (child : ℕ × ℕ). child.1 < length least.now) children.now }
     ensures { IsGreatest (λ (child : ℕ × ℕ). slice_index least.now child.1 - 1) children.now result }
@@ -103,6 +105,7 @@ fn least_below(children: &[(Letter, Node)], least: &[u64]) -> u64
     most
 }
 
+/// From how many letters on the children of a node don't let it stand.
 fn end_below(children: &[(Letter, Node)], ends: &[u64]) -> u64
     requires { All (λ (child : ℕ × ℕ). child.1 < length ends.now) children.now }
     ensures { IsLeastEnd (λ (child : ℕ × ℕ). slice_index ends.now child.1 - 1) children.now result }
@@ -115,7 +118,7 @@ fn end_below(children: &[(Letter, Node)], ends: &[u64]) -> u64
 }
 
 /// The letters that a form needs: those that are cut off, and one that is left where none is appended.
-fn needed(delta: &Delta) -> u64
+fn letters_needed(delta: &Delta) -> u64
     ensures { result ≡ letters_needed (text_delta delta.now) }
 {
     let cut = u64::from(delta.cut);
@@ -127,7 +130,7 @@ fn needed(delta: &Delta) -> u64
 }
 
 /// With so many letters or more the stem is too long.
-fn needed_end(delta: &Delta) -> u64
+fn letters_end(delta: &Delta) -> u64
     ensures { result ≡ letters_end (text_delta delta.now) }
 {
     let longest = MOST_FORM_LETTERS as u64 + u64::from(delta.cut);

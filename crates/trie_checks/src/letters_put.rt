@@ -43,7 +43,8 @@ fn stays_empty(places: NumberSet, place: u64) -> bool
 
 /// The letters that these deltas put so many letters before a form's end.
 fn put_by(deltas: &[Delta], before: u64) -> NumberSet
-    ensures { (letter : ℕ) → HasNumber result letter ↔ HasOne (PutsLetter before letter) (map text_delta deltas.now) }
+    ensures { (letter : ℕ) → HasNumber result letter
+        ↔ HasOne (PutsLetter before letter) (map text_delta deltas.now) }
 {
     let mut set = NumberSet::new();
     for delta in deltas {
@@ -55,7 +56,8 @@ fn put_by(deltas: &[Delta], before: u64) -> NumberSet
 /// The letters of the sets of all children.
 fn put_below(children: &[(Letter, Node)], letters: &[NumberSet]) -> NumberSet
     requires { All (λ (child : ℕ × ℕ). child.1 < length letters.now) children.now }
-    ensures { (letter : ℕ) → HasNumber result letter ↔ HasOne (λ (child : ℕ × ℕ). HasNumber (slice_index letters.now child.1) letter) children.now }
+    ensures { (letter : ℕ) → HasNumber result letter
+        ↔ HasOne (λ (child : ℕ × ℕ). HasNumber (slice_index letters.now child.1) letter) children.now }
 {
     let mut set = NumberSet::new();
     for (_, child) in children {
@@ -66,7 +68,8 @@ fn put_below(children: &[(Letter, Node)], letters: &[NumberSet]) -> NumberSet
 
 /// The set with the letter that the delta puts so many letters before a form's end, if it puts one there.
 fn with_put(set: NumberSet, delta: &Delta, before: u64) -> NumberSet
-    ensures { (letter : ℕ) → HasNumber result letter ↔ (HasNumber set letter ⊎ PutsLetter before letter (text_delta delta.now)) }
+    ensures { (letter : ℕ) → HasNumber result letter
+        ↔ (HasNumber set letter ⊎ PutsLetter before letter (text_delta delta.now)) }
 {
     if u64::from(delta.cut) != before {
         return set;

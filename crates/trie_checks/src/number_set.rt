@@ -55,7 +55,7 @@ impl NumberSet {
 
     /// The set of the numbers that are one less than those of this set.
     pub(crate) fn lowered(self) -> NumberSet
-        ensures { (n : ℕ) → HasNumber self (n + 1) → HasNumber result n }
+        ensures { (n : ℕ) → HasNumber result n ↔ HasNumber self (n + 1) }
     {
         NumberSet {
             bits: self.bits >> 1,

@@ -1,4 +1,4 @@
-ghost use Rattle.std.specs.Prelude.{◌≡◌, ℕ, ◌+◌, ◌<◌, ◌≤◌, length, min, sum_by, slice_index, All, IfOk};
+ghost use Rattle.std.specs.Prelude.{◌≡◌, ℕ, ◌+◌, ◌<◌, length, min, sum_by, slice_index, All, IfOk};
 ghost use Rattle.trie_text_definitions.specs.TrieForms.{has_too_many_pairs};
 
 use lexicon_definitions::MOST_FORM_LINES;
@@ -24,7 +24,7 @@ pub fn has_too_many_pairs(alloc: Global, store: &Store) -> Result<bool, Memory>
     Ok(pairs_of_all(store.roots(), counts.as_slice()) as usize > MOST_FORM_LINES)
 }
 
-/// The pairs of a node with so many deltas of its own, where those of its children are known.
+/// The pairs of a node with so many deltas of its own, where those of all nodes before it are known.
 fn pairs_below(own: usize, children: &[(Letter, Node)], counts: &[u32]) -> u32
     requires { All (λ (child : ℕ × ℕ). child.1 < length counts.now) children.now }
     ensures { result ≡ min (own + sum_by (λ (child : ℕ × ℕ). slice_index counts.now child.1) children.now) TOO_MANY }
@@ -38,6 +38,7 @@ fn pairs_below(own: usize, children: &[(Letter, Node)], counts: &[u32]) -> u32
     sum
 }
 
+/// The pairs of all these roots together.
 fn pairs_of_all(roots: &[Node], counts: &[u32]) -> u32
     requires { All (λ root. root < length counts.now) roots.now }
     ensures { result ≡ min (sum_by (λ root. slice_index counts.now root) roots.now) TOO_MANY }

@@ -1,4 +1,4 @@
-ghost use Rattle.std.specs.Prelude.{◌≡◌, ℕ, ◌<◌, ◌↔◌, ◌⊎◌, length, slice_index, All, IfOk, IsTrue};
+ghost use Rattle.std.specs.Prelude.{ℕ, ◌<◌, ◌↔◌, ◌⊎◌, length, slice_index, All, IfOk, IsTrue};
 ghost use Rattle.trie_checks.specs.Bounds.{HasOne};
 ghost use Rattle.trie_checks.specs.LettersPut.{AreSetsPut, NonePutAbove};
 ghost use Rattle.trie_checks.specs.NumberSets.{HasNumber};
@@ -13,7 +13,8 @@ use phoneme::{Letter, Memory};
 use shared_trie::{Node, Store};
 use std::alloc::Global;
 
-/// Whether some delta of a form puts back the first letter that it cuts off, where none puts a letter more than so many letters before a node.
+/// Whether some delta of a form puts back the first letter that it cuts off, where no delta puts a letter more than so many letters
+/// before a node.
 pub(crate) fn has_put_back(alloc: Global, store: &Store, farthest: u64) -> Result<bool, Memory>
     requires farthest { NonePutAbove store.now.rows farthest }
     ensures ok { IfOk result (λ found. IsTrue found ↔ HasOne (IsPutBack store.now.rows) store.now.roots) }
@@ -26,7 +27,7 @@ pub(crate) fn has_put_back(alloc: Global, store: &Store, farthest: u64) -> Resul
     any_put_back(alloc, store, letters.as_slice())
 }
 
-/// Goes over the nodes by rising number, where it is known which letters deltas put in place of the letter that leads to each.
+/// Goes over the nodes by rising number, where it is known which letters deltas put in place of the letter that leads to each node.
 fn any_put_back(alloc: Global, store: &Store, letters: &[NumberSet]) -> Result<bool, Memory>
     requires letters { AreSetsPut store.now.rows 1 letters.now }
     ensures ok { IfOk result (λ found. IsTrue found ↔ HasOne (IsPutBack store.now.rows) store.now.roots) }
@@ -44,7 +45,8 @@ fn any_put_back(alloc: Global, store: &Store, letters: &[NumberSet]) -> Result<b
 fn put_back_below(children: &[(Letter, Node)], letters: &[NumberSet], put_back: &[bool]) -> bool
     requires letters { All (λ (child : ℕ × ℕ). child.1 < length letters.now) children.now }
     requires put_back { All (λ (child : ℕ × ℕ). child.1 < length put_back.now) children.now }
-    ensures { IsTrue result ↔ HasOne (λ (child : ℕ × ℕ). HasNumber (slice_index letters.now child.1) child.0 ⊎ IsMarked put_back.now child.1) children.now }
+    ensures { IsTrue result
+        ↔ HasOne (λ (child : ℕ × ℕ). HasNumber (slice_index letters.now child.1) child.0 ⊎ IsMarked put_back.now child.1) children.now }
 {
     for (letter, child) in children {
         let number = child.number() as usize;

@@ -46,7 +46,9 @@ fn put_places(alloc: Global, store: &Store) -> Result<Vec<NumberSet>, Memory>
 
 /// The places at which these deltas put letters before a form's end, counted from 0 at the last letter.
 fn places_of(deltas: &[Delta]) -> NumberSet
-    ensures { (place : ℕ) → place < 64 → HasOne (λ (delta : TextDelta). delta.cut ≡ place + 1) (map text_delta deltas.now) → HasNumber result place }
+    ensures { (place : ℕ) → place < 64
+        → HasOne (λ (delta : TextDelta). delta.cut ≡ place + 1) (map text_delta deltas.now)
+        → HasNumber result place }
 {
     let mut places = NumberSet::new();
     for delta in deltas {
@@ -58,7 +60,9 @@ fn places_of(deltas: &[Delta]) -> NumberSet
 /// The places of all children, to which each is one letter farther.
 fn places_below(children: &[(Letter, Node)], places: &[NumberSet]) -> NumberSet
     requires { All (λ (child : ℕ × ℕ). child.1 < length places.now) children.now }
-    ensures { (place : ℕ) → HasOne (λ (child : ℕ × ℕ). HasNumber (slice_index places.now child.1) (place + 1)) children.now → HasNumber result place }
+    ensures { (place : ℕ)
+        → HasOne (λ (child : ℕ × ℕ). HasNumber (slice_index places.now child.1) (place + 1)) children.now
+        → HasNumber result place }
 {
     let mut below = NumberSet::new();
     for (_, child) in children {
@@ -67,6 +71,7 @@ fn places_below(children: &[(Letter, Node)], places: &[NumberSet]) -> NumberSet
     below
 }
 
+/// The places with that at which this cut begins, if it is within 64 letters.
 fn with_cut(places: NumberSet, cut: u32) -> NumberSet
     ensures { (place : ℕ) → place < 64 → (HasNumber places place ⊎ (cut ≡ place + 1)) → HasNumber result place }
 {

@@ -15,7 +15,7 @@ loop-delta-preserved c =
     let delta = c.delta-item.result in
     let end = c.loop-delta.end in
     one_mapped text_delta (λ (xs : List TextDelta). IsLeastEnd letters_end xs c.min-end.result) deltas k delta c.loop-delta-test.true c.delta-item.is
-    (least_next letters_end (map text_delta (take k deltas)) (text_delta delta) end c.min-end.result (c.min-end.ensures ∙ ap (λ n. min end n) c.needed_end.ensures) c.loop-delta.invariant)
+    (least_next letters_end (map text_delta (take k deltas)) (text_delta delta) end c.min-end.result (c.min-end.ensures ∙ ap (λ n. min end n) c.letters_end.ensures) c.loop-delta.invariant)
 
 pub returns : goal.returns
 returns c = all_taken (λ (xs : List Delta). IsLeastEnd letters_end (map text_delta xs) c.loop-delta.end) c.args.deltas.now c.loop-delta.delta-index c.loop-delta-test.false c.loop-delta.invariant

@@ -16,7 +16,7 @@ loop-delta-preserved c =
     let least = c.loop-delta.least in
     one_mapped text_delta (λ (xs : List TextDelta). IsGreatest letters_needed xs c.max-least.result) deltas k delta c.loop-delta-test.true c.delta-item.is
     (greatest_next letters_needed (map text_delta (take k deltas)) (text_delta delta) least c.max-least.result
-    (c.max-least.ensures ∙ ord_max-nat least c.needed.result ∙ ap (λ n. max least n) c.needed.ensures) c.loop-delta.invariant)
+    (c.max-least.ensures ∙ ord_max-nat least c.letters_needed.result ∙ ap (λ n. max least n) c.letters_needed.ensures) c.loop-delta.invariant)
 
 pub returns : goal.returns
 returns c = all_taken (λ (xs : List Delta). IsGreatest letters_needed (map text_delta xs) c.loop-delta.least) c.args.deltas.now c.loop-delta.delta-index c.loop-delta-test.false c.loop-delta.invariant

@@ -20,7 +20,7 @@ loop-child-preserved c place =
     one_taken (λ (xs : List (ℕ × ℕ)). HasOne P xs → HasNumber c.or-below.result place) children k child c.loop-child-test.true c.loop-child-item.is
     (λ h. (c.or-below.ensures place).1 (elim ((HasOne-push P (take k children) child).0 h) [
       | inl before ↦ inl (c.loop-child.invariant place before)
-      | inr here ↦ inr (c.lowered.ensures place (subst (λ set. HasNumber set (place + 1)) (sym read) here))
+      | inr here ↦ inr ((c.lowered.ensures place).1 (subst (λ set. HasNumber set (place + 1)) (sym read) here))
     ]))
 
 pub returns : goal.returns

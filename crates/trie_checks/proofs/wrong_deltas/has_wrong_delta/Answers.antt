@@ -1,6 +1,7 @@
 -- a root that may not stand after no letters has a wrong delta; otherwise whether a letter is put back decides
-use Rattle.std.proofs.Common.{◌≡◌, ℕ, ◌<◌, List, get_or, sym, subst}
+use Rattle.std.proofs.Common.{ℕ, List, sym, subst}
 use Rattle.std.specs.Prelude.{All}
+use Rattle.trie_checks.specs.NodeDepths.{MayBegin}
 use Rattle.trie_checks.proofs.DepthSteps.{least_of_depths}
 use Rattle.trie_checks.proofs.PutSteps.{none_put_above}
 use Rattle.trie_checks.proofs.WrongTries.{told_by_answer, wrong_by_lengths, lengths_right}
@@ -13,7 +14,7 @@ returns-then-not-may_begin c =
     let told = c.in_ok-depths.ensures in
     record {
       ok = sym (wrong_by_lengths c.args.store.now told.trie told.size least ends told.ok (λ all.
-          let passes = c.may_begin.ensures.1 (subst (λ (rs : List ℕ). All (λ root. (get_or least root 0 ≡ 0) × (0 < get_or ends root 0)) rs) (sym c.roots.ensures.value) all) in
+          let passes = c.may_begin.ensures.1 (subst (λ (rs : List ℕ). All (MayBegin least ends) rs) (sym c.roots.ensures.value) all) in
           let fails = c.if-not-may_begin.true in
           absurd (cc)));
     }
@@ -30,7 +31,7 @@ returns c =
     let least = c.in_ok-depths.depths.least.items in
     let ends = c.in_ok-depths.depths.ends.items in
     let told = c.in_ok-depths.ensures in
-    let each = subst (λ (rs : List ℕ). All (λ root. (get_or least root 0 ≡ 0) × (0 < get_or ends root 0)) rs) c.roots.ensures.value (c.may_begin.ensures.0 c.if-not-may_begin.false) in
+    let each = subst (λ (rs : List ℕ). All (MayBegin least ends) rs) c.roots.ensures.value (c.may_begin.ensures.0 c.if-not-may_begin.false) in
     record {
       ok = told_by_answer c.args.store.now told.trie c.has_put_back.result (lengths_right c.args.store.now told.trie told.size least ends told.ok each) c.has_put_back.ensures.ok;
     }

@@ -1,8 +1,9 @@
 -- one root more; and a root that may not stand after no letters
-use Rattle.std.proofs.Common.{◌≡◌, ℕ, ◌<◌, List, length, take, get_or, ap, ◌∙◌, refl, arith}
+use Rattle.std.proofs.Common.{ℕ, ◌<◌, List, length, take, get_or, ap, ◌∙◌, refl, arith}
 use Rattle.std.specs.Prelude.{All}
 use Rattle.std.proofs.lemmas.List.{get_or_read}
 use Rattle.std.proofs.lemmas.List.Elements.{All-push}
+use Rattle.trie_checks.specs.NodeDepths.{MayBegin}
 use Rattle.trie_checks.proofs.OneMore.{one_taken, all_taken}
 use Rattle.trie_checks.proofs.depths.Depths.may_begin.Goals as goal
 
@@ -20,12 +21,12 @@ loop-root-preserved c =
     let second = get_or_read ends place c.index-in-loop-root.result.now low_end c.index-in-loop-root.ensures 0 ∙ ap (λ n. get_or ends n 0) c.number-number.ensures in
     let none = c.if-index-gt0.false in
     let some = c.if-index-eq0.false in
-    one_taken (λ (xs : List ℕ). All (λ r. (get_or least r 0 ≡ 0) × (0 < get_or ends r 0)) xs) roots k root c.loop-root-test.true c.root-item.is
-    (All-push (λ r. (get_or least r 0 ≡ 0) × (0 < get_or ends r 0)) (take k roots) root c.loop-root.invariant (omega (arith, first, none), omega (arith, second, some)))
+    one_taken (λ (xs : List ℕ). All (MayBegin least ends) xs) roots k root c.loop-root-test.true c.root-item.is
+    (All-push (MayBegin least ends) (take k roots) root c.loop-root.invariant (omega (arith, first, none), omega (arith, second, some)))
 
 pub returns : goal.returns
 returns c =
     let least = c.args.self.now.least.items in
     let ends = c.args.self.now.ends.items in
-    let each = all_taken (λ (xs : List ℕ). All (λ r. (get_or least r 0 ≡ 0) × (0 < get_or ends r 0)) xs) c.args.roots.now c.loop-root.root-index c.loop-root-test.false c.loop-root.invariant in
+    let each = all_taken (λ (xs : List ℕ). All (MayBegin least ends) xs) c.args.roots.now c.loop-root.root-index c.loop-root-test.false c.loop-root.invariant in
     (λ t. each, λ a. refl)
