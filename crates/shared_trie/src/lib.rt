@@ -3,7 +3,7 @@
 //!
 //! Proved: contracts see a `Store` as the rows of its nodes and a root for each phase. `build` holds exactly the forms of its
 //! lists, with their deltas (`ok`). Children have smaller numbers than their parents, and no two rows are the same (`trie` of
-//! `len`), so no two nodes stand for the same suffixes (`nodes_are_told_by_suffixes` of `lexicon_definitions`). `root`, `child`,
+//! `len`), so no two nodes stand for the same suffixes (`nodes_are_told_by_suffixes` of `lexicon_definitions`). `root`, `roots`, `child`,
 //! `accepts`, `deltas`, `children` and `len` read the rows (`value`); `height` is the length of the longest suffix. `child`
 //! takes one step, and `children` one for each child and one more (`steps`). That each row is hashed once is only measured.
 #![tactic(auto)]

@@ -1,4 +1,4 @@
-ghost use Rattle.std.specs.Prelude.{◌≡◌, ◌≢◌, ℕ, ◌+◌, ◌<◌, ◌^◌, ◌↔◌, [], length, map, slice_index, IsTrue, IfSome};
+ghost use Rattle.std.specs.Prelude.{◌≡◌, ◌≢◌, ℕ, ◌+◌, ◌<◌, ◌^◌, ◌↔◌, [], length, map, slice_index, All, IsTrue, IfSome};
 ghost use Rattle.form_tags.specs.Analyses.{text_delta};
 ghost use Rattle.lexicon_definitions.specs.Tries.{IsHeight, IsTrie, child_in, row_of};
 ghost use Rattle.shared_trie.specs.Heights.{AreHeights};
@@ -41,6 +41,14 @@ impl Store {
         ensures node { result < length self.now.rows }
     {
         self.roots[phase as usize]
+    }
+
+    /// The roots of all phases, in their order.
+    pub fn roots(&self) -> &[Node]
+        ensures value { result.now ≡ self.now.roots }
+        ensures nodes { All (λ root. root < length self.now.rows) self.now.roots }
+    {
+        self.roots.as_slice()
     }
 
     /// Where the letter leads from the node. `None` where no suffix of the node begins with it. Takes one step.
