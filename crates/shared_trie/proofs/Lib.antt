@@ -1,3 +1,4 @@
+pub mod FormWalkSteps
 pub mod HeightLemmas
 pub mod RowEquality
 pub mod Interning

@@ -5,12 +5,17 @@
 //! lists, with their deltas (`ok`). Children have smaller numbers than their parents, and no two rows are the same (`trie` of
 //! `len`), so no two nodes stand for the same suffixes (`nodes_are_told_by_suffixes` of `lexicon_definitions`). `root`, `child`,
 //! `accepts`, `deltas`, `children` and `len` read the rows (`value`); `height` is the length of the longest suffix. `child`
-//! takes one step, and `children` one for each child and one more (`steps`). That each row is hashed once is only measured.
+//! takes one step, and `children` one for each child and one more (`steps`). A `FormWalk` is the list of the forms of a node that are
+//! left, rising, each with its deltas: all of them at first (`ok` of `new`), and one less after `advance`, which takes no memory. That
+//! each row is hashed once is only measured.
 #![tactic(auto)]
 
 mod building;
 mod delta_lists;
 mod deltas;
+mod form_walk;
+mod form_walk_level;
+mod form_walk_moves;
 mod grow;
 mod growing;
 mod heights;
@@ -25,6 +30,7 @@ mod sharing;
 mod store;
 
 pub use building::build;
+pub use form_walk::{FormWalk, WalkedForm};
 pub use node::Node;
 pub use sharing::stores_are_shared;
 pub use store::Store;

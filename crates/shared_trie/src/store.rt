@@ -85,6 +85,15 @@ impl Store {
         children
     }
 
+    /// The letters that lead on from the node, rising, each with the node to which it leads.
+    pub fn children_of(&self, node: Node) -> &[(Letter, Node)]
+        requires { node < length self.now.rows }
+        ensures value { result.now ≡ (row_of self.now.rows node).children }
+        ensures trie { IsTrie self.now }
+    {
+        self.table.children(node)
+    }
+
     /// The length of the longest suffix of the node: 0 without children, else 1 more than the greatest height of a child.
     pub fn height(&self, node: Node) -> u32
         requires { node < length self.now.rows }
