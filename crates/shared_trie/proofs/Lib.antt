@@ -1,3 +1,5 @@
+pub mod NumbersIn
+pub mod NumberedTries
 pub mod FormWalkSteps
 pub mod HeightLemmas
 pub mod RowEquality

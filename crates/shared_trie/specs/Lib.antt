@@ -1,3 +1,4 @@
+pub mod CanonicalNodes
 pub mod FormWalks
 pub mod Growth
 pub mod Heights

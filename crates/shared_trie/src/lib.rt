@@ -11,6 +11,7 @@
 #![tactic(auto)]
 
 mod building;
+mod canonical_laws;
 mod delta_lists;
 mod deltas;
 mod form_walk;
@@ -30,6 +31,7 @@ mod sharing;
 mod store;
 
 pub use building::build;
+pub use canonical_laws::nodes_in_their_order_make_an_ordered_trie;
 pub use form_walk::{FormWalk, WalkedForm};
 pub use node::Node;
 pub use sharing::stores_are_shared;
