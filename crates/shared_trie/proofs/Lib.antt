@@ -1,5 +1,9 @@
 pub mod NumbersIn
 pub mod NumberedTries
+pub mod LineHeights
+pub mod CanonicalOrders
+pub mod CanonicalLevels
+pub mod ListedTexts
 pub mod FormWalkSteps
 pub mod HeightLemmas
 pub mod RowEquality

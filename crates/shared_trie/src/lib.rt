@@ -11,7 +11,11 @@
 #![tactic(auto)]
 
 mod building;
+mod canonical;
 mod canonical_laws;
+mod canonical_letters;
+mod canonical_lines;
+mod canonical_marks;
 mod delta_lists;
 mod deltas;
 mod form_walk;
@@ -22,9 +26,11 @@ mod growing;
 mod heights;
 mod letter_set;
 mod node;
+mod node_numbers;
 mod node_table;
 mod packed_node;
 mod packing;
+mod placed_line;
 mod row;
 mod rows;
 mod sharing;
@@ -32,7 +38,10 @@ mod store;
 
 pub use building::build;
 pub use canonical_laws::nodes_in_their_order_make_an_ordered_trie;
+pub use canonical_letters::push_letters;
+pub use canonical_lines::{push_node_line, push_number};
 pub use form_walk::{FormWalk, WalkedForm};
 pub use node::Node;
+pub use node_numbers::NodeNumbers;
 pub use sharing::stores_are_shared;
 pub use store::Store;

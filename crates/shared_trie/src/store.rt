@@ -118,6 +118,14 @@ impl Store {
         Node::new(number)
     }
 
+    /// The root of each phase.
+    pub(crate) fn roots(&self) -> &[Node]
+        ensures value { result.now ≡ self.now.roots }
+        ensures trie { IsTrie self.now }
+    {
+        self.roots.as_slice()
+    }
+
     /// The store with these parts.
     pub(crate) fn new(table: NodeTable, heights: Vec<u32>, roots: Vec<Node>) -> Store
         requires trie { IsTrie (record { rows = table; roots = roots.items }) }
