@@ -4,6 +4,7 @@ pub mod LineHeights
 pub mod CanonicalOrders
 pub mod CanonicalLevels
 pub mod ListedTexts
+pub mod MarkSteps
 pub mod FormWalkSteps
 pub mod HeightLemmas
 pub mod RowEquality
