@@ -1,7 +1,7 @@
 -- One level more: its nodes have no children but such as are placed, so their lines are known; they come after all that are less high, and among
 -- themselves as their lines are sorted, since no two have one line.
-use Rattle.std.proofs.Common.{◌≡◌, ◌≢◌, ◌↔◌, inl, inr, ℕ, ◌+◌, ◌<◌, ◌≤◌, Option, Some, List, [], ◌∷◌, ◌++◌, length, map, get_or, false, true≢false, refl, sym, ◌∙◌, ap, subst, arith}
-use Rattle.std.specs.Prelude.{All, AllPairs, Contains, IsPermutation, IsSortedByKey}
+use Rattle.std.proofs.Common.{◌≡◌, ◌≢◌, ◌↔◌, inl, inr, ℕ, ◌+◌, ◌<◌, ◌≤◌, Option, Some, List, [], ◌∷◌, ◌++◌, length, map, take, drop, get_or, false, true≢false, refl, sym, ◌∙◌, ap, subst, arith}
+use Rattle.std.specs.Prelude.{Result, Ok, Err, OnOk, All, AllPairs, Contains, IsPermutation, IsSortedByKey}
 use Rattle.std.specs.List.{AllByRecursion}
 use Rattle.std.specs.List.Sorted.{IsStrictlySortedBy}
 use Rattle.std.specs.Cmp.Lexicographic.{slice_cmp}
@@ -12,16 +12,16 @@ use Rattle.std.specs.Prelude.{nat_eq}
 use Rattle.std.proofs.lemmas.Bool.{cases_lt}
 use Rattle.std.proofs.lemmas.Bool.Decides.{Decides-eqb, nat_tests}
 use Rattle.std.proofs.lemmas.Cmp.{nat_list_cmp_total}
-use Rattle.std.proofs.lemmas.List.{get_or-map, length-map, map-append}
+use Rattle.std.proofs.lemmas.List.{get_or-map, length-map, map-append, take_at}
 use Rattle.std.proofs.lemmas.List.Elements.{All-contains, All-get_or, Contains-append_cases, Contains-append_left, Contains-append_right, Contains-get_or, recursion_from_All}
 use Rattle.std.proofs.lemmas.List.MinMax.{ranks_by}
-use Rattle.std.proofs.lemmas.List.Sorted.{All-permutation, Contains-permutation, IsPermutation-map, IsPermutation-sym, sorted_far}
-use Rattle.std.proofs.lemmas.Map.Keys.{IsDistinct-IsPermutation}
+use Rattle.std.proofs.lemmas.List.Sorted.{All-permutation, Contains-permutation, IsPermutation-map, IsPermutation-sym, length_permutation, sorted_far}
+use Rattle.std.proofs.lemmas.Map.Keys.{IsDistinct-IsPermutation, Less-from_sorted}
 use Rattle.std.proofs.lemmas.Map.Lookups.{exact_bytes}
 use Rattle.std.proofs.lemmas.Map.Made.{AllPairs-from_IsDistinct, IsDistinct-from_AllPairs}
 use Rattle.list_laws.proofs.FirstOnes.{Contains-map_cases}
 use Rattle.list_laws.proofs.Orderings.{nat_cmp-Equal, nat_cmp-Less}
-use Rattle.list_laws.proofs.Sorted.{All-from_Contains, Contains-first, Contains-later, sorted_append}
+use Rattle.list_laws.proofs.Sorted.{All-from_Contains, Contains-first, Contains-later, not_Less-itself, sorted_append}
 use Rattle.lexicon_definitions.specs.Deltas.{Delta}
 use Rattle.lexicon_definitions.specs.Tries.{Row, Trie, IsTrie, child_in, row_of}
 use Rattle.lexicon_definitions.proofs.TrieGrowth.{walk-within}
@@ -31,6 +31,7 @@ use Rattle.trie_text_definitions.specs.PrintableRows.{IsPrintable}
 use Rattle.trie_text_definitions.specs.VersionTexts.{IsLedTo}
 use Rattle.trie_text_definitions.proofs.NodeLinesApart.{same_row}
 use Rattle.trie_text_definitions.proofs.NodeSteps.{node_lines_total}
+use Rattle.trie_text_definitions.proofs.ToldTries.{no_line}
 use Rattle.shared_trie.specs.CanonicalNodes.{number_in, numbered_child, numbered_row, height_of, line_in, NodeText, text_of_node, ArePlaced, IsLevelOf}
 use Rattle.shared_trie.proofs.CanonicalOrders.{one_node, same_children}
 use Rattle.shared_trie.proofs.DeltaLists.{sorted_from_pairs}
@@ -216,3 +217,87 @@ module _ (trie : Trie) (is : IsTrie trie) (height : ℕ) (nodes level : List ℕ
     );
     rising = subst (IsStrictlySortedBy compare_node_lines) (sym lines_are) (sorted_append node_lines_total (map line nodes) (map line new) placed.rising new_rising below_level);
   }
+
+  -- so no node is placed twice, and each is there
+  pub apart_next : AllPairs (λ (left right : ℕ). left ≢ right) (nodes ++ new)
+  apart_next i j d less below e =
+      let all = nodes ++ new in
+      let long = length-map all (line_in trie.rows all) in
+      let under = Less-from_sorted compare_node_lines (map (line_in trie.rows all) all) i j no_line placed_next.rising less (omega (arith, below, long)) in
+      let first = get_or-map (line_in trie.rows all) all i d no_line (omega (arith, less, below)) in
+      let second = get_or-map (line_in trie.rows all) all j d no_line below in
+      not_Less-itself node_lines_total (line_in trie.rows all (get_or all j d))
+      ((λ k. compare_node_lines (line_in trie.rows all (sym e k)) (line_in trie.rows all (get_or all j d))) ∙ (λ k. compare_node_lines (sym first k) (sym second k)) ∙ under)
+
+  pub there_next : All (λ (text : NodeText). text.node < length trie.rows) sorted
+  there_next =
+      All-permutation (λ (text : NodeText). text.node < length trie.rows) (map (text_of_node trie.rows nodes) level) sorted moved
+      (All-from_Contains (λ (text : NodeText). text.node < length trie.rows) (map (text_of_node trie.rows nodes) level) (λ text m.
+      let (node, among, same) = Contains-map_cases (text_of_node trie.rows nodes) level text m in
+      subst (λ (t : NodeText). t.node < length trie.rows) same (low node ((level_is.each node).0 among).0)))
+
+-- ---- what is asked of a level before its lines are made
+
+module _ (trie : Trie) (is : IsTrie trie) (height : ℕ) (nodes level : List ℕ) (placed : ArePlaced trie height nodes) (level_is : IsLevelOf trie height level) where
+  led_low : (node : ℕ) → IsLedTo trie node → node < length trie.rows
+  led_low node from =
+      let root = All-contains (λ root. root < length trie.rows) trie.roots from.root is.roots from.is_root in
+      let within = walk-within trie.rows is.rows from.word from.root node root from.walked in
+      omega (arith, root, within)
+
+  pub level_there : All (λ node. node < length trie.rows) level
+  level_there = All-from_Contains (λ node. node < length trie.rows) level (λ node m. led_low node ((level_is.each node).0 m).0)
+
+  pub level_children : All (λ node. All (λ (child : ℕ × ℕ). Contains nodes child.1) (row_of trie.rows node).children) level
+  level_children =
+      All-from_Contains (λ node. All (λ (child : ℕ × ℕ). Contains nodes child.1) (row_of trie.rows node).children) level (λ node m.
+      let (led, high) = (level_is.each node).0 m in
+      All-from_Contains (λ (child : ℕ × ℕ). Contains nodes child.1) (row_of trie.rows node).children (λ child among.
+      let lower = child_lower trie.rows is.rows node (led_low node led) child among in
+      (placed.each child.1).1 (
+        led_to_child trie node child.0 child.1 led (child_among-Contains child.0 child.1 (row_of trie.rows node).children (is.rows.each node (led_low node led)).letters among),
+        omega (arith, lower, high),
+      )))
+
+-- ---- a level as it is sorted in place
+
+-- what follows on success
+pub on_ok : {T E : Type 0} (result : Result T E) {P Q : Type 0} → (P → Q) → OnOk result P → OnOk result Q
+on_ok (Ok value) f h = f h
+on_ok (Err error) f h = tt
+
+-- the lines of a level, sorted
+pub record IsSortedLevel (trie : Trie) (height : ℕ) (nodes level : List ℕ) (sorted : List NodeText) : Type 0 where
+  pub level_is : IsLevelOf trie height level
+  pub printable : All (λ node. IsPrintable (numbered_row nodes (row_of trie.rows node))) level
+  pub moved : IsPermutation (map (text_of_node trie.rows nodes) level) sorted
+  pub rising : IsSortedByKey (λ (text : NodeText). text.bytes) (slice_cmp nat_cmp) sorted
+
+pub sorted_level : (trie : Trie) (height : ℕ) (nodes level read : List ℕ) (lines before after : List NodeText) → IsLevelOf trie height level → read ≡ level
+    → lines ≡ map (text_of_node trie.rows nodes) read → All (λ node. IsPrintable (numbered_row nodes (row_of trie.rows node))) read → before ≡ lines → IsPermutation before after
+    → IsSortedByKey (λ (text : NodeText). text.bytes) (slice_cmp nat_cmp) after → IsSortedLevel trie height nodes level after
+sorted_level trie height nodes level read lines before after level_is e lines_are printed same moved rising = record {
+  level_is = level_is;
+  printable = subst (All (λ node. IsPrintable (numbered_row nodes (row_of trie.rows node)))) e printed;
+  moved = subst (λ (ls : List NodeText). IsPermutation ls after) (same ∙ lines_are ∙ ap (map (text_of_node trie.rows nodes)) e) moved;
+  rising = rising;
+}
+
+-- what was sorted in place is all that there is
+pub all_sorted : (before lines after : List NodeText) (count : ℕ) → before ≡ lines → count ≡ length lines → IsPermutation before after
+    → take count (after ++ drop (length after) lines) ≡ after
+all_sorted before lines after count same long moved =
+    let kept = length_permutation before after moved in
+    take_at after (drop (length after) lines) count (kept ∙ ap length same ∙ sym long)
+
+pub next_apart : (trie : Trie) → IsTrie trie → (height : ℕ) (nodes level : List ℕ) (sorted : List NodeText) → ArePlaced trie height nodes → IsSortedLevel trie height nodes level sorted
+    → AllPairs (λ (left right : ℕ). left ≢ right) (nodes ++ map (λ (text : NodeText). text.node) sorted)
+next_apart trie is height nodes level sorted placed s = apart_next trie is height nodes level placed s.level_is s.printable sorted s.moved s.rising
+
+pub next_there : (trie : Trie) → IsTrie trie → (height : ℕ) (nodes level : List ℕ) (sorted : List NodeText) → ArePlaced trie height nodes → IsSortedLevel trie height nodes level sorted
+    → All (λ (text : NodeText). text.node < length trie.rows) sorted
+next_there trie is height nodes level sorted placed s = there_next trie is height nodes level placed s.level_is s.printable sorted s.moved s.rising
+
+pub next_placed : (trie : Trie) → IsTrie trie → (height : ℕ) (nodes level : List ℕ) (sorted : List NodeText) → ArePlaced trie height nodes → IsSortedLevel trie height nodes level sorted
+    → ArePlaced trie (height + 1) (nodes ++ map (λ (text : NodeText). text.node) sorted)
+next_placed trie is height nodes level sorted placed s = placed_next trie is height nodes level placed s.level_is s.printable sorted s.moved s.rising

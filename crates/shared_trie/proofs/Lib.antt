@@ -3,6 +3,7 @@ pub mod NumberedTries
 pub mod LineHeights
 pub mod CanonicalOrders
 pub mod CanonicalLevels
+pub mod CanonicalSteps
 pub mod ListedTexts
 pub mod MarkSteps
 pub mod FormWalkSteps

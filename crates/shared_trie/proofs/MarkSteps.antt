@@ -189,8 +189,8 @@ numbered_push nodes numbers node are low new other m =
           let (below, is) = are other old in
           (omega (arith, below, long), get_or-set_other numbers node other (length nodes) 0 apart ∙ is ∙ sym (number_append nodes (node ∷ []) other old))
       | inr same ↦ (
-          let at : node ≡ other = same in omega (arith, at, low, long),
-          ap (λ k. get_or (slice_set numbers node (length nodes)) k 0) (sym same) ∙ get_or-set_same numbers node (length nodes) 0 low ∙ sym (number_push nodes node new)
-              ∙ ap (number_in (nodes ++ node ∷ [])) same,
-        )
+        let at : node ≡ other = same in omega (arith, at, low, long),
+        ap (λ k. get_or (slice_set numbers node (length nodes)) k 0) (sym same) ∙ get_or-set_same numbers node (length nodes) 0 low ∙ sym (number_push nodes node new)
+            ∙ ap (number_in (nodes ++ node ∷ [])) same,
+      )
     ]

@@ -1,4 +1,4 @@
-ghost use Rattle.std.specs.Prelude.{◌≡◌, ◌≢◌, ℕ, ◌+◌, ◌<◌, ◌++◌, List, length, map, All, AllPairs, Contains, IfOk, OnOk};
+ghost use Rattle.std.specs.Prelude.{◌≡◌, ◌≢◌, ℕ, ◌+◌, ◌<◌, ◌++◌, ◌↔◌, List, length, map, All, AllPairs, Contains, IfOk, IsTrue, OnOk};
 ghost use Rattle.lexicon_definitions.specs.Lexicons.{Form};
 ghost use Rattle.lexicon_definitions.specs.Tries.{IsTrie, IsTrieOf, row_of};
 ghost use Rattle.trie_text_definitions.specs.PrintableRows.{IsPrintable};
@@ -60,11 +60,22 @@ fn level_of(
     let mut level = Vec::new(alloc);
     for number in 0..store.len() {
         let node = store.node(number);
-        if marks[number as usize] && store.height(node) as usize == height {
-            level.push(node)?;
+        if !is_of_level(store, marks, node, height) {
+            continue;
         }
+        level.push(node)?;
     }
     Ok(level)
+}
+
+/// Whether the node is marked and has the height.
+fn is_of_level(store: &Store, marks: &[bool], node: Node, height: usize) -> bool
+    requires trie { IsTrie store.now }
+    requires there { node < length store.now.rows }
+    requires marks { AreMarked store.now marks.now }
+    ensures { IsTrue result ↔ (IsLedTo store.now node × (height_of store.now.rows node ≡ height)) }
+{
+    marks[node.number() as usize] && store.height(node) as usize == height
 }
 
 /// The line of each of these nodes, whose children have numbers.
@@ -113,6 +124,7 @@ fn place_level(
     height: usize,
     numbers: &mut NodeNumbers,
 ) -> Result<(), Memory>
+    requires trie { IsTrie store.now }
     requires marks { AreMarked store.now marks.now }
     requires count { numbers.old.count ≡ length store.now.rows }
     requires placed { ArePlaced store.now height numbers.old.nodes }
