@@ -5,6 +5,7 @@ pub mod CanonicalOrders
 pub mod CanonicalLevels
 pub mod CanonicalSteps
 pub mod ListedTexts
+pub mod PutAnalyses
 pub mod MarkSteps
 pub mod FormWalkSteps
 pub mod HeightLemmas

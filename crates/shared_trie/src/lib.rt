@@ -10,6 +10,7 @@
 //! each row is hashed once is only measured.
 #![tactic(auto)]
 
+mod analyses;
 mod building;
 mod canonical;
 mod canonical_laws;
@@ -36,6 +37,7 @@ mod rows;
 mod sharing;
 mod store;
 
+pub use analyses::analyses_by_deltas;
 pub use building::build;
 pub use canonical_laws::nodes_in_their_order_make_an_ordered_trie;
 pub use canonical_letters::push_letters;
