@@ -14,8 +14,9 @@ mod worked;
 
 pub use readings::{
     a_file_of_any_version_is_read_in_one_way, a_lexicon_has_one_text_in_a_version,
-    a_trie_tells_its_phases, the_trie_of_a_lexicon_ends_well, tries_that_are_read_are_shared,
-    what_is_read_is_a_lexicon, what_is_read_is_a_text_of_its_version,
+    a_node_is_told_by_its_line, a_trie_tells_its_phases, the_trie_of_a_lexicon_ends_well,
+    tries_that_are_read_are_shared, what_is_read_is_a_lexicon,
+    what_is_read_is_a_text_of_its_version,
 };
 pub use worked::{
     a_small_trie_is_read, an_inflected_trie_is_read, limited_rules_are_read,
