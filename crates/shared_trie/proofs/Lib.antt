@@ -11,3 +11,4 @@ pub mod Roots
 pub mod LetterLists
 pub mod PackedRows
 pub mod SetPlaces
+pub mod ToldRows

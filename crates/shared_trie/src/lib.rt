@@ -23,8 +23,10 @@ mod row;
 mod rows;
 mod sharing;
 mod store;
+mod trie_so_far;
 
 pub use building::build;
 pub use node::Node;
 pub use sharing::stores_are_shared;
 pub use store::Store;
+pub use trie_so_far::TrieSoFar;

@@ -1,4 +1,4 @@
-ghost use Rattle.std.specs.Prelude.{◌≡◌, ◌≢◌, ◌+◌, ◌*◌, ◌<◌, ◌^◌, ◌↔◌, ℕ, [], ◌∷◌, ◌++◌, length, map, IsTrue, OnOk};
+ghost use Rattle.std.specs.Prelude.{◌≡◌, ◌≢◌, ◌+◌, ◌*◌, ◌<◌, ◌^◌, ◌↔◌, ℕ, [], ◌∷◌, ◌++◌, length, map, IsTrue, OnOk, OnErr};
 ghost use Rattle.std.specs.Ordering.{nat_cmp, on};
 ghost use Rattle.std.specs.List.Sorted.{IsStrictlySortedBy};
 ghost use Rattle.form_tags.specs.Analyses.{text_delta};
@@ -46,7 +46,7 @@ impl NodeTable {
         }
     }
 
-    /// Adds a node with these deltas and children after all others.
+    /// Adds a node with these deltas and children after all others. Where memory is wanting, the rows are as they were.
     pub(crate) fn push(
         &mut self,
         deltas: Vec<Delta>,
@@ -55,6 +55,7 @@ impl NodeTable {
         requires rising { IsStrictlySortedBy (on (λ (child : ℕ × ℕ). child.0) nat_cmp) children.now }
         requires room { 64 * (length self.old + 1) < 2 ^ 32 }
         ensures ok { OnOk result (self.new ≡ self.old ++ record { deltas = map text_delta deltas.items; children = children.now } ∷ []) }
+        ensures unchanged { OnErr result (self.new ≡ self.old) }
     {
         self.nodes.reserve(1)?;
         self.children.reserve(children.len())?;

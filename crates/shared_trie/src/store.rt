@@ -1,13 +1,14 @@
-ghost use Rattle.std.specs.Prelude.{◌≡◌, ◌≢◌, ℕ, ◌+◌, ◌<◌, ◌^◌, ◌↔◌, [], length, map, slice_index, IsTrue, IfSome};
+ghost use Rattle.std.specs.Prelude.{◌≡◌, ◌≢◌, ℕ, ◌+◌, ◌*◌, ◌<◌, ◌^◌, ◌↔◌, [], ◌∷◌, ◌++◌, length, map, slice_index, All, IsTrue, IfSome, OnOk, OnErr};
 ghost use Rattle.form_tags.specs.Analyses.{text_delta};
-ghost use Rattle.lexicon_definitions.specs.Tries.{IsHeight, IsTrie, child_in, row_of};
+ghost use Rattle.lexicon_definitions.specs.Tries.{IsHeight, IsRow, IsTrie, child_in, row_of};
 ghost use Rattle.shared_trie.specs.Heights.{AreHeights};
 
 use super::Node;
+use super::heights::height_above;
 use super::node_table::NodeTable;
 use form_tags::Delta;
 use outside::Steps;
-use phoneme::Letter;
+use phoneme::{Letter, Memory};
 use std::marker::Model;
 
 /// The nodes of a trie with shared subtrees, each a row, and a root for each phase (Huet 2005). No two rows are the same,
@@ -107,6 +108,39 @@ impl Store {
         ensures { result ≡ number }
     {
         Node::new(number)
+    }
+
+    /// Adds a node with these deltas and children after all others. Where memory is wanting, the store is as it was.
+    pub(crate) fn push(
+        &mut self,
+        deltas: Vec<Delta>,
+        children: &[(Letter, Node)],
+    ) -> Result<(), Memory>
+        requires row { IsRow self.old.rows (length self.old.rows) (record { deltas = map text_delta deltas.items; children = children.now }) }
+        requires other { All (λ row. row ≢ record { deltas = map text_delta deltas.items; children = children.now }) self.old.rows }
+        requires room { 64 * (length self.old.rows + 1) < 2 ^ 32 }
+        ensures rows { OnOk result (self.new.rows ≡ self.old.rows ++ record { deltas = map text_delta deltas.items; children = children.now } ∷ []) }
+        ensures roots { OnOk result (self.new.roots ≡ self.old.roots) }
+        ensures unchanged { OnErr result (self.new ≡ self.old) }
+    {
+        let height = height_above(self.heights.as_slice(), children);
+        self.heights.reserve(1)?;
+        self.table.push(deltas, children)?;
+        let Ok(()) = self.heights.push(height) else {
+            unreachable!();
+        };
+        Ok(())
+    }
+
+    /// Makes the node the root of the next phase. Where memory is wanting, the store is as it was.
+    pub(crate) fn push_root(&mut self, root: Node) -> Result<(), Memory>
+        requires { root < length self.old.rows }
+        ensures rows { self.new.rows ≡ self.old.rows }
+        ensures roots { OnOk result (self.new.roots ≡ self.old.roots ++ root ∷ []) }
+        ensures unchanged { OnErr result (self.new.roots ≡ self.old.roots) }
+    {
+        self.roots.push(root)?;
+        Ok(())
     }
 
     /// The store with these parts.
