@@ -23,8 +23,11 @@ mod row;
 mod rows;
 mod sharing;
 mod store;
+mod store_builder;
+mod told_forms;
 
 pub use building::build;
 pub use node::Node;
 pub use sharing::stores_are_shared;
 pub use store::Store;
+pub use store_builder::StoreBuilder;
