@@ -3,4 +3,5 @@ pub mod Heights
 pub mod LetterSets
 pub mod Packed
 pub mod Runs
+pub mod ToldForms
 pub mod Views

@@ -23,10 +23,13 @@ mod row;
 mod rows;
 mod sharing;
 mod store;
+mod store_builder;
+mod told_forms;
 mod trie_so_far;
 
 pub use building::build;
 pub use node::Node;
 pub use sharing::stores_are_shared;
 pub use store::Store;
+pub use store_builder::StoreBuilder;
 pub use trie_so_far::TrieSoFar;
