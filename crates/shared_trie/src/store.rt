@@ -1,6 +1,6 @@
 ghost use Rattle.std.specs.Prelude.{◌≡◌, ◌≢◌, ℕ, ◌+◌, ◌*◌, ◌<◌, ◌^◌, ◌↔◌, [], ◌∷◌, ◌++◌, length, map, slice_index, All, IsTrue, IfSome, OnOk, OnErr};
 ghost use Rattle.form_tags.specs.Analyses.{text_delta};
-ghost use Rattle.lexicon_definitions.specs.Tries.{IsHeight, IsRow, IsTrie, child_in, row_of};
+ghost use Rattle.lexicon_definitions.specs.Tries.{IsHeight, IsRow, IsTrie, child_in, empty_row, row_of};
 ghost use Rattle.shared_trie.specs.Heights.{AreHeights};
 
 use super::Node;
@@ -108,6 +108,21 @@ impl Store {
         ensures { result ≡ number }
     {
         Node::new(number)
+    }
+
+    /// Whether the node has neither deltas nor children.
+    pub(crate) fn is_empty_row(&self, node: Node) -> bool
+        requires { node < length self.now.rows }
+        ensures { IsTrue result ↔ (row_of self.now.rows node ≡ empty_row) }
+    {
+        !self.table.accepts(node) && self.table.children(node).is_empty()
+    }
+
+    /// The number of roots.
+    pub(crate) fn root_count(&self) -> usize
+        ensures { result ≡ length self.now.roots }
+    {
+        self.roots.len()
     }
 
     /// Adds a node with these deltas and children after all others. Where memory is wanting, the store is as it was.

@@ -1,6 +1,6 @@
 ghost use Rattle.std.specs.Prelude.{◌≡◌, ◌≢◌, ◌+◌, ◌*◌, ◌<◌, ◌^◌, ◌↔◌, [], ◌∷◌, ◌++◌, length, map, All, IsTrue, OnOk, OnErr};
 ghost use Rattle.form_tags.specs.Analyses.{text_delta};
-ghost use Rattle.lexicon_definitions.specs.Tries.{IsHeight, IsRow, IsTrie, row_of};
+ghost use Rattle.lexicon_definitions.specs.Tries.{IsHeight, IsRow, IsTrie, empty_row, row_of};
 
 use super::node_table::NodeTable;
 use super::{Node, Store};
@@ -76,6 +76,21 @@ impl TrieSoFar {
         ensures { IsTrue result ↔ ((row_of self.now.rows node).deltas ≢ []) }
     {
         self.store.accepts(node)
+    }
+
+    /// Whether the node has neither deltas nor children.
+    pub fn is_empty_row(&self, node: Node) -> bool
+        requires { node < length self.now.rows }
+        ensures { IsTrue result ↔ (row_of self.now.rows node ≡ empty_row) }
+    {
+        self.store.is_empty_row(node)
+    }
+
+    /// The number of roots.
+    pub fn roots(&self) -> usize
+        ensures { result ≡ length self.now.roots }
+    {
+        self.store.root_count()
     }
 
     /// The length of the longest word that can be walked from the node.
