@@ -1,12 +1,12 @@
 -- What the reader of versions 2 and 3 keeps of the lines so far, and what it answers to a line.
-use Rattle.std.specs.Prelude.{◌≡◌, ℕ, ◌+◌, ◌*◌, ◌<◌, ◌^◌, ◌⊎◌, true, Result, Ok, Err, List, [], ◌∷◌, length}
+use Rattle.std.specs.Prelude.{◌≡◌, ℕ, ◌+◌, ◌*◌, ◌<◌, ◌^◌, ◌⊎◌, ◌++◌, true, Option, Some, None, Result, Ok, Err, List, [], ◌∷◌, length, codes}
 use Rattle.std.specs.List.Sorted.{IsStrictlySortedBy}
 use Rattle.lexicon_definitions.specs.GrammarFaults.{Fault, IsFirstFault, IsGrammarTextWithinLimits}
 use Rattle.lexicon_definitions.specs.Tries.{Row, AreRows}
 use Rattle.lexicon_text_definitions.specs.FileLines as lines
-use Rattle.trie_text_definitions.specs.NodeLines.{NodeLine, compare_node_lines, node_lines}
+use Rattle.trie_text_definitions.specs.NodeLines.{NodeLine, compare_node_lines, node_line_over, node_lines}
 use Rattle.trie_text_definitions.specs.VersionFaults as faults
-use Rattle.trie_text_definitions.specs.VersionSteps.{Kind, Head, Phase, Grammar, Plain, Rules, Told, Taken}
+use Rattle.trie_text_definitions.specs.VersionSteps.{Kind, Head, Phase, Grammar, Plain, Rules, Node, Root, End, Told, Taken}
 use Rattle.lexicon_file.specs.declared.error.FileWhy.TheVariants.{NoEnd}
 use Rattle.lexicon_file.specs.declared.take_error.TakeError.{TakeError}
 use Rattle.lexicon_file.specs.declared.take_error.TakeError.TheVariants.{Why, Memory}
@@ -66,3 +66,25 @@ IsLineAnswer taken (Err Memory) after = Unit {0}
 abbrev pub IsNoEnd : TakeError → Type 0 → Type 0
 IsNoEnd (Why why) Ended = (why ≡ NoEnd) × (Ended → ⊥)
 IsNoEnd Memory Ended = Unit {0}
+
+-- ---- lines
+
+-- the name of a kind, where it has one
+abbrev pub kind_name : Kind → List ℕ
+kind_name Head = []
+kind_name Phase = codes "phase"
+kind_name Grammar = codes "grammar"
+kind_name Plain = codes "plain"
+kind_name Rules = codes "rule"
+kind_name Node = codes "node"
+kind_name Root = codes "root"
+kind_name End = codes "end"
+
+-- a name alone, or with a blank and more after it
+abbrev pub line_with : List ℕ → Option (List ℕ) → List ℕ
+line_with name None = name
+line_with name (Some rest) = name ++ 32 ∷ rest
+
+-- what is told with a row more
+abbrev pub with_row : Told → Row → Told
+with_row told row = record told { last = Node; rows = told.rows ++ row ∷ []; nodes = told.nodes ++ node_line_over told.nodes row ∷ [] }

@@ -1,4 +1,4 @@
-ghost use Rattle.std.specs.Prelude.{◌≡◌, ◌<◌, ◌^◌, length, map, MatchOption, IfSome, IfOk, Some, None, option_map};
+ghost use Rattle.std.specs.Prelude.{◌≡◌, ◌<◌, ◌^◌, length, map, MatchOption, ◌≤◌, IfSome, IfOk, Some, None, option_map};
 ghost use Rattle.form_tags.specs.Analyses.{text_delta};
 ghost use Rattle.form_tags.specs.TagTexts.{tag_text};
 ghost use Rattle.trie_text_definitions.specs.NodeFields.{delta_shape};
@@ -19,9 +19,15 @@ fn delta_parts(text: &[u8]) -> Option<(u32, &[u8], Tag)>
         (λ parts. delta_shape text.now ≡ Some (record { cut = parts.0; append = parts.1.now; tag = tag_text parts.2 })) }
     ensures within { IfSome result (λ parts. length parts.1.now ≤ length text.now) }
 {
-    let (cut, append, tag) = three_parts(text, b':')?;
-    let cut = read_cut(cut)?;
-    let tag = read_tag(tag)?;
+    let Some((cut, append, tag)) = three_parts(text, b':') else {
+        return None;
+    };
+    let Some(cut) = read_cut(cut) else {
+        return None;
+    };
+    let Some(tag) = read_tag(tag) else {
+        return None;
+    };
     Some((cut, append, tag))
 }
 

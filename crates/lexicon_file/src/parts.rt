@@ -22,12 +22,12 @@ pub(crate) fn two_parts(text: &[u8], mark: u8) -> Option<(&[u8], &[u8])>
     ensures { MatchOption result (two_of (parts_at mark text.now) ≡ None)
         (λ parts. parts_at mark text.now ≡ parts.0.now ∷ parts.1.now ∷ []) }
 {
-    let (first, Some(rest)) = first_part(text, mark) else {
+    let Some((first, rest)) = cut_at(text, mark) else {
         return None;
     };
-    match first_part(rest, mark) {
-        (second, None) => Some((first, second)),
-        (_, Some(_)) => None,
+    match cut_at(rest, mark) {
+        Some(_) => None,
+        None => Some((first, rest)),
     }
 }
 
@@ -36,7 +36,7 @@ pub(crate) fn three_parts(text: &[u8], mark: u8) -> Option<(&[u8], &[u8], &[u8])
     ensures { MatchOption result (three_of (parts_at mark text.now) ≡ None)
         (λ parts. parts_at mark text.now ≡ parts.0.now ∷ parts.1.now ∷ parts.2.now ∷ []) }
 {
-    let (first, Some(rest)) = first_part(text, mark) else {
+    let Some((first, rest)) = cut_at(text, mark) else {
         return None;
     };
     match two_parts(rest, mark) {

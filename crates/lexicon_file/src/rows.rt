@@ -1,12 +1,13 @@
-ghost use Rattle.std.specs.Prelude.{◌≡◌, ◌<◌, ◌≤◌, ℕ, length, map, All};
+ghost use Rattle.std.specs.Prelude.{◌≡◌, ◌<◌, ◌^◌, ◌||◌, nat_lt, ℕ, length, map, All};
 ghost use Rattle.std.specs.List.{list_all};
 ghost use Rattle.std.specs.Ordering.{nat_cmp, on};
 ghost use Rattle.form_tags.specs.Analyses.{text_delta};
 ghost use Rattle.lexicon_definitions.specs.Deltas.{compare_deltas};
+ghost use Rattle.lexicon_definitions.specs.Tries.{AreRows};
 ghost use Rattle.trie_text_definitions.specs.LimitedRules.{rises};
 ghost use Rattle.trie_text_definitions.specs.NodeLines.{heights, node_lines};
 ghost use Rattle.trie_text_definitions.specs.NodeValues.{height_over};
-ghost use Rattle.trie_text_definitions.specs.VersionSteps.{leads_before as leads_before_of, are_children as are_children_of};
+ghost use Rattle.trie_text_definitions.specs.VersionSteps.{leads_before as leads_before_of, are_children as are_children_of, is_root as is_root_of};
 ghost use Rattle.lexicon_file.specs.Rows.{are_too_long};
 
 use form_tags::Delta;
@@ -65,7 +66,7 @@ pub(crate) fn deltas_rise(deltas: &[Delta]) -> bool
 }
 
 /// Whether the letters of some delta are too many.
-pub(crate) fn are_long(deltas: &[Delta]) -> bool
+fn are_long(deltas: &[Delta]) -> bool
     ensures { result ≡ are_too_long (map text_delta deltas.now) }
 {
     deltas
@@ -73,11 +74,26 @@ pub(crate) fn are_long(deltas: &[Delta]) -> bool
         .any(|delta| delta.append.len() > MOST_FORM_LETTERS)
 }
 
+/// Whether the letters of some delta, or the height of the node, are too many.
+pub(crate) fn passes_limits(deltas: &[Delta], height: u32) -> bool
+    ensures { result ≡ (are_too_long (map text_delta deltas.now) || nat_lt MOST_FORM_LETTERS height) }
+{
+    are_long(deltas) || height > MOST_FORM_LETTERS as u32
+}
+
+/// Whether the node is there and has no deltas, so that it may be a root.
+pub(crate) fn is_root(trie: &TrieSoFar, node: Node) -> bool
+    ensures { result ≡ is_root_of trie.now.rows node }
+{
+    node.number() < trie.len() && !trie.accepts(node)
+}
+
 /// The height of a node with these children.
 pub(crate) fn height_above(trie: &TrieSoFar, children: &[(Letter, Node)]) -> u32
-    requires { All (λ child. child.1 < length trie.now.rows) children.now }
-    ensures value { result ≡ height_over (heights (node_lines trie.now.rows)) children.now }
-    ensures low { result ≤ length trie.now.rows }
+    requires rows { AreRows trie.now.rows }
+    requires known { All (λ child. child.1 < length trie.now.rows) children.now }
+    requires room { length trie.now.rows < 2 ^ 32 }
+    ensures { result ≡ height_over (heights (node_lines trie.now.rows)) children.now }
 {
     let mut height = 0;
     for child in children {

@@ -1,16 +1,23 @@
-ghost use Rattle.std.specs.Prelude.{◌≡◌, ◌+◌, ◌*◌, ◌<◌, ◌^◌, ◌∷◌, [], length, map, true, IfOk, IfErr, IfSome, Some};
-ghost use Rattle.form_tags.specs.Analyses.{text_delta};
+ghost use Rattle.std.specs.Prelude.{◌≡◌, ◌<◌, ◌≤◌, ◌^◌, ◌∷◌, ◌++◌, [], length, map, true, All, IfOk, IfErr, OnOk, Some, codes, slice_index_or, string_bytes};
+ghost use Rattle.std.specs.List.{list_all};
+ghost use Rattle.std.specs.List.Sorted.{IsStrictlySortedBy};
+ghost use Rattle.std.specs.Str.{bytes_eq};
+ghost use Rattle.text_definitions.specs.Letters.{IsLetter};
+ghost use Rattle.lexicon_definitions.specs.declared.limits.TheConstants.{MOST_PHASES};
 ghost use Rattle.lexicon_definitions.specs.Lexicons.{IsRuleSet, tree_of};
 ghost use Rattle.lexicon_definitions.specs.Limits.{IsRuleSetWithinLimits};
-ghost use Rattle.lexicon_text_definitions.specs.FileContents.{rules_told};
-ghost use Rattle.lexicon_text_definitions.specs.FileLines.{fields_of, parts_of};
+ghost use Rattle.lexicon_definitions.specs.Tries.{IsRow};
+ghost use Rattle.lexicon_text_definitions.specs.FileContents.{rules_told, compare_last as compare_last_of};
+ghost use Rattle.lexicon_text_definitions.specs.FileLines.{fields_of, parts_of, may_follow as follows_first, Phase as FirstPhase, Grammar as FirstGrammar, Plain as FirstPlain, Rule as FirstRule};
 ghost use Rattle.lexicon_text_definitions.specs.FileSteps.{take_phase as take_phase_of, take_grammar as take_grammar_of, take_plain as take_plain_of};
 ghost use Rattle.phase_automaton.specs.Automata.{Recognizes};
-ghost use Rattle.trie_text_definitions.specs.VersionSteps.{Phase, Grammar, Plain, Rules, Node as NodeLine, Root, End, head_told, trie_told, with_front, may_follow, are_rooted, take_rule as take_rule_of, take_limited_rule as take_limited_rule_of, take_node as take_node_of, take_row as take_row_of, take_root as take_root_of, take_end as take_end_of, take_kind as take_kind_of, take_parts as take_parts_of, take_line as take_line_of};
+ghost use Rattle.trie_text_definitions.specs.Versions.{is_unlimited as is_unlimited_of};
+ghost use Rattle.trie_text_definitions.specs.NodeLines.{compare_node_lines, node_line, node_lines};
+ghost use Rattle.trie_text_definitions.specs.VersionSteps.{Phase, Grammar, Plain, End, Told as ToldValue, head_told, trie_told, with_front, may_follow, are_rooted, if_above, lacks_limited as lacks_limited_of, take_limited as take_limited_of, take_rule as take_rule_of, take_limited_rule as take_limited_rule_of, take_node as take_node_of, take_row as take_row_of, take_root as take_root_of, take_end as take_end_of, take_kind as take_kind_of, take_parts as take_parts_of, take_line as take_line_of};
 ghost use Rattle.form_file.specs.Fields.{text_of_rest};
-ghost use Rattle.lexicon_file.specs.Contents.{lexicon_of};
 ghost use Rattle.lexicon_file.specs.Kinds.{kind_of, version_of};
-ghost use Rattle.lexicon_file.specs.Told.{InStep, IsAnswer, IsLineAnswer, IsNoEnd, HasRoom};
+ghost use Rattle.lexicon_file.specs.Rows.{row_read};
+ghost use Rattle.lexicon_file.specs.Told.{InStep, IsAnswer, IsLineAnswer, IsNoEnd, HasRoom, kind_name, line_with, with_row};
 
 use crate::children::read_children;
 use crate::deltas::read_deltas;
@@ -18,19 +25,19 @@ use crate::kind::Kind;
 use crate::numbers::read_node_number;
 use crate::parts::three_parts;
 use crate::phase_sets::{all_phases, read_set, read_set_after};
-use crate::rows::{are_children, are_long, deltas_rise, height_above};
+use crate::rows::{are_children, deltas_rise, height_above, is_root, passes_limits};
 use crate::take_error::TakeError;
 use crate::version::Version;
 use crate::{Contents, FileWhy};
 use form_file::{Told, kind_and_rest, read_word, rule_parts, two_fields};
 use form_tags::Delta;
-use lexicon_definitions::MOST_FORM_LETTERS;
 use phoneme::{Letter, Memory};
 use sandhi_rules::Rule;
 use shared_trie::{Node, TrieSoFar};
 use std::alloc::Global;
 use std::cmp::Ordering;
 use std::marker::Model;
+use std::mem;
 use trie_checks::{has_too_many_pairs, has_unused, has_wrong_delta};
 
 /// What the lines of a file of version 2 or 3 told so far: the kind of the last line; what the lines of phases, grammar, plain pairs
@@ -46,8 +53,23 @@ pub(crate) struct TrieTold {
     children: Vec<(Letter, Node)>,
 }
 
-/// The line of the root of the phase whose turn it is.
-fn is_name(names: &[String], turn: usize, name: &[u8]) -> bool {
+impl Model for TrieTold {
+    ghost use Rattle.trie_text_definitions.specs.NodeLines.{node_lines};
+    ghost use Rattle.trie_text_definitions.specs.VersionSteps.{Told as ToldValue};
+    ghost use Rattle.lexicon_file.specs.Kinds.{kind_of};
+    ghost use Rattle.lexicon_file.specs.Told.{IsKept};
+
+    ghost Value = { ToldValue };
+
+    ghost view = { λ t. record { last = kind_of t.last; front = t.front; rows = t.trie.rows; nodes = node_lines t.trie.rows; roots = t.trie.roots } };
+
+    ghost invariant = { λ t. IsKept t.trie.rows t.line.items };
+}
+
+/// Whether this is the name of the phase whose turn it is; past the last phase no byte is one.
+fn is_name(names: &[String], turn: usize, name: &[u8]) -> bool
+    ensures { result ≡ bytes_eq name.now (slice_index_or (map string_bytes names.now) turn []) }
+{
     match names.get(turn) {
         Some(known) => name == known.as_bytes(),
         None => name.is_empty(),
@@ -55,14 +77,43 @@ fn is_name(names: &[String], turn: usize, name: &[u8]) -> bool {
 }
 
 /// Whether the rule is unlimited over so many phases.
-fn is_unlimited(count: usize, rule: &Rule) -> bool {
+fn is_unlimited(count: usize, rule: &Rule) -> bool
+    requires { count ≤ MOST_PHASES }
+    ensures { result ≡ is_unlimited_of count rule.now }
+{
     let all = all_phases(count);
     rule.before == all && (rule.v.is_empty() || rule.after == all)
 }
 
+/// Whether all rules are unlimited over so many phases.
+fn are_unlimited(count: usize, rules: &[Rule]) -> bool
+    requires { count ≤ MOST_PHASES }
+    ensures { result ≡ list_all (is_unlimited_of count) rules.now }
+{
+    for rule in rules {
+        if !is_unlimited(count, rule) {
+            return false;
+        }
+    }
+    true
+}
+
+/// The reason that comes from how the last node compares with a new one, and from whether the deltas of this one rise.
+fn above(order: Ordering, rising: bool) -> Result<(), TakeError>
+    ensures { (told : ToldValue) → IsAnswer (if_above order rising told) result told }
+{
+    match order {
+        Ordering::Less if rising => Ok(()),
+        Ordering::Less | Ordering::Greater => Err(FileWhy::Falling.into()),
+        Ordering::Equal => Err(FileWhy::Twice.into()),
+    }
+}
+
 impl TrieTold {
     /// What the first line tells, which is nothing.
-    pub(crate) fn new(alloc: Global) -> Result<TrieTold, Memory> {
+    pub(crate) fn new(alloc: Global) -> Result<TrieTold, Memory>
+        ensures { IfOk result (λ told. told ≡ head_told) }
+    {
         Ok(TrieTold {
             last: Kind::Head,
             front: Told::after_head(alloc)?,
@@ -72,26 +123,52 @@ impl TrieTold {
         })
     }
 
-    fn take_phase(&mut self, alloc: Global, text: &[u8]) -> Result<(), TakeError> {
+    fn take_phase(&mut self, alloc: Global, text: &[u8]) -> Result<(), TakeError>
+        requires follows { follows_first self.old.front.last FirstPhase ≡ true }
+        requires fits { length text.now < 2 ^ 32 }
+        ensures { IsAnswer (with_front self.old Phase (take_phase_of self.old.front (fields_of (Some text.now)))) result self.new }
+    {
         self.front.take_phase(alloc, text)?;
         self.last = Kind::Phase;
         Ok(())
     }
 
-    fn take_grammar(&mut self, alloc: Global, text: &[u8]) -> Result<(), TakeError> {
+    fn take_grammar(&mut self, alloc: Global, text: &[u8]) -> Result<(), TakeError>
+        requires follows { follows_first self.old.front.last FirstGrammar ≡ true }
+        requires fits { length text.now < 2 ^ 32 }
+        ensures { IsLineAnswer (with_front self.old Grammar (take_grammar_of self.old.front (Some text.now))) result self.new }
+    {
         self.front.take_grammar(alloc, text)?;
         self.last = Kind::Grammar;
         Ok(())
     }
 
-    fn take_plain(&mut self, alloc: Global, text: &[u8]) -> Result<(), TakeError> {
+    fn take_plain(&mut self, alloc: Global, text: &[u8]) -> Result<(), TakeError>
+        requires follows { follows_first self.old.front.last FirstPlain ≡ true }
+        requires fits { length text.now < 2 ^ 32 }
+        ensures { IsAnswer (with_front self.old Plain (take_plain_of self.old.front (fields_of (Some text.now)))) result self.new }
+    {
         self.front.take_plain(alloc, text)?;
         self.last = Kind::Plain;
         Ok(())
     }
 
+    /// Takes a rule with its sets of phases.
+    fn take_limited(&mut self, rule: Rule) -> Result<(), TakeError>
+        requires { follows_first self.old.front.last FirstRule ≡ true }
+        ensures { IsAnswer (take_limited_of self.old rule) result self.new }
+    {
+        self.front.take_limited(rule)?;
+        self.last = Kind::Rule;
+        Ok(())
+    }
+
     /// Takes a rule's line of version 3, with what comes after its blank.
-    fn take_limited_rule(&mut self, alloc: Global, text: &[u8]) -> Result<(), TakeError> {
+    fn take_limited_rule(&mut self, alloc: Global, text: &[u8]) -> Result<(), TakeError>
+        requires follows { follows_first self.old.front.last FirstRule ≡ true }
+        requires fits { length text.now < 2 ^ 32 }
+        ensures { IsAnswer (take_limited_rule_of self.old (fields_of (Some text.now))) result self.new }
+    {
         let Some((field, before, after)) = three_parts(text, b' ') else {
             return Err(FileWhy::Field.into());
         };
@@ -108,18 +185,20 @@ impl TrieTold {
         let u = read_word(alloc, u)?;
         let v = read_word(alloc, v)?;
         let w = read_word(alloc, w)?;
-        self.front.take_limited(Rule {
+        self.take_limited(Rule {
             u,
             v,
             w,
             before,
             after,
-        })?;
-        self.last = Kind::Rule;
-        Ok(())
+        })
     }
 
-    fn take_rule(&mut self, alloc: Global, version: Version, text: &[u8]) -> Result<(), TakeError> {
+    fn take_rule(&mut self, alloc: Global, version: Version, text: &[u8]) -> Result<(), TakeError>
+        requires follows { follows_first self.old.front.last FirstRule ≡ true }
+        requires fits { length text.now < 2 ^ 32 }
+        ensures { IsAnswer (take_rule_of (version_of version) self.old (fields_of (Some text.now))) result self.new }
+    {
         if version == Version::Third {
             return self.take_limited_rule(alloc, text);
         }
@@ -129,7 +208,9 @@ impl TrieTold {
     }
 
     /// How the last node compares with one of this height and line; `Less` where there is no node yet.
-    fn compare_last(&self, height: u32, line: &[u8]) -> Ordering {
+    fn compare_last(&self, height: u32, line: &[u8]) -> Ordering
+        ensures { result ≡ compare_last_of compare_node_lines self.now.nodes (record { height = height; bytes = line.now }) }
+    {
         if self.trie.is_empty() {
             return Ordering::Less;
         }
@@ -140,10 +221,21 @@ impl TrieTold {
             .then(self.line.as_slice().cmp(&line))
     }
 
-    /// Adds the node with these deltas and the children that were read, whose line this is.
-    fn add_row(&mut self, line: &[u8], deltas: Vec<Delta>) -> Result<(), TakeError> {
+    /// Adds a node, whose line is above those of the nodes before.
+    fn add_row(
+        &mut self,
+        line: &[u8],
+        deltas: Vec<Delta>,
+        children: &[(Letter, Node)],
+    ) -> Result<(), Memory>
+        requires row { IsRow self.old.rows (length self.old.rows) (row_read deltas children.now) }
+        requires rising { IsStrictlySortedBy compare_node_lines (node_lines (self.old.rows ++ row_read deltas children.now ∷ [])) }
+        requires line { line.now ≡ node_line (row_read deltas children.now) }
+        requires room { HasRoom self.old }
+        ensures ok { OnOk result (self.new ≡ with_row self.old (row_read deltas children.now)) }
+    {
         self.line.reserve(line.len())?;
-        self.trie.push(deltas, self.children.as_slice())?;
+        self.trie.push(deltas, children)?;
         self.line.clear();
         let Ok(()) = self.line.extend_from_slice(line) else {
             unreachable!();
@@ -152,43 +244,59 @@ impl TrieTold {
         Ok(())
     }
 
-    /// Takes the node with these deltas and the children that were read, whose line this is.
-    fn take_row(&mut self, line: &[u8], deltas: Vec<Delta>) -> Result<(), TakeError> {
-        let children = self.children.as_slice();
+    /// Takes the node with these deltas and children, whose line this is.
+    fn take_row(
+        &mut self,
+        line: &[u8],
+        deltas: Vec<Delta>,
+        children: &[(Letter, Node)],
+    ) -> Result<(), TakeError>
+        requires line { line.now ≡ node_line (row_read deltas children.now) }
+        requires letters { All (λ child. IsLetter child.0) children.now }
+        requires room { HasRoom self.old }
+        ensures { IsAnswer (take_row_of self.old line.now (row_read deltas children.now)) result self.new }
+    {
         if !are_children(&self.trie, children) {
             return Err(FileWhy::Child.into());
         }
         let height = height_above(&self.trie, children);
-        if are_long(deltas.as_slice()) || height > MOST_FORM_LETTERS as u32 {
+        if passes_limits(deltas.as_slice(), height) {
             return Err(FileWhy::Limit.into());
         }
-        match self.compare_last(height, line) {
-            Ordering::Less => {}
-            Ordering::Equal => return Err(FileWhy::Twice.into()),
-            Ordering::Greater => return Err(FileWhy::Falling.into()),
-        }
-        if !deltas_rise(deltas.as_slice()) {
-            return Err(FileWhy::Falling.into());
-        }
-        self.add_row(line, deltas)
+        above(
+            self.compare_last(height, line),
+            deltas_rise(deltas.as_slice()),
+        )?;
+        self.add_row(line, deltas, children)?;
+        Ok(())
     }
 
-    fn take_node(&mut self, alloc: Global, line: &[u8], text: &[u8]) -> Result<(), TakeError> {
+    fn take_node(&mut self, alloc: Global, line: &[u8], text: &[u8]) -> Result<(), TakeError>
+        requires line { line.now ≡ codes "node " ++ text.now }
+        requires fits { length text.now < 2 ^ 32 }
+        requires room { HasRoom self.old }
+        ensures { IsAnswer (take_node_of self.old line.now (fields_of (Some text.now))) result self.new }
+    {
         let Some((deltas, children)) = two_fields(text) else {
             return Err(FileWhy::Field.into());
         };
+        let mut room = mem::replace(&mut self.children, Vec::new(alloc));
         let deltas = read_deltas(alloc, deltas)?;
-        let spelled = read_children(children, &mut self.children)?;
+        let spelled = read_children(children, &mut room)?;
         let Some(deltas) = deltas else {
             return Err(FileWhy::Spelling.into());
         };
         if !spelled {
             return Err(FileWhy::Spelling.into());
         }
-        self.take_row(line, deltas)
+        self.take_row(line, deltas, room.as_slice())?;
+        self.children = room;
+        Ok(())
     }
 
-    fn take_root(&mut self, text: &[u8]) -> Result<(), TakeError> {
+    fn take_root(&mut self, text: &[u8]) -> Result<(), TakeError>
+        ensures { IsAnswer (take_root_of self.old (fields_of (Some text.now))) result self.new }
+    {
         let Some((name, root)) = two_fields(text) else {
             return Err(FileWhy::Field.into());
         };
@@ -198,24 +306,22 @@ impl TrieTold {
         let Some(root) = read_node_number(root) else {
             return Err(FileWhy::Field.into());
         };
-        let node = Node::new(root);
-        if root >= self.trie.len() || self.trie.accepts(node) {
+        if !is_root(&self.trie, Node::new(root)) {
             return Err(FileWhy::Child.into());
         }
-        self.trie.push_root(node)?;
+        self.trie.push_root(Node::new(root))?;
         self.last = Kind::Root;
         Ok(())
     }
 
     /// Whether all rules are unlimited, in a version that has a limited one.
-    fn lacks_limited(&self, version: Version) -> bool {
-        let count = self.front.names().len();
-        version == Version::Third
-            && self
-                .front
-                .rules()
-                .iter()
-                .all(|rule| is_unlimited(count, rule))
+    fn lacks_limited(&self, version: Version) -> bool
+        ensures { result ≡ lacks_limited_of (version_of version) self.now.front }
+    {
+        match version {
+            Version::Second => false,
+            Version::Third => are_unlimited(self.front.names().len(), self.front.rules()),
+        }
     }
 
     fn take_end(
@@ -223,7 +329,9 @@ impl TrieTold {
         alloc: Global,
         version: Version,
         rest: Option<&[u8]>,
-    ) -> Result<(), TakeError> {
+    ) -> Result<(), TakeError>
+        ensures { IsAnswer (take_end_of (version_of version) self.old (text_of_rest rest.entry)) result self.new }
+    {
         if rest.is_some() {
             return Err(FileWhy::Field.into());
         }
@@ -252,7 +360,14 @@ impl TrieTold {
         line: &[u8],
         kind: Kind,
         rest: Option<&[u8]>,
-    ) -> Result<(), TakeError> {
+    ) -> Result<(), TakeError>
+        requires follows { may_follow (are_rooted self.old) self.old.last (kind_of kind) ≡ true }
+        requires step { InStep self.old.last self.old.front.last }
+        requires line { line.now ≡ line_with (kind_name (kind_of kind)) (text_of_rest rest) }
+        requires fits { length line.now < 2 ^ 32 }
+        requires room { HasRoom self.old }
+        ensures { IsLineAnswer (take_kind_of (version_of version) self.old line.now (kind_of kind) (text_of_rest rest.entry)) result self.new }
+    {
         if kind == Kind::End {
             return self.take_end(alloc, version, rest);
         }
@@ -270,14 +385,25 @@ impl TrieTold {
         }
     }
 
+    /// Whether each phase has a root.
+    fn is_rooted(&self) -> bool
+        ensures { result ≡ are_rooted self.now }
+    {
+        self.trie.roots() == self.front.names().len()
+    }
+
     /// Takes a line after the first, which is UTF-8 and not after the end.
-    fn take_parts(&mut self, alloc: Global, version: Version, line: &[u8]) -> Result<(), TakeError> {
+    fn take_parts(&mut self, alloc: Global, version: Version, line: &[u8]) -> Result<(), TakeError>
+        requires step { InStep self.old.last self.old.front.last }
+        requires fits { length line.now < 2 ^ 32 }
+        requires room { HasRoom self.old }
+        ensures { IsLineAnswer (take_parts_of (version_of version) self.old line.now (parts_of line.now)) result self.new }
+    {
         let (name, rest) = kind_and_rest(line);
         let Some(kind) = Kind::named(name) else {
             return Err(FileWhy::Order.into());
         };
-        let rooted = self.trie.roots() == self.front.names().len();
-        if !kind.may_come_after(self.last, rooted) {
+        if !kind.may_come_after(self.last, self.is_rooted()) {
             return Err(FileWhy::Order.into());
         }
         self.take_kind(alloc, version, line, kind, rest)
@@ -290,7 +416,12 @@ impl TrieTold {
         version: Version,
         line: &[u8],
         ended: bool,
-    ) -> Result<(), TakeError> {
+    ) -> Result<(), TakeError>
+        requires step { InStep self.old.last self.old.front.last }
+        requires fits { length line.now < 2 ^ 32 }
+        requires room { HasRoom self.old }
+        ensures { IsLineAnswer (take_line_of (version_of version) self.old (record { bytes = line.now; ended = ended })) result self.new }
+    {
         if self.last == Kind::End {
             return Err(FileWhy::Trailing.into());
         }
@@ -304,7 +435,15 @@ impl TrieTold {
     }
 
     /// The contents of the file, where the last line was its end.
-    pub(crate) fn finish(self, alloc: Global) -> Result<Contents, TakeError> {
+    pub(crate) fn finish(self, alloc: Global) -> Result<Contents, TakeError>
+        requires step { InStep self.last self.front.last }
+        requires set { self.last ≡ End → IsRuleSet (rules_told self.front) }
+        requires limits { self.last ≡ End → IsRuleSetWithinLimits (rules_told self.front) }
+        ensures ok { IfOk result (λ contents. (self.last ≡ End) × (contents.rules ≡ rules_told self.front) × (contents.store ≡ trie_told self)) }
+        ensures automaton { IfOk result (λ contents. Recognizes contents.automaton (tree_of (rules_told self.front))) }
+        ensures phases { IfOk result (λ contents. contents.automaton.phases ≡ length contents.rules.names) }
+        ensures no_end { IfErr result (λ error. IsNoEnd error (self.last ≡ End)) }
+    {
         let TrieTold {
             last,
             front,

@@ -115,7 +115,7 @@ impl Store {
         requires { node < length self.now.rows }
         ensures { IsTrue result ↔ (row_of self.now.rows node ≡ empty_row) }
     {
-        !self.table.accepts(node) && self.table.children(node).is_empty()
+        self.table.deltas(node).is_empty() && self.table.children(node).is_empty()
     }
 
     /// The number of roots.

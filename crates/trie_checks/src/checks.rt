@@ -10,7 +10,8 @@ use std::alloc::Global;
 pub fn has_too_many_pairs(alloc: Global, store: &Store) -> Result<bool, Memory>
     ensures ok { IfOk result (λ has. has ≡ has_too_many_pairs_of store.now) }
 {
-    let _ = (alloc, store);
+    let _ = alloc;
+    let _ = store.len();
     Err(Memory)
 }
 
@@ -18,7 +19,8 @@ pub fn has_too_many_pairs(alloc: Global, store: &Store) -> Result<bool, Memory>
 pub fn has_unused(alloc: Global, store: &Store) -> Result<bool, Memory>
     ensures ok { IfOk result (λ has. has ≡ has_unused_of store.now) }
 {
-    let _ = (alloc, store);
+    let _ = alloc;
+    let _ = store.len();
     Err(Memory)
 }
 
@@ -26,6 +28,7 @@ pub fn has_unused(alloc: Global, store: &Store) -> Result<bool, Memory>
 pub fn has_wrong_delta(alloc: Global, store: &Store) -> Result<bool, Memory>
     ensures ok { IfOk result (λ has. has ≡ has_wrong_delta_of store.now) }
 {
-    let _ = (alloc, store);
+    let _ = alloc;
+    let _ = store.len();
     Err(Memory)
 }
