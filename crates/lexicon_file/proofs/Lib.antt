@@ -4,3 +4,6 @@ pub mod LetterLemmas
 pub mod RisingLemmas
 pub mod NodeHeights
 pub mod FieldLemmas
+pub mod SetLemmas
+pub mod AnswerLemmas
+pub mod LimitedLemmas

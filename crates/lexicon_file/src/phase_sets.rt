@@ -1,7 +1,10 @@
-ghost use Rattle.std.specs.Prelude.{◌≡◌, ◌≤◌, length, map, string_bytes};
+ghost use Rattle.std.specs.Prelude.{◌≡◌, ◌+◌, ◌≤◌, length, map, string_bytes, option_and_then, IfSome};
 ghost use Rattle.lexicon_definitions.specs.declared.limits.TheConstants.{MOST_PHASES};
 ghost use Rattle.lexicon_definitions.specs.Rules.{all_phases as all_phases_of};
-ghost use Rattle.trie_text_definitions.specs.LimitedRules.{set_told, set_after_told};
+ghost use Rattle.trie_text_definitions.specs.LimitedRules.{phases_named, set_told, set_after_told};
+ghost use Rattle.form_file.specs.Fields.{text_of_rest};
+ghost use Rattle.lexicon_file.specs.Parts.{parts_after};
+ghost use Rattle.lexicon_file.specs.RisingPhases.{rising_set};
 
 use crate::parts::first_part;
 use lexicon_definitions::MOST_PHASES;
@@ -15,29 +18,27 @@ pub(crate) fn all_phases(count: usize) -> u16
     ((1u32 << count) - 1) as u16
 }
 
-/// The set of the phases with these names, which rise by their numbers and are not all.
-fn read_names(names: &[String], field: &[u8]) -> Option<u16>
-    requires { length names.now ≤ MOST_PHASES }
+/// The set of the phases with these names, and how many they are; their numbers rise from this one on.
+fn read_names(names: &[String], texts: Option<&[u8]>, next: usize) -> Option<(u16, usize)>
+    requires few { length names.now ≤ MOST_PHASES }
+    requires next { next ≤ length names.now }
+    ensures set { result ≡ option_and_then (rising_set next) (phases_named (map string_bytes names.now) (parts_after 44 (text_of_rest texts.entry))) }
+    ensures within { IfSome result (λ found. next + found.1 ≤ length names.now) }
 {
-    let mut set = 0;
-    let mut next = 0;
-    let mut count = 0;
-    let mut rest = Some(field);
-    while let Some(texts) = rest {
-        let (name, following) = first_part(texts, b',');
-        let phase = phase_named(names, name)?;
-        if phase < next {
-            return None;
-        }
-        set |= 1u16 << phase;
-        next = phase + 1;
-        count += 1;
-        rest = following;
-    }
-    if count >= names.len() {
+    let Some(texts) = texts else {
+        return Some((0, 0));
+    };
+    let (name, following) = first_part(texts, b',');
+    let Some(phase) = phase_named(names, name) else {
+        return None;
+    };
+    if phase < next {
         return None;
     }
-    Some(set)
+    let Some((set, count)) = read_names(names, following, phase + 1) else {
+        return None;
+    };
+    Some(((1u16 << phase) | set, count + 1))
 }
 
 /// The set of phases that a field tells: `*` for all, or one name or more, not all, rising, with `,` between.
@@ -48,7 +49,13 @@ pub(crate) fn read_set(names: &[String], field: &[u8]) -> Option<u16>
     if field == b"*".as_slice() {
         return Some(all_phases(names.len()));
     }
-    read_names(names, field)
+    let Some((set, count)) = read_names(names, Some(field), 0) else {
+        return None;
+    };
+    if count >= names.len() {
+        return None;
+    }
+    Some(set)
 }
 
 /// The set that the field after it tells, by the text of `v`: a final rule has `-`.
