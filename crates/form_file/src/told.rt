@@ -5,11 +5,12 @@ ghost use Rattle.std.specs.String.{string_bytes};
 ghost use Rattle.lexicon_definitions.specs.Lexicons.{IsRuleSet, tree_of, compare_pairs};
 ghost use Rattle.lexicon_definitions.specs.Limits.{IsRuleSetWithinLimits};
 ghost use Rattle.phase_automaton.specs.Automata.{Recognizes};
-ghost use Rattle.lexicon_text_definitions.specs.FileLines.{Opening, End, may_follow, Phase, Grammar, Plain, Rule as RuleLine, Form, fields_of, parts_of};
+ghost use Rattle.lexicon_text_definitions.specs.FileLines.{Opening, Head as HeadLine, End, may_follow, Phase, Grammar, Plain, Rule as RuleLine, Form, fields_of, parts_of};
 ghost use Rattle.lexicon_text_definitions.specs.FileContents.{Told as ToldValue, nothing_told, rules_told, lexicon_told, compare_entries, compare_last as compare_last_of};
 ghost use Rattle.lexicon_text_definitions.specs.FileSteps.{if_rising, passes_rule_limits as passes_rule_limits_of, take_triple as take_triple_of, take_line as take_line_of, take_head as take_head_of, take_end as take_end_of, take_phase as take_phase_of, take_grammar as take_grammar_of, take_plain as take_plain_of, take_rule as take_rule_of, take_form as take_form_of, take_kind as take_kind_of, take_parts as take_parts_of, take_form_line};
 ghost use Rattle.form_lists.specs.Lists.{text_entry};
 ghost use Rattle.form_file.specs.Told.{IsAnswer, IsLineAnswer, IsNoEnd};
+ghost use Rattle.form_file.specs.LimitedRules.{take_limited as take_limited_of};
 ghost use Rattle.form_file.specs.Fields.{text_of_rest};
 ghost use Rattle.form_file.specs.Contents.{lexicon_of};
 ghost use Rattle.form_file.specs.Kinds.{kind_of};
@@ -20,28 +21,27 @@ use crate::rules_so_far::RulesSoFar;
 use crate::take_error::TakeError;
 use crate::words::{read_letter, read_some_word, read_word};
 use crate::{Contents, FileWhy};
-use form_lists::FormLists;
 use form_tags::{Analysis, Entry, read_tag};
 use lexicon_definitions::{MOST_FORM_LETTERS, MOST_FORM_LINES, MOST_PHASES, MOST_RULE_LETTERS};
 use phase_automaton::{Automaton, GrammarError, read_grammar};
 use phoneme::{Letter, Memory, Word};
 use sandhi_rules::{Rule, RuleSet, is_phase_name, phase_named};
+use shared_trie::StoreBuilder;
 use std::alloc::Global;
 use std::cmp::Ordering;
 use std::marker::Model;
 
 /// What the lines so far told: the kind of the last line, the names of the phases, the grammar's text with its automaton, the
-/// plain pairs, the rules, and the forms, of which the last one is of the last phase.
-#[derive(Debug, Drop)]
-pub(crate) struct Told {
+/// plain pairs, the rules, and the trie of the forms.
+#[derive(Drop)]
+pub struct Told {
     last: Kind,
     names: Vec<String>,
     grammar: Vec<u8>,
     automaton: Option<Automaton>,
     plain: Vec<(Letter, Letter)>,
     rules: RulesSoFar,
-    lists: FormLists,
-    last_phase: u32,
+    forms: StoreBuilder,
 }
 
 impl Model for Told {
@@ -52,9 +52,9 @@ impl Model for Told {
 
     ghost Value = { ToldValue };
 
-    ghost view = { λ t. record { last = kind_of t.last; names = map string_bytes t.names.items; grammar = t.grammar.items; plain = t.plain.items; rules = t.rules; forms = entries_from 0 t.lists } };
+    ghost view = { λ t. record { last = kind_of t.last; names = map string_bytes t.names.items; grammar = t.grammar.items; plain = t.plain.items; rules = t.rules; forms = entries_from 0 t.forms } };
 
-    ghost invariant = { λ t. IsKept (record { last = kind_of t.last; names = map string_bytes t.names.items; grammar = t.grammar.items; plain = t.plain.items; rules = t.rules; forms = entries_from 0 t.lists }) t.automaton t.lists t.last_phase };
+    ghost invariant = { λ t. IsKept (record { last = kind_of t.last; names = map string_bytes t.names.items; grammar = t.grammar.items; plain = t.plain.items; rules = t.rules; forms = entries_from 0 t.forms }) t.automaton t.forms };
 }
 
 /// The reason that comes from how a new one compares with the last before it.
@@ -87,6 +87,15 @@ fn passes_form_limits(lines: usize, entry: &Entry) -> bool
         || entry.analysis.stem.len() > MOST_FORM_LETTERS
 }
 
+/// Whether a part of the rule is too long.
+fn is_long(rule: &Rule) -> bool
+    ensures { result ≡ (nat_lt MOST_RULE_LETTERS (length rule.now.u) || nat_lt MOST_RULE_LETTERS (length rule.now.v) || nat_lt MOST_RULE_LETTERS (length rule.now.w)) }
+{
+    rule.u.len() > MOST_RULE_LETTERS
+        || rule.v.len() > MOST_RULE_LETTERS
+        || rule.w.len() > MOST_RULE_LETTERS
+}
+
 impl Told {
     pub(crate) fn new(alloc: Global) -> Result<Told, Memory>
         ensures { IfOk result (λ told. told ≡ nothing_told) }
@@ -98,9 +107,32 @@ impl Told {
             automaton: None,
             plain: Vec::new(alloc),
             rules: RulesSoFar::new(alloc),
-            lists: FormLists::new(alloc, 0)?,
-            last_phase: 0,
+            forms: StoreBuilder::new(alloc, 0)?,
         })
+    }
+
+    /// What the first line tells, which is nothing, of whatever version it is.
+    pub fn after_head(alloc: Global) -> Result<Told, Memory>
+        ensures { IfOk result (λ told. told ≡ record nothing_told { last = HeadLine }) }
+    {
+        let mut told = Told::new(alloc)?;
+        told.last = Kind::Head;
+        Ok(told)
+    }
+
+    /// The names of the phases, by number from 0.
+    pub fn names(&self) -> &[String]
+        ensures value { map string_bytes result.now ≡ self.now.names }
+        ensures few { length self.now.names ≤ MOST_PHASES }
+    {
+        self.names.as_slice()
+    }
+
+    /// The rules, in their order.
+    pub fn rules(&self) -> &[Rule]
+        ensures { result.now ≡ self.now.rules }
+    {
+        self.rules.as_slice()
     }
 
     fn take_head(&mut self, line: &[u8]) -> Result<(), TakeError>
@@ -114,7 +146,8 @@ impl Told {
         Ok(())
     }
 
-    fn phase_named(&self, name: &[u8]) -> Option<usize>
+    /// The number of the phase with this name, counted from 0.
+    pub fn phase_named(&self, name: &[u8]) -> Option<usize>
         ensures named { result ≡ position (bytes_eq name.now) self.now.names }
         ensures within { IfSome result (λ phase. phase < length self.now.names) }
         ensures few { length self.now.names ≤ MOST_PHASES }
@@ -122,7 +155,8 @@ impl Told {
         phase_named(self.names.as_slice(), name)
     }
 
-    fn take_phase(&mut self, alloc: Global, text: &[u8]) -> Result<(), TakeError>
+    /// Takes the line of a phase, with what comes after its blank. It may come next.
+    pub fn take_phase(&mut self, alloc: Global, text: &[u8]) -> Result<(), TakeError>
         requires follows { may_follow self.old.last Phase ≡ true }
         requires fits { length text.now < 2 ^ 32 }
         ensures { IsAnswer (take_phase_of self.old (fields_of (Some text.now))) result self.new }
@@ -147,7 +181,8 @@ impl Told {
         Ok(())
     }
 
-    fn take_grammar(&mut self, alloc: Global, text: &[u8]) -> Result<(), TakeError>
+    /// Takes the line of the grammar, with what comes after its blank. It may come next.
+    pub fn take_grammar(&mut self, alloc: Global, text: &[u8]) -> Result<(), TakeError>
         requires follows { may_follow self.old.last Grammar ≡ true }
         requires fits { length text.now < 2 ^ 32 }
         ensures { IsLineAnswer (take_grammar_of self.old (Some text.now)) result self.new }
@@ -158,14 +193,14 @@ impl Told {
             Err(GrammarError::Memory) => return Err(TakeError::Memory),
         };
         self.grammar = Vec::from_slice(alloc, text)?;
-        self.lists = FormLists::new(alloc, self.names.len() as u32)?;
+        self.forms = StoreBuilder::new(alloc, self.names.len() as u32)?;
         self.automaton = Some(automaton);
-        self.last_phase = 0;
         self.last = Kind::Grammar;
         Ok(())
     }
 
-    fn take_plain(&mut self, alloc: Global, text: &[u8]) -> Result<(), TakeError>
+    /// Takes the line of a plain pair, with what comes after its blank. It may come next.
+    pub fn take_plain(&mut self, alloc: Global, text: &[u8]) -> Result<(), TakeError>
         requires follows { may_follow self.old.last Plain ≡ true }
         requires fits { length text.now < 2 ^ 32 }
         ensures { IsAnswer (take_plain_of self.old (fields_of (Some text.now))) result self.new }
@@ -208,7 +243,8 @@ impl Told {
         Ok(())
     }
 
-    fn take_rule(&mut self, alloc: Global, text: &[u8]) -> Result<(), TakeError>
+    /// Takes the line of a rule, with what comes after its blank. It may come next.
+    pub fn take_rule(&mut self, alloc: Global, text: &[u8]) -> Result<(), TakeError>
         requires follows { may_follow self.old.last RuleLine ≡ true }
         requires fits { length text.now < 2 ^ 32 }
         ensures { IsAnswer (take_rule_of self.old (fields_of (Some text.now))) result self.new }
@@ -225,37 +261,42 @@ impl Told {
         self.take_triple(u, v, w)
     }
 
+    /// Takes a rule with its sets of phases, as a later version tells it. Such a line may come next.
+    pub fn take_limited(&mut self, rule: Rule) -> Result<(), TakeError>
+        requires { may_follow self.old.last RuleLine ≡ true }
+        ensures { IsAnswer (take_limited_of self.old rule) result self.new }
+    {
+        if rule.u.is_empty() || rule.w.is_empty() {
+            return Err(FileWhy::Strict.into());
+        }
+        if is_long(&rule) {
+            return Err(FileWhy::Limit.into());
+        }
+        self.rules.add_limited(rule)?;
+        self.last = Kind::Rule;
+        Ok(())
+    }
+
     /// How the last entry compares with a new one; `Less` where there is no entry yet.
     fn compare_last(&self, entry: &Entry) -> Ordering
         requires { may_follow self.now.last Form ≡ true }
         ensures { result ≡ compare_last_of compare_entries self.now.forms (text_entry entry.now) }
     {
-        if self.lists.lines() == 0 {
-            return Ordering::Less;
-        }
-        let forms = self.lists.forms(self.last_phase);
-        let place = forms.len() - 1;
-        let analyses = self.lists.analyses(self.last_phase, place as u32);
-        let within_phase = forms[place]
-            .compare(&entry.form)
-            .then(analyses[analyses.len() - 1].compare(&entry.analysis));
-        self.last_phase.cmp(&entry.phase).then(within_phase)
+        self.forms.compare_last(entry)
     }
 
-    fn take_entry(&mut self, entry: Entry) -> Result<(), TakeError>
+    fn take_entry(&mut self, alloc: Global, entry: Entry) -> Result<(), TakeError>
         requires follows { may_follow self.old.last Form ≡ true }
         requires phase { entry.phase < length self.old.names }
         requires form { 0 < length entry.form }
         requires stem { 0 < length entry.analysis.stem }
         ensures { IsAnswer (take_form_line self.old (text_entry entry)) result self.new }
     {
-        if passes_form_limits(self.lists.lines() as usize, &entry) {
+        if passes_form_limits(self.forms.lines() as usize, &entry) {
             return Err(FileWhy::Limit.into());
         }
         rising(self.compare_last(&entry))?;
-        let phase = entry.phase;
-        self.lists.insert(entry)?;
-        self.last_phase = phase;
+        self.forms.push(alloc, entry)?;
         self.last = Kind::Form;
         Ok(())
     }
@@ -276,11 +317,16 @@ impl Told {
         };
         let form = read_some_word(alloc, form)?;
         let stem = read_some_word(alloc, stem)?;
-        self.take_entry(Entry {
-            phase: phase as u32,
-            form,
-            analysis: Analysis { stem, tag },
-        })
+        let phase = phase as u32;
+        let analysis = Analysis { stem, tag };
+        self.take_entry(
+            alloc,
+            Entry {
+                phase,
+                form,
+                analysis,
+            },
+        )
     }
 
     fn take_end(&mut self, rest: Option<&[u8]>) -> Result<(), TakeError>
@@ -356,6 +402,31 @@ impl Told {
         self.take_parts(alloc, line)
     }
 
+    /// The rule set with the automaton of its grammar, where lines of the body were told, but no end.
+    pub fn into_rules(self, alloc: Global) -> Result<(RuleSet, Automaton), Memory>
+        requires body { may_follow self.last End ≡ true }
+        requires set { IsRuleSet (rules_told self) }
+        requires limits { IsRuleSetWithinLimits (rules_told self) }
+        ensures rules { IfOk result (λ parts. parts.0 ≡ rules_told self) }
+        ensures automaton { IfOk result (λ parts. Recognizes parts.1 (tree_of (rules_told self))) }
+        ensures phases { IfOk result (λ parts. parts.1.phases ≡ length self.names) }
+    {
+        let Told {
+            last: _,
+            names,
+            grammar,
+            automaton,
+            plain,
+            rules,
+            forms: _,
+        } = self;
+        let Some(automaton) = automaton else {
+            unreachable!();
+        };
+        let rules = RuleSet::new(alloc, names, grammar, plain, rules.into_rules())?;
+        Ok((rules, automaton))
+    }
+
     /// The contents of the file, where the last line was its end.
     pub(crate) fn finish(self, alloc: Global) -> Result<Contents, TakeError>
         requires set { self.last ≡ End → IsRuleSet (rules_told self) }
@@ -372,8 +443,7 @@ impl Told {
             automaton,
             plain,
             rules,
-            lists,
-            last_phase: _,
+            forms,
         } = self;
         let Some(automaton) = automaton else {
             return Err(FileWhy::NoEnd.into());
@@ -382,10 +452,11 @@ impl Told {
             return Err(FileWhy::NoEnd.into());
         }
         let rules = RuleSet::new(alloc, names, grammar, plain, rules.into_rules())?;
+        let store = forms.finish(alloc)?;
         Ok(Contents {
             rules,
             automaton,
-            lists,
+            store,
         })
     }
 }

@@ -1,0 +1,9 @@
+pub mod PartLemmas
+pub mod NumberLemmas
+pub mod LetterLemmas
+pub mod RisingLemmas
+pub mod NodeHeights
+pub mod FieldLemmas
+pub mod SetLemmas
+pub mod AnswerLemmas
+pub mod LimitedLemmas
