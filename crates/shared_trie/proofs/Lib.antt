@@ -11,3 +11,5 @@ pub mod Roots
 pub mod LetterLists
 pub mod PackedRows
 pub mod SetPlaces
+pub mod ChainLaws
+pub mod InternedLaws

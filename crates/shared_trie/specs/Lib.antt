@@ -1,7 +1,11 @@
+pub mod Chains
+pub mod ChainLinks
 pub mod Growth
+pub mod Hashes
 pub mod Heights
 pub mod LetterSets
 pub mod Packed
+pub mod Interned
 pub mod Runs
 pub mod ToldForms
 pub mod Views

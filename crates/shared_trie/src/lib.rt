@@ -9,11 +9,14 @@
 #![tactic(auto)]
 
 mod building;
+mod chains;
 mod delta_lists;
 mod deltas;
 mod grow;
 mod growing;
+mod hashes;
 mod heights;
+mod interned;
 mod letter_set;
 mod node;
 mod node_table;
