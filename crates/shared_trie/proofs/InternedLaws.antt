@@ -157,11 +157,6 @@ IsSearched hashes rows hash row None = (node : ℕ) → node < length rows → r
 IsSearched hashes rows hash row (Some number) =
     (number < length rows) × (get_or hashes number 0 ≡ hash) × ((node : ℕ) → number < node → node < length rows → row_of rows node ≢ row)
 
--- how many nodes are left to search
-abbrev pub left_of : Option ℕ → ℕ
-left_of None = 0
-left_of (Some number) = number + 1
-
 module _ (hashes : List ℕ) (rows : List Row) (hash : ℕ) (row : Row) (count : length hashes ≡ length rows)
     (hashed : (node : ℕ) → node < length rows → row_of rows node ≡ row → get_or hashes node 0 ≡ hash) where
   -- at first
@@ -189,11 +184,6 @@ module _ (hashes : List ℕ) (rows : List Row) (hash : ℕ) (row : Row) (count :
           | inr (inr behind) ↦ after node behind to e
         ],
   )
-
--- the next number is lower
-pub fewer_left : (hashes : List ℕ) (hash number : ℕ) (found : Option ℕ) → IsLastWith hashes hash number found → left_of found < left_of (Some number)
-fewer_left hashes hash number None is = omega arith
-fewer_left hashes hash number (Some next) (before, has, between) = omega (arith, before)
 
 -- ---- one list more
 

@@ -12,4 +12,5 @@ pub mod LetterLists
 pub mod PackedRows
 pub mod SetPlaces
 pub mod ChainLaws
+pub mod DeltaListings
 pub mod InternedLaws

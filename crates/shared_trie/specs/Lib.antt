@@ -1,8 +1,10 @@
 pub mod Chains
 pub mod ChainLinks
+pub mod DeltaNumbers
 pub mod Growth
 pub mod Hashes
 pub mod Heights
+pub mod KnownLists
 pub mod LetterSets
 pub mod Packed
 pub mod Interned

@@ -11,6 +11,7 @@
 mod building;
 mod chains;
 mod delta_lists;
+mod delta_numbers;
 mod deltas;
 mod grow;
 mod growing;
@@ -18,6 +19,7 @@ mod hashes;
 mod heights;
 mod interned;
 mod letter_set;
+mod list_numbers;
 mod node;
 mod node_table;
 mod packed_node;

@@ -1,6 +1,7 @@
 -- The nodes after the one that is found have other rows.
 use Rattle.shared_trie.specs.Interned.{row_of_list}
-use Rattle.shared_trie.proofs.InternedLaws.{IsSearched, left_of}
+use Rattle.shared_trie.proofs.ChainLaws.{left_of}
+use Rattle.shared_trie.proofs.InternedLaws.{IsSearched}
 use Rattle.shared_trie.proofs.interned.Interned.find.Given as goal
 
 abbrev pub invariant-loop-found : goal.invariant-loop-found
