@@ -5,6 +5,7 @@ pub mod FrontOrder
 pub mod DeltaLists
 pub mod FormFacts
 pub mod Partial
+pub mod PathRows
 pub mod NextLetters
 pub mod RunSteps
 pub mod Roots

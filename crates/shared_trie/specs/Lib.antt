@@ -6,6 +6,8 @@ pub mod Hashes
 pub mod Heights
 pub mod KnownLists
 pub mod LetterSets
+pub mod OpenPaths
+pub mod OpenRows
 pub mod Packed
 pub mod Interned
 pub mod Runs

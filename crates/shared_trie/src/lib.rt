@@ -22,6 +22,7 @@ mod letter_set;
 mod list_numbers;
 mod node;
 mod node_table;
+mod open_path;
 mod packed_node;
 mod packing;
 mod row;
