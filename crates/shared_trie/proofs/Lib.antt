@@ -5,6 +5,12 @@ pub mod FrontOrder
 pub mod DeltaLists
 pub mod FormFacts
 pub mod Partial
+pub mod EntriesEnd
+pub mod LastForms
+pub mod NextEntries
+pub mod ReadyEntries
+pub mod MoreForms
+pub mod OpenRowLaws
 pub mod PathRows
 pub mod NextLetters
 pub mod RunSteps

@@ -6,6 +6,7 @@ pub mod Hashes
 pub mod Heights
 pub mod KnownLists
 pub mod LetterSets
+pub mod OpenForms
 pub mod OpenPaths
 pub mod OpenRows
 pub mod Packed

@@ -23,6 +23,7 @@ mod list_numbers;
 mod node;
 mod node_table;
 mod open_path;
+mod open_trie;
 mod packed_node;
 mod packing;
 mod row;
