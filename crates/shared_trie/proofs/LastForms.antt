@@ -32,7 +32,7 @@ all_below {R = R} total xs last new rising above =
 
 module _ (before : List Form) (last : Form) (rising : IsStrictlySortedBy by_letters (before ++ last ∷ [])) where
   -- a form is the last, or below it
-  last_or_below : (form : Form) → Contains (before ++ last ∷ []) form → (form ≡ last) ⊎ (compare_words form.letters last.letters ≡ Less)
+  pub last_or_below : (form : Form) → Contains (before ++ last ∷ []) form → (form ≡ last) ⊎ (compare_words form.letters last.letters ≡ Less)
   last_or_below form among =
       elim (Contains-push_cases before last form among) [
         | inl earlier ↦ inr (All-contains (λ (f : Form). by_letters f last ≡ Less) before form (before_last forms_total before last rising) earlier)

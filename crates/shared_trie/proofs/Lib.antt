@@ -5,6 +5,7 @@ pub mod FrontOrder
 pub mod DeltaLists
 pub mod FormFacts
 pub mod Partial
+pub mod EndedForms
 pub mod EntriesEnd
 pub mod LastForms
 pub mod NextEntries
