@@ -1,6 +1,6 @@
 -- Rows that a line tells are told by it: a line is cut at its blanks, its fields at `,`, and each part at its marks, none of which stands in
 -- a number, a word or a tag.
-use Rattle.std.proofs.Common.{◌≡◌, ◌≢◌, ℕ, ◌<◌, ◌^◌, inl, inr, Bool, true, false, cond, List, [], ◌∷◌, ◌++◌, map, eqb, refl, sym, ◌∙◌, ap, subst}
+use Rattle.std.proofs.Common.{◌≡◌, ℕ, ◌<◌, ◌^◌, inl, inr, true, false, cond, List, [], ◌∷◌, ◌++◌, map, eqb, refl, sym, ◌∙◌, ap}
 use Rattle.std.specs.Prelude.{decimal, codes}
 use Rattle.std.specs.Char.{is_ascii_digit}
 use Rattle.std.specs.Str.{bytes_eq, all_ascii_digits}
@@ -9,9 +9,8 @@ use Rattle.std.proofs.lemmas.Bool.{and_parts, eqb-true, false_from_ne_true}
 use Rattle.std.proofs.lemmas.Fmt.{decimal_injective, digits_decimal}
 use Rattle.std.proofs.lemmas.List.{append_assoc, append_cancel_left}
 use Rattle.std.proofs.lemmas.List.Elements.{recursion_from_All}
-use Rattle.list_laws.proofs.Elements.{all_of_map}
 use Rattle.list_laws.proofs.Marks.{is_free, free_append, cut_once, no_cut}
-use Rattle.list_laws.proofs.Texts.{bytes_same, bytes_apart}
+use Rattle.list_laws.proofs.Texts.{bytes_apart}
 use Rattle.text_definitions.specs.Letters.{IsLetter}
 use Rattle.text_definitions.specs.Words.{IsWord}
 use Rattle.text_definitions.specs.Slp1.{slp1_table, slp1_of_word}
@@ -45,12 +44,12 @@ pub word_free : (mark : ℕ) → is_no_letter slp1_table mark ≡ true → (word
 unfolding slp1_of_word
 word_free mark h word w = free_word slp1_table mark h word (recursion_from_All IsLetter word w)
 
-one_free : (mark : ℕ) (words : List (List ℕ)) (text : List ℕ) → list_all (is_free mark) words ≡ true → IsOneOf words text → is_free mark text ≡ true
+pub one_free : (mark : ℕ) (words : List (List ℕ)) (text : List ℕ) → list_all (is_free mark) words ≡ true → IsOneOf words text → is_free mark text ≡ true
 one_free mark [] text f h = absurd h
 one_free mark (word ∷ words) text f (inl e) = ap (is_free mark) e ∙ (and_parts (is_free mark word) (list_all (is_free mark) words) f).0
 one_free mark (word ∷ words) text f (inr h) = one_free mark words text (and_parts (is_free mark word) (list_all (is_free mark) words) f).1 h
 
-verbal_free : (mark : ℕ) (text : List ℕ) → is_free mark (46 ∷ []) ≡ true → list_all (is_free mark) tenses ≡ true
+pub verbal_free : (mark : ℕ) (text : List ℕ) → is_free mark (46 ∷ []) ≡ true → list_all (is_free mark) tenses ≡ true
     → list_all (is_free mark) voices ≡ true → list_all (is_free mark) persons ≡ true → list_all (is_free mark) numbers ≡ true → IsVerbalText text → is_free mark text ≡ true
 verbal_free mark text d t v p n h =
     let dotted : (word rest : List ℕ) → is_free mark word ≡ true → is_free mark rest ≡ true → is_free mark (word ++ 46 ∷ rest) ≡ true =
@@ -60,12 +59,12 @@ verbal_free mark text d t v p n h =
     (dotted h.person h.number (one_free mark persons h.person p h.is_person) (one_free mark numbers h.number n h.is_number)))
 
 -- no tag has a comma, a colon or a blank
-tag_free_of_comma : (text : List ℕ) → IsTagText text → is_free 44 text ≡ true
+pub tag_free_of_comma : (text : List ℕ) → IsTagText text → is_free 44 text ≡ true
 tag_free_of_comma text (inl h) = free_nominal 44 text refl refl refl refl h
 tag_free_of_comma text (inr (inl h)) = verbal_free 44 text refl refl refl refl refl h
 tag_free_of_comma text (inr (inr h)) = one_free 44 lone_words text refl h
 
-tag_free_of_blank : (text : List ℕ) → IsTagText text → is_free 32 text ≡ true
+pub tag_free_of_blank : (text : List ℕ) → IsTagText text → is_free 32 text ≡ true
 tag_free_of_blank text (inl h) = free_nominal 32 text refl refl refl refl h
 tag_free_of_blank text (inr (inl h)) = verbal_free 32 text refl refl refl refl refl h
 tag_free_of_blank text (inr (inr h)) = one_free 32 lone_words text refl h
@@ -73,25 +72,25 @@ tag_free_of_blank text (inr (inr h)) = one_free 32 lone_words text refl h
 -- ---- parts of a field
 
 -- a delta as its parts with marks between
-delta_parts : (delta : Delta) → delta_text delta ≡ decimal delta.cut ++ 58 ∷ (slp1_of_word delta.append ++ 58 ∷ delta.tag)
+pub delta_parts : (delta : Delta) → delta_text delta ≡ decimal delta.cut ++ 58 ∷ (slp1_of_word delta.append ++ 58 ∷ delta.tag)
 delta_parts delta =
     let regroup : (a b c : List ℕ) → (((a ++ 58 ∷ []) ++ b) ++ 58 ∷ []) ++ c ≡ a ++ 58 ∷ (b ++ 58 ∷ c) = λ a b c. simp append_assoc in
     regroup (decimal delta.cut) (slp1_of_word delta.append) delta.tag
 
-child_parts : (child : ℕ × ℕ) → child_text child ≡ slp1_of_word (child.0 ∷ []) ++ 61 ∷ decimal child.1
+pub child_parts : (child : ℕ × ℕ) → child_text child ≡ slp1_of_word (child.0 ∷ []) ++ 61 ∷ decimal child.1
 child_parts child = append_assoc (slp1_of_word (child.0 ∷ [])) (61 ∷ []) (decimal child.1)
 
-parts_free : (mark other : ℕ) (left right : List ℕ) → is_free mark left ≡ true → is_free mark (other ∷ []) ≡ true → is_free mark right ≡ true
+pub parts_free : (mark other : ℕ) (left right : List ℕ) → is_free mark left ≡ true → is_free mark (other ∷ []) ≡ true → is_free mark right ≡ true
     → is_free mark (left ++ other ∷ right) ≡ true
 parts_free mark other left right l o r = free_append mark left (other ∷ right) l (free_append mark (other ∷ []) right o r)
 
-delta_free : (mark : ℕ) (delta : Delta) → is_ascii_digit mark ≡ false → is_no_letter slp1_table mark ≡ true → is_free mark (58 ∷ []) ≡ true
+pub delta_free : (mark : ℕ) (delta : Delta) → is_ascii_digit mark ≡ false → is_no_letter slp1_table mark ≡ true → is_free mark (58 ∷ []) ≡ true
     → is_free mark delta.tag ≡ true → IsPrintableDelta delta → is_free mark (delta_text delta) ≡ true
 delta_free mark delta d w c t h =
     ap (is_free mark) (delta_parts delta)
     ∙ parts_free mark 58 (decimal delta.cut) _ (number_free mark d delta.cut h.cut) c (parts_free mark 58 (slp1_of_word delta.append) delta.tag (word_free mark w delta.append h.word) c t)
 
-child_free : (mark : ℕ) (child : ℕ × ℕ) → is_ascii_digit mark ≡ false → is_no_letter slp1_table mark ≡ true → is_free mark (61 ∷ []) ≡ true
+pub child_free : (mark : ℕ) (child : ℕ × ℕ) → is_ascii_digit mark ≡ false → is_no_letter slp1_table mark ≡ true → is_free mark (61 ∷ []) ≡ true
     → IsPrintableChild child → is_free mark (child_text child) ≡ true
 child_free mark child d w c h =
     ap (is_free mark) (child_parts child)
@@ -126,7 +125,7 @@ same_child left right l r e =
 abbrev AreFree : ℕ → List (List ℕ) → Type 0
 AreFree mark texts = AllByRecursion (λ text. is_free mark text ≡ true) texts
 
-split_joined : (mark : ℕ) (first : List ℕ) (texts : List (List ℕ)) → AreFree mark (first ∷ texts)
+pub split_joined : (mark : ℕ) (first : List ℕ) (texts : List (List ℕ)) → AreFree mark (first ∷ texts)
     → slice_split (λ byte. eqb byte mark) (join_with_byte mark (first ∷ texts)) ≡ first ∷ texts
 split_joined mark first [] h = split_none mark first h.0
 split_joined mark first (next ∷ texts) h =
@@ -139,7 +138,7 @@ joined_free mark other e (text ∷ next ∷ texts) h =
     free_append other text (mark ∷ join_with_byte mark (next ∷ texts)) h.0
     (ap (λ test. cond test false (is_free other (join_with_byte mark (next ∷ texts)))) e ∙ joined_free mark other e (next ∷ texts) h.1)
 
-listed_free : (other : ℕ) → is_free other (codes "-") ≡ true → eqb 44 other ≡ false → (texts : List (List ℕ)) → AreFree other texts → is_free other (listed texts) ≡ true
+pub listed_free : (other : ℕ) → is_free other (codes "-") ≡ true → eqb 44 other ≡ false → (texts : List (List ℕ)) → AreFree other texts → is_free other (listed texts) ≡ true
 listed_free other d e [] h = d
 listed_free other d e (text ∷ texts) h = joined_free 44 other e (text ∷ texts) h
 
@@ -187,27 +186,27 @@ delta_marked delta = (decimal delta.cut, slp1_of_word delta.append ++ 58 ∷ del
 child_marked : (child : ℕ × ℕ) → HasMark 61 (child_text child)
 child_marked child = (slp1_of_word (child.0 ∷ []), decimal child.1, child_parts child)
 
-deltas_back : (deltas : List Delta) → AllByRecursion IsPrintableDelta deltas → texts_of (listed (map delta_text deltas)) ≡ map delta_text deltas
+pub deltas_back : (deltas : List Delta) → AllByRecursion IsPrintableDelta deltas → texts_of (listed (map delta_text deltas)) ≡ map delta_text deltas
 unfolding slp1_table
 deltas_back deltas h =
     texts_back 58 refl (map delta_text deltas)
     (written IsPrintableDelta delta_text same_delta (λ text. is_free 44 text ≡ true) (λ d p. delta_free 44 d refl refl refl (tag_free_of_comma d.tag p.tag) p) deltas h)
     (written IsPrintableDelta delta_text same_delta (HasMark 58) (λ d p. delta_marked d) deltas h)
 
-children_back : (children : List (ℕ × ℕ)) → AllByRecursion IsPrintableChild children → texts_of (listed (map child_text children)) ≡ map child_text children
+pub children_back : (children : List (ℕ × ℕ)) → AllByRecursion IsPrintableChild children → texts_of (listed (map child_text children)) ≡ map child_text children
 unfolding slp1_table
 children_back children h =
     texts_back 61 refl (map child_text children)
     (written IsPrintableChild child_text same_child (λ text. is_free 44 text ≡ true) (λ c p. child_free 44 c refl refl refl p) children h)
     (written IsPrintableChild child_text same_child (HasMark 61) (λ c p. child_marked c) children h)
 
-deltas_free_of_blank : (deltas : List Delta) → AllByRecursion IsPrintableDelta deltas → is_free 32 (listed (map delta_text deltas)) ≡ true
+pub deltas_free_of_blank : (deltas : List Delta) → AllByRecursion IsPrintableDelta deltas → is_free 32 (listed (map delta_text deltas)) ≡ true
 unfolding slp1_table
 deltas_free_of_blank deltas h =
     listed_free 32 refl refl (map delta_text deltas)
     (written IsPrintableDelta delta_text same_delta (λ text. is_free 32 text ≡ true) (λ d p. delta_free 32 d refl refl refl (tag_free_of_blank d.tag p.tag) p) deltas h)
 
-line_parts : (row : Row) → node_line row ≡ codes "node " ++ (listed (map delta_text row.deltas) ++ 32 ∷ listed (map child_text row.children))
+pub line_parts : (row : Row) → node_line row ≡ codes "node " ++ (listed (map delta_text row.deltas) ++ 32 ∷ listed (map child_text row.children))
 line_parts row = ap (λ (fields : List ℕ). codes "node " ++ fields) (append_assoc (listed (map delta_text row.deltas)) (32 ∷ []) (listed (map child_text row.children)))
 
 -- rows that lines tell are the same where their lines are
