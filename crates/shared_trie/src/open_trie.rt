@@ -117,6 +117,7 @@ impl OpenTrie {
         last: &Entry,
         shared: usize,
     ) -> Result<(), Memory>
+        requires listed { All IsListedPhase told.now.value.0 }
         requires lines { told.now.value.1 ≤ MOST_FORM_LINES }
         requires phases { length told.now.value.0 ≤ MOST_PHASES }
         requires shared { shared ≤ length last.now.form }
@@ -149,16 +150,12 @@ impl OpenTrie {
         self.end_form(alloc, told, last)?;
         self.close_to(told, last, 0)?;
         let root = self.close(0)?;
-        self.trie.push_root(root)
+        self.trie.push_root(root)?;
+        Ok(())
     }
 
     /// Gives the phases without forms from this one up to another their roots.
-    fn fill_roots(
-        &mut self,
-        told: &Snapshot<ToldForms>,
-        from: u32,
-        to: u32,
-    ) -> Result<(), Memory>
+    fn fill_roots(&mut self, told: &Snapshot<ToldForms>, from: u32, to: u32) -> Result<(), Memory>
         requires lines { told.now.value.1 ≤ MOST_FORM_LINES }
         requires phases { length told.now.value.0 ≤ MOST_PHASES }
         requires order { from ≤ to }
@@ -192,14 +189,15 @@ impl OpenTrie {
     {
         if last.phase != next.phase {
             self.end_phase(alloc, told, last)?;
-            return self.fill_roots(told, last.phase + 1, next.phase);
-        }
-        let form = last.form.as_slice();
-        let shared = shared_len(form, next.form.as_slice());
-        if shared == form.len() && shared == next.form.len() {
+            self.fill_roots(told, last.phase + 1, next.phase)?;
             return Ok(());
         }
+        if last.form == next.form {
+            return Ok(());
+        }
+        let shared = shared_len(last.form.as_slice(), next.form.as_slice());
         self.end_form(alloc, told, last)?;
-        self.close_to(told, last, shared)
+        self.close_to(told, last, shared)?;
+        Ok(())
     }
 }
