@@ -1,7 +1,7 @@
 -- The file that `annotate` has written holds the text of the note of its bookmark's line and choices, which is read back; and the lexicon
 -- file, which has another name, tells the same lexicon as before.
 use Rattle.std.proofs.Common.{◌≡◌, ◌≢◌, ℕ, ◌<◌, ◌≤◌, List, [], ◌∷◌, length, false, Some, refl, sym, ◌∙◌, subst}
-use Rattle.std.specs.List.{All, AllByRecursion}
+use Rattle.std.specs.List.{AllByRecursion}
 use Rattle.std.proofs.lemmas.List.Elements.{All-from_recursion, recursion_from_All}
 use Rattle.outside.specs.Files.{Files, contents_of, with_file}
 use Rattle.outside.proofs.FilesLemmas.{contents_of-with_file_same, contents_of-with_file_other}
@@ -17,14 +17,13 @@ use Rattle.bookmark_definitions.specs.Bookmarks.{Bookmark, IsItemWithinBounds}
 use Rattle.bookmark_definitions.proofs.WrittenBookmarks.{bookmark_tells}
 use Rattle.note_definitions.specs.Notes.{Note, IsOnlyAnswer, IsChoiceOver, IsNote}
 use Rattle.note_definitions.specs.NoteTexts.{text_of_note}
-use Rattle.note_definitions.specs.NoteReadings.{IsNoteRead}
 use Rattle.note_definitions.proofs.NotesBack.{note_back}
 use Rattle.run_definitions.specs.Arguments.{FileWord}
 use Rattle.run_definitions.specs.Ends.{Outcome, Done, outcome_over}
 use Rattle.run_definitions.specs.LexiconTells.{FileTells, NotThere, Refused, Holds, DoesTell, IsMissing, IsLarge, IsFaulty, IsLexicon}
 use Rattle.run_definitions.specs.SourceTells as sources
-use Rattle.run_definitions.specs.AnnotateOutcomes.{IsMarkOver, noted_outcome, IsNotedOutcome, OfOnly, OfNone, OfSeveral, IsMarkOutcome, OfNoMark, OfMark, IsAnnotateOutcomeWith, IsAnnotateOutcome}
-use Rattle.run_definitions.specs.RereadOutcomes.{IsNoteFileOutcome, IsRereadOutcome}
+use Rattle.run_definitions.specs.AnnotateOutcomes.{IsMarkOver, IsNotedOutcome, OfOnly, OfNone, OfSeveral, IsMarkOutcome, OfNoMark, OfMark, IsAnnotateOutcomeWith, IsAnnotateOutcome}
+use Rattle.run_definitions.specs.RereadOutcomes.{IsRereadOutcome}
 
 -- ---- the lexicon file
 
@@ -65,8 +64,8 @@ note_of_mark lexicon text mark over steps only =
       line = bounds.line;
       few_choices = bounds.few_choices;
       choices = All-from_recursion (IsChoiceOver lexicon) mark.choices
-        (each_over lexicon mark.choices (recursion_from_All (λ (choice : Choice). IsItemWithinBounds choice.item) mark.choices bounds.items)
-        (recursion_from_All (λ (choice : Choice). choice.item.phase < length lexicon.phases) mark.choices over.is_cursor.phases));
+          (each_over lexicon mark.choices (recursion_from_All (λ (choice : Choice). IsItemWithinBounds choice.item) mark.choices bounds.items)
+          (recursion_from_All (λ (choice : Choice). choice.item.phase < length lexicon.phases) mark.choices over.is_cursor.phases));
       answer = only;
     }
 
@@ -91,17 +90,31 @@ module _ (lex file out : FileWord) (mark : List ℕ) (files : Files) (same_name 
       let is = tells_lexicon files lex.name lexicon (Holds lexicon) refl tells in
       let read = note_back lexicon note is.0 is.1 (note_of_mark lexicon mark bookmark over steps only) in
       let there : contents_of (with_file files out.name text) file.name ≡ Some text =
-        subst (λ name. contents_of (with_file files out.name text) name ≡ Some text) (sym same_name) (contents_of-with_file_same files out.name text) in
-      (lexicon, (bookmark, (steps, (over, (only, record {
-        tells = Holds lexicon;
-        does_tell = tells_kept files (with_file files out.name text) lex.name (Holds lexicon)
-          (contents_of-with_file_other files out.name text lex.name apart) tells;
-        is_outcome = record {
-          tells = sources.Holds note;
-          do_tell = sources.IsSound text there small note read refl;
-          is_outcome = refl;
-        };
-      })))))
+      subst (λ name. contents_of (with_file files out.name text) name ≡ Some text) (sym same_name) (contents_of-with_file_same files out.name text) in (
+        lexicon,
+        (
+          bookmark,
+          (
+            steps,
+            (
+              over,
+              (
+                only,
+                record {
+                  tells = Holds lexicon;
+                  does_tell = tells_kept files (with_file files out.name text) lex.name (Holds lexicon)
+                      (contents_of-with_file_other files out.name text lex.name apart) tells;
+                  is_outcome = record {
+                    tells = sources.Holds note;
+                    do_tell = sources.IsSound text there small note read refl;
+                    is_outcome = refl;
+                  };
+                },
+              ),
+            ),
+          ),
+        ),
+      )
 
   -- the note was written, since the run is done
   of_noted : (lexicon : Lexicon) → DoesTell files lex.name (Holds lexicon) → (bookmark : Bookmark) → IsMarkOver lexicon mark bookmark

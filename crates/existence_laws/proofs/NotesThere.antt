@@ -1,6 +1,6 @@
 -- All answers of a line under choices are a list, which tells whether there is one, none or several; and it is decided whether a JSON value is
 -- that of a note, which has no numbers but unsigned ones. So bytes are read as a note or have a fault, and a bookmark has what is written of it.
-use Rattle.std.proofs.Common.{◌≡◌, inl, inr, ℕ, List, [], ◌∷◌, length, map, Option, Some, None, Result, Ok, Err, refl, sym, ◌∙◌, ap, subst}
+use Rattle.std.proofs.Common.{◌≡◌, inl, inr, ℕ, List, [], ◌∷◌, map, Option, Some, None, Result, Ok, Err, refl, sym, ◌∙◌, ap, subst}
 use Rattle.std.specs.Prelude.{codes}
 use Rattle.std.proofs.lemmas.Bool.{cases_eq}
 use Rattle.outside.specs.Files.{Files}

@@ -35,7 +35,7 @@ pub fn a_note_that_was_written_is_reread()
         → IsAnnotateOutcome lex mark out files outcome → outcome.end ≡ Done → lex.name ≢ out.name → file.name ≡ out.name
         → ((text : List ℕ) → contents_of outcome.files out.name ≡ Some text → length text ≤ MOST_FILE_BYTES)
         → (lexicon : Lexicon) × ((bookmark : Bookmark) × ((steps : List Step) × (IsMarkOver lexicon mark bookmark
-            × (IsOnlyAnswer lexicon bookmark.line bookmark.choices steps
-                × IsRereadOutcome lex file outcome.files
-                (outcome_over outcome.files (printed_page lexicon.rules 1 (steps ∷ []) false) Done))))) }
+        × (IsOnlyAnswer lexicon bookmark.line bookmark.choices steps
+        × IsRereadOutcome lex file outcome.files
+        (outcome_over outcome.files (printed_page lexicon.rules 1 (steps ∷ []) false) Done))))) }
 {}

@@ -2,21 +2,17 @@
 -- the lexicon.
 use Rattle.std.proofs.Common.{◌≡◌, ℕ, Option, Some, None, List, sym, ◌∙◌, ap, subst}
 use Rattle.std.specs.Option.{option_map}
-use Rattle.text_definitions.specs.Lines.{Line}
 use Rattle.lexicon_definitions.specs.Lexicons.{Lexicon}
-use Rattle.segmentation_definitions.specs.Listings.{Cursor}
 use Rattle.annotated_trie.specs.Searched.{SearchedLexicon}
 use Rattle.bookmark_definitions.specs.Bookmarks.{Bookmark}
 use Rattle.bookmark_definitions.specs.BookmarkReadings.{bookmark_of_text}
 use Rattle.bookmarks.specs.declared.bookmark.Bookmark.{Bookmark as ProgramBookmark}
 use Rattle.bookmarks.specs.Values.{bookmark_of}
-use Rattle.session_definitions.specs.States.{State, after_resume}
+use Rattle.session_definitions.specs.States.{State}
 use Rattle.session_definitions.specs.Replies.{IsCursorOfBookmark}
 use Rattle.reader_session.specs.declared.reading.Reading.{Reading}
-use Rattle.reader_session.specs.declared.marks.MarkedLine.{MarkedLine}
-use Rattle.reader_session.specs.Readings.{state_with}
-use Rattle.reader_session.specs.Resumed.{IsResumed, IsResumedAt}
-use Rattle.reader_session.specs.Marks.{IsMarked, IsMarkRead}
+use Rattle.reader_session.specs.Resumed.{IsResumed}
+use Rattle.reader_session.specs.Marks.{IsMarkRead}
 
 -- the text is that of no bookmark
 pub not_written : (lexicon : Lexicon) (text : List ℕ) (mark : Option ProgramBookmark) → mark ≡ None

@@ -1,6 +1,6 @@
 -- What a session asks where its line is `resume` and a text is to go on from the bookmark of the text; so it refuses just those texts that
 -- are bad bookmarks, and what it agrees to has other bytes.
-use Rattle.std.proofs.Common.{◌≡◌, ℕ, ◌++◌, ◌↔◌, List, ◌∷◌, Option, Some, None, codes, refl, sym, ◌∙◌, ap, subst}
+use Rattle.std.proofs.Common.{◌≡◌, ℕ, ◌++◌, ◌↔◌, List, Option, Some, None, codes, refl, sym, ◌∙◌, ap, subst}
 use Rattle.lexicon_definitions.specs.Lexicons.{Lexicon}
 use Rattle.segmentation_definitions.specs.Listings.{Cursor}
 use Rattle.segmentation_definitions.specs.PrintedAnswers.{output_line}
@@ -9,7 +9,7 @@ use Rattle.bookmark_definitions.specs.BookmarkReadings.{bookmark_of_text}
 use Rattle.session_definitions.specs.States.{State, after_resume}
 use Rattle.session_definitions.specs.Requests.{Request, Resume, request_of}
 use Rattle.session_definitions.specs.Replies.{Reply, agreed, refused, IsCursorOfBookmark, IsResumeReply, OfCursor, OfNoCursor, IsReplyTo}
-use Rattle.run_definitions.specs.AnnotateOutcomes.{IsMarkOver, IsBadMark}
+use Rattle.run_definitions.specs.AnnotateOutcomes.{IsBadMark}
 
 -- what is asked for
 asked : (text : List ℕ) → request_of (codes "resume " ++ text) ≡ Resume (bookmark_of_text text)

@@ -1,6 +1,6 @@
 -- What a run of `annotate` leaves: the first answers that were listed are the first and the next after it; the choices of a bookmark are
 -- over its lexicon; and each way in which it ends is that of an outcome.
-use Rattle.std.proofs.Common.{◌≡◌, ◌≢◌, ℕ, ◌<◌, ◌≤◌, ◌++◌, inl, inr, List, [], ◌∷◌, length, Option, Some, None, codes, refl, sym, ◌∙◌, ap, subst, arith}
+use Rattle.std.proofs.Common.{◌≡◌, ℕ, ◌<◌, ◌++◌, inl, inr, List, [], ◌∷◌, length, Option, Some, None, codes, refl, sym, ◌∙◌, ap, subst, arith}
 use Rattle.std.specs.Fmt.{decimal}
 use Rattle.std.specs.List.{All, AllByRecursion}
 use Rattle.std.specs.declared.cmp.Ordering.TheVariants.{Less, Greater}
@@ -28,15 +28,15 @@ use Rattle.note_definitions.specs.Notes.{IsChoiceOver}
 use Rattle.annotation.specs.declared.written_note.WrittenNote.{WrittenNote}
 use Rattle.annotation.specs.Answers.{IsCounted}
 use Rattle.reader_session.specs.declared.marks.MarkedLine.{MarkedLine}
-use Rattle.reader_session.specs.Marks.{IsMarked, IsMarkRead}
+use Rattle.reader_session.specs.Marks.{IsMarked}
 use Rattle.run_definitions.specs.Commands.{FileWord}
 use Rattle.run_definitions.specs.Ends as ends
 use Rattle.run_definitions.specs.Ends.{Outcome, outcome_over}
 use Rattle.run_definitions.specs.Refusals.{file_refusal}
 use Rattle.run_definitions.specs.LexiconTells.{NotThere, Refused, Holds, DoesTell, IsMissing}
-use Rattle.run_definitions.specs.AnnotateOutcomes.{IsNotedOutcome, OfOnly, OfNone, OfSeveral, IsMarkOutcome, OfNoMark, OfMark, IsAnnotateOutcome}
+use Rattle.run_definitions.specs.AnnotateOutcomes.{IsNotedOutcome, OfOnly, OfSeveral, IsMarkOutcome, OfMark, IsAnnotateOutcome}
 use Rattle.sandhi_program.specs.declared.status.Status.{Status}
-use Rattle.sandhi_program.specs.declared.status.Status.TheVariants.{Done, Usage, NoAnswer, BadMark}
+use Rattle.sandhi_program.specs.declared.status.Status.TheVariants.{Done, Usage}
 use Rattle.sandhi_program.specs.Faults.{Tells}
 use Rattle.sandhi_program.specs.RunEnds.{HasOutcome}
 use Rattle.sandhi_program.specs.Annotations.{IsPrintedSeveral, TellsSeveral}
@@ -161,15 +161,6 @@ of_mark lexicon text marked is out files outcome noted =
     (subst (λ (line : Line). IsNotedOutcome lexicon line is.mark.choices out files outcome) is.line
     (subst (λ (choices : List Choice). IsNotedOutcome lexicon marked.line choices out files outcome) is.choices noted))
 
--- a bad bookmark is refused
-pub bad_mark : (lexicon : Lexicon) (text : List ℕ) → IsMarkRead lexicon text None → (out : FileWord) (told : Files)
-    → HasOutcome (IsMarkOutcome lexicon text out told) BadMark (output_line (codes "bad mark")) told
-bad_mark lexicon text none out told = record {
-  end = ends.BadMark;
-  told = refl;
-  is_it = OfNoMark (λ mark over. none mark over.cursor over.read over.is_cursor) refl;
-}
-
 -- ---- the note
 
 module _ (lexicon : Lexicon) (line : Line) (choices : List Choice) (out : FileWord) where
@@ -187,11 +178,6 @@ module _ (lexicon : Lexicon) (line : Line) (choices : List Choice) (out : FileWo
           end = ends.Done;
         });
   }
-
-  -- or that there is no answer
-  pub none_noted : ((steps : List Step) → IsAnswer lexicon line choices steps → ⊥) → (told : Files)
-      → HasOutcome (IsNotedOutcome lexicon line choices out told) NoAnswer (output_line (codes "no answer")) told
-  none_noted none told = record { end = ends.NoAnswer; told = refl; is_it = OfNone none refl }
 
   -- or what is told of several
   pub several_noted : (status : Status) (output : List ℕ) → TellsSeveral lexicon line choices status output → (told : Files)

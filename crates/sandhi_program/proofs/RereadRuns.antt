@@ -1,18 +1,9 @@
 -- What `reread` says of the outcome: the file of the note tells the note, its fault, or that it is not there; and the note has an answer, which
 -- has a step.
-use Rattle.std.proofs.Common.{◌≡◌, ℕ, ◌<◌, ◌≤◌, ◌++◌, false, List, [], ◌∷◌, length, Option, Some, None, Ok, codes, refl, sym, ◌∙◌, ap, arith, append_assoc, append-nil}
+use Rattle.std.proofs.Common.{◌≡◌, ℕ, List, [], Option, Some, None, refl, ap}
 use Rattle.outside.specs.Files.{Files, contents_of}
 use Rattle.lexicon_definitions.specs.Lexicons.{Lexicon}
-use Rattle.lexicon_text_definitions.specs.declared.limits.TheConstants.{MOST_FILE_BYTES}
-use Rattle.segmentation_definitions.specs.Derivations.{EndsWell}
-use Rattle.segmentation_definitions.specs.PrintedAnswers.{printed_page}
-use Rattle.derivation.specs.declared.step.Step.{Step as ProgramStep}
-use Rattle.derivation.specs.Steps.{steps_of}
-use Rattle.note_definitions.specs.Notes as notes
 use Rattle.note_definitions.specs.NoteReadings.{IsNoteRead}
-use Rattle.note_definitions.proofs.ReadNotes.{note_if_read}
-use Rattle.annotation.specs.declared.note.Note.{Note}
-use Rattle.annotation.specs.Readings.{note_of, IsGiven}
 use Rattle.run_definitions.specs.Commands.{FileWord}
 use Rattle.run_definitions.specs.Ends as ends
 use Rattle.run_definitions.specs.Ends.{Outcome, outcome_over}
