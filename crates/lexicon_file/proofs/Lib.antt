@@ -7,3 +7,8 @@ pub mod FieldLemmas
 pub mod SetLemmas
 pub mod AnswerLemmas
 pub mod LimitedLemmas
+pub mod NamesWritten
+pub mod NodesWritten
+pub mod FormsWritten
+pub mod WholeTexts
+pub mod NewestTexts

@@ -6,8 +6,12 @@
 //! `len`), so no two nodes stand for the same suffixes (`nodes_are_told_by_suffixes` of `lexicon_definitions`). `root`, `roots`, `child`,
 //! `accepts`, `deltas`, `children` and `len` read the rows (`value`); `height` is the length of the longest suffix. `child`
 //! takes one step, and `children` one for each child and one more (`steps`). A `FormWalk` is the list of the forms of a node that are
-//! left, rising, each with its deltas: all of them at first (`ok` of `new`), and one less after `advance`, which takes no memory. That
-//! each row is hashed once is only measured.
+//! left, rising, each with its deltas: all of them at first (`ok` of `new`), and one less after `advance`, which takes no memory.
+//! `analyses_by_deltas` gives a form's analyses (`ok`).
+//!
+//! `canonical` gives the nodes to which some root leads in the order in which lexicon files tell them (`ok`), which make the ordered trie
+//! of the same phases (`ordered`), and `numbered` each of them with its number; `push_node_line` appends a node's line (`ok`). That each
+//! row is hashed once is only measured.
 #![tactic(auto)]
 
 mod analyses;
