@@ -59,7 +59,7 @@ entries_end start (forms ∷ lists) (suc place) front form analyses analysis h e
 
 -- ---- the last phase
 
-are_empty : (lists : List (List Form)) → ((phase : ℕ) → get_or lists phase [] ≡ []) → AreEmpty lists
+pub are_empty : (lists : List (List Form)) → ((phase : ℕ) → get_or lists phase [] ≡ []) → AreEmpty lists
 are_empty [] h = tt
 are_empty (forms ∷ lists) h = (h 0, are_empty lists (λ phase. h (suc phase)))
 

@@ -20,6 +20,7 @@ pub mod EntriesEnd
 pub mod LastForms
 pub mod NextEntries
 pub mod ReadyEntries
+pub mod BuilderStages
 pub mod MoreForms
 pub mod OpenRowLaws
 pub mod PathRows

@@ -14,5 +14,6 @@ pub mod OpenRows
 pub mod Packed
 pub mod Interned
 pub mod Runs
+pub mod Stages
 pub mod ToldForms
 pub mod Views

@@ -135,7 +135,7 @@ impl OpenTrie {
     }
 
     /// Makes nodes of all rows of the last form's fronts, and a root of the last one.
-    fn end_phase(
+    pub(crate) fn end_phase(
         &mut self,
         alloc: Global,
         told: &Snapshot<ToldForms>,
@@ -155,7 +155,12 @@ impl OpenTrie {
     }
 
     /// Gives the phases without forms from this one up to another their roots.
-    fn fill_roots(&mut self, told: &Snapshot<ToldForms>, from: u32, to: u32) -> Result<(), Memory>
+    pub(crate) fn fill_roots(
+        &mut self,
+        told: &Snapshot<ToldForms>,
+        from: u32,
+        to: u32,
+    ) -> Result<(), Memory>
         requires lines { told.now.value.1 ≤ MOST_FORM_LINES }
         requires phases { length told.now.value.0 ≤ MOST_PHASES }
         requires order { from ≤ to }
