@@ -119,16 +119,19 @@ counts_next rows most node own new counts are low known own_is new_is =
           ];
     }
 
--- the counts of all roots together are more than a lexicon may have exactly where the pairs are
-pub many_told : (trie : Trie) (most total : ℕ) (counts : List ℕ) → All (λ root. root < length trie.rows) trie.roots → AreCounts trie.rows most (length trie.rows) counts
-    → MOST_FORM_LINES < most → total ≡ min (sum_by (λ root. get_or counts root 0) trie.roots) most
-    → ltb MOST_FORM_LINES total ≡ has_too_many_pairs trie
-many_told trie most total counts low known more is =
+-- the counts of all roots together are the pairs, stopped at a number
+pub counted : (trie : Trie) (most total : ℕ) (counts : List ℕ) → All (λ root. root < length trie.rows) trie.roots → AreCounts trie.rows most (length trie.rows) counts
+    → total ≡ min (sum_by (λ root. get_or counts root 0) trie.roots) most → total ≡ min (count_pairs trie) most
+counted trie most total counts low known is =
     let same = same_sums (λ root. get_or counts root 0) (λ root. min (pairs_from trie.rows root) most) trie.roots (λ root m.
     known.each root (All-contains (λ (r : ℕ). r < length trie.rows) trie.roots root low m))
     in
     let stopped = stopped_sums (pairs_from trie.rows) most trie.roots 0 in
-    let value : total ≡ min (count_pairs trie) most = omega (arith, same, stopped, is) in
+    omega (arith, same, stopped, is)
+
+-- they are more than a lexicon may have exactly where the pairs are
+pub many_told : (trie : Trie) (most total : ℕ) → MOST_FORM_LINES < most → total ≡ min (count_pairs trie) most → ltb MOST_FORM_LINES total ≡ has_too_many_pairs trie
+many_told trie most total more value =
     elim (cases_lt MOST_FORM_LINES (count_pairs trie)) [
       | inl above ↦ lt-ltb MOST_FORM_LINES total (omega (arith, value, above, more)) ∙ sym (lt-ltb MOST_FORM_LINES (count_pairs trie) above)
       | inr few ↦ le-ltb MOST_FORM_LINES total (omega (arith, value, few)) ∙ sym (le-ltb MOST_FORM_LINES (count_pairs trie) few)

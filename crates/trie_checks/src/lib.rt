@@ -3,7 +3,7 @@
 //! over the forms, of which a few nodes may stand for more than can be counted.
 //!
 //! Proved: `has_unused`, `has_too_many_pairs` and `has_wrong_delta` answer just as the definitions of the same names in
-//! `trie_text_definitions` say of the trie (`ok`), of any trie. That the passes are as many as the greatest cut is only measured.
+//! `trie_text_definitions` say of the trie (`ok`), of any trie; and `count_pairs` counts as that of the same name, up to a number (`ok`). That the passes are as many as the greatest cut is only measured.
 #![tactic(auto)]
 
 mod depths;
@@ -15,6 +15,6 @@ mod put_places;
 mod unused;
 mod wrong_deltas;
 
-pub use pairs::has_too_many_pairs;
+pub use pairs::{count_pairs, has_too_many_pairs};
 pub use unused::has_unused;
 pub use wrong_deltas::has_wrong_delta;

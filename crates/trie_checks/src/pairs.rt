@@ -1,5 +1,5 @@
 ghost use Rattle.std.specs.Prelude.{◌≡◌, ℕ, ◌+◌, ◌<◌, length, min, sum_by, slice_index, All, IfOk};
-ghost use Rattle.trie_text_definitions.specs.TrieForms.{has_too_many_pairs};
+ghost use Rattle.trie_text_definitions.specs.TrieForms.{count_pairs as count_pairs_of, has_too_many_pairs};
 
 use lexicon_definitions::MOST_FORM_LINES;
 use outside::Steps;
@@ -10,9 +10,10 @@ use std::alloc::Global;
 /// Pairs are counted up to this number: one more than a lexicon may have.
 const TOO_MANY: u32 = MOST_FORM_LINES as u32 + 1;
 
-/// Whether there are more pairs of a form and one of its deltas than a lexicon may have, counted in each phase and added up.
-pub fn has_too_many_pairs(alloc: Global, store: &Store) -> Result<bool, Memory>
-    ensures ok { IfOk result (λ many. many ≡ has_too_many_pairs store.now) }
+/// How many pairs of a form and one of its deltas there are, counted in each phase and added up; no further than to one more than a
+/// lexicon may have.
+pub fn count_pairs(alloc: Global, store: &Store) -> Result<u32, Memory>
+    ensures ok { IfOk result (λ count. count ≡ min (count_pairs_of store.now) TOO_MANY) }
 {
     let mut counts = Vec::with_capacity(alloc, store.len() as usize)?;
     for number in 0..store.len() {
@@ -21,7 +22,15 @@ pub fn has_too_many_pairs(alloc: Global, store: &Store) -> Result<bool, Memory>
         let count = pairs_below(store.deltas(node).len(), children, counts.as_slice());
         counts.push(count)?;
     }
-    Ok(pairs_of_all(store.roots(), counts.as_slice()) as usize > MOST_FORM_LINES)
+    Ok(pairs_of_all(store.roots(), counts.as_slice()))
+}
+
+/// Whether there are more of these pairs than a lexicon may have.
+pub fn has_too_many_pairs(alloc: Global, store: &Store) -> Result<bool, Memory>
+    ensures ok { IfOk result (λ many. many ≡ has_too_many_pairs store.now) }
+{
+    let count = count_pairs(alloc, store)?;
+    Ok(count as usize > MOST_FORM_LINES)
 }
 
 /// The pairs of a node with so many deltas of its own, where those of all nodes before it are known.
