@@ -192,9 +192,9 @@ module _ (version : Version) (lexicon : Lexicon) (trie : Trie) (t : HasText vers
       let each = t.lexicon_itself.phases in
       let short = t.limits.short_forms in
       record {
-        few_pairs = few_pairs trie lexicon.phases h each short t.stems t.limits.lines;
-        used = none_unused trie lexicon.phases h each short t.stems;
-        right = none_wrong trie lexicon.phases h each short t.stems;
+        few_pairs = few_pairs trie lexicon.phases h.is_trie each short t.stems t.limits.lines;
+        used = none_unused trie lexicon.phases h;
+        right = none_wrong trie lexicon.phases h.is_trie each short t.stems;
         limited = limited_there version (record { last = mark; names = names; grammar = lexicon.rules.grammar; plain = plain; rules = rules; forms = [] }) t.rules;
       }
 
