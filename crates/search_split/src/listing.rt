@@ -120,14 +120,7 @@ pub(crate) fn list_part<G: Gate>(
         return Ok(Listed { texts, more: true });
     }
     let mut steps = Steps::<()>::new();
-    let mut search = search_at(
-        alloc,
-        lister.lexicon,
-        lister.line,
-        lister.choices,
-        lister.chart,
-        start,
-    )?;
+    let mut search = search_at(alloc, lister, start)?;
     // The proof knows that the names of phases are texts only of those that are read.
     let _names = lister.lexicon.rules().phases();
     let mut printer = AnswerPrinter::new(alloc, lister.texts, lister.line)?;

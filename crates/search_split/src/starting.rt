@@ -1,4 +1,4 @@
-ghost use Rattle.std.specs.Prelude.{◌≡◌, ◌+◌, ◌<◌, ◌≤◌, ℕ, Option, List, IfOk};
+ghost use Rattle.std.specs.Prelude.{◌≤◌, Option, List, IfOk};
 ghost use Rattle.text_definitions.specs.Lines.{Line as LineValue};
 ghost use Rattle.segmentation_definitions.specs.Items.{Choice};
 ghost use Rattle.segmentation_definitions.specs.Listings.{Key};
@@ -8,11 +8,10 @@ ghost use Rattle.search_split.specs.Parts.{IsChartFor};
 ghost use Rattle.search_split.specs.Starts.{IsStart, HasTaken, StandsAtStart};
 
 use super::fronts::{go_to_next_front, keys_at};
+use super::lister::Lister;
 use super::start::{Start, Starts};
-use annotated_trie::Lexicon;
-use outside::Steps;
-use phoneme::{Line, Memory};
-use reader_choices::Choices;
+use outside::{Gate, Steps};
+use phoneme::Memory;
 use search_frames::SearchGuide;
 use segmenter::{ResumeError, Search};
 use std::alloc::Global;
@@ -45,19 +44,24 @@ pub(crate) fn next_starts<D: SearchGuide, L>(
 }
 
 /// A search that stands at the first answer of the part that begins there.
-pub(crate) fn search_at<'a>(
+pub(crate) fn search_at<'a, G: Gate>(
     alloc: Global,
-    lexicon: &'a Lexicon,
-    line: &'a Line,
-    choices: &'a Choices,
-    chart: &'a Chart,
+    lister: &Lister<'a, G>,
     start: &Start,
 ) -> Result<Search<'a, Chart>, Memory>
-    requires chart { IsChartFor lexicon.now line.now choices.now chart.now }
-    requires start { (depth : ℕ) × IsStart lexicon.now line.now choices.now depth start.now }
-    ensures ok { IfOk result (λ search. (depth : ℕ) → IsStart lexicon.now line.now choices.now depth start.now → StandsAtStart lexicon.now line.now choices.now depth start.now search) }
+    requires chart { IsChartFor lister.now.lexicon.now lister.now.line.now lister.now.choices.now lister.now.chart.now }
+    requires start { IsStart lister.now.lexicon.now lister.now.line.now lister.now.choices.now lister.now.depth start.now }
+    ensures ok { IfOk result (StandsAtStart lister.now.lexicon.now lister.now.line.now lister.now.choices.now lister.now.depth start.now) }
 {
-    match Search::resume(alloc, lexicon, line, choices, chart, start.keys.as_slice()) {
+    let keys = start.keys.as_slice();
+    match Search::resume(
+        alloc,
+        lister.lexicon,
+        lister.line,
+        lister.choices,
+        lister.chart,
+        keys,
+    ) {
         Ok(search) => Ok(search),
         Err(ResumeError::Memory) => Err(Memory),
         Err(ResumeError::NotAnAnswer) => unreachable!(),

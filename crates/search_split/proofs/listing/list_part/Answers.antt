@@ -23,7 +23,7 @@ loop-count-init g c =
     let lister = c.args.lister.now in
     record {
       under = list_begins lister.lexicon.now lister.line.now lister.choices.now lister.depth c.args.start.now c.in_ok-search.search c.new-texts.result.items
-          c.new-texts.ensures.items (c.in_ok-search.ensures.ok lister.depth c.requires.start);
+          c.new-texts.ensures.items c.in_ok-search.ensures.ok;
       count = ap length c.new-texts.ensures.items;
       printer = c.in_ok-printer.ensures.ok ∙ ap (λ (rules : RuleSet). record { rules = rules; letters = lister.line.now.letters }) lister.same_rules;
     }

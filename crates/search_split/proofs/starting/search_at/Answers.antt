@@ -6,8 +6,10 @@ use Rattle.search_split.proofs.StartsFound.{stands_at_start}
 use Rattle.search_split.proofs.starting.search_at.Goals as goal
 
 pub returns-in-Ok : goal.returns-in-Ok
-returns-in-Ok c = record {
-  ok = λ depth is.
-      stands_at_start c.args.lexicon.now c.args.line.now c.args.choices.now c.args.start.now depth is c.in-Ok.search c.in-Ok.ensures.over
-      (subst (λ keys. StandsAtKeys c.in-Ok.search (keys_meant keys)) c.as_slice.ensures.value c.in-Ok.ensures.at);
-}
+returns-in-Ok g c =
+    let lister = c.args.lister.now in
+    record {
+      ok = stands_at_start lister.lexicon.now lister.line.now lister.choices.now c.args.start.now lister.depth c.requires.start c.in-Ok.search
+          c.in-Ok.ensures.over
+          (subst (λ keys. StandsAtKeys c.in-Ok.search (keys_meant keys)) c.as_slice-keys.ensures.value c.in-Ok.ensures.at);
+    }
