@@ -7,3 +7,9 @@ pub mod FieldLemmas
 pub mod SetLemmas
 pub mod AnswerLemmas
 pub mod LimitedLemmas
+pub mod LastLines
+pub mod RowAnswers
+pub mod NodeAnswers
+pub mod RootAnswers
+pub mod EndAnswers
+pub mod LinesTaken
