@@ -13,3 +13,6 @@ pub mod NodeAnswers
 pub mod RootAnswers
 pub mod EndAnswers
 pub mod LinesTaken
+pub mod LineSteps
+pub mod ReadLemmas
+pub mod VersionsRead
