@@ -5,7 +5,8 @@
 
 `build` writes two lexicons in turn under one name. Meanwhile it is killed at random moments, other processes read the file,
 files may not grow past a limit, and the disk is full (where this user may mount one; else it is said that this was not tried).
-After each of these the file must be one of the two whole texts. The last line is `N passed, N failed`.
+After each of these the file must be one of the two whole texts. The files that `convert` and `annotate` write are tried in the same way,
+with fewer kills. The last line is `N passed, N failed`.
 """
 import os
 import random
@@ -174,6 +175,33 @@ def try_permissions(trial):
     trial.tell("a file that may not be written", ended.returncode == WROTE_NOT and (closed / "out.lex").read_bytes() == before)
 
 
+def try_other_commands(trial, count):
+    """The other commands that write a file: it may not grow, and the program is killed; each time it is the old one or the whole new one."""
+    old = b"the old file\n"
+    out = trial.folder / "other.out"
+    (trial.folder / "text.slp1").write_text("rAmo vanaM gacCati\n" * 1000, encoding="utf-8")
+    line = "_".join(["nadI_gacCati"] * 30)
+    for words in (("convert", "slp1", "iast", "text.slp1", out.name), ("annotate", "made.lex", f"1;{line};;0;", out.name)):
+        begun = time.monotonic()
+        ended = trial.run(*words)
+        seconds = time.monotonic() - begun
+        texts = (old, out.read_bytes())
+        out.write_bytes(old)
+        failed = trial.run(*words, preexec_fn=limited(signal.SIG_IGN))
+        trial.tell(f"a file of {words[0]} that may not grow",
+                   (ended.returncode, failed.returncode, out.read_bytes()) == (0, WROTE_NOT, old) and len(texts[1]) > 4096 and not trial.leftovers())
+        lost = 0
+        for _ in range(count):
+            out.write_bytes(old)
+            running = subprocess.Popen([trial.program, *words], cwd=trial.folder, stdout=subprocess.DEVNULL, stderr=subprocess.DEVNULL)
+            time.sleep(random.uniform(0, 1.2 * seconds))
+            running.kill()
+            running.wait()
+            lost += out.read_bytes() not in texts
+            trial.clear()
+        trial.tell(f"{count} kills of {words[0]}", lost == 0, f": {lost} files lost")
+
+
 def main():
     arguments = arguments_of(__doc__)
     arguments.add_argument("--kills", type=int, default=40)
@@ -186,6 +214,7 @@ def main():
         try_full_disk,
         try_names,
         try_permissions,
+        lambda trial: try_other_commands(trial, given.kills // 4),
     ], Writing)
 
 

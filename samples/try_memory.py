@@ -18,6 +18,7 @@ from trial import SAMPLES, arguments_of, try_all
 NO_MEMORY = 1
 LINE = "rAmo vanaM gacCati ca senAM"
 CHAIN = "rAmaH[noun] (aH|v>ov) vanam[noun] (m|g>Mg) gacCati[verb]"
+MARK = "1;senAgacCati;+4.1.2.A;1;0.3.4,2.0.0,1.7.0"
 SESSION = f"text slp1 {LINE}\npage 1\nsummary\nkeep 1\nmark\ntags 1\nundo\npage 9\nquit\n"
 
 
@@ -41,6 +42,8 @@ ROWS = (
     Row(("convert", "slp1", "iast", "verses", "out.text"), out="out.text"),
     Row(("join", "made.lex", CHAIN)),
     Row(("split", "made.lex", LINE, "9", "2")),
+    Row(("annotate", "made.lex", MARK, "out.note"), out="out.note"),
+    Row(("reread", "made.lex", "made.note")),
 )
 
 
@@ -124,6 +127,7 @@ def main():
         trial.build()
         (trial.folder / "text").write_text(f"{LINE}\nrAmo\n?\n" * 30, encoding="utf-8")
         (trial.folder / "verses").write_text(f"{LINE} | 12 ||\n" * 30, encoding="utf-8")
+        trial.run("annotate", "made.lex", MARK, "made.note")
         for row in ROWS:
             try_row(refusing, row, given.requests)
 

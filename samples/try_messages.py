@@ -20,6 +20,7 @@ MOST_INPUT = 16_777_216
 SMALL = 40 << 20
 BUILD = ("build", "rules.toml", "tables.csv", "stems.csv")
 NO_FILE = "there is no such file or folder"
+MARK = "1;nadI_gacCati;;0;"
 
 # What can't be had here without another disk, or without waiting for a day.
 NOT_TRIED = {"the disk is read-only", "the disk quota is used up", "it blocked for a day"}
@@ -98,6 +99,16 @@ def rows_of(trial):
         Row(("segment", "made.lex", "?"), 6, ()),
         Row(("split", "made.lex", "?", "9", "1"), 6, ()),
         Row(("join", "made.lex", "?"), 9, ()),
+        Row(("annotate", "made.lex", MARK, "out.note"), 0, ()),
+        Row(("annotate", "nowhere", MARK, "out.note"), 3, (f"{cannot} read 'nowhere': {NO_FILE}",)),
+        Row(("annotate", "made.lex", MARK, "no/out.note"), 4, (f"{cannot} write 'no/out.note': {NO_FILE}",)),
+        Row(("annotate", "made.lex", MARK, "other.note"), 4, (f"{cannot} write the output: the disk is full",), {"stdout": full}),
+        Row(("annotate", "made.lex", "1;rAm;;0;", "out.note"), 10, ()),
+        Row(("annotate", "made.lex", "1;senAgacCati;;0;", "out.note"), 11, ()),
+        Row(("annotate", "made.lex", "?", "out.note"), 12, ()),
+        Row(("reread", "made.lex", "out.note"), 0, ()),
+        Row(("reread", "made.lex", "nowhere"), 3, (f"{cannot} read 'nowhere': {NO_FILE}",)),
+        Row(("reread", "made.lex", "stems.csv"), 5, ()),
         Row(("read", "made.lex"), 7, (f"sandhi: the input has more than {MOST_INPUT} bytes",), {"input": b"\n" * (MOST_INPUT + 1)}),
         Row((*BUILD, "link.csv"), 0, (replaced.format("stems.csv"),)),
     ]

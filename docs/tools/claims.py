@@ -34,6 +34,8 @@ LISTS = {
     "convert": [(RUN, "ConvertOutcomes", "IsConvertRun")],
     "join": [(RUN, "JoinOutcomes", "IsJoinRun")],
     "split": [(RUN, "SplitOutcomes", "IsSplitRun")],
+    "annotate": [(RUN, "AnnotateOutcomes", "IsAnnotateRun")],
+    "reread": [(RUN, "RereadOutcomes", "IsRereadRun")],
     "the headline": [
         (PROGRAM, "Headline", "WroteAll"),
         (PROGRAM, "Headline", "WrotePrefix"),

@@ -10,7 +10,7 @@ from pathlib import Path
 from bookmarks import MOST_CHOICES, Bookmark, Segment, read_bookmark
 from boxes import make_boxes
 from lexicons import Builder, Meanings, own_lexicon, read_phases, unsplit_rules
-from notes import NoteFolder, NotWritten, can_annotate, is_finished
+from notes import NoteFolder, NotWritten, can_annotate, is_finished, run_annotate
 from reader import Reader, TooManyCommands
 from readings import mark_of_text, read_from, shown_answers, state_of
 from replies import Refusal, Rule, read_page
@@ -19,6 +19,7 @@ from stretch import find_stretch, runs_of, texts_of
 from texts import NoText, Texts
 
 import reference
+from annotating import told_by_replies
 from serving import PROGRAM, TOP, readings
 
 SAMPLES = TOP / "samples"
@@ -329,20 +330,16 @@ class TextFiles(WithFolder):
 
 
 class Notes(WithFolder):
-    """With the program's own `annotate` where it has it, else with the stand-in."""
-
     def setUp(self):
         super().setUp()
-        os.environ["SANDHI_REAL"] = PROGRAM
-        self.program = PROGRAM if can_annotate(PROGRAM) else str(Path(__file__).with_name("annotating.py"))
         self.small = self.lexicon(SMALL)
         self.notes = NoteFolder(self.file("verses.txt", "nAsti\n"))
 
     def finish(self, bookmark, line=1, part=1):
-        return self.notes.finish(self.program, self.small.path, line, part, read_bookmark(bookmark))
+        return self.notes.finish(PROGRAM, self.small.path, line, part, read_bookmark(bookmark))
 
     def test_the_program_tells_whether_it_has_the_command(self):
-        self.assertTrue(can_annotate(self.program))
+        self.assertTrue(can_annotate(PROGRAM))
         self.assertFalse(can_annotate(str(self.file("none", "#!/bin/sh\necho usage\nexit 2\n", 0o755))))
 
     def test_a_line_with_one_answer_is_finished_and_found_again(self):
@@ -352,6 +349,21 @@ class Notes(WithFolder):
         self.assertEqual((note.line, note.part, str(note.bookmark)), (1, 1, "1;nAsti;+2.1.0.Asti;0;"))
         self.assertEqual(note.segments[1]["tags"], [["Asti", "ind"]])
         self.assertTrue(self.small.answer(lambda exchange: is_finished(exchange, note, self.small.phases)))
+
+    def test_the_command_writes_the_note_that_the_replies_of_read_tell(self):
+        for mark in (
+            "1;nAsti;+2.1.0.Asti;0;",
+            "1;nAsti;-2.1.0.Asti;0;",
+            "1;na;;0;",
+            "1;nAsti;;0;",
+            "1;nAsti;+0.0.0.asti;0;",
+            "1;nAsti;+0.0.9.asti;0;",
+            "1;n!;;0;",
+        ):
+            out = Path(self.file("told", ""))
+            status = run_annotate(PROGRAM, self.small.path, mark, out)
+            text = out.read_text(encoding="utf-8") or None
+            self.assertEqual((status, text), told_by_replies(PROGRAM, self.small.path, mark), mark)
 
     def test_a_line_with_several_answers_or_none_is_not_finished(self):
         for bookmark, why in {

@@ -1,18 +1,15 @@
 """A text on the page: its lines and their states, finishing them, opening them again, and the export."""
 
 import json
-import os
 import tempfile
 import time
 import unittest
 from pathlib import Path
 
 from browser import Browser
-from notes import can_annotate
 from serving import PROGRAM, TOP, PageServer
 from test_browser import Page, count_of, starter_path
 
-STAND_IN = Path(__file__).with_name("annotating.py")
 VERSES = """आसीद्राजा नलो नाम वीरसेनसुतो बली । उपपन्नो गुणैरिष्टै रूपवानश्वकोविदः ॥ १ ॥
 
 धर्मक्षेत्रे कुरुक्षेत्रे समवेता युयुत्सवः
@@ -25,12 +22,6 @@ return [...document.querySelectorAll('#text-lines li')].map((line) => {
   return [...line.querySelectorAll('span')].map((part) => part.textContent);
 });
 """
-
-
-def annotating_program():
-    """The program where it has `annotate`, else the stand-in."""
-    os.environ["SANDHI_REAL"] = PROGRAM
-    return PROGRAM if can_annotate(PROGRAM) else str(STAND_IN)
 
 
 class WithText(unittest.TestCase):
@@ -47,7 +38,7 @@ class WithText(unittest.TestCase):
         self.start()
 
     def start(self):
-        self.server = PageServer(starter_path(), self.text, self.program or annotating_program(), self.folder)
+        self.server = PageServer(starter_path(), self.text, self.program or PROGRAM, self.folder)
         self.addCleanup(self.server.stop)
         self.page = Page(self.browser, self.server.address).open().setting(output="slp1").open()
         self.wait_for_states()

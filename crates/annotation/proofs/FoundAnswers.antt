@@ -1,6 +1,6 @@
 -- A search that stood before the first answer and has moved stands at the first one; where it then comes past the last, this is the
 -- only one, and where it moves again, it stands at the next.
-use Rattle.std.proofs.Common.{◌≡◌, ◌≢◌, ℕ, ◌<◌, Some, List, [], ◌∷◌, length, refl, sym, ◌∙◌, ap, subst}
+use Rattle.std.proofs.Common.{◌≡◌, ◌≢◌, Some, List, [], refl, sym, ◌∙◌, ap, subst}
 use Rattle.std.specs.declared.cmp.Ordering.{Ordering}
 use Rattle.std.specs.declared.cmp.Ordering.TheVariants.{Less, Equal, Greater}
 use Rattle.text_definitions.specs.Lines.{Line}

@@ -1,5 +1,7 @@
-mod LinesPrinted
 mod FoundAnswers
 mod WrittenObjects
 mod WrittenSegments
 mod WrittenNotes
+mod ShapeTests
+mod ChoicesRead
+mod NotesRead

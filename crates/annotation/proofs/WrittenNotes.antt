@@ -1,19 +1,20 @@
 -- The value of a note has no float, so its text is the compact one.
-use Rattle.std.proofs.Common.{◌≡◌, ℕ, Bool, true, false, ◌||◌, List, [], ◌∷◌, map, refl, sym, ◌∙◌, ap}
+use Rattle.std.proofs.Common.{◌≡◌, ℕ, Bool, true, false, ◌||◌, List, [], ◌∷◌, length, suc, map, refl, sym, ◌∙◌, ap}
 use Rattle.serde_json.specs.Data.{Data, string, array}
 use Rattle.serde_json.specs.View.{items_of}
 use Rattle.serde_json.specs.Written.{has_float, items_have_float}
 use Rattle.text_definitions.specs.Lines.{Line}
-use Rattle.lexicon_definitions.specs.Lexicons.{Lexicon}
+use Rattle.lexicon_definitions.specs.Lexicons.{Lexicon, RuleSet, rule_of}
 use Rattle.segmentation_definitions.specs.Items.{Placed, Choice, placed}
 use Rattle.bookmark_definitions.specs.BookmarkTexts.{text_of_line, text_of_choice}
 use Rattle.note_definitions.specs.Notes.{Note}
 use Rattle.note_definitions.specs.NoteTexts.{tags_of, texts, segment_of, value_of_note, text_of_note}
 use Rattle.note_definitions.specs.NoteOutcomes.{Written, IsOutcome}
 use Rattle.derivation.specs.declared.step.Step.{Step as ProgramStep}
-use Rattle.derivation.specs.Steps.{StandIn, steps_of, places_of}
+use Rattle.derivation.specs.Steps.{StandIn, steps_from, steps_of, places_of}
 use Rattle.derivation.proofs.PlacedSteps.{same_places}
-use Rattle.annotation.specs.Answers.{AreOnly}
+use Rattle.annotation.specs.declared.written_note.WrittenNote.{WrittenNote}
+use Rattle.annotation.specs.Answers.{AreOnly, IsCounted}
 use Rattle.annotation.specs.Objects.{note_with}
 
 no_float_in_texts : (them : List (List ℕ)) → items_have_float (items_of (map string them)) ≡ false
@@ -51,9 +52,24 @@ note_made lexicon line choices steps value a b text stand is ha hb ht =
     let segments = hb ∙ ap (λ ps. array (items_of (map (segment_of lexicon) ps))) places in
     is ∙ (λ i. note_with (ha i) (segments i) (ht i))
 
+-- the program has as many steps as the definitions
+length-steps_from : (rules : RuleSet) (letters lead : List ℕ) (steps : List ProgramStep) → length (steps_from rules letters lead steps) ≡ length steps
+length-steps_from rules letters lead [] = refl
+length-steps_from rules letters lead (step ∷ steps) = ap suc (length-steps_from rules letters (rule_of rules step.rule).v steps)
+
 -- and so is what comes of writing it
-pub note_written : (lexicon : Lexicon) (line : Line) (choices : List Choice) (steps : List ProgramStep) (bytes : List ℕ)
+pub note_counted : (lexicon : Lexicon) (line : Line) (choices : List Choice) (steps : List ProgramStep) (note : WrittenNote)
     → AreOnly lexicon line choices steps
-    → bytes ≡ text_of_note lexicon (record { line = line; choices = choices; steps = steps_of lexicon.rules line.letters steps })
-    → IsOutcome lexicon line choices (Written bytes)
-note_written lexicon line choices steps bytes are e = (steps_of lexicon.rules line.letters steps, are.answer, e)
+    → note.text.items ≡ text_of_note lexicon (record { line = line; choices = choices; steps = steps_of lexicon.rules line.letters steps })
+    → note.segments ≡ length steps → IsCounted lexicon line choices note
+note_counted lexicon line choices steps note are text count = record {
+  steps = steps_of lexicon.rules line.letters steps;
+  answer = are.answer;
+  text = text;
+  segments = count ∙ sym (length-steps_from lexicon.rules line.letters [] steps);
+}
+
+-- its text alone
+pub text_alone : (lexicon : Lexicon) (line : Line) (choices : List Choice) (note : WrittenNote) → IsCounted lexicon line choices note
+    → IsOutcome lexicon line choices (Written note.text.items)
+text_alone lexicon line choices note is = (is.steps, is.answer, is.text)

@@ -1,5 +1,5 @@
 -- The members that were put into an object one after another, in the order of their names.
-use Rattle.std.proofs.Common.{◌≡◌, ℕ, List, codes, refl, sym, ◌∙◌, ap}
+use Rattle.std.proofs.Common.{◌≡◌, ℕ, List, codes, ◌∙◌, ap}
 use Rattle.serde_json.specs.Data.{Data, string, object, Members, no_members, member, put}
 use Rattle.note_definitions.specs.NoteTexts.{counted}
 use Rattle.annotation.specs.Objects.{segment_with, note_with}

@@ -1,11 +1,10 @@
 -- Lists of JSON values that grow with each turn of a loop, and the parts of a step's object.
-use Rattle.std.proofs.Common.{◌≡◌, ℕ, ◌+◌, ◌<◌, ◌≤◌, List, [], ◌∷◌, ◌++◌, length, map, take, drop, get_or, refl, sym, subst, ◌∙◌, ap, ap₂, append_assoc, append-nil, add-one}
+use Rattle.std.proofs.Common.{◌≡◌, ℕ, ◌+◌, ◌<◌, ◌≤◌, List, [], ◌∷◌, ◌++◌, length, map, take, drop, get_or, sym, subst, ◌∙◌, ap, ap₂, append_assoc, append-nil, add-one}
 use Rattle.std.proofs.lemmas.List.{take_more, map-append, drop_all}
 use Rattle.std.proofs.Math.Seq.{drop-cons}
-use Rattle.serde_json.specs.Data.{Data, array, string}
-use Rattle.serde_json.specs.View.{view, items_of}
+use Rattle.serde_json.specs.Data.{Data, string}
+use Rattle.serde_json.specs.View.{view}
 use Rattle.serde_json.specs.declared.value.Value.{Value}
-use Rattle.text_definitions.specs.Slp1.{slp1_of_word}
 use Rattle.lexicon_definitions.specs.Lexicons.{Lexicon, rule_of}
 use Rattle.derivation.specs.declared.step.Step.{Step}
 use Rattle.derivation.specs.Steps.{StandFrom, placed_with, places_of}

@@ -1,5 +1,5 @@
 -- What the calls that write a note answer (own).
-use Rattle.std.specs.Prelude.{◌≡◌, ℕ, Option, Some, None, Result, Ok, Err, List, Vec}
+use Rattle.std.specs.Prelude.{◌≡◌, ℕ, Option, Some, None, Result, Ok, Err, List, length, Vec}
 use Rattle.std.specs.Global.{Global}
 use Rattle.text_definitions.specs.Lines.{Line}
 use Rattle.lexicon_definitions.specs.Lexicons.{Lexicon}
@@ -10,9 +10,11 @@ use Rattle.derivation.specs.declared.step.Step.{Step}
 use Rattle.derivation.specs.Steps.{StandIn, steps_of, keys_meant}
 use Rattle.segmenter.specs.Searches.{SearchValue, MovedOn, HasEnded, IsCurrent}
 use Rattle.note_definitions.specs.Notes.{IsOnlyAnswer}
+use Rattle.note_definitions.specs.NoteTexts.{text_of_note}
 use Rattle.note_definitions.specs.NoteOutcomes as outcomes
 use Rattle.note_definitions.specs.NoteOutcomes.{Written, IsOutcome}
 use Rattle.annotation.specs.declared.error.NoteError.{NoteError}
+use Rattle.annotation.specs.declared.written_note.WrittenNote.{WrittenNote}
 use Rattle.annotation.specs.declared.error.NoteError.TheVariants.{NoAnswer, Several, Memory}
 
 -- no note was written for this reason; memory may be wanting
@@ -26,6 +28,18 @@ IsRefused lexicon line choices Memory = Unit {0}
 abbrev pub IsNoteWritten : Lexicon → Line → List Choice → Result (Vec ℕ Global) NoteError → Type 0
 IsNoteWritten lexicon line choices (Ok bytes) = IsOutcome lexicon line choices (Written bytes.items)
 IsNoteWritten lexicon line choices (Err error) = IsRefused lexicon line choices error
+
+-- the note is that of the only answer, and has as many segments as this has steps
+pub record IsCounted (lexicon : Lexicon) (line : Line) (choices : List Choice) (note : WrittenNote) : Type 0 where
+  pub steps : List AnswerStep
+  pub answer : IsOnlyAnswer lexicon line choices steps
+  pub text : note.text.items ≡ text_of_note lexicon (record { line = line; choices = choices; steps = steps })
+  pub segments : note.segments ≡ length steps
+
+-- the same, or why no note was written
+abbrev pub IsCountedNote : Lexicon → Line → List Choice → Result WrittenNote NoteError → Type 0
+IsCountedNote lexicon line choices (Ok note) = IsCounted lexicon line choices note
+IsCountedNote lexicon line choices (Err error) = IsRefused lexicon line choices error
 
 -- these are the program's steps of the only answer
 pub record AreOnly (lexicon : Lexicon) (line : Line) (choices : List Choice) (steps : List Step) : Type 0 where
@@ -47,6 +61,6 @@ HasSteps old new None = HasEnded old new
 HasSteps old new (Some steps) = HasNextSteps old new steps.items
 
 -- the steps of the only answer, or why there is none
-abbrev pub IsOnlyFound : SearchValue → Result (Vec Step Global) NoteError → Type 0
-IsOnlyFound search (Ok steps) = AreOnly search.searched.lexicon search.line search.choices steps.items
-IsOnlyFound search (Err error) = IsRefused search.searched.lexicon search.line search.choices error
+abbrev pub IsOnlyFound : Lexicon → Line → List Choice → Result (Vec Step Global) NoteError → Type 0
+IsOnlyFound lexicon line choices (Ok steps) = AreOnly lexicon line choices steps.items
+IsOnlyFound lexicon line choices (Err error) = IsRefused lexicon line choices error

@@ -1,6 +1,9 @@
 -- The JSON objects of a note by their parts, for private clauses.
-use Rattle.std.specs.Prelude.{ℕ, List, codes}
+use Rattle.std.specs.Prelude.{ℕ, List, [], map, codes, unwrap_or}
 use Rattle.serde_json.specs.Data.{Data, string, object, no_members, member}
+use Rattle.serde_json.specs.Find.{as_str}
+use Rattle.serde_json.specs.View.{view}
+use Rattle.serde_json.specs.declared.value.Value.{Value}
 use Rattle.note_definitions.specs.NoteTexts.{counted}
 
 -- the object of a step with these parts
@@ -21,3 +24,11 @@ note_with choices segments text =
     (member (codes "segments") segments
     (member (codes "text") (string text)
     (member (codes "version") (counted 1) no_members))))
+
+-- the text that a value is, if it is one
+abbrev pub text_in : Value → List ℕ
+text_in value = unwrap_or (as_str (view value)) []
+
+-- the texts that the values are
+abbrev pub texts_in : List Value → List (List ℕ)
+texts_in values = map text_in values

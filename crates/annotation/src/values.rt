@@ -5,7 +5,7 @@ ghost use Rattle.session_definitions.specs.PrintedSummaries.{printed_analysis};
 ghost use Rattle.form_tags.specs.Analyses.{text_analysis};
 ghost use Rattle.note_definitions.specs.NoteTexts.{texts};
 
-use crate::line_texts::print_choice;
+use bookmarks::print_choice;
 use derivation::Choice;
 use form_analyses::print_analysis;
 use form_tags::Analysis;

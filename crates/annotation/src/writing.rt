@@ -5,23 +5,20 @@ ghost use Rattle.segmentation_definitions.specs.PrintedAnswers.{output_line};
 ghost use Rattle.derivation.specs.Steps.{StandIn, steps_of};
 ghost use Rattle.note_definitions.specs.Notes.{IsChoiceOver};
 ghost use Rattle.note_definitions.specs.NoteTexts.{value_of_note, text_of_note};
-ghost use Rattle.annotation.specs.Answers.{IsNoteWritten};
+ghost use Rattle.annotation.specs.Answers.{IsNoteWritten, IsCountedNote};
 ghost use Rattle.annotation.specs.Objects.{note_with};
 
-use crate::NoteError;
-use crate::line_texts::print_line;
-use crate::only_answers::only_answer;
+use crate::only_answers::only_steps;
 use crate::segments::segments_value;
 use crate::values::choices_value;
+use crate::{NoteError, WrittenNote};
 use annotated_trie::Lexicon;
+use bookmarks::print_line;
 use derivation::{Choice, Step};
-use outside::Steps;
 use phoneme::{Line, Memory};
 use reader_choices::Choices;
-use segmenter::Search;
 use serde_json::{Map, Value, put};
 use std::alloc::{AllocError, Global};
-use summary_chart::Chart;
 
 /// The object of a note with these choices, segments and text.
 fn note_object(
@@ -41,7 +38,7 @@ fn note_object(
 }
 
 /// The JSON value of the note.
-fn note_value(
+pub(crate) fn note_value(
     alloc: Global,
     lexicon: &Lexicon,
     line: &Line,
@@ -84,9 +81,26 @@ fn note_text(
     value_text(alloc, &value)
 }
 
-/// The text of the note of the line and the choices, where they have exactly one answer (own; choices after Goyal and Huet 2016). `NoAnswer`
+/// The note of the line and the choices, where they have exactly one answer (own; choices after Goyal and Huet 2016). `NoAnswer`
 /// comes where they have none, and `Several` where they have two or more, with the keys of the first two.
-#[tactic(auto, using(crate::proofs::WrittenNotes::note_written))]
+#[tactic(auto, using(crate::proofs::WrittenNotes::note_counted))]
+pub fn write_counted_note(
+    alloc: Global,
+    lexicon: &Lexicon,
+    line: &Line,
+    choices: &Choices,
+) -> Result<WrittenNote, NoteError>
+    requires choices { All (IsChoiceOver lexicon.now.lexicon) choices.now }
+    ensures written { IsCountedNote lexicon.now.lexicon line.now choices.now result }
+{
+    let only = only_steps(alloc, lexicon, line, choices)?;
+    let text = note_text(alloc, lexicon, line, choices.list(), only.as_slice())?;
+    let segments = only.len();
+    Ok(WrittenNote { text, segments })
+}
+
+/// The text of this note alone.
+#[tactic(auto, using(crate::proofs::WrittenNotes::text_alone))]
 pub fn write_note(
     alloc: Global,
     lexicon: &Lexicon,
@@ -96,10 +110,6 @@ pub fn write_note(
     requires choices { All (IsChoiceOver lexicon.now.lexicon) choices.now }
     ensures written { IsNoteWritten lexicon.now.lexicon line.now choices.now result }
 {
-    let mut steps = Steps::<()>::new();
-    let chart = Chart::build(alloc, lexicon, line, choices, &mut steps)?;
-    let mut search = Search::new(alloc, lexicon, line, choices, &chart)?;
-    let only = only_answer(alloc, &mut search)?;
-    let bytes = note_text(alloc, lexicon, line, choices.list(), only.as_slice())?;
-    Ok(bytes)
+    let note = write_counted_note(alloc, lexicon, line, choices)?;
+    Ok(note.text)
 }

@@ -43,8 +43,9 @@ fn read_choice_with(alloc: Global, kept: bool, text: &[u8]) -> Result<Choice, Bo
     Ok(Choice { kept, item })
 }
 
-/// The choice that a text writes: `+` where its item is kept, `-` where it is rejected, and the item.
-fn read_choice(alloc: Global, text: &[u8]) -> Result<Choice, BookmarkError>
+/// The choice that a text `+AT.LEAD.PHASE.FORM` writes, with `-` where its item is rejected (own format). Refused with `Form` where
+/// it writes none.
+pub fn read_choice(alloc: Global, text: &[u8]) -> Result<Choice, BookmarkError>
     ensures { IsRead result (choice_of text.now) }
 {
     match text {
@@ -68,8 +69,9 @@ pub(crate) fn read_choices(alloc: Global, text: &[u8]) -> Result<Vec<Choice>, Bo
     Ok(choices)
 }
 
-/// `+` or `-`, and `AT.LEAD.PHASE.FORM`.
-fn print_choice(alloc: Global, choice: &Choice) -> Result<String, Memory>
+/// The text of a choice, `+AT.LEAD.PHASE.FORM` where its item is kept and `-AT.LEAD.PHASE.FORM` where it is rejected (own format).
+/// Refused only for want of memory.
+pub fn print_choice(alloc: Global, choice: &Choice) -> Result<String, Memory>
     ensures ok { IfOk result (λ text. string_bytes text ≡ text_of_choice choice.now) }
 {
     let sign = if choice.kept { "+" } else { "-" };

@@ -21,8 +21,8 @@ fn push_blank(blanks: &mut Vec<u32>, letters: &Word) -> Result<(), Memory>
     Ok(())
 }
 
-/// The line that a text writes: words in SLP1, with one `_` between each two.
-pub(crate) fn read_line(alloc: Global, text: &[u8]) -> Result<Line, BookmarkError>
+/// The line that a text writes: words in SLP1, with one `_` between each two (own format). Refused with `Form` where it writes none.
+pub fn read_line(alloc: Global, text: &[u8]) -> Result<Line, BookmarkError>
     ensures { IsRead result (line_of text.now) }
 {
     let mut letters = Word::new(alloc);
@@ -38,8 +38,8 @@ pub(crate) fn read_line(alloc: Global, text: &[u8]) -> Result<Line, BookmarkErro
     Ok(Line { letters, blanks })
 }
 
-/// The letters of the line in SLP1, with `_` at each blank.
-pub(crate) fn print_line(alloc: Global, line: &Line) -> Result<String, Memory>
+/// The text of a line: its letters in SLP1, with `_` at each blank (own format). Refused only for want of memory.
+pub fn print_line(alloc: Global, line: &Line) -> Result<String, Memory>
     ensures ok { IfOk result (λ text. string_bytes text ≡ text_of_line line.now) }
 {
     let letters = line.letters.as_slice();

@@ -5,6 +5,7 @@ ghost use Rattle.text_definitions.specs.Schemes as defined;
 ghost use Rattle.text_line.specs.Values.{scheme_of};
 ghost use Rattle.command_words.specs.Meant.{command_meant, given_meant};
 
+use super::annotate_words::AnnotateWords;
 use super::batch_words::BatchWords;
 use super::build_words::BuildWords;
 use super::convert_words::ConvertWords;
@@ -12,6 +13,7 @@ use super::demo_number::demo_number_of;
 use super::given::{Given, given_of};
 use super::join_words::JoinWords;
 use super::placed_word::PlacedWord;
+use super::reread_words::RereadWords;
 use super::split_words::SplitWords;
 use more_schemes::AnyScheme;
 use phoneme::Memory;
@@ -51,6 +53,10 @@ pub enum Command<'a> {
     Join(JoinWords<'a>),
     /// The lexicon file, the text, the size of the page, and the depth to which the search is divided.
     Split(SplitWords<'a>),
+    /// The lexicon file, the text of a bookmark, and the file to write.
+    Annotate(AnnotateWords<'a>),
+    /// The lexicon file, and the file of a note.
+    Reread(RereadWords<'a>),
 }
 
 /// Whether no word is too long.
@@ -235,6 +241,39 @@ fn split_with<'a>(given: &Given<'a>) -> Option<Command<'a>>
     }
 }
 
+/// `annotate` with what is given.
+fn annotate_with<'a>(given: &Given<'a>) -> Option<Command<'a>>
+    ensures some { IfSome result (λ command. (name_of_command (command_meant command) ≡ codes "annotate")
+        × Takes (command_meant command) (given_meant given.now).values (given_meant given.now).arguments) }
+    ensures none { IfNone result ((command : DefinedCommand) → name_of_command command ≡ codes "annotate"
+        → Takes command (given_meant given.now).values (given_meant given.now).arguments → ⊥) }
+{
+    match (given.values.as_slice(), given.arguments.as_slice()) {
+        ([], [lex, mark, out]) => Some(Command::Annotate(AnnotateWords {
+            lex: *lex,
+            mark: *mark,
+            out: *out,
+        })),
+        _ => None,
+    }
+}
+
+/// `reread` with what is given.
+fn reread_with<'a>(given: &Given<'a>) -> Option<Command<'a>>
+    ensures some { IfSome result (λ command. (name_of_command (command_meant command) ≡ codes "reread")
+        × Takes (command_meant command) (given_meant given.now).values (given_meant given.now).arguments) }
+    ensures none { IfNone result ((command : DefinedCommand) → name_of_command command ≡ codes "reread"
+        → Takes command (given_meant given.now).values (given_meant given.now).arguments → ⊥) }
+{
+    match (given.values.as_slice(), given.arguments.as_slice()) {
+        ([], [lex, file]) => Some(Command::Reread(RereadWords {
+            lex: *lex,
+            file: *file,
+        })),
+        _ => None,
+    }
+}
+
 /// The command of this name that takes what is given.
 fn command_with<'a>(name: &str, given: &Given<'a>) -> Option<Command<'a>>
     ensures some { IfSome result (λ command. (name.now ≡ name_of_command (command_meant command))
@@ -252,6 +291,8 @@ fn command_with<'a>(name: &str, given: &Given<'a>) -> Option<Command<'a>>
         "convert" => convert_with(given),
         "join" => join_with(given),
         "split" => split_with(given),
+        "annotate" => annotate_with(given),
+        "reread" => reread_with(given),
         _ => None,
     }
 }

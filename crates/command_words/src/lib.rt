@@ -11,6 +11,7 @@
 //! no command (`none`); so a refusal for another cause than want of memory is always one of the definitions.
 #![tactic(auto)]
 
+mod annotate_words;
 mod arguments;
 mod batch_words;
 mod build_words;
@@ -21,12 +22,15 @@ mod given;
 mod join_words;
 mod line;
 mod placed_word;
+mod reread_words;
 mod split_words;
 
+pub use annotate_words::AnnotateWords;
 pub use batch_words::BatchWords;
 pub use build_words::BuildWords;
 pub use command::{Command, command_of};
 pub use convert_words::ConvertWords;
 pub use join_words::JoinWords;
 pub use placed_word::PlacedWord;
+pub use reread_words::RereadWords;
 pub use split_words::SplitWords;

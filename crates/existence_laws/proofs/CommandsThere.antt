@@ -18,8 +18,10 @@ use Rattle.conversion_definitions.specs.AnySchemes.{AnyScheme, name_of_any_schem
 use Rattle.run_definitions.specs.ConvertOutcomes.{TakesConvert, AreConvertArguments}
 use Rattle.run_definitions.specs.JoinOutcomes.{TakesJoin}
 use Rattle.run_definitions.specs.SplitOutcomes.{TakesSplit, AreSplitArguments, split_depth_of}
+use Rattle.run_definitions.specs.AnnotateOutcomes.{TakesAnnotate}
+use Rattle.run_definitions.specs.RereadOutcomes.{TakesReread}
 use Rattle.run_definitions.specs.DemoOutcomes.{TakesDemo, AreDemoArguments, demo_number_of}
-use Rattle.run_definitions.specs.Commands.{Command, Segment, Check, Build, Read, Batch, Demo, Convert, Join, Split, AreWordsOf, AreOfNoCommand}
+use Rattle.run_definitions.specs.Commands.{Command, Segment, Check, Build, Read, Batch, Demo, Convert, Join, Split, Annotate, Reread, AreWordsOf, AreOfNoCommand}
 use Rattle.existence_laws.proofs.Decisions.{Decided, told_by, both, is_at_most, is_same_word, is_same_list, holds_of_all, one_has}
 
 -- ---- what the words give
@@ -272,6 +274,25 @@ takes_split values (a ∷ b ∷ c ∷ d ∷ []) =
     told_by (λ h. (h.1.0, (h.0, h.1.1))) (λ h. (h.1.0, (h.0, h.1.1))) (both (no_values values) (split_arguments a b c d))
 takes_split values (a ∷ b ∷ c ∷ d ∷ f ∷ arguments) = inr (λ h. let e = h.1.1.are in cc)
 
+takes_annotate : (values : List (List ℕ)) (arguments : List FileWord)
+    → Decided ((c : FileWord × List ℕ × FileWord) × TakesAnnotate c.0 c.1 c.2 values arguments)
+takes_annotate values [] = inr (λ h. let e = h.1.1.1 in cc)
+takes_annotate values (lex ∷ []) = inr (λ h. let e = h.1.1.1 in cc)
+takes_annotate values (lex ∷ mark ∷ []) = inr (λ h. let e = h.1.1.1 in cc)
+takes_annotate values (lex ∷ mark ∷ out ∷ []) =
+    told_by (λ h. ((lex, mark.name, out), (h, (mark.place, refl)))) (λ h. h.1.0) (no_values values)
+takes_annotate values (lex ∷ mark ∷ out ∷ other ∷ arguments) = inr (λ h. let e = h.1.1.1 in cc)
+
+takes_two : (arguments : List FileWord) → Decided ((c : FileWord × FileWord) × (arguments ≡ c.0 ∷ c.1 ∷ []))
+takes_two [] = inr (λ h. let e = h.1 in cc)
+takes_two (a ∷ []) = inr (λ h. let e = h.1 in cc)
+takes_two (a ∷ b ∷ []) = inl ((a, b), refl)
+takes_two (a ∷ b ∷ c ∷ arguments) = inr (λ h. let e = h.1 in cc)
+
+takes_reread : (values : List (List ℕ)) (arguments : List FileWord) → Decided ((c : FileWord × FileWord) × TakesReread c.0 c.1 values arguments)
+takes_reread values arguments =
+    told_by (λ h. (h.1.0, (h.0, h.1.1))) (λ h. (h.1.0, (h.0, h.1.1))) (both (no_values values) (takes_two arguments))
+
 -- ---- the command
 
 -- the command whose words they are, or none
@@ -287,6 +308,8 @@ command_there words =
     (named (codes "convert") (λ (v : AnyScheme × AnyScheme × FileWord × FileWord). TakesConvert v.0 v.1 v.2 v.3) takes_convert words)
     (named (codes "join") (λ (j : FileWord × List ℕ). TakesJoin j.0 j.1) takes_join words)
     (named (codes "split") (λ (p : FileWord × List ℕ × ℕ × ℕ). TakesSplit p.0 p.1 p.2 p.3) takes_split words)
+    (named (codes "annotate") (λ (a : FileWord × List ℕ × FileWord). TakesAnnotate a.0 a.1 a.2) takes_annotate words)
+    (named (codes "reread") (λ (f : FileWord × FileWord). TakesReread f.0 f.1) takes_reread words)
   where
     by_all : Decided ((c : FileWord × Scheme × List ℕ) × AreNamed (codes "segment") (TakesSegment c.0 c.1 c.2) words)
         → Decided ((lex : FileWord) × AreNamed (codes "check") (TakesCheck lex) words)
@@ -297,17 +320,21 @@ command_there words =
         → Decided ((v : AnyScheme × AnyScheme × FileWord × FileWord) × AreNamed (codes "convert") (TakesConvert v.0 v.1 v.2 v.3) words)
         → Decided ((j : FileWord × List ℕ) × AreNamed (codes "join") (TakesJoin j.0 j.1) words)
         → Decided ((p : FileWord × List ℕ × ℕ × ℕ) × AreNamed (codes "split") (TakesSplit p.0 p.1 p.2 p.3) words)
+        → Decided ((a : FileWord × List ℕ × FileWord) × AreNamed (codes "annotate") (TakesAnnotate a.0 a.1 a.2) words)
+        → Decided ((f : FileWord × FileWord) × AreNamed (codes "reread") (TakesReread f.0 f.1) words)
         → Decided ((command : Command) × AreWordsOf command words)
-    by_all (inl c) check build read batch demo convert join split = inl (Segment c.0.0 c.0.1 c.0.2, c.1)
-    by_all (inr s) (inl c) build read batch demo convert join split = inl (Check c.0, c.1)
-    by_all (inr s) (inr c) (inl b) read batch demo convert join split = inl (Build b.0.0 b.0.1 b.0.2 b.0.3, b.1)
-    by_all (inr s) (inr c) (inr b) (inl r) batch demo convert join split = inl (Read r.0, r.1)
-    by_all (inr s) (inr c) (inr b) (inr r) (inl x) demo convert join split = inl (Batch x.0.0 x.0.1 x.0.2 x.0.3, x.1)
-    by_all (inr s) (inr c) (inr b) (inr r) (inr x) (inl d) convert join split = inl (Demo d.0, d.1)
-    by_all (inr s) (inr c) (inr b) (inr r) (inr x) (inr d) (inl v) join split = inl (Convert v.0.0 v.0.1 v.0.2 v.0.3, v.1)
-    by_all (inr s) (inr c) (inr b) (inr r) (inr x) (inr d) (inr v) (inl j) split = inl (Join j.0.0 j.0.1, j.1)
-    by_all (inr s) (inr c) (inr b) (inr r) (inr x) (inr d) (inr v) (inr j) (inl p) = inl (Split p.0.0 p.0.1 p.0.2 p.0.3, p.1)
-    by_all (inr s) (inr c) (inr b) (inr r) (inr x) (inr d) (inr v) (inr j) (inr p) = inr (λ h. none h.0 h.1)
+    by_all (inl c) check build read batch demo convert join split annotate reread = inl (Segment c.0.0 c.0.1 c.0.2, c.1)
+    by_all (inr s) (inl c) build read batch demo convert join split annotate reread = inl (Check c.0, c.1)
+    by_all (inr s) (inr c) (inl b) read batch demo convert join split annotate reread = inl (Build b.0.0 b.0.1 b.0.2 b.0.3, b.1)
+    by_all (inr s) (inr c) (inr b) (inl r) batch demo convert join split annotate reread = inl (Read r.0, r.1)
+    by_all (inr s) (inr c) (inr b) (inr r) (inl x) demo convert join split annotate reread = inl (Batch x.0.0 x.0.1 x.0.2 x.0.3, x.1)
+    by_all (inr s) (inr c) (inr b) (inr r) (inr x) (inl d) convert join split annotate reread = inl (Demo d.0, d.1)
+    by_all (inr s) (inr c) (inr b) (inr r) (inr x) (inr d) (inl v) join split annotate reread = inl (Convert v.0.0 v.0.1 v.0.2 v.0.3, v.1)
+    by_all (inr s) (inr c) (inr b) (inr r) (inr x) (inr d) (inr v) (inl j) split annotate reread = inl (Join j.0.0 j.0.1, j.1)
+    by_all (inr s) (inr c) (inr b) (inr r) (inr x) (inr d) (inr v) (inr j) (inl p) annotate reread = inl (Split p.0.0 p.0.1 p.0.2 p.0.3, p.1)
+    by_all (inr s) (inr c) (inr b) (inr r) (inr x) (inr d) (inr v) (inr j) (inr p) (inl a) reread = inl (Annotate a.0.0 a.0.1 a.0.2, a.1)
+    by_all (inr s) (inr c) (inr b) (inr r) (inr x) (inr d) (inr v) (inr j) (inr p) (inr a) (inl f) = inl (Reread f.0.0 f.0.1, f.1)
+    by_all (inr s) (inr c) (inr b) (inr r) (inr x) (inr d) (inr v) (inr j) (inr p) (inr a) (inr f) = inr (λ h. none h.0 h.1)
       where
         none : (command : Command) → AreWordsOf command words → ⊥
         none (Segment lex scheme text) h = s ((lex, scheme, text), h)
@@ -319,6 +346,8 @@ command_there words =
         none (Convert from to file out) h = v ((from, to, file, out), h)
         none (Join lex chain) h = j ((lex, chain), h)
         none (Split lex text count depth) h = p ((lex, text, count, depth), h)
+        none (Annotate lex mark out) h = a ((lex, mark, out), h)
+        none (Reread lex file) h = f ((lex, file), h)
 
 pub command_or_none : (words : List (List ℕ)) → ((command : Command) × AreWordsOf command words) ⊎ AreOfNoCommand words
 command_or_none words = elim (command_there words) [ inl c ↦ inl c | inr none ↦ inr (λ command are. none (command, are)) ]

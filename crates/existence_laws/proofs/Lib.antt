@@ -11,4 +11,6 @@ pub mod SourcesSound
 pub mod LexiconsThere
 pub mod ChainsThere
 pub mod CommandsThere
+pub mod NotesThere
+pub mod NotesReread
 pub mod OutcomesThere

@@ -1,7 +1,7 @@
 -- Each command has an outcome, from what its files tell, and the page, the session or the lexicon that is there; and so has a run,
 -- whose words are those of a command or of none.
 use Rattle.std.proofs.Common.{◌≡◌, ℕ, ◌+◌, ◌++◌, inl, inr, List, [], ◌∷◌, length, Option, Some, Result, Ok, Err, refl, sym, ◌∙◌, subst, arith}
-use Rattle.std.specs.Prelude.{codes}
+use Rattle.std.specs.Prelude.{codes, false}
 use Rattle.outside.specs.Files.{Files, with_file}
 use Rattle.text_definitions.specs.Lines.{Line}
 use Rattle.text_definitions.specs.Schemes.{Scheme}
@@ -29,8 +29,8 @@ use Rattle.demo_definitions.proofs.StemsRead.{stems_read}
 use Rattle.demo_definitions.proofs.LinesRead.{line_read}
 use Rattle.run_definitions.specs.declared.limits.TheConstants.{CHECK_OVERLAPS, SEGMENT_PAGE}
 use Rattle.run_definitions.specs.Arguments.{FileWord}
-use Rattle.run_definitions.specs.Commands.{Command, Segment, Check, Build, Read, Batch, Demo, Convert, Join, Split, AreWordsOf}
-use Rattle.run_definitions.specs.Ends.{Outcome, Spelling, Done, ReadFault, BadFile, BadText, BadChain, AnyFault, Rules, Tables, Stems, outcome_over}
+use Rattle.run_definitions.specs.Commands.{Command, Segment, Check, Build, Read, Batch, Demo, Convert, Join, Split, Annotate, Reread, AreWordsOf}
+use Rattle.run_definitions.specs.Ends.{Outcome, Spelling, Done, ReadFault, BadFile, BadText, BadChain, AnyFault, Rules, Tables, Stems, Note, outcome_over}
 use Rattle.run_definitions.specs.Refusals.{file_refusal, text_refusal, chain_refusal, usage_outcome}
 use Rattle.run_definitions.specs.LexiconTells as lexicons
 use Rattle.run_definitions.specs.LexiconTells.{FileTells, DoesTell}
@@ -57,6 +57,9 @@ use Rattle.run_definitions.specs.JoinOutcomes.{printed_joined, IsChainOutcome, I
 use Rattle.text_definitions.specs.Schemes.{Slp1}
 use Rattle.run_definitions.specs.SplitOutcomes as split
 use Rattle.run_definitions.specs.SplitOutcomes.{IsSplitTextOutcome, IsSplitOutcomeWith, IsSplitOutcome}
+use Rattle.note_definitions.specs.NoteReadings.{IsNoteRead}
+use Rattle.run_definitions.specs.AnnotateOutcomes.{IsAnnotateOutcomeWith, IsAnnotateOutcome}
+use Rattle.run_definitions.specs.RereadOutcomes.{IsRereadNoteOutcome, IsNoteFileOutcome, IsRereadOutcomeWith, IsRereadOutcome}
 use Rattle.run_definitions.specs.DemoOutcomes.{DemoCounts, IsDemoLexicon, printed_demo, IsDemoOutcome}
 use Rattle.run_definitions.specs.Outcomes.{IsOutcomeOf, IsOutcome, IsSoFar, OfNoCommand, OfCommand, OfNone, OfOne}
 use Rattle.run_definitions.proofs.SoFar.{all_is_so_far}
@@ -68,6 +71,7 @@ use Rattle.existence_laws.proofs.OverlapsThere.{overlaps_there}
 use Rattle.existence_laws.proofs.LexiconsThere.{lexicon_there}
 use Rattle.existence_laws.proofs.ChainsThere.{chain_read_there, joined_there}
 use Rattle.existence_laws.proofs.CommandsThere.{command_there}
+use Rattle.existence_laws.proofs.NotesThere.{mark_there, note_read_there}
 
 -- what a file holds is a lexicon
 held_is_lexicon : (files : Files) (name : List ℕ) (tells : FileTells) (lexicon : Lexicon) → DoesTell files name tells → tells ≡ lexicons.Holds lexicon
@@ -352,6 +356,43 @@ split_there lex text count files =
     let outcome = split_with told.0 (λ lexicon e. held_is_lexicon files lex.name told.0 lexicon told.1 e) lex text count files in
     (outcome.0, record { tells = told.0; does_tell = told.1; is_outcome = outcome.1 })
 
+-- ---- annotate
+
+annotate_with : (tells : FileTells) → ((lexicon : Lexicon) → tells ≡ lexicons.Holds lexicon → IsLexicon lexicon) → (lex : FileWord)
+    (mark : List ℕ) (out : FileWord) (files : Files) → (outcome : Outcome) × IsAnnotateOutcomeWith tells lex mark out files outcome
+annotate_with lexicons.NotThere is lex mark out files = (outcome_over files [] ReadFault, refl)
+annotate_with (lexicons.Refused fault) is lex mark out files = (outcome_over files (file_refusal lex.name fault) (BadFile lex.place fault), refl)
+annotate_with (lexicons.Holds lexicon) is lex mark out files = mark_there lexicon (is lexicon refl) mark out files
+
+pub annotate_there : (lex : FileWord) (mark : List ℕ) (out : FileWord) (files : Files)
+    → (outcome : Outcome) × IsAnnotateOutcome lex mark out files outcome
+annotate_there lex mark out files =
+    let told = lexicon_told_there files lex.name in
+    let outcome = annotate_with told.0 (λ lexicon e. held_is_lexicon files lex.name told.0 lexicon told.1 e) lex mark out files in
+    (outcome.0, record { tells = told.0; does_tell = told.1; is_outcome = outcome.1 })
+
+-- ---- reread
+
+note_file_there : (lexicon : Lexicon) → IsLexicon lexicon → (word : FileWord) (files : Files)
+    → (outcome : Outcome) × IsNoteFileOutcome lexicon word files outcome
+note_file_there lexicon is word files =
+    let told = source_told_there (IsNoteRead lexicon) Note (note_read_there lexicon is) files word.name in
+    let outcome = after_there told.0 word files (λ note o. IsRereadNoteOutcome lexicon note files o) (λ note e.
+    (outcome_over files (printed_page lexicon.rules 1 (note.steps ∷ []) false) Done, refl)) in
+    (outcome.0, record { tells = told.0; do_tell = told.1; is_outcome = outcome.1 })
+
+reread_with : (tells : FileTells) → ((lexicon : Lexicon) → tells ≡ lexicons.Holds lexicon → IsLexicon lexicon) → (lex word : FileWord)
+    (files : Files) → (outcome : Outcome) × IsRereadOutcomeWith tells lex word files outcome
+reread_with lexicons.NotThere is lex word files = (outcome_over files [] ReadFault, refl)
+reread_with (lexicons.Refused fault) is lex word files = (outcome_over files (file_refusal lex.name fault) (BadFile lex.place fault), refl)
+reread_with (lexicons.Holds lexicon) is lex word files = note_file_there lexicon (is lexicon refl) word files
+
+pub reread_there : (lex word : FileWord) (files : Files) → (outcome : Outcome) × IsRereadOutcome lex word files outcome
+reread_there lex word files =
+    let told = lexicon_told_there files lex.name in
+    let outcome = reread_with told.0 (λ lexicon e. held_is_lexicon files lex.name told.0 lexicon told.1 e) lex word files in
+    (outcome.0, record { tells = told.0; does_tell = told.1; is_outcome = outcome.1 })
+
 -- ---- a run
 
 of_command : (words : List (List ℕ)) (files : Files) (input : Option (List ℕ)) → IsToldWhereServed words files input
@@ -365,6 +406,8 @@ of_command words files input told (Demo number) are = demo_there number files
 of_command words files input told (Convert from to text out) are = convert_there from to text out files
 of_command words files input told (Join lex chain) are = join_there lex chain files
 of_command words files input told (Split lex text count depth) are = split_there lex text count files
+of_command words files input told (Annotate lex mark out) are = annotate_there lex mark out files
+of_command words files input told (Reread lex word) are = reread_there lex word files
 
 pub outcome_there : (words : List (List ℕ)) (files : Files) (input : Option (List ℕ)) → IsToldWhereServed words files input
     → (outcome : Outcome) × IsOutcome words files input outcome

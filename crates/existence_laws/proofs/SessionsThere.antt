@@ -60,7 +60,7 @@ module _ (lexicon : Lexicon) (is : IsLexicon lexicon) where
       (λ steps. both (is_answer lexicon line choices steps) (is_same_list is_same_key (keys_of lexicon.rules steps) (key ∷ keys))) listing.0
       (λ steps h. listing.1.complete steps h.0 tt))
 
-  has_cursor : (mark : Bookmark) → Decided ((cursor : Cursor) × IsCursorOfBookmark lexicon mark cursor)
+  pub has_cursor : (mark : Bookmark) → Decided ((cursor : Cursor) × IsCursorOfBookmark lexicon mark cursor)
   has_cursor mark =
       told_by (λ h. (h.1.0, record { phases = h.0; keys = h.1.1 })) (λ h. (h.1.phases, (h.0, h.1.keys)))
       (both

@@ -3,6 +3,7 @@ ghost use Rattle.outside.specs.Files.{Files};
 ghost use Rattle.text_definitions.specs.Schemes.{Scheme};
 ghost use Rattle.lexicon_definitions.specs.Lexicons.{Lexicon};
 ghost use Rattle.conversion_definitions.specs.AnySchemes.{AnyScheme};
+ghost use Rattle.run_definitions.specs.AnnotateOutcomes.{IsAnnotateOutcome};
 ghost use Rattle.run_definitions.specs.BatchOutcomes.{IsBatchOutcome};
 ghost use Rattle.run_definitions.specs.BuildOutcomes.{IsBuildOutcome};
 ghost use Rattle.run_definitions.specs.CheckOutcomes.{IsCheckOutcome};
@@ -13,6 +14,7 @@ ghost use Rattle.run_definitions.specs.JoinOutcomes.{IsJoinOutcome};
 ghost use Rattle.run_definitions.specs.LexiconTells.{Holds, DoesTell};
 ghost use Rattle.run_definitions.specs.Outcomes.{Outcome, IsOutcome, IsSoFar};
 ghost use Rattle.run_definitions.specs.ReadOutcomes.{IsReadOutcome, IsToldWhereServed};
+ghost use Rattle.run_definitions.specs.RereadOutcomes.{IsRereadOutcome};
 ghost use Rattle.run_definitions.specs.SegmentOutcomes.{IsSegmentOutcome};
 ghost use Rattle.run_definitions.specs.SplitOutcomes.{IsSplitOutcome};
 
@@ -71,6 +73,17 @@ pub fn join_has_an_outcome()
 pub fn split_has_an_outcome()
     ensures { (lex : FileWord) (text : List ℕ) (count : ℕ) (files : Files)
         → (outcome : Outcome) × IsSplitOutcome lex text count files outcome }
+{}
+
+/// `annotate` has an outcome over any files.
+pub fn annotate_has_an_outcome()
+    ensures { (lex : FileWord) (mark : List ℕ) (out : FileWord) (files : Files)
+        → (outcome : Outcome) × IsAnnotateOutcome lex mark out files outcome }
+{}
+
+/// `reread` has an outcome over any files.
+pub fn reread_has_an_outcome()
+    ensures { (lex file : FileWord) (files : Files) → (outcome : Outcome) × IsRereadOutcome lex file files outcome }
 {}
 
 /// A run has an outcome, whatever its words and files are, where the input is told if a session is served. All of its output is

@@ -8,7 +8,7 @@ use Rattle.std.specs.declared.cmp.Ordering.{Ordering}
 use Rattle.std.specs.declared.cmp.Ordering.TheVariants.{Less, Equal, Greater}
 use Rattle.std.proofs.lemmas.List.{take-append-drop, length-take, length-drop, length-append}
 use Rattle.std.proofs.lemmas.List.Elements.{All-nil, All-cons, All-append, All-contains, All-weaker, Contains-append_left, Contains-append_right, Contains-append_cases}
-use Rattle.list_laws.specs.Firsts.{ComesAfter, AreAll}
+use Rattle.list_laws.specs.Firsts.{ComesAfter, AreFirst, AreAll}
 use Rattle.list_laws.proofs.Sorted.{Contains-first, Contains-cons_cases, not_Contains-nil, Contains-from_take, Contains-from_drop, Contains-parts, All-from_Contains, sorted_nil, sorted_append, sorted_front, following_front, not_after, same_fronts, same_sorted}
 use Rattle.list_laws.proofs.Elements.{some_element, some_by_element}
 use Rattle.front_definitions.specs.NextOnes.{AreNext}
@@ -200,13 +200,13 @@ module _ {X : Type 0} {R : X → X → Ordering} (total : IsTotalOrder R) where
         let same = same_next most next (take most all) more left is (next_of_all most all left are tells) in
         (same.0, subst (λ test. IsTrue test ↔ (drop most all ≢ [])) (sym same.1) tells)
 
-  -- ---- first ones of one property, and then those of another, each of which comes after all of the first
+  -- ---- first ones of one property, and then some of another, each of which comes after all of the first; these are enough to fill up
 
   module _ (P Q : X → Type 0) (most : ℕ) (firsts nexts : List X) (first_more next_more : Bool) (are : AreNext R P most firsts first_more)
-      (following : AreNext R Q most nexts next_more) (before : (x y : X) → P x → Q y → R x y ≡ Less) (fits : ℕ)
-      (room : fits ≡ min (most - length firsts) (length nexts)) where
+      (following : AreFirst R Q nexts next_more) (enough : next_more ≡ true → most - length firsts ≤ length nexts)
+      (before : (x y : X) → P x → Q y → R x y ≡ Less) (fits : ℕ) (room : fits ≡ min (most - length firsts) (length nexts)) where
     parts_rise : IsStrictlySortedBy R (take fits nexts ++ drop fits nexts)
-    parts_rise = subst (IsStrictlySortedBy R) (sym (take-append-drop fits nexts)) following.first.rising
+    parts_rise = subst (IsStrictlySortedBy R) (sym (take-append-drop fits nexts)) following.rising
 
     all_before : (y : X) → Q y → ComesAfter R firsts y
     all_before y of = All-from_Contains (λ x. R x y ≡ Less) firsts (λ x here. before x y (are.first.only x here) of)
@@ -214,12 +214,12 @@ module _ {X : Type 0} {R : X → X → Ordering} (total : IsTotalOrder R) where
     kept_rise : IsStrictlySortedBy R (firsts ++ take fits nexts)
     kept_rise =
         sorted_append total firsts (take fits nexts) are.first.rising (sorted_front total (take fits nexts) (drop fits nexts) parts_rise)
-        (λ y of. all_before y (following.first.only y (Contains-from_take fits nexts y of)))
+        (λ y of. all_before y (following.only y (Contains-from_take fits nexts y of)))
 
     kept_only : (x : X) → Contains (firsts ++ take fits nexts) x → P x ⊎ Q x
     kept_only x of = elim (Contains-append_cases firsts (take fits nexts) x of) [
       | inl here ↦ inl (are.first.only x here)
-      | inr later ↦ inr (following.first.only x (Contains-from_take fits nexts x later))
+      | inr later ↦ inr (following.only x (Contains-from_take fits nexts x later))
     ]
 
     kept_count : length (firsts ++ take fits nexts) ≡ length firsts + fits
@@ -252,7 +252,7 @@ module _ {X : Type 0} {R : X → X → Ordering} (total : IsTotalOrder R) where
         | inl here ↦ inl (Contains-append_left firsts (take fits nexts) x here)
         | inr (told_so, after) ↦ inr (told (inl told_so), after_none told_so x after)
       ]
-      kept_complete x (inr of) = elim (following.first.complete x of) [
+      kept_complete x (inr of) = elim (following.complete x of) [
         | inl here ↦ elim (Contains-parts fits nexts x here) [
           | inl front ↦ inl (Contains-append_right firsts (take fits nexts) x front)
           | inr back ↦ inr (
@@ -269,12 +269,12 @@ module _ {X : Type 0} {R : X → X → Ordering} (total : IsTotalOrder R) where
             let (x, of, after) : (x : X) × P x × ComesAfter R firsts x = are.first.left first in
             (x, inl of, after_none first x after)
         | inr (inl next) ↦
-            let (x, of, after) : (x : X) × Q x × ComesAfter R nexts x = following.first.left next in
+            let (x, of, after) : (x : X) × Q x × ComesAfter R nexts x = following.left next in
             (x, inr of, after_kept x (all_before x of) (after_taken x after))
         | inr (inr fewer) ↦
             let (x, back) : (x : X) × Contains (drop fits nexts) x = some_element (drop fits nexts)
             (λ none. let count = length-drop fits nexts in let nothing = ap length none in omega (arith, count, nothing, fewer)) in
-            let of = following.first.only x (Contains-from_drop fits nexts x back) in
+            let of = following.only x (Contains-from_drop fits nexts x back) in
             (x, inr of, after_kept x (all_before x of) (following_front total (take fits nexts) (drop fits nexts) x parts_rise back))
       ]
 
@@ -283,7 +283,7 @@ module _ {X : Type 0} {R : X → X → Ordering} (total : IsTotalOrder R) where
           let few = are.at_most in
           elim (says told_so) [
             | inl first ↦ let full = are.full first in omega (arith, kept_count, room, full)
-            | inr (inl next) ↦ let full = following.full next in omega (arith, kept_count, room, full, few)
+            | inr (inl next) ↦ let many = enough next in omega (arith, kept_count, room, many, few)
             | inr (inr fewer) ↦ omega (arith, kept_count, room, fewer, few)
           ]
 

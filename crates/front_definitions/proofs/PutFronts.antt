@@ -1,6 +1,6 @@
 -- The answers of fronts one after another: those of the next front come after all of those before, and those of all fronts are the
 -- listing.
-use Rattle.std.proofs.Common.{◌≡◌, ◌⊎◌, inl, inr, ℕ, ◌-◌, ◌<◌, min, Bool, true, false, Option, Some, None, List, [], ◌∷◌, ◌++◌, length, take, refl, sym, subst, arith}
+use Rattle.std.proofs.Common.{◌≡◌, ◌⊎◌, inl, inr, ℕ, ◌-◌, ◌<◌, ◌≤◌, min, Bool, true, false, Option, Some, None, List, [], ◌∷◌, ◌++◌, length, take, refl, sym, subst, arith}
 use Rattle.std.specs.List.{Contains}
 use Rattle.std.specs.List.Sorted.{IsStrictlySortedBy}
 use Rattle.std.specs.declared.cmp.Ordering.TheVariants.{Less}
@@ -51,16 +51,16 @@ module _ (lexicon : Lexicon) (line : Line) (choices : List Choice) (depth : ℕ)
     -- the first answers of the next front are put after those of the fronts before, as many as there is room for
     pub put_front : (most : ℕ) (firsts nexts : List (List Step)) (first_more next_more : Bool)
         → AreNext (compare_answers lexicon.rules) (IsAmongFronts lexicon line choices depth fronts) most firsts first_more
-        → AreNext (compare_answers lexicon.rules) (HasFront lexicon line choices depth front) most nexts next_more
-        → (fits : ℕ) → fits ≡ min (most - length firsts) (length nexts) → (more : Bool)
+        → AreFirst (compare_answers lexicon.rules) (HasFront lexicon line choices depth front) nexts next_more
+        → (next_more ≡ true → most - length firsts ≤ length nexts) → (fits : ℕ) → fits ≡ min (most - length firsts) (length nexts) → (more : Bool)
         → ((first_more ≡ true) ⊎ ((next_more ≡ true) ⊎ (fits < length nexts)) → more ≡ true)
         → (more ≡ true → (first_more ≡ true) ⊎ ((next_more ≡ true) ⊎ (fits < length nexts)))
         → AreNext (compare_answers lexicon.rules) (IsAmongFronts lexicon line choices depth (fronts ++ front ∷ [])) most (firsts ++ take fits nexts) more
-    put_front most firsts nexts first_more next_more are following fits room more told says =
+    put_front most firsts nexts first_more next_more are following enough fits room more told says =
         next_with (compare_answers lexicon.rules) _ (IsAmongFronts lexicon line choices depth (fronts ++ front ∷ [])) most (firsts ++ take fits nexts) more
         one_front_more one_front_less
         (next_of_both (compare_answers_total lexicon.rules) (IsAmongFronts lexicon line choices depth fronts) (HasFront lexicon line choices depth front) most
-        firsts nexts first_more next_more are following
+        firsts nexts first_more next_more are following enough
         (λ x y among of. by_fronts x y (front_of lexicon.rules depth x) front refl of.1
         (All-contains (λ before. compare_key_lists before front ≡ Less) fronts (front_of lexicon.rules depth x) after among.1))
         fits room more told says)
@@ -78,12 +78,13 @@ module _ (lexicon : Lexicon) (line : Line) (choices : List Choice) (depth : ℕ)
     full = λ never. absurd (cc (never));
   }
 
-  -- a front of which there is an answer has first answers
-  pub some_of_front : (front : List Key) (most : ℕ) (answers : List (List Step)) (more : Bool) → IsFront lexicon line choices depth front
-      → 0 < most → AreNext (compare_answers lexicon.rules) (HasFront lexicon line choices depth front) most answers more → 0 < length answers
-  some_of_front front most answers more (answer, of) some are = elim (are.first.complete answer of) [
+  -- where there is room for an answer of a front of which there is one, it has first answers
+  pub some_of_front : (front : List Key) (room : ℕ) (answers : List (List Step)) (more : Bool) → IsFront lexicon line choices depth front
+      → 0 < room → AreFirst (compare_answers lexicon.rules) (HasFront lexicon line choices depth front) answers more
+      → (more ≡ true → room ≤ length answers) → 0 < length answers
+  some_of_front front room answers more (answer, of) some are enough = elim (are.complete answer of) [
     | inl here ↦ let low = here.1 in omega (arith, low)
-    | inr left ↦ let full = are.full left.0 in omega (arith, full, some)
+    | inr left ↦ let many = enough left.0 in omega (arith, many, some)
   ]
 
   -- ---- all fronts

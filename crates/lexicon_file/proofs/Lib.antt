@@ -16,3 +16,8 @@ pub mod LinesTaken
 pub mod LineSteps
 pub mod ReadLemmas
 pub mod VersionsRead
+pub mod NamesWritten
+pub mod NodesWritten
+pub mod FormsWritten
+pub mod WholeTexts
+pub mod NewestTexts

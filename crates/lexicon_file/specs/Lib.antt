@@ -7,3 +7,4 @@ pub mod Rows
 pub mod Contents
 pub mod Told
 pub mod RisingPhases
+pub mod Writing

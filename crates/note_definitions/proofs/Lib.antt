@@ -1,11 +1,11 @@
-mod OnlyAnswers
-mod OneOutcome
-mod ReadOnce
-mod ReadNotes
+pub mod OnlyAnswers
+pub mod OneOutcome
+pub mod ReadOnce
+pub mod ReadNotes
 mod EndedTexts
 mod WrittenValues
 mod PlacedBounds
 mod PlainTexts
 mod NoteValues
 mod NoteShapesWritten
-mod NotesBack
+pub mod NotesBack

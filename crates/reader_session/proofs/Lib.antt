@@ -8,6 +8,7 @@ pub mod MarkedReadings
 pub mod OpenReplies
 pub mod PageCursors
 pub mod PageReadings
+pub mod ReadMarks
 pub mod RefusedPages
 pub mod RefusedReplies
 pub mod ResumeReplies

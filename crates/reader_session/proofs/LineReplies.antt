@@ -1,5 +1,5 @@
 -- What is looked at of a line, and the replies to a line that is too long or empty.
-use Rattle.std.proofs.Common.{◌≡◌, ℕ, ◌+◌, ◌≤◌, ◌<◌, nat_lt, Bool, true, false, List, [], ◌∷◌, ◌++◌, length, refl, sym, ◌∙◌, ap, subst, arith}
+use Rattle.std.proofs.Common.{◌≡◌, ℕ, ◌≤◌, ◌<◌, nat_lt, Bool, true, false, List, [], ◌∷◌, ◌++◌, length, refl, sym, ◌∙◌, ap, subst, arith}
 use Rattle.std.specs.Prelude.{MatchBool, codes, ◌==◌, if◌then◌else◌}
 use Rattle.std.proofs.lemmas.Bool.{lt-ltb, le-ltb, ne_eqb, eqb-true}
 use Rattle.std.proofs.lemmas.List.{append-nil}
@@ -8,7 +8,7 @@ use Rattle.segmentation_definitions.specs.PrintedAnswers.{output_line}
 use Rattle.session_definitions.specs.declared.limits.TheConstants.{MOST_SESSION_LINE_BYTES}
 use Rattle.session_definitions.specs.SessionLines.{without_return, line_text}
 use Rattle.session_definitions.specs.Requests.{request_of}
-use Rattle.session_definitions.specs.Replies.{Reply, refused, reply_in, IsReplyToText, IsReply}
+use Rattle.session_definitions.specs.Replies.{refused, reply_in, IsReplyToText, IsReply}
 use Rattle.reader_session.specs.declared.request.Request as asked_data
 use Rattle.reader_session.specs.declared.request.Request.TheVariants as asked
 use Rattle.reader_session.specs.Meant.{request_meant}

@@ -1,9 +1,9 @@
 -- A reply after which the session goes on, and the others; by the cases of a result.
-use Rattle.std.proofs.Common.{◌≡◌, ◌++◌, List, ℕ, Option, Some, None, Result, Ok, Err, IfOk, OnOk, refl, sym, ◌∙◌, ap, subst}
+use Rattle.std.proofs.Common.{◌≡◌, ◌++◌, List, ℕ, Option, Result, Ok, Err, IfOk, OnOk, refl, sym, subst}
 use Rattle.std.specs.Prelude.{codes}
 use Rattle.segmentation_definitions.specs.PrintedAnswers.{output_line}
 use Rattle.session_definitions.specs.Requests.{NoWord}
-use Rattle.session_definitions.specs.Replies.{Reply, Open, Over, refused, IsReplyTo}
+use Rattle.session_definitions.specs.Replies.{Reply, Over, IsReplyTo}
 use Rattle.annotated_trie.specs.Searched.{SearchedLexicon}
 use Rattle.reader_session.specs.declared.reading.Reading.{Reading}
 use Rattle.reader_session.specs.Readings.{IsReadingOver, GoesOn, state_of}

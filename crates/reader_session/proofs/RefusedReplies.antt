@@ -1,5 +1,5 @@
 -- A refusal leaves what is read as it was: by what the call of `refuse` gave.
-use Rattle.std.proofs.Common.{◌≡◌, ℕ, Option, Some, Result, Ok, Err, IfOk, OnOk, List, ◌++◌, codes, refl, sym, subst}
+use Rattle.std.proofs.Common.{◌≡◌, ℕ, Option, Result, Ok, Err, IfOk, OnOk, List, ◌++◌, codes, refl, sym, subst}
 use Rattle.segmentation_definitions.specs.PrintedAnswers.{output_line}
 use Rattle.annotated_trie.specs.Searched.{SearchedLexicon}
 use Rattle.session_definitions.specs.Replies.{Reply, refused}

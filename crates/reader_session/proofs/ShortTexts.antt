@@ -1,13 +1,11 @@
 -- The text that a line asks to be read is no longer than the line, since it is what comes after blanks of it.
-use Rattle.std.proofs.Common.{◌≡◌, ℕ, ◌+◌, ◌≤◌, Bool, true, false, List, [], ◌∷◌, ◌++◌, length, Option, Some, None, ◌∙◌, sym, ap, subst, arith}
+use Rattle.std.proofs.Common.{◌≡◌, ℕ, ◌+◌, ◌≤◌, Bool, true, false, List, [], ◌∷◌, length, Option, Some, None, ◌∙◌, ap, arith}
 use Rattle.std.specs.Prelude.{codes, if◌then◌else◌}
 use Rattle.std.specs.Str.{bytes_eq}
 use Rattle.std.proofs.lemmas.List.{length-append}
 use Rattle.lexicon_text_definitions.specs.FileLines.{parts_of}
 use Rattle.lexicon_text_definitions.proofs.LineCuts.{line_with, line_from_parts}
-use Rattle.text_definitions.specs.Schemes.{Scheme}
-use Rattle.session_definitions.specs.Requests.{Request, Text, Page, Summary, Choose, Undo, Tags, Mark, Resume, Quit, NoWord, after_blank, page_size_of, item_number_of, alone, text_request, request_with, request_of}
-use Rattle.bookmark_definitions.specs.BookmarkReadings.{bookmark_of_text}
+use Rattle.session_definitions.specs.Requests.{Request, Text, Page, Summary, Choose, Undo, Tags, Mark, Resume, Quit, NoWord, after_blank, alone, request_with, request_of}
 
 -- how long the text is that is to be read; 0 where there is no text
 abbrev pub text_length : Request → ℕ

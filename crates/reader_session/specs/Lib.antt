@@ -1,5 +1,6 @@
 pub mod Answered
 pub mod Marked
+pub mod Marks
 pub mod Meant
 pub mod NumberedItems
 pub mod PageEnds

@@ -1,5 +1,5 @@
 -- The item with a number in the summary of a session, or why there is no such item (own).
-use Rattle.std.specs.Prelude.{◌≡◌, ℕ, ◌-◌, Option, Some, None, List, Vec}
+use Rattle.std.specs.Prelude.{◌≡◌, ℕ, ◌-◌, Option, Some, None, Vec}
 use Rattle.std.specs.declared.alloc.Global.{Global}
 use Rattle.std.specs.List.{slice_get}
 use Rattle.segmentation_definitions.specs.Items.{Item}

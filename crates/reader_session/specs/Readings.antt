@@ -1,5 +1,5 @@
 -- What a session knows of the line that is read, as the definitions tell it (own).
-use Rattle.std.specs.Prelude.{◌≡◌, ℕ, ◌<◌, ◌≤◌, ◌↔◌, Option, Some, None, List, [], ◌∷◌, ◌++◌, length, All, MatchOption}
+use Rattle.std.specs.Prelude.{◌≡◌, ℕ, ◌<◌, ◌≤◌, ◌↔◌, Option, Some, None, List, [], ◌∷◌, ◌++◌, length, All}
 use Rattle.std.specs.Option.{option_map}
 use Rattle.text_definitions.specs.Lines.{IsLine}
 use Rattle.lexicon_definitions.specs.Lexicons.{RuleSet}

@@ -1,6 +1,5 @@
 -- What contracts see of a session between two lines of its input, and what a reply changes (own).
 use Rattle.std.specs.Prelude.{◌≡◌, ℕ, List, ◌++◌}
-use Rattle.lexicon_text_definitions.specs.FileLines as file
 use Rattle.annotated_trie.specs.Searched.{SearchedLexicon}
 use Rattle.session_definitions.specs.States.{State}
 use Rattle.session_definitions.specs.Replies as replies

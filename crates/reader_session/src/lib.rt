@@ -14,6 +14,9 @@
 //! - `replies`: where a read fails, just the replies to all complete lines among the bytes taken were written.
 //! - `read_fault`, `write_fault`: a fault is answered only where the device counted one.
 //!
+//! Proved of `read_mark`: it gives the line and the choices of the bookmark that a text writes, and nothing exactly where a session
+//! refuses to resume with this text (`mark`).
+//!
 //! Not said: that a device which fails is answered with its own fault, and not with want of memory.
 #![tactic(auto)]
 
@@ -28,6 +31,7 @@ mod item_number;
 mod laws;
 mod lines;
 mod mark_reply;
+mod marks;
 mod numbered_item;
 mod page_reply;
 mod reading;
@@ -44,4 +48,5 @@ mod text_reply;
 
 pub use input::serve;
 pub use laws::what_was_written_begins_the_session;
+pub use marks::{MarkedLine, read_mark};
 pub use serve_end::ServeEnd;

@@ -57,7 +57,7 @@ pub(crate) enum Request<'a> {
 }
 
 /// The bookmark that the text writes; `None` where it is the text of no bookmark.
-fn mark_of(alloc: Global, text: &[u8]) -> Result<Option<Bookmark>, Memory>
+pub(crate) fn mark_of(alloc: Global, text: &[u8]) -> Result<Option<Bookmark>, Memory>
     ensures ok { IfOk result (λ mark. option_map bookmark_of mark ≡ bookmark_of_text text.now) }
     ensures sound { IfOk result (λ mark. IfSome mark (λ read. IsBookmark (bookmark_of read))) }
 {

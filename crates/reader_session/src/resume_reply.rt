@@ -91,7 +91,11 @@ fn resume_at(
 }
 
 /// The line of the bookmark with its choices, where its pages were left. `None` where the bookmark is not one over this lexicon.
-fn resume(alloc: Global, lexicon: &Lexicon, mark: Bookmark) -> Result<Option<Reading>, Memory>
+pub(crate) fn resume(
+    alloc: Global,
+    lexicon: &Lexicon,
+    mark: Bookmark,
+) -> Result<Option<Reading>, Memory>
     requires mark { IsBookmark (bookmark_of mark) }
     ensures ok { IfOk result (IsResumed lexicon.now (bookmark_of mark)) }
 {

@@ -8,6 +8,9 @@ pub mod OneDemoOutcome
 pub mod OneConvertOutcome
 pub mod OneJoinOutcome
 pub mod OneSplitOutcome
+pub mod OneAnnotateOutcome
+pub mod OneRereadOutcome
+pub mod RefusedMarks
 pub mod OneOutcome
 pub mod BatchSoFar
 pub mod SoFar

@@ -27,7 +27,11 @@ use Rattle.run_definitions.specs.JoinOutcomes as join
 use Rattle.run_definitions.specs.JoinOutcomes.{IsJoinRun}
 use Rattle.run_definitions.specs.SplitOutcomes as split
 use Rattle.run_definitions.specs.SplitOutcomes.{IsSplitRun}
-use Rattle.run_definitions.specs.Commands.{Command, Segment, Check, Build, Read, Batch, Demo, Convert, Join, Split, name_of_command, AreWordsOf, AreOfNoCommand, out_of, DoWrite, ReadsInput, DoReadInput}
+use Rattle.run_definitions.specs.AnnotateOutcomes as annotate
+use Rattle.run_definitions.specs.AnnotateOutcomes.{IsAnnotateRun}
+use Rattle.run_definitions.specs.RereadOutcomes as reread
+use Rattle.run_definitions.specs.RereadOutcomes.{IsRereadRun}
+use Rattle.run_definitions.specs.Commands.{Command, Segment, Check, Build, Read, Batch, Demo, Convert, Join, Split, Annotate, Reread, name_of_command, AreWordsOf, AreOfNoCommand, out_of, DoWrite, ReadsInput, DoReadInput}
 use Rattle.run_definitions.specs.Outcomes.{IsOutcome, IsOutcomeOf, OfNoCommand, OfCommand, IsSoFar, IsSoFarOf, OfNone, OfOne}
 use Rattle.run_definitions.proofs.OneCommand.{one_command}
 
@@ -99,6 +103,8 @@ only_segment P own (Demo number) e = absurd (not_both (ap (is_named (codes "segm
 only_segment P own (Convert from to file out) e = absurd (not_both (ap (is_named (codes "segment")) e))
 only_segment P own (Join lex chain) e = absurd (not_both (ap (is_named (codes "segment")) e))
 only_segment P own (Split lex text count depth) e = absurd (not_both (ap (is_named (codes "segment")) e))
+only_segment P own (Annotate lex mark out) e = absurd (not_both (ap (is_named (codes "segment")) e))
+only_segment P own (Reread lex file) e = absurd (not_both (ap (is_named (codes "segment")) e))
 
 only_check : (P : Command → Type 0) → ((lex : FileWord) → P (Check lex))
     → (command : Command) → name_of_command command ≡ codes "check" → P command
@@ -111,6 +117,8 @@ only_check P own (Demo number) e = absurd (not_both (ap (is_named (codes "check"
 only_check P own (Convert from to file out) e = absurd (not_both (ap (is_named (codes "check")) e))
 only_check P own (Join lex chain) e = absurd (not_both (ap (is_named (codes "check")) e))
 only_check P own (Split lex text count depth) e = absurd (not_both (ap (is_named (codes "check")) e))
+only_check P own (Annotate lex mark out) e = absurd (not_both (ap (is_named (codes "check")) e))
+only_check P own (Reread lex file) e = absurd (not_both (ap (is_named (codes "check")) e))
 
 only_build : (P : Command → Type 0) → ((rules tables stems out : FileWord) → P (Build rules tables stems out))
     → (command : Command) → name_of_command command ≡ codes "build" → P command
@@ -123,6 +131,8 @@ only_build P own (Demo number) e = absurd (not_both (ap (is_named (codes "build"
 only_build P own (Convert from to file out) e = absurd (not_both (ap (is_named (codes "build")) e))
 only_build P own (Join lex chain) e = absurd (not_both (ap (is_named (codes "build")) e))
 only_build P own (Split lex text count depth) e = absurd (not_both (ap (is_named (codes "build")) e))
+only_build P own (Annotate lex mark out) e = absurd (not_both (ap (is_named (codes "build")) e))
+only_build P own (Reread lex file) e = absurd (not_both (ap (is_named (codes "build")) e))
 
 only_read : (P : Command → Type 0) → ((lex : FileWord) → P (Read lex))
     → (command : Command) → name_of_command command ≡ codes "read" → P command
@@ -135,6 +145,8 @@ only_read P own (Demo number) e = absurd (not_both (ap (is_named (codes "read"))
 only_read P own (Convert from to file out) e = absurd (not_both (ap (is_named (codes "read")) e))
 only_read P own (Join lex chain) e = absurd (not_both (ap (is_named (codes "read")) e))
 only_read P own (Split lex text count depth) e = absurd (not_both (ap (is_named (codes "read")) e))
+only_read P own (Annotate lex mark out) e = absurd (not_both (ap (is_named (codes "read")) e))
+only_read P own (Reread lex file) e = absurd (not_both (ap (is_named (codes "read")) e))
 
 only_batch : (P : Command → Type 0) → ((lex : FileWord) (scheme : Scheme) (file : FileWord) (count : ℕ) → P (Batch lex scheme file count))
     → (command : Command) → name_of_command command ≡ codes "batch" → P command
@@ -147,6 +159,8 @@ only_batch P own (Demo number) e = absurd (not_both (ap (is_named (codes "batch"
 only_batch P own (Convert from to file out) e = absurd (not_both (ap (is_named (codes "batch")) e))
 only_batch P own (Join lex chain) e = absurd (not_both (ap (is_named (codes "batch")) e))
 only_batch P own (Split lex text count depth) e = absurd (not_both (ap (is_named (codes "batch")) e))
+only_batch P own (Annotate lex mark out) e = absurd (not_both (ap (is_named (codes "batch")) e))
+only_batch P own (Reread lex file) e = absurd (not_both (ap (is_named (codes "batch")) e))
 
 only_demo : (P : Command → Type 0) → ((number : ℕ) → P (Demo number))
     → (command : Command) → name_of_command command ≡ codes "demo" → P command
@@ -159,6 +173,8 @@ only_demo P own (Demo number) e = own number
 only_demo P own (Convert from to file out) e = absurd (not_both (ap (is_named (codes "demo")) e))
 only_demo P own (Join lex chain) e = absurd (not_both (ap (is_named (codes "demo")) e))
 only_demo P own (Split lex text count depth) e = absurd (not_both (ap (is_named (codes "demo")) e))
+only_demo P own (Annotate lex mark out) e = absurd (not_both (ap (is_named (codes "demo")) e))
+only_demo P own (Reread lex file) e = absurd (not_both (ap (is_named (codes "demo")) e))
 
 only_convert : (P : Command → Type 0) → ((from to : AnyScheme) (file out : FileWord) → P (Convert from to file out))
     → (command : Command) → name_of_command command ≡ codes "convert" → P command
@@ -171,6 +187,8 @@ only_convert P own (Demo number) e = absurd (not_both (ap (is_named (codes "conv
 only_convert P own (Convert from to file out) e = own from to file out
 only_convert P own (Join lex chain) e = absurd (not_both (ap (is_named (codes "convert")) e))
 only_convert P own (Split lex text count depth) e = absurd (not_both (ap (is_named (codes "convert")) e))
+only_convert P own (Annotate lex mark out) e = absurd (not_both (ap (is_named (codes "convert")) e))
+only_convert P own (Reread lex file) e = absurd (not_both (ap (is_named (codes "convert")) e))
 
 only_join : (P : Command → Type 0) → ((lex : FileWord) (chain : List ℕ) → P (Join lex chain))
     → (command : Command) → name_of_command command ≡ codes "join" → P command
@@ -183,6 +201,8 @@ only_join P own (Demo number) e = absurd (not_both (ap (is_named (codes "join"))
 only_join P own (Convert from to file out) e = absurd (not_both (ap (is_named (codes "join")) e))
 only_join P own (Join lex chain) e = own lex chain
 only_join P own (Split lex text count depth) e = absurd (not_both (ap (is_named (codes "join")) e))
+only_join P own (Annotate lex mark out) e = absurd (not_both (ap (is_named (codes "join")) e))
+only_join P own (Reread lex file) e = absurd (not_both (ap (is_named (codes "join")) e))
 
 only_split : (P : Command → Type 0) → ((lex : FileWord) (text : List ℕ) (count depth : ℕ) → P (Split lex text count depth))
     → (command : Command) → name_of_command command ≡ codes "split" → P command
@@ -195,6 +215,36 @@ only_split P own (Demo number) e = absurd (not_both (ap (is_named (codes "split"
 only_split P own (Convert from to file out) e = absurd (not_both (ap (is_named (codes "split")) e))
 only_split P own (Join lex chain) e = absurd (not_both (ap (is_named (codes "split")) e))
 only_split P own (Split lex text count depth) e = own lex text count depth
+only_split P own (Annotate lex mark out) e = absurd (not_both (ap (is_named (codes "split")) e))
+only_split P own (Reread lex file) e = absurd (not_both (ap (is_named (codes "split")) e))
+
+only_annotate : (P : Command → Type 0) → ((lex : FileWord) (mark : List ℕ) (out : FileWord) → P (Annotate lex mark out))
+    → (command : Command) → name_of_command command ≡ codes "annotate" → P command
+only_annotate P own (Segment lex scheme text) e = absurd (not_both (ap (is_named (codes "annotate")) e))
+only_annotate P own (Check lex) e = absurd (not_both (ap (is_named (codes "annotate")) e))
+only_annotate P own (Build rules tables stems out) e = absurd (not_both (ap (is_named (codes "annotate")) e))
+only_annotate P own (Read lex) e = absurd (not_both (ap (is_named (codes "annotate")) e))
+only_annotate P own (Batch lex scheme file count) e = absurd (not_both (ap (is_named (codes "annotate")) e))
+only_annotate P own (Demo number) e = absurd (not_both (ap (is_named (codes "annotate")) e))
+only_annotate P own (Convert from to file out) e = absurd (not_both (ap (is_named (codes "annotate")) e))
+only_annotate P own (Join lex chain) e = absurd (not_both (ap (is_named (codes "annotate")) e))
+only_annotate P own (Split lex text count depth) e = absurd (not_both (ap (is_named (codes "annotate")) e))
+only_annotate P own (Annotate lex mark out) e = own lex mark out
+only_annotate P own (Reread lex file) e = absurd (not_both (ap (is_named (codes "annotate")) e))
+
+only_reread : (P : Command → Type 0) → ((lex file : FileWord) → P (Reread lex file))
+    → (command : Command) → name_of_command command ≡ codes "reread" → P command
+only_reread P own (Segment lex scheme text) e = absurd (not_both (ap (is_named (codes "reread")) e))
+only_reread P own (Check lex) e = absurd (not_both (ap (is_named (codes "reread")) e))
+only_reread P own (Build rules tables stems out) e = absurd (not_both (ap (is_named (codes "reread")) e))
+only_reread P own (Read lex) e = absurd (not_both (ap (is_named (codes "reread")) e))
+only_reread P own (Batch lex scheme file count) e = absurd (not_both (ap (is_named (codes "reread")) e))
+only_reread P own (Demo number) e = absurd (not_both (ap (is_named (codes "reread")) e))
+only_reread P own (Convert from to file out) e = absurd (not_both (ap (is_named (codes "reread")) e))
+only_reread P own (Join lex chain) e = absurd (not_both (ap (is_named (codes "reread")) e))
+only_reread P own (Split lex text count depth) e = absurd (not_both (ap (is_named (codes "reread")) e))
+only_reread P own (Annotate lex mark out) e = absurd (not_both (ap (is_named (codes "reread")) e))
+only_reread P own (Reread lex file) e = own lex file
 
 -- the command has the first word as its name
 named : (words : List (List ℕ)) (name : List ℕ) (following : List (List ℕ)) (command : Command) → words ≡ name ∷ following
@@ -330,3 +380,31 @@ module _ (words following : List (List ℕ)) (files : Files) (input : Option (Li
 
   pub split_run_alone : words ≡ codes "split" ∷ following → IsOutcome words files input outcome ↔ IsSplitRun words files outcome
   split_run_alone e = (split_run e, of_split_run e)
+
+  annotate_run : words ≡ codes "annotate" ∷ following → IsOutcome words files input outcome → IsAnnotateRun words files outcome
+  annotate_run e (OfNoCommand none is) = annotate.OfOthers (λ lex mark out are. none (Annotate lex mark out) are) is
+  annotate_run e (OfCommand command are is) =
+      only_annotate (λ c. AreWordsOf c words → IsOutcomeOf c files input outcome → IsAnnotateRun words files outcome)
+      (λ lex mark out. annotate.OfWords lex mark out) command (named words (codes "annotate") following command e are) are is
+
+  of_annotate_run : words ≡ codes "annotate" ∷ following → IsAnnotateRun words files outcome → IsOutcome words files input outcome
+  of_annotate_run e (annotate.OfWords lex mark out are is) = OfCommand (Annotate lex mark out) are is
+  of_annotate_run e (annotate.OfOthers none is) =
+      OfNoCommand (λ command are. only_annotate (λ c. AreWordsOf c words → ⊥) none command (named words (codes "annotate") following command e are) are) is
+
+  pub annotate_run_alone : words ≡ codes "annotate" ∷ following → IsOutcome words files input outcome ↔ IsAnnotateRun words files outcome
+  annotate_run_alone e = (annotate_run e, of_annotate_run e)
+
+  reread_run : words ≡ codes "reread" ∷ following → IsOutcome words files input outcome → IsRereadRun words files outcome
+  reread_run e (OfNoCommand none is) = reread.OfOthers (λ lex file are. none (Reread lex file) are) is
+  reread_run e (OfCommand command are is) =
+      only_reread (λ c. AreWordsOf c words → IsOutcomeOf c files input outcome → IsRereadRun words files outcome)
+      (λ lex file. reread.OfWords lex file) command (named words (codes "reread") following command e are) are is
+
+  of_reread_run : words ≡ codes "reread" ∷ following → IsRereadRun words files outcome → IsOutcome words files input outcome
+  of_reread_run e (reread.OfWords lex file are is) = OfCommand (Reread lex file) are is
+  of_reread_run e (reread.OfOthers none is) =
+      OfNoCommand (λ command are. only_reread (λ c. AreWordsOf c words → ⊥) none command (named words (codes "reread") following command e are) are) is
+
+  pub reread_run_alone : words ≡ codes "reread" ∷ following → IsOutcome words files input outcome ↔ IsRereadRun words files outcome
+  reread_run_alone e = (reread_run e, of_reread_run e)

@@ -12,7 +12,7 @@ use Rattle.segmentation_definitions.proofs.Listings.{same_page}
 use Rattle.session_definitions.specs.Sessions.{IsSession}
 use Rattle.session_definitions.proofs.OneSession.{one_session}
 use Rattle.run_definitions.specs.declared.limits.TheConstants.{CHECK_OVERLAPS, SEGMENT_PAGE}
-use Rattle.run_definitions.specs.Commands.{Command, Segment, Check, Build, Read, Batch, Demo, Convert, Join, Split, FileWord}
+use Rattle.run_definitions.specs.Commands.{Command, Segment, Check, Build, Read, Batch, Demo, Convert, Join, Split, Annotate, Reread, FileWord}
 use Rattle.run_definitions.specs.Ends as ends
 use Rattle.run_definitions.specs.Ends.{Outcome, Done, Large, outcome_over}
 use Rattle.run_definitions.specs.Refusals.{text_refusal}
@@ -29,6 +29,10 @@ use Rattle.run_definitions.specs.JoinOutcomes.{IsJoinOutcomeWith, IsJoinOutcome}
 use Rattle.run_definitions.proofs.OneJoinOutcome.{one_chain_outcome}
 use Rattle.run_definitions.specs.SplitOutcomes.{IsSplitOutcomeWith, IsSplitOutcome}
 use Rattle.run_definitions.proofs.OneSplitOutcome.{one_split_text}
+use Rattle.run_definitions.specs.AnnotateOutcomes.{IsAnnotateOutcomeWith, IsAnnotateOutcome}
+use Rattle.run_definitions.proofs.OneAnnotateOutcome.{one_mark_outcome}
+use Rattle.run_definitions.specs.RereadOutcomes.{IsRereadOutcomeWith, IsRereadOutcome}
+use Rattle.run_definitions.proofs.OneRereadOutcome.{one_note_file_outcome}
 use Rattle.run_definitions.proofs.OneBuildOutcome.{one_build_outcome}
 use Rattle.run_definitions.proofs.OneCommand.{one_command}
 use Rattle.run_definitions.proofs.OneContent.{same_bytes, not_missing}
@@ -186,6 +190,30 @@ module _ (one : (bytes : List ℕ) (left right : FileResult) → IsReadAs bytes 
       let same = one_telling files lex.name p.tells q.tells p.does_tell q.does_tell in
       one_split_with q.tells lex text count files a b (subst (λ (t : FileTells). IsSplitOutcomeWith t lex text count files a) same p.is_outcome) q.is_outcome
 
+  one_annotate_with : (tells : FileTells) (lex : FileWord) (mark : List ℕ) (out : FileWord) (files : Files) (a b : Outcome)
+      → IsAnnotateOutcomeWith tells lex mark out files a → IsAnnotateOutcomeWith tells lex mark out files b → a ≡ b
+  one_annotate_with NotThere lex mark out files a b p q = p ∙ sym q
+  one_annotate_with (Refused fault) lex mark out files a b p q = p ∙ sym q
+  one_annotate_with (Holds lexicon) lex mark out files a b p q = one_mark_outcome lexicon mark out files a b p q
+
+  pub one_annotate_outcome : (lex : FileWord) (mark : List ℕ) (out : FileWord) (files : Files) (a b : Outcome)
+      → IsAnnotateOutcome lex mark out files a → IsAnnotateOutcome lex mark out files b → a ≡ b
+  one_annotate_outcome lex mark out files a b p q =
+      let same = one_telling files lex.name p.tells q.tells p.does_tell q.does_tell in
+      one_annotate_with q.tells lex mark out files a b (subst (λ (t : FileTells). IsAnnotateOutcomeWith t lex mark out files a) same p.is_outcome) q.is_outcome
+
+  one_reread_with : (tells : FileTells) (lex file : FileWord) (files : Files) (a b : Outcome)
+      → IsRereadOutcomeWith tells lex file files a → IsRereadOutcomeWith tells lex file files b → a ≡ b
+  one_reread_with NotThere lex file files a b p q = p ∙ sym q
+  one_reread_with (Refused fault) lex file files a b p q = p ∙ sym q
+  one_reread_with (Holds lexicon) lex file files a b p q = one_note_file_outcome lexicon file files a b p q
+
+  pub one_reread_outcome : (lex file : FileWord) (files : Files) (a b : Outcome) → IsRereadOutcome lex file files a
+      → IsRereadOutcome lex file files b → a ≡ b
+  one_reread_outcome lex file files a b p q =
+      let same = one_telling files lex.name p.tells q.tells p.does_tell q.does_tell in
+      one_reread_with q.tells lex file files a b (subst (λ (t : FileTells). IsRereadOutcomeWith t lex file files a) same p.is_outcome) q.is_outcome
+
   -- each command has one outcome at most
   pub one_outcome_of : (command : Command) (files : Files) (input : Option (List ℕ)) (a b : Outcome) → IsOutcomeOf command files input a
       → IsOutcomeOf command files input b → a ≡ b
@@ -198,6 +226,8 @@ module _ (one : (bytes : List ℕ) (left right : FileResult) → IsReadAs bytes 
   one_outcome_of (Convert from to file out) files input a b p q = one_convert_outcome from to file out files a b p q
   one_outcome_of (Join lex chain) files input a b p q = one_join_outcome lex chain files a b p q
   one_outcome_of (Split lex text count depth) files input a b p q = one_split_outcome lex text count files a b p q
+  one_outcome_of (Annotate lex mark out) files input a b p q = one_annotate_outcome lex mark out files a b p q
+  one_outcome_of (Reread lex file) files input a b p q = one_reread_outcome lex file files a b p q
 
   -- and so has a run
   pub one_outcome : (words : List (List ℕ)) (files : Files) (input : Option (List ℕ)) (a b : Outcome)

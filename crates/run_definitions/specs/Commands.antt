@@ -13,6 +13,8 @@ use Rattle.run_definitions.specs.BatchOutcomes.{TakesBatch}
 use Rattle.run_definitions.specs.ConvertOutcomes.{TakesConvert}
 use Rattle.run_definitions.specs.JoinOutcomes.{TakesJoin}
 use Rattle.run_definitions.specs.SplitOutcomes.{TakesSplit}
+use Rattle.run_definitions.specs.AnnotateOutcomes.{TakesAnnotate}
+use Rattle.run_definitions.specs.RereadOutcomes.{TakesReread}
 use Rattle.run_definitions.specs.DemoOutcomes.{TakesDemo}
 pub use Rattle.run_definitions.specs.DemoOutcomes.{demo_number_of}
 
@@ -27,6 +29,8 @@ pub data Command : Type 0 where
   Convert : (from to : AnyScheme) → (file out : FileWord) → Command
   Join : (lex : FileWord) → (chain : List ℕ) → Command
   Split : (lex : FileWord) → (text : List ℕ) → (count depth : ℕ) → Command
+  Annotate : (lex : FileWord) → (mark : List ℕ) → (out : FileWord) → Command
+  Reread : (lex file : FileWord) → Command
 
 -- the files that the command reads, in their order
 abbrev pub files_of : Command → List FileWord
@@ -39,6 +43,8 @@ files_of (Demo number) = []
 files_of (Convert from to file out) = file ∷ []
 files_of (Join lex chain) = lex ∷ []
 files_of (Split lex text count depth) = lex ∷ []
+files_of (Annotate lex mark out) = lex ∷ []
+files_of (Reread lex file) = lex ∷ file ∷ []
 
 -- the file that the command writes, where it writes one
 abbrev pub out_of : Command → Option FileWord
@@ -51,6 +57,8 @@ out_of (Demo number) = None
 out_of (Convert from to file out) = Some out
 out_of (Join lex chain) = None
 out_of (Split lex text count depth) = None
+out_of (Annotate lex mark out) = Some out
+out_of (Reread lex file) = None
 
 -- the command reads the input
 abbrev pub ReadsInput : Command → Type 0
@@ -63,6 +71,8 @@ ReadsInput (Demo number) = ⊥
 ReadsInput (Convert from to file out) = ⊥
 ReadsInput (Join lex chain) = ⊥
 ReadsInput (Split lex text count depth) = ⊥
+ReadsInput (Annotate lex mark out) = ⊥
+ReadsInput (Reread lex file) = ⊥
 
 -- the first word of a command
 abbrev pub name_of_command : Command → List ℕ
@@ -75,6 +85,8 @@ name_of_command (Demo number) = codes "demo"
 name_of_command (Convert from to file out) = codes "convert"
 name_of_command (Join lex chain) = codes "join"
 name_of_command (Split lex text count depth) = codes "split"
+name_of_command (Annotate lex mark out) = codes "annotate"
+name_of_command (Reread lex file) = codes "reread"
 
 -- these values of `--in` and these arguments are the command's
 abbrev pub Takes : Command → List (List ℕ) → List FileWord → Type 0
@@ -87,6 +99,8 @@ Takes (Demo number) values arguments = TakesDemo number values arguments
 Takes (Convert from to file out) values arguments = TakesConvert from to file out values arguments
 Takes (Join lex chain) values arguments = TakesJoin lex chain values arguments
 Takes (Split lex text count depth) values arguments = TakesSplit lex text count depth values arguments
+Takes (Annotate lex mark out) values arguments = TakesAnnotate lex mark out values arguments
+Takes (Reread lex file) values arguments = TakesReread lex file values arguments
 
 -- the words are those of the command
 abbrev pub AreWordsOf : Command → List (List ℕ) → Type 0

@@ -15,5 +15,7 @@ pub mod BatchOutcomes
 pub mod ConvertOutcomes
 pub mod JoinOutcomes
 pub mod SplitOutcomes
+pub mod AnnotateOutcomes
+pub mod RereadOutcomes
 pub mod Commands
 pub mod Outcomes

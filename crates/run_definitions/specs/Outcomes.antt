@@ -2,7 +2,7 @@
 -- come first; then each command has its case.
 use Rattle.std.specs.Prelude.{◌≡◌, ℕ, List, Option}
 use Rattle.outside.specs.Files.{Files}
-use Rattle.run_definitions.specs.Commands.{Command, Segment, Check, Build, Read, Batch, Demo, Convert, Join, Split, AreWordsOf, AreOfNoCommand}
+use Rattle.run_definitions.specs.Commands.{Command, Segment, Check, Build, Read, Batch, Demo, Convert, Join, Split, Annotate, Reread, AreWordsOf, AreOfNoCommand}
 use Rattle.run_definitions.specs.Ends as ends
 use Rattle.run_definitions.specs.Refusals.{usage_outcome}
 use Rattle.run_definitions.specs.SegmentOutcomes.{IsSegmentOutcome}
@@ -14,6 +14,8 @@ use Rattle.run_definitions.specs.DemoOutcomes.{IsDemoOutcome}
 use Rattle.run_definitions.specs.ConvertOutcomes.{IsConvertOutcome}
 use Rattle.run_definitions.specs.JoinOutcomes.{IsJoinOutcome}
 use Rattle.run_definitions.specs.SplitOutcomes.{IsSplitOutcome}
+use Rattle.run_definitions.specs.AnnotateOutcomes.{IsAnnotateOutcome}
+use Rattle.run_definitions.specs.RereadOutcomes.{IsRereadOutcome}
 
 abbrev pub Outcome : Type 0
 Outcome = ends.Outcome
@@ -29,6 +31,8 @@ IsOutcomeOf (Demo number) files input outcome = IsDemoOutcome number files outco
 IsOutcomeOf (Convert from to file out) files input outcome = IsConvertOutcome from to file out files outcome
 IsOutcomeOf (Join lex chain) files input outcome = IsJoinOutcome lex chain files outcome
 IsOutcomeOf (Split lex text count depth) files input outcome = IsSplitOutcome lex text count files outcome
+IsOutcomeOf (Annotate lex mark out) files input outcome = IsAnnotateOutcome lex mark out files outcome
+IsOutcomeOf (Reread lex file) files input outcome = IsRereadOutcome lex file files outcome
 
 -- the outcome of a run with these words over these files and this input
 pub data IsOutcome (words : List (List ℕ)) (files : Files) (input : Option (List ℕ)) (outcome : Outcome) : Type 0 where
@@ -52,6 +56,8 @@ IsSoFarOf (Demo number) files input output = IsOutputOf (Demo number) files inpu
 IsSoFarOf (Convert from to file out) files input output = IsOutputOf (Convert from to file out) files input output
 IsSoFarOf (Join lex chain) files input output = IsOutputOf (Join lex chain) files input output
 IsSoFarOf (Split lex text count depth) files input output = IsOutputOf (Split lex text count depth) files input output
+IsSoFarOf (Annotate lex mark out) files input output = IsOutputOf (Annotate lex mark out) files input output
+IsSoFarOf (Reread lex file) files input output = IsOutputOf (Reread lex file) files input output
 
 -- what a run with these words may have come to write over these files and this input
 pub data IsSoFar (words : List (List ℕ)) (files : Files) (input : Option (List ℕ)) (output : List ℕ) : Type 0 where

@@ -11,8 +11,9 @@ use Rattle.rule_file_definitions.specs.RuleFileFaults as rule_file
 use Rattle.paradigm_file_definitions.specs.TableFaults as table
 use Rattle.paradigm_file_definitions.specs.StemFaults as stem
 use Rattle.chain_definitions.specs.ChainFaults as chain
+use Rattle.note_definitions.specs.NoteFaults as note
 use Rattle.run_definitions.specs.Ends as ends
-use Rattle.run_definitions.specs.Ends.{AnyFault, Large, Lexicon, Rules, Tables, Stems, Spelling, Outcome, outcome_over}
+use Rattle.run_definitions.specs.Ends.{AnyFault, Large, Lexicon, Rules, Tables, Stems, Spelling, Note, Outcome, outcome_over}
 
 -- what words of no command do: `usage` is written
 abbrev pub usage_outcome : Files → Outcome
@@ -76,8 +77,17 @@ rules_refusal (rule_file.Grammar fault) = codes ": Grammar"
 abbrev pub record_refusal : ℕ → List ℕ → List ℕ
 record_refusal number why = codes " record " ++ decimal number ++ codes ": " ++ why
 
--- `bad file NAME: Large`; `bad file NAME line N: WHY` of a lexicon file; `bad file NAME line N: spelling AT` of a text; and so on
--- of the others
+-- the name of a reason of a note
+abbrev pub name_of_note_why : note.Why → List ℕ
+name_of_note_why note.Json = codes "Json"
+name_of_note_why note.Shape = codes "Shape"
+name_of_note_why note.Text = codes "Text"
+name_of_note_why note.Choice = codes "Choice"
+name_of_note_why note.NotOnly = codes "NotOnly"
+name_of_note_why note.Segments = codes "Segments"
+
+-- `bad file NAME: Large`; `bad file NAME line N: WHY` of a lexicon file; `bad file NAME line N: spelling AT` of a text; `bad file NAME: WHY`
+-- of a note; and so on of the others
 abbrev pub file_refusal : List ℕ → AnyFault → List ℕ
 file_refusal name Large = output_line (codes "bad file " ++ name ++ codes ": Large")
 file_refusal name (Lexicon fault) =
@@ -89,6 +99,7 @@ file_refusal name (Stems fault) =
     output_line (codes "bad file " ++ name ++ record_refusal fault.number (name_of_stem_why fault.why))
 file_refusal name (Spelling fault) =
     output_line (codes "bad file " ++ name ++ codes " line " ++ decimal fault.line ++ codes ": spelling " ++ decimal (place_of fault.fault))
+file_refusal name (Note why) = output_line (codes "bad file " ++ name ++ codes ": " ++ name_of_note_why why)
 
 -- `bad text spelling AT`, `bad text no letters` or `bad text too long`
 abbrev pub text_refusal : LineFault → List ℕ

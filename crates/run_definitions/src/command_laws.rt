@@ -14,7 +14,9 @@ ghost use Rattle.conversion_definitions.specs.AnySchemes.{AnyScheme};
 ghost use Rattle.run_definitions.specs.ConvertOutcomes.{AreConvertWords, IsConvertOutcome, IsConvertRun};
 ghost use Rattle.run_definitions.specs.JoinOutcomes.{AreJoinWords, IsJoinOutcome, IsJoinRun};
 ghost use Rattle.run_definitions.specs.SplitOutcomes.{AreSplitWords, IsSplitOutcome, IsSplitRun};
-ghost use Rattle.run_definitions.specs.Commands.{Command, Segment, Check, Build, Read, Batch, Demo, Convert, Join, Split};
+ghost use Rattle.run_definitions.specs.AnnotateOutcomes.{AreAnnotateWords, IsAnnotateOutcome, IsAnnotateRun};
+ghost use Rattle.run_definitions.specs.RereadOutcomes.{AreRereadWords, IsRereadOutcome, IsRereadRun};
+ghost use Rattle.run_definitions.specs.Commands.{Command, Segment, Check, Build, Read, Batch, Demo, Convert, Join, Split, Annotate, Reread};
 ghost use Rattle.run_definitions.specs.Commands.{name_of_command, AreWordsOf, DoWrite, WriteNoFile, DoReadInput};
 ghost use Rattle.run_definitions.specs.Outcomes.{IsOutcome, IsSoFar};
 
@@ -151,6 +153,36 @@ pub fn split_alone()
         ↔ ((outcome : Outcome) × IsSplitOutcome lex text count files outcome × (output ≡ outcome.output)) }
     ensures writes { (lex : FileWord) (text : List ℕ) (count depth : ℕ) (words : List (List ℕ)) → AreSplitWords lex text count depth words → WriteNoFile words }
     ensures input { (lex : FileWord) (text : List ℕ) (count depth : ℕ) (words : List (List ℕ)) → AreSplitWords lex text count depth words → DoReadInput words → ⊥ }
+{}
+
+/// The outcomes of a run whose first word is `annotate` are just those that the definitions of `annotate` alone give; so is what it may have
+/// come to write where it stops.
+pub fn annotate_alone()
+    ensures words { (lex : FileWord) (mark : List ℕ) (out : FileWord) (words : List (List ℕ)) → AreAnnotateWords lex mark out words ↔ AreWordsOf (Annotate lex mark out) words }
+    ensures run { (words following : List (List ℕ)) (files : Files) (input : Option (List ℕ)) (outcome : Outcome)
+        → words ≡ codes "annotate" ∷ following → IsOutcome words files input outcome ↔ IsAnnotateRun words files outcome }
+    ensures outcome { (lex : FileWord) (mark : List ℕ) (out : FileWord) (words : List (List ℕ)) (files : Files) (input : Option (List ℕ)) (outcome : Outcome)
+        → AreAnnotateWords lex mark out words → IsOutcome words files input outcome ↔ IsAnnotateOutcome lex mark out files outcome }
+    ensures so_far { (lex : FileWord) (mark : List ℕ) (out : FileWord) (words : List (List ℕ)) (files : Files) (input : Option (List ℕ)) (output : List ℕ)
+        → AreAnnotateWords lex mark out words → IsSoFar words files input output
+        ↔ ((outcome : Outcome) × IsAnnotateOutcome lex mark out files outcome × (output ≡ outcome.output)) }
+    ensures writes { (lex : FileWord) (mark : List ℕ) (out : FileWord) (words : List (List ℕ)) (other : FileWord) → AreAnnotateWords lex mark out words → DoWrite words other → other ≡ out }
+    ensures input { (lex : FileWord) (mark : List ℕ) (out : FileWord) (words : List (List ℕ)) → AreAnnotateWords lex mark out words → DoReadInput words → ⊥ }
+{}
+
+/// The outcomes of a run whose first word is `reread` are just those that the definitions of `reread` alone give; so is what it may have
+/// come to write where it stops.
+pub fn reread_alone()
+    ensures words { (lex file : FileWord) (words : List (List ℕ)) → AreRereadWords lex file words ↔ AreWordsOf (Reread lex file) words }
+    ensures run { (words following : List (List ℕ)) (files : Files) (input : Option (List ℕ)) (outcome : Outcome)
+        → words ≡ codes "reread" ∷ following → IsOutcome words files input outcome ↔ IsRereadRun words files outcome }
+    ensures outcome { (lex file : FileWord) (words : List (List ℕ)) (files : Files) (input : Option (List ℕ)) (outcome : Outcome)
+        → AreRereadWords lex file words → IsOutcome words files input outcome ↔ IsRereadOutcome lex file files outcome }
+    ensures so_far { (lex file : FileWord) (words : List (List ℕ)) (files : Files) (input : Option (List ℕ)) (output : List ℕ)
+        → AreRereadWords lex file words → IsSoFar words files input output
+        ↔ ((outcome : Outcome) × IsRereadOutcome lex file files outcome × (output ≡ outcome.output)) }
+    ensures writes { (lex file : FileWord) (words : List (List ℕ)) → AreRereadWords lex file words → WriteNoFile words }
+    ensures input { (lex file : FileWord) (words : List (List ℕ)) → AreRereadWords lex file words → DoReadInput words → ⊥ }
 {}
 
 /// A run whose first word is the name of no command, or that has no word, is refused with `usage`.

@@ -14,7 +14,7 @@ use Rattle.sandhi_program.specs.declared.status.Status.TheVariants.{Usage}
 use Rattle.sandhi_program.specs.Faults.{Tells, file_fault}
 use Rattle.sandhi_program.specs.Ends.{Wrote, Nothing, Something}
 use Rattle.sandhi_program.specs.RunEnds.{HasOutcome}
-use Rattle.sandhi_program.specs.Sessions.{IsLexiconFile}
+use Rattle.sandhi_program.specs.Sessions.{IsLexiconFile, WritesRefusal}
 use Rattle.sandhi_program.specs.OverLexicons.{WritesOver, Over, OfFile}
 use Rattle.sandhi_program.proofs.FilesRead.{first_content}
 use Rattle.sandhi_program.proofs.SegmentRuns.{refused_file}
@@ -27,6 +27,22 @@ pub wrote_over : (May : Lexicon → Status → List ℕ → Type 0) (lex : FileW
 wrote_over May lex bytes lexicon is result old new faults now (Nothing memory same) = Nothing memory same
 wrote_over May lex bytes lexicon is result old new faults now (Something status output may finishes) =
     Something status output (Over lexicon is may) finishes
+
+-- the refusal of the file is the output of an outcome
+pub lexicon_refused : (IsIt : Files → Outcome → Type 0) (lex : FileWord)
+    → ((files : Files) (fault : ends.AnyFault) → DoesTell files lex.name (Refused fault)
+    → IsIt files (outcome_over files (file_refusal lex.name fault) (ends.BadFile lex.place fault)))
+    → (bytes : List ℕ) (files : Option Files) → AreFirstBytes files lex.name (MOST_FILE_BYTES + 1) bytes → (told : Files) → files ≡ Some told
+    → (status : Status) (output : List ℕ) → WritesRefusal lex bytes status output → HasOutcome (IsIt told) status output told
+lexicon_refused IsIt lex refused bytes files first told f status output w =
+    let (content, there, e) = first_content told lex.name (MOST_FILE_BYTES + 1) bytes
+    (subst (λ (x : Option Files). AreFirstBytes x lex.name (MOST_FILE_BYTES + 1) bytes) f first) in
+    let end : ends.End = ends.BadFile lex.place (file_fault w.fault) in record {
+      end = end;
+      told = subst (λ (x : Status). Tells x end) (sym w.ends) refl;
+      is_it = subst (λ (out : List ℕ). IsIt told (outcome_over told out end)) (sym w.printed)
+          (refused told (file_fault w.fault) (refused_file told lex.name content bytes w.fault there e w.refused));
+    }
 
 module _ (May : Lexicon → Status → List ℕ → Type 0) (IsIt : Files → Outcome → Type 0) (lex : FileWord) where
   -- no refusal of words is written
@@ -45,11 +61,4 @@ module _ (May : Lexicon → Status → List ℕ → Type 0) (IsIt : Files → Ou
   over_outcome over refused bytes files first told f status output (Over lexicon is may) =
       over told lexicon (told_lexicon lex bytes files lexicon first is told f) status output may
   over_outcome over refused bytes files first told f status output (OfFile w) =
-      let (content, there, e) = first_content told lex.name (MOST_FILE_BYTES + 1) bytes
-      (subst (λ (x : Option Files). AreFirstBytes x lex.name (MOST_FILE_BYTES + 1) bytes) f first) in
-      let end : ends.End = ends.BadFile lex.place (file_fault w.fault) in record {
-        end = end;
-        told = subst (λ (x : Status). Tells x end) (sym w.ends) refl;
-        is_it = subst (λ (out : List ℕ). IsIt told (outcome_over told out end)) (sym w.printed)
-            (refused told (file_fault w.fault) (refused_file told lex.name content bytes w.fault there e w.refused));
-      }
+      lexicon_refused IsIt lex refused bytes files first told f status output w

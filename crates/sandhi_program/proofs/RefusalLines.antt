@@ -36,6 +36,13 @@ source_line name rest = ap (λ r. codes "bad file " ++ r) (sym (append_assoc nam
 pub rule_line : (number why : List ℕ) → codes " rule " ++ (number ++ (codes ": " ++ why)) ≡ codes " rule " ++ number ++ codes ": " ++ why
 rule_line number why = ap (λ r. codes " rule " ++ r) (sym (append_assoc number (codes ": ") why))
 
+-- of a note: why
+pub note_line : (name why : List ℕ)
+    → codes "bad file " ++ (name ++ (codes ": " ++ (why ++ codes "\n"))) ≡ (codes "bad file " ++ name ++ codes ": " ++ why) ++ 10 ∷ []
+note_line name why =
+    ap (λ r. codes "bad file " ++ r)
+    (sym (append_assoc name (codes ": ") (why ++ 10 ∷ [])) ∙ sym (append_assoc (name ++ codes ": ") why (10 ∷ [])))
+
 -- of a chain
 pub chain_line : (number why : List ℕ)
     → codes "bad chain step " ++ (number ++ (codes ": " ++ (why ++ codes "\n"))) ≡ (codes "bad chain step " ++ number ++ codes ": " ++ why) ++ 10 ∷ []

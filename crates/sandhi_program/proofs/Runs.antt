@@ -9,7 +9,7 @@ use Rattle.run_definitions.specs.Commands.{FileWord}
 use Rattle.run_definitions.specs.Ends as ends
 use Rattle.run_definitions.specs.Ends.{End, Outcome, outcome_over}
 use Rattle.sandhi_program.specs.declared.status.Status.{Status}
-use Rattle.sandhi_program.specs.declared.status.Status.TheVariants.{Done, Memory, Usage, ReadFault, WriteFault, BadFile, BadText, TooMuch, BadChain}
+use Rattle.sandhi_program.specs.declared.status.Status.TheVariants.{Done, Memory, Usage, ReadFault, WriteFault, BadFile, BadText, TooMuch, BadChain, NoAnswer, Several, BadMark}
 use Rattle.sandhi_program.specs.Faults.{Tells}
 use Rattle.sandhi_program.specs.Headline.{IsNoFault, MayEndNoCommand}
 use Rattle.sandhi_program.specs.Ends.{IsUnread, Finishes, Refuses, Silently, InWords, Wrote, Nothing, Something}
@@ -320,6 +320,9 @@ may_end (BadFile word fault) old new faults now output f = absurd (cc ((f.all tt
 may_end (BadText fault) old new faults now output f = absurd (cc ((f.all tt).0))
 may_end TooMuch old new faults now output f = absurd (cc ((f.all tt).0))
 may_end (BadChain fault) old new faults now output f = absurd (cc ((f.all tt).0))
+may_end NoAnswer old new faults now output f = absurd (cc ((f.all tt).0))
+may_end (Several first second) old new faults now output f = absurd (cc ((f.all tt).0))
+may_end BadMark old new faults now output f = absurd (cc ((f.all tt).0))
 may_end ReadFault old new faults now output f = absurd (f.read_fault refl)
 may_end Usage old new faults now output f = tt
 may_end WriteFault old new faults now output f = tt

@@ -14,7 +14,7 @@ use Rattle.lexicon_text_definitions.specs.declared.limits.TheConstants.{MOST_FIL
 use Rattle.sandhi_program.specs.declared.status.Status.{Status}
 use Rattle.sandhi_program.specs.declared.status.Status.TheVariants.{Done, Usage, BadFile, BadText}
 use Rattle.sandhi_program.specs.declared.status.AnyFault.{AnyFault}
-use Rattle.sandhi_program.specs.declared.status.AnyFault.TheVariants.{Large, Lexicon as OfLexicon, Rules, Tables, Stems, Spelling}
+use Rattle.sandhi_program.specs.declared.status.AnyFault.TheVariants.{Large, Lexicon as OfLexicon, Rules, Tables, Stems, Spelling, Note}
 use Rattle.text_line.specs.Values.{text_fault}
 use Rattle.sandhi_program.specs.Faults.{Tells, file_fault}
 use Rattle.sandhi_program.specs.RunEnds.{HasOutcome}
@@ -34,6 +34,7 @@ refused_file files name content bytes (Rules fault) there e why = absurd why
 refused_file files name content bytes (Tables fault) there e why = absurd why
 refused_file files name content bytes (Stems fault) there e why = absurd why
 refused_file files name content bytes (Spelling fault) there e why = absurd why
+refused_file files name content bytes (Note reason) there e why = absurd why
 
 module _ (lex : FileWord) (scheme : Scheme) (text : List ℕ) where
   -- the outcome whose output `segment` writes

@@ -22,7 +22,12 @@ use Rattle.more_schemes.specs.declared.convert_error.ConvertError.{ConvertError}
 use Rattle.more_schemes.specs.declared.convert_error.ConvertError.TheVariants as conversion
 use Rattle.more_schemes.specs.Values.{conversion_fault, IsConvertFaultOf}
 use Rattle.run_definitions.specs.ConvertOutcomes.{with_count, IsConversion}
-use Rattle.sandhi_program.specs.Refusals.{error_of_rules, error_of_tables, error_of_stems, error_of_conversion}
+use Rattle.lexicon_definitions.specs.Lexicons.{Lexicon}
+use Rattle.note_definitions.specs.NoteReadings.{IsNoteRead}
+use Rattle.annotation.specs.declared.read_error.ReadNoteError.{ReadNoteError}
+use Rattle.annotation.specs.declared.read_error.ReadNoteError.TheVariants as note
+use Rattle.annotation.specs.Readings.{why_of, IsNoteReadAs}
+use Rattle.sandhi_program.specs.Refusals.{error_of_rules, error_of_tables, error_of_stems, error_of_conversion, error_of_note}
 use Rattle.sandhi_program.specs.Sources.{Faulty}
 use Rattle.sandhi_program.specs.SourceErrors.{IsSourceError}
 
@@ -46,3 +51,8 @@ pub conversion_error : (from to : AnyScheme) (bytes : List ℕ) (error : Convert
 conversion_error from to bytes (conversion.Fault fault) low read =
     Faulty low (conversion_fault fault) (ap (with_count (length (lines_of_bytes bytes))) read) refl
 conversion_error from to bytes conversion.Memory low read = tt
+
+pub note_error : (lexicon : Lexicon) (bytes : List ℕ) (error : ReadNoteError) → length bytes ≤ MOST_FILE_BYTES
+    → IsNoteReadAs lexicon bytes (Err error) → IsSourceError (IsNoteRead lexicon) ends.Note bytes (error_of_note error)
+note_error lexicon bytes (note.Fault why) low read = Faulty low (why_of why) read refl
+note_error lexicon bytes note.Memory low read = tt

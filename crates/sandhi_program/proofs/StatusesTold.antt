@@ -4,7 +4,7 @@ use Rattle.std.proofs.Common.{◌≡◌, ℕ, List, Option, sym, ap}
 use Rattle.outside.specs.Files.{Files}
 use Rattle.run_definitions.specs.Ends.{End, Outcome, status_of_end}
 use Rattle.sandhi_program.specs.declared.status.Status.{Status}
-use Rattle.sandhi_program.specs.declared.status.Status.TheVariants.{Done, Memory, Usage, ReadFault, WriteFault, BadFile, BadText, TooMuch, BadChain}
+use Rattle.sandhi_program.specs.declared.status.Status.TheVariants.{Done, Memory, Usage, ReadFault, WriteFault, BadFile, BadText, TooMuch, BadChain, NoAnswer, Several, BadMark}
 use Rattle.sandhi_program.specs.Headline.{exit_status, WroteAll}
 use Rattle.sandhi_program.specs.Faults.{Tells, TellsEnd}
 use Rattle.sandhi_program.specs.RunEnds.{WroteOutcome}
@@ -17,6 +17,9 @@ exit_told (BadFile word fault) end t = sym (ap status_of_end t)
 exit_told (BadText fault) end t = sym (ap status_of_end t)
 exit_told TooMuch end t = sym (ap status_of_end t)
 exit_told (BadChain fault) end t = sym (ap status_of_end t)
+exit_told NoAnswer end t = sym (ap status_of_end t)
+exit_told (Several first second) end t = sym (ap status_of_end t)
+exit_told BadMark end t = sym (ap status_of_end t)
 exit_told Memory end t = absurd t
 exit_told WriteFault end t = absurd t
 

@@ -4,7 +4,7 @@ use Rattle.outside.specs.Files.{Files}
 use Rattle.outside.specs.Told.{GrowsByPrefix}
 use Rattle.run_definitions.specs.Ends.{Outcome, status_of_end}
 use Rattle.sandhi_program.specs.declared.status.Status.{Status}
-use Rattle.sandhi_program.specs.declared.status.Status.TheVariants.{Done, Memory, Usage, ReadFault, WriteFault, BadFile, BadText, TooMuch, BadChain}
+use Rattle.sandhi_program.specs.declared.status.Status.TheVariants.{Done, Memory, Usage, ReadFault, WriteFault, BadFile, BadText, TooMuch, BadChain, NoAnswer, Several, BadMark}
 
 -- the exit status of the process
 abbrev pub exit_status : Status → ℕ
@@ -17,6 +17,9 @@ exit_status (BadFile word fault) = 5
 exit_status (BadText fault) = 6
 exit_status TooMuch = 7
 exit_status (BadChain fault) = 9
+exit_status NoAnswer = 10
+exit_status (Several first second) = 11
+exit_status BadMark = 12
 
 -- the status is neither of a device that failed nor of want of memory
 abbrev pub IsNoFault : Status → Type 0
@@ -26,6 +29,9 @@ IsNoFault (BadFile word fault) = Unit {0}
 IsNoFault (BadText fault) = Unit {0}
 IsNoFault TooMuch = Unit {0}
 IsNoFault (BadChain fault) = Unit {0}
+IsNoFault NoAnswer = Unit {0}
+IsNoFault (Several first second) = Unit {0}
+IsNoFault BadMark = Unit {0}
 IsNoFault ReadFault = ⊥
 IsNoFault WriteFault = ⊥
 IsNoFault Memory = ⊥
@@ -41,6 +47,9 @@ MayEndNoCommand (BadFile word fault) = ⊥
 MayEndNoCommand (BadText fault) = ⊥
 MayEndNoCommand TooMuch = ⊥
 MayEndNoCommand (BadChain fault) = ⊥
+MayEndNoCommand NoAnswer = ⊥
+MayEndNoCommand (Several first second) = ⊥
+MayEndNoCommand BadMark = ⊥
 
 -- the run wrote all the output of such an outcome, the files are as it leaves them, and the exit status is that of its end
 pub record WroteAll (IsIt : Outcome → Type 0) (after : Option Files) (old : List ℕ) (written : Option (List ℕ)) (result : Status) : Type 0 where

@@ -17,3 +17,5 @@ pub mod Joins
 pub mod Splits
 pub mod Sources
 pub mod SourceErrors
+pub mod Annotations
+pub mod Rereads

@@ -15,6 +15,8 @@ use Rattle.paradigms.specs.declared.errors.StemError.TheVariants as stems
 use Rattle.paradigms.specs.declared.errors.StemWhy.TheVariants.{Limit}
 use Rattle.more_schemes.specs.declared.convert_error.ConvertError.{ConvertError}
 use Rattle.more_schemes.specs.declared.convert_error.ConvertError.TheVariants as conversion
+use Rattle.annotation.specs.declared.read_error.ReadNoteError.{ReadNoteError}
+use Rattle.annotation.specs.declared.read_error.ReadNoteError.TheVariants as note
 use Rattle.lexicon_builder.specs.declared.error.BuildError.{BuildError}
 use Rattle.lexicon_builder.specs.declared.error.BuildError.TheVariants as built
 use Rattle.sandhi_program.specs.declared.status.AnyFault.TheVariants as fault_is
@@ -61,6 +63,11 @@ error_of_stems stems.Memory = any.Memory
 abbrev pub error_of_conversion : ConvertError → AnyError
 error_of_conversion (conversion.Fault fault) = any.Fault (fault_is.Spelling fault)
 error_of_conversion conversion.Memory = any.Memory
+
+-- a fault of a note
+abbrev pub error_of_note : ReadNoteError → AnyError
+error_of_note (note.Fault why) = any.Fault (fault_is.Note why)
+error_of_note note.Memory = any.Memory
 
 -- a lexicon that is too large, as a fault of the stem file that no record has
 abbrev pub error_of_lexicon : BuildError → AnyError

@@ -22,7 +22,7 @@ use Rattle.run_definitions.specs.Refusals.{file_refusal, text_refusal}
 use Rattle.sandhi_program.specs.declared.status.Status.{Status}
 use Rattle.sandhi_program.specs.declared.status.Status.TheVariants.{Done, BadFile, BadText}
 use Rattle.sandhi_program.specs.declared.status.AnyFault.{AnyFault}
-use Rattle.sandhi_program.specs.declared.status.AnyFault.TheVariants.{Large, Lexicon as OfLexicon, Rules, Tables, Stems, Spelling}
+use Rattle.sandhi_program.specs.declared.status.AnyFault.TheVariants.{Large, Lexicon as OfLexicon, Rules, Tables, Stems, Spelling, Note}
 use Rattle.sandhi_program.specs.Faults.{file_fault}
 
 -- a lexicon can be built of what was read of a file: there are forms for each phase, not too many, and the automaton is that of
@@ -57,6 +57,7 @@ IsRefusedFile bytes (Rules fault) = ⊥
 IsRefusedFile bytes (Tables fault) = ⊥
 IsRefusedFile bytes (Stems fault) = ⊥
 IsRefusedFile bytes (Spelling fault) = ⊥
+IsRefusedFile bytes (Note why) = ⊥
 
 -- the bytes are those of a lexicon's file, and the text has this fault
 pub record IsRefusedText (bytes : List ℕ) (scheme : Scheme) (text : List ℕ) (fault : TextFault) : Type 0 where

@@ -1,7 +1,7 @@
 -- How a run of `read` ends, which may also read the source, and so that of any command.
-use Rattle.std.specs.Prelude.{◌≡◌, ℕ, ◌≤◌, ◌⊎◌, List, length, Option, Some, Ok, Contains}
+use Rattle.std.specs.Prelude.{◌≡◌, ℕ, ◌≤◌, List, length, Option, Some, Ok}
 use Rattle.outside.specs.Counts.{Rose}
-use Rattle.outside.specs.Files.{Files, Lacks}
+use Rattle.outside.specs.Files.{Files}
 use Rattle.text_definitions.specs.Schemes.{Scheme}
 use Rattle.lexicon_definitions.specs.Lexicons.{Lexicon}
 use Rattle.lexicon_text_definitions.specs.declared.limits.TheConstants.{MOST_FILE_BYTES}
@@ -9,7 +9,7 @@ use Rattle.lexicon_text_definitions.specs.FileReadings.{IsReadAs}
 use Rattle.reader_session.specs.declared.serve_end.ServeEnd.{ServeEnd}
 use Rattle.reader_session.specs.declared.serve_end.ServeEnd.TheVariants as serve
 use Rattle.reader_session.specs.Served.{IsEnd, WroteSession, WroteFront, RepliedToTaken}
-use Rattle.run_definitions.specs.Commands.{Command, Read, Batch, FileWord, AreWordsOf, DoReadInput, files_of, out_of}
+use Rattle.run_definitions.specs.Commands.{Command, Read, Batch, FileWord, files_of, out_of}
 use Rattle.run_definitions.specs.Refusals.{file_refusal}
 use Rattle.run_definitions.specs.LexiconTells.{Holds, DoesTell}
 use Rattle.run_definitions.specs.Outcomes.{IsOutcomeOf}

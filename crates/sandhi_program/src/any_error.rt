@@ -1,6 +1,7 @@
 ghost use Rattle.std.specs.Prelude.{◌≡◌};
 
 use super::status::AnyFault;
+use annotation::ReadNoteError;
 use form_file::FileError;
 use lexicon_builder::BuildError;
 use more_schemes::ConvertError;
@@ -86,6 +87,19 @@ impl From<ConvertError> for AnyError {
         match refused {
             ConvertError::Fault(fault) => AnyError::Fault(AnyFault::Spelling(fault)),
             ConvertError::Memory => AnyError::Memory,
+        }
+    }
+}
+
+impl From<ReadNoteError> for AnyError {
+    ghost use Rattle.sandhi_program.specs.Refusals.{error_of_note};
+
+    ghost from_gives = { λ refused e. e ≡ error_of_note refused };
+
+    fn from(refused: ReadNoteError) -> AnyError {
+        match refused {
+            ReadNoteError::Fault(why) => AnyError::Fault(AnyFault::Note(why)),
+            ReadNoteError::Memory => AnyError::Memory,
         }
     }
 }

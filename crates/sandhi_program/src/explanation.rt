@@ -27,7 +27,7 @@ pub enum Explanation<'a> {
 impl<'a> Explanation<'a> {
     /// What is told of this status. Nothing is told where the output alone says enough, and where standard output is a pipe
     /// that nobody reads any more: whoever closed it has what was wanted.
-    pub fn of(status: Status, faults: &LastFaults<'a>) -> Option<Explanation<'a>> {
+    pub fn of(status: &Status, faults: &LastFaults<'a>) -> Option<Explanation<'a>> {
         match status {
             Status::Memory => Some(Explanation::Memory),
             Status::ReadFault => match faults.input {
@@ -44,7 +44,10 @@ impl<'a> Explanation<'a> {
             | Status::Usage
             | Status::BadFile { .. }
             | Status::BadText { .. }
-            | Status::BadChain { .. } => None,
+            | Status::BadChain { .. }
+            | Status::NoAnswer
+            | Status::Several { .. }
+            | Status::BadMark => None,
         }
     }
 }

@@ -9,6 +9,7 @@
 //! `write_fault_files`); and what stays (`failed_writes`, `failed_reads`, `unused_shelf`, `input`, `unread_input`).
 #![tactic(auto)]
 
+mod annotate;
 mod any_error;
 mod batch;
 mod build;
@@ -24,6 +25,7 @@ mod read;
 mod reading;
 mod ready_reader;
 mod refusal;
+mod reread;
 mod run;
 mod segment;
 mod source_files;
@@ -56,8 +58,8 @@ fn words_of(rt: &HostRuntime) -> Result<Vec<String>, Memory> {
 }
 
 /// Tells a person on standard error what the output alone doesn't say of how the run ended.
-fn tell_after(rt: &impl Eprint, words: &[String], status: Status, faults: &LastFaults<'_>) {
-    if status == Status::Usage {
+fn tell_after(rt: &impl Eprint, words: &[String], status: &Status, faults: &LastFaults<'_>) {
+    if matches!(status, Status::Usage) {
         tell_usage(rt, words);
     }
     if let Some(explanation) = Explanation::of(status, faults) {
@@ -89,6 +91,6 @@ fn main(rt: HostRuntime) -> ExitCode {
         input: input.last_fault(),
         output: out.last_fault(),
     };
-    tell_after(&rt, &words, status, &faults);
+    tell_after(&rt, &words, &status, &faults);
     ExitCode::from(status.exit_code())
 }

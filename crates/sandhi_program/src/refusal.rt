@@ -1,12 +1,14 @@
 ghost use Rattle.std.specs.Prelude.{◌≡◌, IfOk, string_bytes};
 ghost use Rattle.form_file.specs.Faults.{why_of};
 ghost use Rattle.joiner.specs.Faults as chains;
-ghost use Rattle.run_definitions.specs.Refusals.{name_of_why, file_refusal, text_refusal, name_of_chain_why, chain_refusal};
+ghost use Rattle.annotation.specs.Readings as notes;
+ghost use Rattle.run_definitions.specs.Refusals.{name_of_why, file_refusal, text_refusal, name_of_chain_why, chain_refusal, name_of_note_why};
 ghost use Rattle.text_line.specs.Values.{text_fault};
 ghost use Rattle.sandhi_program.specs.Faults.{file_fault};
 
 use super::source_refusal::{name_of_stem_why, name_of_table_why, record_refusal, rules_refusal};
 use super::status::AnyFault;
+use annotation::NoteWhy;
 use form_file::FileWhy;
 use joiner::{ChainFault, ChainWhy};
 use phoneme::Memory;
@@ -33,8 +35,22 @@ fn name_of(why: FileWhy) -> &'static str
     }
 }
 
+/// The name of a reason of a note.
+fn name_of_note_why(why: NoteWhy) -> &'static str
+    ensures { result.now ≡ name_of_note_why (notes.why_of why) }
+{
+    match why {
+        NoteWhy::Json => "Json",
+        NoteWhy::Shape => "Shape",
+        NoteWhy::Text => "Text",
+        NoteWhy::Choice => "Choice",
+        NoteWhy::NotOnly => "NotOnly",
+        NoteWhy::Segments => "Segments",
+    }
+}
+
 /// `bad file NAME: Large`, `bad file NAME line N: WHY` of a lexicon file, and so on of the source files; `bad file NAME line N:
-/// spelling AT` of a text.
+/// spelling AT` of a text; `bad file NAME: WHY` of a note.
 pub(crate) fn print_file_refusal(
     alloc: Global,
     name: &str,
@@ -65,6 +81,10 @@ pub(crate) fn print_file_refusal(
             let line = fault.line;
             let at = fault.fault.place();
             Ok(format!(in alloc; "bad file {name} line {line}: spelling {at}\n")?)
+        }
+        AnyFault::Note(why) => {
+            let why = name_of_note_why(why);
+            Ok(format!(in alloc; "bad file {name}: {why}\n")?)
         }
     }
 }

@@ -16,6 +16,7 @@ ghost use Rattle.sandhi_program.specs.Sessions.{source_told, RanCommand};
 ghost use Rattle.sandhi_program.specs.ReadFaults.{ReadsFailed, LacksFile};
 ghost use Rattle.sandhi_program.specs.RepliedSoFar.{IsRepliedTo};
 
+use super::annotate::run_annotate;
 use super::batch::run_batch;
 use super::check::run_check;
 use super::convert::run_convert;
@@ -23,6 +24,7 @@ use super::demo::run_demo;
 use super::ending::finish;
 use super::join::run_join;
 use super::read::run_read;
+use super::reread::run_reread;
 use super::segment::run_segment;
 use super::source_files::run_build;
 use super::split::run_split;
@@ -63,11 +65,13 @@ fn run_command<R: Threads + Sync, H: Shelf, I: Source, O: Sink, G: Gate + Sync>(
         Command::Convert(words) => run_convert(alloc, words, shelf, out),
         Command::Join(words) => run_join(alloc, words, shelf, out),
         Command::Split(words) => run_split(rt, alloc, words, shelf, out, gate),
+        Command::Annotate(words) => run_annotate(alloc, words, shelf, out),
+        Command::Reread(words) => run_reread(alloc, words, shelf, out),
     }
 }
 
 /// Does what the words of the command line say, over the devices, and answers how the run ended. `words` are the
-/// program's words without its name. `usage` and the refusals of files, texts and chains are written to `out`, a line each; where a
+/// program's words without its name. `usage` and the refusals of files, texts, chains and bookmarks are written to `out`, a line each; where a
 /// file is not read nothing is written. Each worker that answers a line for `batch` or a part for `split` passes the
 /// gate first.
 pub fn run<R: Threads + Sync, H: Shelf, I: Source, O: Sink, G: Gate + Sync>(

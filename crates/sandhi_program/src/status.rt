@@ -1,6 +1,8 @@
 ghost use Rattle.std.specs.Prelude.{◌≡◌};
 ghost use Rattle.sandhi_program.specs.Headline.{exit_status};
 
+use annotation::NoteWhy;
+use derivation::Key;
 use form_file::FileFault;
 use joiner::ChainFault;
 use more_schemes::ConvertFault;
@@ -9,7 +11,7 @@ use rule_file::RuleFault;
 use text_line::TextFault;
 
 /// How a run ended, and with which fault.
-#[derive(Clone, Copy, Debug, PartialEq, Eq)]
+#[derive(Debug, Drop, PartialEq, Eq)]
 pub enum Status {
     /// All input of the command was read and all output written.
     Done,
@@ -29,6 +31,12 @@ pub enum Status {
     TooMuch,
     /// The text of a chain is refused.
     BadChain { fault: ChainFault },
+    /// A line with its choices has no answer.
+    NoAnswer,
+    /// A line with its choices has several answers, of which these are the keys of the first two.
+    Several { first: Vec<Key>, second: Vec<Key> },
+    /// The text of a bookmark is refused.
+    BadMark,
 }
 
 /// Why a file is refused: it has more than `MOST_FILE_BYTES` bytes, or a fault of its format. The fault of stems with the
@@ -41,13 +49,14 @@ pub enum AnyFault {
     Tables(TableFault),
     Stems(StemFault),
     Spelling(ConvertFault),
+    Note(NoteWhy),
 }
 
 impl Status {
     /// The exit status of the process: 0 for `Done`, 1 `Memory`, 2 `Usage`, 3 `ReadFault`, 4 `WriteFault`, 5 `BadFile`,
-    /// 6 `BadText`, 7 `TooMuch` and 9 `BadChain`.
-    pub fn exit_code(self) -> u8
-        ensures { result ≡ exit_status self }
+    /// 6 `BadText`, 7 `TooMuch`, 9 `BadChain`, 10 `NoAnswer`, 11 `Several` and 12 `BadMark`.
+    pub fn exit_code(&self) -> u8
+        ensures { result ≡ exit_status self.now }
     {
         match self {
             Status::Done => 0,
@@ -59,6 +68,9 @@ impl Status {
             Status::BadText { .. } => 6,
             Status::TooMuch => 7,
             Status::BadChain { .. } => 9,
+            Status::NoAnswer => 10,
+            Status::Several { .. } => 11,
+            Status::BadMark => 12,
         }
     }
 }

@@ -37,6 +37,11 @@ const STEMS: &str = "nara,a\niti,u\n";
 const LEXICON: &str =
     "slx 1\nphase noun\nphase ind\ngrammar (ind | noun)+\nplain a k\nplain a c\nrule a|i>e\nform noun nareRa nara m.sg.ins\nform ind iti iti ind\nend\n";
 
+const NOTE: &str =
+    "{\"choices\":[\"+2.1.0.Asti\"],\"segments\":[{\"at\":0,\"form\":\"na\",\"lead\":0,\"phase\":\"word\",\"rule\":2,\"tags\":[\"na ind\"],\"taken\":1},{\"at\":2,\"form\":\"Asti\",\"lead\":1,\"phase\":\"word\",\"rule\":0,\"tags\":[\"Asti ind\"],\"taken\":3}],\"text\":\"nAsti\",\"version\":1}\n";
+
+const SEVERAL: &str = "several\n1: na[word] (a|a>A) asti[word]\n2: na[word] (a|A>A) Asti[word]\n";
+
 const PAGED: &str = "text slp1 nAsti\npage 1\npage 1\npage 1\n";
 
 const PAGED_OUT: &str =
@@ -85,7 +90,7 @@ impl Failing {
 }
 
 /// The words with a `/` between them, what fails, the exit status, what is written, and what OUT has, where it is there.
-static FAULTS: [(&str, Failing, u8, &str, Option<&str>); 30] = [
+static FAULTS: [(&str, Failing, u8, &str, Option<&str>); 44] = [
     ("build/r/t/s/o", Failing::Shelf(1), 3, "", None),
     ("build/r/t/s/o", Failing::Shelf(2), 3, "", None),
     ("build/r/t/s/o", Failing::Shelf(3), 3, "", None),
@@ -134,6 +139,68 @@ static FAULTS: [(&str, Failing, u8, &str, Option<&str>); 30] = [
     ("split/l1/ceti/9/1", Failing::Shelf(1), 3, "", None),
     ("split/l1/ceti/9/1", Failing::Sink(1, 7), 4, "", None),
     ("split/l1/ceti/9/1", Failing::Sink(2, 7), 4, "1: ca[w", None),
+    (
+        "annotate/l7/1;nAsti;+2.1.0.Asti;0;/o",
+        Failing::Shelf(1),
+        3,
+        "",
+        None,
+    ),
+    (
+        "annotate/l7/1;nAsti;+2.1.0.Asti;0;/o",
+        Failing::Shelf(2),
+        4,
+        "",
+        None,
+    ),
+    (
+        "annotate/l7/1;nAsti;+2.1.0.Asti;0;/o",
+        Failing::Sink(1, 7),
+        4,
+        "",
+        Some(NOTE),
+    ),
+    (
+        "annotate/l7/1;nAsti;+2.1.0.Asti;0;/o",
+        Failing::Sink(2, 7),
+        4,
+        "segment",
+        Some(NOTE),
+    ),
+    (
+        "annotate/l7/1;nAsti;;0;/o",
+        Failing::Shelf(2),
+        11,
+        SEVERAL,
+        None,
+    ),
+    (
+        "annotate/l7/1;nAsti;;0;/o",
+        Failing::Sink(2, 7),
+        4,
+        "several",
+        None,
+    ),
+    (
+        "annotate/l7/1;nAsti;-2.1.0.asti,-2.1.0.Asti;0;/o",
+        Failing::Shelf(2),
+        10,
+        "no answer\n",
+        None,
+    ),
+    (
+        "annotate/l7/1;nAsti;-2.1.0.asti,-2.1.0.Asti;0;/o",
+        Failing::Sink(2, 7),
+        4,
+        "no answ",
+        None,
+    ),
+    ("annotate/l7/x/o", Failing::Shelf(2), 12, "bad mark\n", None),
+    ("annotate/l7/x/o", Failing::Sink(1, 7), 4, "", None),
+    ("reread/l7/n", Failing::Shelf(1), 3, "", None),
+    ("reread/l7/n", Failing::Shelf(2), 3, "", None),
+    ("reread/l7/n", Failing::Sink(2, 7), 4, "1: na[w", None),
+    ("reread/l7/f", Failing::Sink(2, 7), 4, "bad fil", None),
 ];
 
 /// The words, as they are written with a `/` between them.
@@ -146,7 +213,7 @@ fn words_of<R: AllocGlobal>(rt: &R, text: &str) -> Result<Vec<String>, Fail> {
     Ok(words)
 }
 
-/// A shelf with lexicons, the sources of one, and a text, of which this call fails.
+/// A shelf with lexicons, the sources of one, a text, and a note, of which this call fails.
 fn shelf_of<R: AllocGlobal>(rt: &R, failing: u64) -> Result<MemoryShelf, Fail> {
     let mut shelf = MemoryShelf::new(rt.alloc(), vec![in rt.alloc(); failing]?);
     for (name, text) in [
@@ -156,6 +223,7 @@ fn shelf_of<R: AllocGlobal>(rt: &R, failing: u64) -> Result<MemoryShelf, Fail> {
         ("t", TABLES),
         ("s", STEMS),
         ("f", "nAsti\n"),
+        ("n", NOTE),
     ] {
         shelf.put(name, text.as_bytes())?;
     }

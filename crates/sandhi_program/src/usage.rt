@@ -1,5 +1,5 @@
 /// The name of each command, its line of usage, and what a person may want to know of it.
-static COMMANDS: [(&str, &str); 9] = [
+static COMMANDS: [(&str, &str); 11] = [
     (
         "segment",
         "segment [--in SCHEME] LEX TEXT    (SCHEME is slp1, wx, velthuis or devanagari; without it slp1)",
@@ -32,6 +32,14 @@ static COMMANDS: [(&str, &str); 9] = [
     (
         "split",
         "split LEX TEXT N DEPTH    (the first N answers, 1 to 1000; fronts of DEPTH steps, 1 to 8, are listed side by side)",
+    ),
+    (
+        "annotate",
+        "annotate LEX MARK OUT    (MARK is what a session writes for `mark`, in quotes; its one answer is written to OUT as a note)",
+    ),
+    (
+        "reread",
+        "reread LEX FILE    (the answer of a note that `annotate` wrote, where it still holds)",
     ),
 ];
 

@@ -1,13 +1,14 @@
 -- The program's steps of the answer at which a search stands have its keys.
-use Rattle.std.proofs.Common.{◌≡◌, ◌↔◌, ℕ, Bool, true, false, IsTrue, Some, List, take, refl, sym, ap, ◌∙◌, subst}
+use Rattle.std.proofs.Common.{◌≡◌, ◌↔◌, ℕ, ◌<◌, Bool, true, false, IsTrue, Some, List, length, take, refl, sym, ap, ◌∙◌, subst, arith}
 use Rattle.std.specs.Bool.{OnTrue, OnFalse}
 use Rattle.std.proofs.lemmas.Bool.{false≢true}
+use Rattle.std.proofs.lemmas.List.{length-map}
 use Rattle.segmentation_definitions.specs.Derivations.{Step}
 use Rattle.segmentation_definitions.specs.Listings.{Key, keys_of, AtAnswer, IsAbove}
 use Rattle.front_definitions.specs.Fronts.{front_of}
 use Rattle.derivation.specs.declared.step.Key.{Key as ProgramKey}
 use Rattle.derivation.specs.declared.step.Step.{Step as ProgramStep}
-use Rattle.derivation.specs.Steps.{keys_meant, steps_of}
+use Rattle.derivation.specs.Steps.{key_meant, keys_meant, key_of, steps_of}
 use Rattle.derivation.specs.Steps.{keys_of as program_keys}
 use Rattle.derivation.proofs.PlacedSteps.{same_keys}
 use Rattle.front_definitions.proofs.KeyListFronts.{together}
@@ -23,6 +24,21 @@ front_of_current now depth steps front current taken answer at =
     let letters = now.line.letters in
     taken ∙ ap (take depth) (same_keys rules letters steps current.1)
     ∙ ap (λ answer. take depth (keys_of rules answer)) (same_answer (steps_of rules letters steps) answer (sym current.0 ∙ at))
+
+-- all of them
+pub keys_of_current : (now : SearchValue) (steps : List ProgramStep) (keys : List ProgramKey) → IsCurrent now (Some steps)
+    → keys_meant keys ≡ program_keys steps → (answer : List Step) → now.cursor ≡ AtAnswer answer
+    → (0 < length keys) × (keys_of now.searched.lexicon.rules answer ≡ keys_meant keys)
+keys_of_current now steps keys current are answer at =
+    let rules = now.searched.lexicon.rules in
+    let letters = now.line.letters in
+    let some = current.2 in
+    let count = ap length are in
+    let left = length-map keys key_meant in
+    let right = length-map steps key_of in (
+      omega (arith, some, count, left, right),
+      sym (are ∙ same_keys rules letters steps current.1 ∙ ap (keys_of rules) (same_answer (steps_of rules letters steps) answer (sym current.0 ∙ at))),
+    )
 
 -- and so with keys that are given
 pub is_front_of_current : (now : SearchValue) (depth : ℕ) (steps : List ProgramStep) (front : List ProgramKey) (is : Bool) → IsCurrent now (Some steps)

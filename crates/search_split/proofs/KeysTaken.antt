@@ -3,7 +3,6 @@ use Rattle.std.proofs.Common.{◌≡◌, ◌↔◌, ℕ, zero, suc, ◌+◌, ◌
 use Rattle.std.proofs.Math.Seq.{take-suc}
 use Rattle.std.proofs.lemmas.List.{map-append, length-map, length-take}
 use Rattle.segmentation_definitions.proofs.KeyLists.{same_cons}
-use Rattle.segmentation_definitions.specs.Listings.{Key}
 use Rattle.derivation.specs.Steps.{key_meant, keys_meant, key_of, keys_of}
 use Rattle.derivation.specs.declared.step.Key.{Key as ProgramKey}
 use Rattle.derivation.specs.declared.step.Step.{Step}
@@ -37,11 +36,16 @@ take_all [] (suc count) is = absurd (omega (arith, is))
 take_all (x ∷ xs) zero is = absurd (omega (arith, is))
 take_all (x ∷ xs) (suc count) is = ap (λ ys. x ∷ ys) (take_all xs count (omega (arith, is)))
 
--- all the keys that were asked for
-pub front_done : (steps : List Step) (depth count index : ℕ) (keys : List Key) → count ≡ min (length steps) depth → index ≡ length (take count steps)
-    → keys ≡ keys_of (take index (take count steps)) → keys ≡ take depth (keys_of steps)
-front_done steps depth count index keys is full so_far =
-    so_far ∙ ap keys_of (take_all (take count steps) index full) ∙ keys_taken steps depth count is
+-- the first ones of keys are meant by the first ones
+pub meant_taken : (keys : List ProgramKey) (depth count : ℕ) → count ≡ min (length keys) depth → keys_meant (take count keys) ≡ take depth (keys_meant keys)
+meant_taken [] zero zero is = refl
+meant_taken [] (suc depth) zero is = refl
+meant_taken [] zero (suc count) is = absurd (omega (arith, is))
+meant_taken [] (suc depth) (suc count) is = absurd (omega (arith, is))
+meant_taken (key ∷ keys) zero zero is = refl
+meant_taken (key ∷ keys) (suc depth) zero is = absurd (omega (arith, is))
+meant_taken (key ∷ keys) zero (suc count) is = absurd (omega (arith, is))
+meant_taken (key ∷ keys) (suc depth) (suc count) is = ap (λ rest. key_meant key ∷ rest) (meant_taken keys depth count (omega (arith, is)))
 
 -- two lists with the same keys so far
 both_longer : (steps : List Step) (front : List ProgramKey) (place : ℕ) (step : Step) (key : ProgramKey) → place < length steps → place < length front

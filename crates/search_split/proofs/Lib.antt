@@ -2,9 +2,13 @@ pub mod KeysTaken
 pub mod CopiedStacks
 pub mod FrontsReached
 pub mod PartsFound
+pub mod StartsFound
 pub mod CurrentFronts
+pub mod PlainTexts
+pub mod CurrentTexts
 pub mod PartsListed
-pub mod TextsPut
-pub mod OutcomesPut
+pub mod FoundLists
+pub mod PagesPut
 pub mod BlocksListed
+pub mod NumbersPut
 pub mod SharedListers

@@ -7,7 +7,8 @@ use Rattle.annotated_trie.proofs.SharedLexicons.{lexicon_shared}
 use Rattle.reader_choices.specs.contracts.choices.Choices as Choices
 use Rattle.summary_chart.specs.contracts.chart.Chart as Chart
 use Rattle.search_split.specs.contracts.lister.Lister as Lister
-use Rattle.search_split.specs.contracts.part.Part as Part
+use Rattle.search_split.specs.contracts.block.Block as Block
+use Rattle.answer_printing.specs.contracts.rule_texts.RuleTexts as RuleTexts
 
 chart_shared : IsSync Chart.the_row
 chart_shared = search (sendable, crosses) depth 60 fits 50000
@@ -15,8 +16,11 @@ chart_shared = search (sendable, crosses) depth 60 fits 50000
 choices_shared : IsSync Choices.the_row
 choices_shared = search (sendable, crosses) depth 60 fits 50000
 
-pub part_shared : IsSync Part.the_row
-part_shared = search (sendable, crosses) depth 60 fits 50000
+texts_shared : (κ : NamedLft) → IsSync (RuleTexts.the_row κ)
+texts_shared κ = search (sendable, crosses) depth 60 fits 20000
+
+pub block_shared : IsSync Block.the_row
+block_shared = search (sendable, crosses) depth 60 fits 50000
 
 pub lister_shared : (κ : NamedLft) (G : RattleType) → IsSync G → IsSync (Lister.the_row κ G)
-lister_shared κ G gate = search (sendable, crosses, lexicon_shared, chart_shared, choices_shared) depth 60 fits 20000
+lister_shared κ G gate = search (sendable, crosses, lexicon_shared, texts_shared, chart_shared, choices_shared) depth 60 fits 20000

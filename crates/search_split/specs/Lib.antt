@@ -1,4 +1,5 @@
 pub mod Parts
 pub mod NextFronts
+pub mod Starts
 pub mod PrintedPages
 pub mod Listing

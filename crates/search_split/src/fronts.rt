@@ -1,7 +1,8 @@
-ghost use Rattle.std.specs.Prelude.{◌≡◌, ◌≤◌, ◌↔◌, List, take, IfOk, IsTrue};
+ghost use Rattle.std.specs.Prelude.{◌≡◌, ◌≤◌, ◌<◌, ◌↔◌, List, length, take, IfOk, IsTrue};
 ghost use Rattle.std.specs.Bool.{OnTrue, OnFalse};
 ghost use Rattle.segmentation_definitions.specs.Derivations.{Step as AnswerStep};
 ghost use Rattle.segmentation_definitions.specs.Listings.{Cursor, AtAnswer};
+ghost use Rattle.segmentation_definitions.specs.Listings.{keys_of as answer_keys};
 ghost use Rattle.front_definitions.specs.Fronts.{front_of as front_meant};
 ghost use Rattle.derivation.specs.Steps.{keys_of, keys_meant};
 ghost use Rattle.search_split.specs.NextFronts.{HasNextFront, HasNoNextFront};
@@ -13,18 +14,25 @@ use search_frames::SearchGuide;
 use segmenter::Search;
 use std::alloc::Global;
 
+/// The keys of the steps.
+#[tactic(auto, using(crate::proofs::KeysTaken::keys_with_next))]
+fn keys_of(alloc: Global, steps: &[Step]) -> Result<Vec<Key>, Memory>
+    ensures ok { IfOk result (λ keys. keys_meant keys.items ≡ keys_of steps.now) }
+{
+    let mut keys = Vec::with_capacity(alloc, steps.len())?;
+    for step in steps {
+        keys.push(step.key())?;
+    }
+    Ok(keys)
+}
+
 /// The keys of the first steps, as many as `depth`, or of all of them where they are fewer.
-#[tactic(auto, using(crate::proofs::KeysTaken::keys_with_next, crate::proofs::KeysTaken::keys_taken))]
+#[tactic(auto, using(crate::proofs::KeysTaken::keys_taken))]
 fn front_of(alloc: Global, steps: &[Step], depth: u32) -> Result<Vec<Key>, Memory>
     ensures ok { IfOk result (λ front. keys_meant front.items ≡ take depth (keys_of steps.now)) }
 {
     let count = steps.len().min(depth as usize);
-    let first = &steps[..count];
-    let mut front = Vec::with_capacity(alloc, count)?;
-    for step in first {
-        front.push(step.key())?;
-    }
-    Ok(front)
+    keys_of(alloc, &steps[..count])
 }
 
 /// Whether these are the keys of the first steps, as many as `depth`, or of all of them where they are fewer.
@@ -56,6 +64,17 @@ pub(crate) fn front_at<D: SearchGuide>(
     match search.current() {
         None => Ok(Vec::new(alloc)),
         Some(steps) => front_of(alloc, steps, depth),
+    }
+}
+
+/// The keys of the answer at which the search stands.
+pub(crate) fn keys_at<D: SearchGuide>(alloc: Global, search: &Search<D>) -> Result<Vec<Key>, Memory>
+    ensures ok { IfOk result (λ keys. (answer : List AnswerStep) → search.now.cursor ≡ AtAnswer answer
+        → (0 < length keys.items) × (answer_keys search.now.searched.lexicon.rules answer ≡ keys_meant keys.items)) }
+{
+    match search.current() {
+        None => Ok(Vec::new(alloc)),
+        Some(steps) => keys_of(alloc, steps),
     }
 }
 

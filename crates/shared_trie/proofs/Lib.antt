@@ -1,3 +1,13 @@
+pub mod NumbersIn
+pub mod NumberedTries
+pub mod LineHeights
+pub mod CanonicalOrders
+pub mod CanonicalLevels
+pub mod CanonicalSteps
+pub mod ListedTexts
+pub mod PutAnalyses
+pub mod MarkSteps
+pub mod FormWalkSteps
 pub mod HeightLemmas
 pub mod RowEquality
 pub mod Interning
@@ -5,6 +15,15 @@ pub mod FrontOrder
 pub mod DeltaLists
 pub mod FormFacts
 pub mod Partial
+pub mod EndedForms
+pub mod EntriesEnd
+pub mod LastForms
+pub mod NextEntries
+pub mod ReadyEntries
+pub mod BuilderStages
+pub mod MoreForms
+pub mod OpenRowLaws
+pub mod PathRows
 pub mod NextLetters
 pub mod RunSteps
 pub mod Roots
@@ -12,3 +31,6 @@ pub mod LetterLists
 pub mod PackedRows
 pub mod SetPlaces
 pub mod ToldRows
+pub mod ChainLaws
+pub mod DeltaListings
+pub mod InternedLaws

@@ -3,6 +3,7 @@ ghost use Rattle.std.specs.Ordering.{nat_cmp, on};
 ghost use Rattle.std.specs.List.Sorted.{IsStrictlySortedBy};
 ghost use Rattle.form_tags.specs.Analyses.{text_delta};
 ghost use Rattle.lexicon_definitions.specs.Tries.{child_in, row_of};
+ghost use Rattle.shared_trie.specs.Packed.{ArePacked, row_with};
 
 use super::Node;
 use super::delta_lists::number_list;
@@ -43,6 +44,22 @@ impl NodeTable {
             nodes: Vec::new(alloc),
             children: Vec::new(alloc),
             lists: IndexSet::new(alloc),
+        }
+    }
+
+    /// The table of these nodes, whose children stand one after another, and whose lists of deltas have numbers from 1 on.
+    pub(crate) fn with_parts(
+        nodes: Vec<PackedNode>,
+        children: Vec<(Letter, Node)>,
+        lists: IndexSet<Vec<Delta>>,
+    ) -> NodeTable
+        requires { ArePacked children.items lists.keys nodes.items }
+        ensures { result ≡ map (row_with children.items lists.keys) nodes.items }
+    {
+        NodeTable {
+            nodes,
+            children,
+            lists,
         }
     }
 

@@ -44,6 +44,15 @@ impl Store {
         self.roots[phase as usize]
     }
 
+    /// The roots of all phases, in their order.
+    pub fn roots(&self) -> &[Node]
+        ensures value { result.now ≡ self.now.roots }
+        ensures nodes { All (λ root. root < length self.now.rows) self.now.roots }
+        ensures trie { IsTrie self.now }
+    {
+        self.roots.as_slice()
+    }
+
     /// Where the letter leads from the node. `None` where no suffix of the node begins with it. Takes one step.
     pub fn child<L>(&self, node: Node, letter: Letter, steps: &mut Steps<L>) -> Option<Node>
         requires { node < length self.now.rows }
@@ -84,6 +93,15 @@ impl Store {
             steps.tick();
         }
         children
+    }
+
+    /// The letters that lead on from the node, rising, each with the node to which it leads.
+    pub fn children_of(&self, node: Node) -> &[(Letter, Node)]
+        requires { node < length self.now.rows }
+        ensures value { result.now ≡ (row_of self.now.rows node).children }
+        ensures trie { IsTrie self.now }
+    {
+        self.table.children(node)
     }
 
     /// The length of the longest suffix of the node: 0 without children, else 1 more than the greatest height of a child.

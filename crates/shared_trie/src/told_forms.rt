@@ -4,6 +4,7 @@ ghost use Rattle.form_lists.specs.Lists.{text_entry};
 
 use form_tags::Entry;
 use std::marker::Model;
+use std::mem;
 use std::snapshot::Snapshot;
 
 /// The forms of phases as they were told entry by entry, and how many entries were told. Only its snapshots are kept, which
@@ -38,12 +39,13 @@ pub(crate) fn nothing_told(phases: u32) -> Snapshot<ToldForms>
     Snapshot::of(&ToldForms { phases, last: None })
 }
 
-/// The forms with this entry too.
-pub(crate) fn told_with(before: Snapshot<ToldForms>, entry: &Entry) -> Snapshot<ToldForms>
-    ensures { result.value ≡ (with_entry before.value.0 (text_entry entry.now), before.value.1 + 1) }
+/// Tells this entry too.
+pub(crate) fn tell(told: &mut Snapshot<ToldForms>, entry: &Entry)
+    ensures { told.new.value ≡ (with_entry told.old.value.0 (text_entry entry.now), told.old.value.1 + 1) }
 {
-    Snapshot::of(&ToldForms {
+    let before = mem::replace(told, nothing_told(0));
+    *told = Snapshot::of(&ToldForms {
         phases: 0,
         last: Some((before, Snapshot::of(entry))),
-    })
+    });
 }

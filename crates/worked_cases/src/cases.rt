@@ -1,4 +1,4 @@
-ghost use Rattle.std.specs.Prelude.{◌≡◌, ℕ, ◌<◌, ◌≤◌, true, false, List, [], ◌∷◌};
+ghost use Rattle.std.specs.Prelude.{◌≡◌, ℕ, ◌<◌, ◌≤◌, true, false, List, [], ◌∷◌, codes};
 ghost use Rattle.lexicon_definitions.specs.Grammars.{Opening, After};
 ghost use Rattle.lexicon_definitions.specs.Lexicons.{IsLexicon};
 ghost use Rattle.segmentation_definitions.specs.Derivations.{Derives};
@@ -7,6 +7,8 @@ ghost use Rattle.segmentation_definitions.specs.Items.{items_of, ranks_of};
 ghost use Rattle.segmentation_definitions.specs.Answers.{IsAnswer};
 ghost use Rattle.segmentation_definitions.specs.Listings.{IsListing, IsSummary, IsPage, BeforeFirst, AtAnswer};
 ghost use Rattle.segmentation_definitions.specs.Configurations.{Configuration, Start, Plain, Lead, EndsAt};
+ghost use Rattle.chain_definitions.specs.ChainFaults.{Barred, Meet};
+ghost use Rattle.chain_definitions.specs.ChainReadings.{IsChainRead};
 ghost use Rattle.worked_cases.specs.WorkedLexicons.{step, unbroken, broken_at, kept, rejected, word_ca, word_caa, word_iti, word_ceti, word_cet, word_uvaaca, word_cetyuvaaca, word_na, word_aa, word_gacchati, word_naagacchati, word_api, word_u, word_covapi, word_asti, word_aasti, word_naasti, word_deva, word_datta, word_devadatta, word_devas, word_devah, word_devogacchati, word_a, word_a_a, ceti_lexicon, uvaaca_lexicon, preverb_lexicon, overlap_lexicon, naasti_lexicon, devadatta_lexicon, devah_lexicon, twofold_lexicon, vowel_lexicon, final_lexicon, limited_lexicon, limited_before_lexicon};
 
 /// The lexicons of these cases are lexicons.
@@ -136,6 +138,16 @@ pub fn a_rule_is_limited_to_phases()
     ensures after { IsListing limited_lexicon (unbroken word_ceti) []
         ((step 0 word_ca 1 ∷ step 1 word_iti 0 ∷ []) ∷ (step 0 word_caa 2 ∷ step 2 word_iti 0 ∷ []) ∷ []) }
     ensures before { IsListing limited_before_lexicon (unbroken word_ceti) [] ((step 0 word_ca 1 ∷ step 1 word_iti 0 ∷ []) ∷ []) }
+{}
+
+/// A chain is barred where a rule does not allow the phase of the form before it or after it. This is told before it is asked whether
+/// the rule's words fit the two forms.
+pub fn a_rule_may_bar_a_chain()
+    ensures before { IsChainRead limited_before_lexicon (codes "ca[q] (a|i>e) iti[q]") (Err (record { step = 1; why = Barred })) }
+    ensures after { IsChainRead limited_lexicon (codes "ca[p] (a|i>e) iti[r]") (Err (record { step = 1; why = Barred })) }
+    ensures barred_first { IsChainRead limited_lexicon (codes "cA[p] (a|i>e) iti[r]") (Err (record { step = 1; why = Barred })) }
+    ensures meet { IsChainRead limited_lexicon (codes "cA[p] (a|i>e) iti[q]") (Err (record { step = 1; why = Meet })) }
+    ensures allowed { IsChainRead limited_lexicon (codes "ca[p] (a|i>e) iti[q]") (Ok (step 0 word_ca 1 ∷ step 1 word_iti 0 ∷ [])) }
 {}
 
 /// No word is derived by no form at all, by a form that the phase does not have, by forms that meet unchanged over no plain

@@ -1,11 +1,11 @@
 //! A gate at which the worker of the first line of a batch, or of the first part of a page, waits for that of the second, which shows that
-//! two are at work at once.
+//! two are at work at once. It counts who passes: each of the two once, and nobody else.
 
 use super::super::run::run;
 use super::super::status::Status;
 use super::{ALL_A, shelf_of, words_of};
 use outside::{Gate, MemorySink, MemorySource};
-use std::sync::atomic::{AtomicBool, Ordering};
+use std::sync::atomic::{AtomicBool, AtomicU64, Ordering};
 use std::test::Fail;
 
 /// How often the first worker looks whether the second has passed.
@@ -14,20 +14,39 @@ const MOST_TURNS: u32 = 100_000_000;
 /// A gate of two pieces of work. The worker of piece 0 turns in it until that of piece 1 has passed, or for so long that it gives up.
 #[derive(Drop)]
 struct Meeting {
-    passed: AtomicBool,
+    /// How often piece 0, piece 1 and any other have passed.
+    passes: [AtomicU64; 3],
     met: AtomicBool,
+}
+
+impl Meeting {
+    fn new() -> Meeting {
+        Meeting {
+            passes: [AtomicU64::new(0), AtomicU64::new(0), AtomicU64::new(0)],
+            met: AtomicBool::new(false),
+        }
+    }
+
+    /// How often pieces with this number have passed.
+    fn count(&self, piece: u64) -> u64 {
+        self.passes[piece.min(2) as usize].load(Ordering::SeqCst)
+    }
+
+    /// Whether both pieces were in the gate at once, each passed it just once, and no other did.
+    fn has_seen_both(&self) -> bool {
+        let once = self.count(0) == 1 && self.count(1) == 1 && self.count(2) == 0;
+        once && self.met.load(Ordering::SeqCst)
+    }
 }
 
 impl Gate for Meeting {
     fn pass(&self, piece: u64) {
-        if piece == 1 {
-            self.passed.store(true, Ordering::SeqCst);
-        }
+        self.passes[piece.min(2) as usize].fetch_add(1, Ordering::SeqCst);
         if piece != 0 {
             return;
         }
         for _ in 0..MOST_TURNS {
-            if self.passed.load(Ordering::SeqCst) {
+            if self.count(1) > 0 {
                 self.met.store(true, Ordering::SeqCst);
                 return;
             }
@@ -42,10 +61,7 @@ fn two_lines_are_answered_at_once(rt: HostRuntime) -> Result<(), Fail> {
     shelf.put("two", b"ceti\nceti\n")?;
     let mut source = MemorySource::new(Vec::new(alloc), 1, Vec::new(alloc));
     let mut sink = MemorySink::new(alloc, 4_096, Vec::new(alloc));
-    let gate = Meeting {
-        passed: AtomicBool::new(false),
-        met: AtomicBool::new(false),
-    };
+    let gate = Meeting::new();
     let words = words_of(&rt, "batch/l1/slp1/two/2")?;
     let status = run(
         &rt,
@@ -57,7 +73,7 @@ fn two_lines_are_answered_at_once(rt: HostRuntime) -> Result<(), Fail> {
         &gate,
     );
     assert!(rt; status == Status::Done);
-    assert!(rt; gate.met.load(Ordering::SeqCst));
+    assert!(rt; gate.has_seen_both());
     Ok(())
 }
 
@@ -68,10 +84,7 @@ fn two_parts_are_listed_at_once(rt: HostRuntime) -> Result<(), Fail> {
     shelf.put("l", ALL_A.as_bytes())?;
     let mut source = MemorySource::new(Vec::new(alloc), 1, Vec::new(alloc));
     let mut sink = MemorySink::new(alloc, 4_096, Vec::new(alloc));
-    let gate = Meeting {
-        passed: AtomicBool::new(false),
-        met: AtomicBool::new(false),
-    };
+    let gate = Meeting::new();
     let words = words_of(&rt, "split/l/aaa/9/1")?;
     let status = run(
         &rt,
@@ -83,7 +96,7 @@ fn two_parts_are_listed_at_once(rt: HostRuntime) -> Result<(), Fail> {
         &gate,
     );
     assert!(rt; status == Status::Done);
-    assert!(rt; gate.met.load(Ordering::SeqCst));
+    assert!(rt; gate.has_seen_both());
     assert_eq!(rt;
         sink.bytes(),
         b"1: aa[word] + a[word]\n2: a[word] + aa[word]\n3: a[word] + a[word] + a[word]\nend\n".as_slice()

@@ -1,6 +1,5 @@
 -- By how far the search moved: once, or twice.
-use Rattle.std.proofs.Common.{rules, ◌∙◌, ap, subst}
-use Rattle.annotation.specs.Answers.{HasNextSteps}
+use Rattle.std.proofs.Common.{rules}
 use Rattle.annotation.proofs.FoundAnswers.{one_found, two_found}
 use Rattle.annotation.proofs.only_answers.only_answer.Goals as goal
 

@@ -1,11 +1,9 @@
 -- One object more, and after the last step the objects of all.
-use Rattle.std.proofs.Common.{◌≡◌, ◌∙◌, ap, map, []}
+use Rattle.std.proofs.Common.{◌∙◌, ap}
 use Rattle.serde_json.specs.Data.{array}
-use Rattle.serde_json.specs.View.{view, items_of}
+use Rattle.serde_json.specs.View.{items_of}
 use Rattle.serde_json.proofs.Views.{view-Array}
-use Rattle.derivation.specs.Steps.{places_of}
-use Rattle.note_definitions.specs.NoteTexts.{segment_of}
-use Rattle.annotation.proofs.WrittenSegments.{AreMade, made_next, made_all}
+use Rattle.annotation.proofs.WrittenSegments.{made_next, made_all}
 use Rattle.annotation.proofs.segments.segments_value.Goals as goal
 
 pub loop-step-preserved : goal.loop-step-preserved

@@ -1,5 +1,4 @@
 -- The line by its front and its last byte.
-use Rattle.std.proofs.Common.{ap, subst}
 use Rattle.reader_session.proofs.LineReplies.{front_kept, line_kept}
 use Rattle.reader_session.proofs.session.without_return.Goals as goal
 

@@ -4,9 +4,10 @@ use Rattle.std.specs.Fmt.{decimal}
 use Rattle.text_definitions.specs.LineTexts.{place_of}
 use Rattle.latin_schemes.specs.Faults as spelled
 use Rattle.form_file.specs.Faults.{why_of}
+use Rattle.annotation.specs.Readings as note
 use Rattle.rule_file.specs.Faults.{fault_of}
-use Rattle.run_definitions.specs.Refusals.{name_of_why, rules_refusal}
-use Rattle.sandhi_program.proofs.RefusalLines.{large_line, fault_line, same_place, spelling_line, source_line}
+use Rattle.run_definitions.specs.Refusals.{name_of_why, rules_refusal, name_of_note_why}
+use Rattle.sandhi_program.proofs.RefusalLines.{large_line, fault_line, same_place, spelling_line, source_line, note_line}
 use Rattle.sandhi_program.proofs.refusal.print_file_refusal.Goals as goal
 
 pub returns-in_ok-format-in-Large : goal.returns-in_ok-format-in-Large
@@ -45,4 +46,15 @@ returns-in_ok-format-in-Spelling c =
       ok = rw c.in-Spelling.is
           (told ∙ ap (λ place. codes "bad file " ++ (name ++ (codes " line " ++ (number ++ (codes ": spelling " ++ (decimal place ++ codes "\n")))))) (c.place-at.ensures ∙ same_place c.in-Spelling.fault.fault)
           ∙ spelling_line name number (decimal (place_of (spelled.fault_of c.in-Spelling.fault.fault))));
+    }
+
+pub returns-in_ok-format-in-Note : goal.returns-in_ok-format-in-Note
+returns-in_ok-format-in-Note c =
+    let name = c.args.name.now in
+    let told : string_bytes c.in_ok-format-in-Note.field-0 ≡ codes "bad file " ++ (name ++ (codes ": " ++ (c.name_of_note_why-why.result.now ++ codes "\n"))) =
+    c.in_ok-format-in-Note.ensures.ok in
+    record {
+      ok = rw c.in-Note.is
+          (told ∙ ap (λ why. codes "bad file " ++ (name ++ (codes ": " ++ (why ++ codes "\n")))) c.name_of_note_why-why.ensures
+          ∙ note_line name (name_of_note_why (note.why_of c.in-Note.why)));
     }

@@ -33,3 +33,9 @@ returns-in-Join-clause-ran g c = rw c.in-Join.is (Apart refl c.run_join.ensures)
 
 pub returns-in-Split-clause-ran : goal.returns-in-Split-clause-ran
 returns-in-Split-clause-ran g c = rw c.in-Split.is (Apart refl c.run_split.ensures)
+
+pub returns-in-Annotate-clause-ran : goal.returns-in-Annotate-clause-ran
+returns-in-Annotate-clause-ran g c = rw c.in-Annotate.is (Apart refl c.run_annotate.ensures)
+
+pub returns-in-Reread-clause-ran : goal.returns-in-Reread-clause-ran
+returns-in-Reread-clause-ran g c = rw c.in-Reread.is (Apart refl c.run_reread.ensures)

@@ -1,0 +1,11 @@
+//! Sets of phases as the fields of a rule name them (own format): `*` for all phases of a file, or the names of some of them
+//! with `,` between; `-` after a rule that is final.
+//!
+//! Proved: `phases_told` is the set that such a field tells, and `None` exactly where it tells none (`told`); and so is
+//! `phases_after_told` of the field for the phases after a rule, which goes by whether the rule's `v` is empty (`told`).
+#![tactic(auto)]
+
+mod listed;
+mod told;
+
+pub use told::{phases_after_told, phases_told};

@@ -1,7 +1,0 @@
--- The keys of the steps so far.
-use Rattle.std.proofs.Common.{◌≡◌, take}
-use Rattle.derivation.specs.Steps.{keys_of, keys_meant}
-use Rattle.search_split.proofs.fronts.front_of.Given as goal
-
-abbrev pub invariant-loop-step : goal.invariant-loop-step
-invariant-loop-step l = keys_meant l.front.items ≡ keys_of (take l.step-index l.first)
