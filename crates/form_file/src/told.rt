@@ -4,6 +4,8 @@ ghost use Rattle.std.specs.Str.{bytes_eq};
 ghost use Rattle.std.specs.String.{string_bytes};
 ghost use Rattle.lexicon_definitions.specs.Lexicons.{IsRuleSet, tree_of, compare_pairs};
 ghost use Rattle.lexicon_definitions.specs.Limits.{IsRuleSetWithinLimits};
+ghost use Rattle.lexicon_definitions.specs.Tries.{IsTrieOf};
+ghost use Rattle.trie_text_definitions.specs.TrieForms.{phases_of};
 ghost use Rattle.phase_automaton.specs.Automata.{Recognizes};
 ghost use Rattle.lexicon_text_definitions.specs.FileLines.{Opening, Head as HeadLine, End, may_follow, Phase, Grammar, Plain, Rule as RuleLine, Form, fields_of, parts_of};
 ghost use Rattle.lexicon_text_definitions.specs.FileContents.{Told as ToldValue, nothing_told, rules_told, lexicon_told, compare_entries, compare_last as compare_last_of};
@@ -432,6 +434,7 @@ impl Told {
         requires set { self.last ≡ End → IsRuleSet (rules_told self) }
         requires limits { self.last ≡ End → IsRuleSetWithinLimits (rules_told self) }
         ensures ok { IfOk result (λ contents. (self.last ≡ End) × (lexicon_of contents ≡ lexicon_told self)) }
+        ensures trie { IfOk result (λ contents. IsTrieOf contents.store (phases_of contents.store)) }
         ensures automaton { IfOk result (λ contents. Recognizes contents.automaton (tree_of (rules_told self))) }
         ensures phases { IfOk result (λ contents. contents.automaton.phases ≡ length contents.rules.names) }
         ensures no_end { IfErr result (λ error. IsNoEnd error (self.last ≡ End)) }
@@ -448,9 +451,9 @@ impl Told {
         let Some(automaton) = automaton else {
             return Err(FileWhy::NoEnd.into());
         };
-        if last != Kind::End {
+        let Kind::End = last else {
             return Err(FileWhy::NoEnd.into());
-        }
+        };
         let rules = RuleSet::new(alloc, names, grammar, plain, rules.into_rules())?;
         let store = forms.finish(alloc)?;
         Ok(Contents {

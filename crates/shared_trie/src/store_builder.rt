@@ -176,6 +176,7 @@ impl StoreBuilder {
     /// The trie of the forms of all phases.
     pub fn finish(self, alloc: Global) -> Result<Store, Memory>
         ensures ok { IfOk result (λ store. IsTrieOf store self) }
+        ensures lists { AreFormLists self }
     {
         let StoreBuilder {
             told,
