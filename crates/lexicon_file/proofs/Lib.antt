@@ -7,6 +7,15 @@ pub mod FieldLemmas
 pub mod SetLemmas
 pub mod AnswerLemmas
 pub mod LimitedLemmas
+pub mod LastLines
+pub mod RowAnswers
+pub mod NodeAnswers
+pub mod RootAnswers
+pub mod EndAnswers
+pub mod LinesTaken
+pub mod LineSteps
+pub mod ReadLemmas
+pub mod VersionsRead
 pub mod NamesWritten
 pub mod NodesWritten
 pub mod FormsWritten

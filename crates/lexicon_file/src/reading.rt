@@ -1,9 +1,10 @@
-ghost use Rattle.std.specs.Prelude.{◌≡◌, ◌≤◌, ◌+◌, length, Ok, Err, IfOk, IfErr};
+ghost use Rattle.std.specs.Prelude.{◌≡◌, ◌≤◌, length, drop, MatchOption, None, Some, Ok, Err, IfSome, IfOk, IfErr};
 ghost use Rattle.lexicon_definitions.specs.Lexicons.{tree_of};
 ghost use Rattle.lexicon_definitions.specs.Tries.{IsTrieOf};
 ghost use Rattle.lexicon_text_definitions.specs.FileLines.{lines_of_bytes};
 ghost use Rattle.phase_automaton.specs.Automata.{Recognizes};
 ghost use Rattle.trie_text_definitions.specs.TrieForms.{phases_of};
+ghost use Rattle.trie_text_definitions.specs.Versions.{version_of as version_of_bytes};
 ghost use Rattle.trie_text_definitions.specs.VersionReadings.{IsReadAs, IsResult, read_lines as read_lines_of};
 ghost use Rattle.trie_text_definitions.specs.VersionSteps.{head_told};
 ghost use Rattle.form_file.specs.Contents.{lexicon_of};
@@ -53,6 +54,21 @@ fn read_lines(alloc: Global, version: Version, lines: &[u8]) -> Result<Contents,
     }
 }
 
+/// The version that the first line tells, and the lines after it. `None` where it is version 1 or tells none.
+fn version_and_lines(bytes: &[u8]) -> Option<(Version, &[u8])>
+    ensures told { MatchOption result (version_of_bytes bytes.now ≡ None)
+        (λ parts. (version_of_bytes bytes.now ≡ Some (version_of parts.0)) × (drop 1 (lines_of_bytes bytes.now) ≡ lines_of_bytes parts.1.now)) }
+    ensures within { IfSome result (λ parts. length parts.1.now ≤ length bytes.now) }
+{
+    let Some((head, ended, lines)) = first_line(bytes) else {
+        return None;
+    };
+    let Some(version) = version_told(head, ended) else {
+        return None;
+    };
+    Some((version, lines))
+}
+
 /// The contents of a lexicon file of any version, or its first fault (own format).
 pub fn read(alloc: Global, bytes: &[u8]) -> Result<Contents, FileError>
     requires { length bytes.now ≤ MOST_FILE_BYTES }
@@ -62,9 +78,7 @@ pub fn read(alloc: Global, bytes: &[u8]) -> Result<Contents, FileError>
     ensures phases { IfOk result (λ contents. contents.automaton.phases ≡ length contents.rules.names) }
     ensures fault { IfErr result (λ error. IfFault error (λ fault. IsReadAs bytes.now (Err fault))) }
 {
-    if let Some((head, ended, lines)) = first_line(bytes)
-        && let Some(version) = version_told(head, ended)
-    {
+    if let Some((version, lines)) = version_and_lines(bytes) {
         return read_lines(alloc, version, lines);
     }
     let contents = read_forms(alloc, bytes)?;
