@@ -6,8 +6,8 @@ ghost use Rattle.trie_text_definitions.specs.LimitedRules.{set_told, set_after_t
 use crate::listed::phases_listed;
 use lexicon_definitions::MOST_PHASES;
 
-/// The set of the first count phases.
-fn all_phases(count: usize) -> u16
+/// The set of the first count phases, of which bit `k` stands for phase `k`, counted from 0.
+pub fn all_phases(count: usize) -> u16
     requires { count ≤ MOST_PHASES }
     ensures { result ≡ all_phases_of count }
 {
