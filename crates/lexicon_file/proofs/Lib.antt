@@ -4,7 +4,6 @@ pub mod LetterLemmas
 pub mod RisingLemmas
 pub mod NodeHeights
 pub mod FieldLemmas
-pub mod SetLemmas
 pub mod AnswerLemmas
 pub mod LimitedLemmas
 pub mod LastLines

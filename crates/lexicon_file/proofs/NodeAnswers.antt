@@ -14,7 +14,7 @@ use Rattle.trie_text_definitions.specs.NodeFields.{DeltaShape, ChildShape, delta
 use Rattle.trie_text_definitions.specs.NodeLines.{node_line, listed, delta_text, child_text}
 use Rattle.trie_text_definitions.specs.VersionFaults as faults
 use Rattle.trie_text_definitions.specs.VersionSteps.{Told, Taken, take_row, take_spelled, take_shapes, take_node}
-use Rattle.trie_text_definitions.proofs.NodeTexts.{map_some, IsNodeChild} 
+use Rattle.trie_text_definitions.proofs.NodeTexts.{map_some, IsNodeChild}
 use Rattle.trie_text_definitions.proofs.NodeTexts as texts
 use Rattle.form_file.specs.Fields.{two_of}
 use Rattle.lexicon_file.specs.Fields.{IsTold, deltas_told, children_told, children_in}

@@ -6,5 +6,4 @@ pub mod Fields
 pub mod Rows
 pub mod Contents
 pub mod Told
-pub mod RisingPhases
 pub mod Writing

@@ -39,9 +39,7 @@ impl Kind {
         match last {
             Kind::Head => self == Kind::Phase,
             Kind::Phase => matches!(self, Kind::Phase | Kind::Grammar),
-            Kind::Grammar | Kind::Plain => {
-                matches!(self, Kind::Plain | Kind::Rule | Kind::Node)
-            }
+            Kind::Grammar | Kind::Plain => { matches!(self, Kind::Plain | Kind::Rule | Kind::Node) }
             Kind::Rule => matches!(self, Kind::Rule | Kind::Node),
             Kind::Node => matches!(self, Kind::Node | Kind::Root),
             Kind::Root => {

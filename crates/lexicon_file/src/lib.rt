@@ -20,7 +20,6 @@ mod kind;
 mod letters;
 mod numbers;
 mod parts;
-mod phase_sets;
 mod reading;
 mod rows;
 mod take_error;

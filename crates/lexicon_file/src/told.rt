@@ -24,13 +24,13 @@ use crate::deltas::read_deltas;
 use crate::kind::Kind;
 use crate::numbers::read_node_number;
 use crate::parts::three_parts;
-use crate::phase_sets::{all_phases, read_set, read_set_after};
 use crate::rows::{are_children, deltas_rise, height_above, is_root, passes_limits};
 use crate::take_error::TakeError;
 use crate::version::Version;
 use crate::{Contents, FileWhy};
 use form_file::{Told, kind_and_rest, read_word, rule_parts, two_fields};
 use form_tags::Delta;
+use phase_sets::{all_phases, phases_after_told, phases_told};
 use phoneme::{Letter, Memory};
 use sandhi_rules::Rule;
 use shared_trie::{Node, TrieSoFar};
@@ -176,10 +176,10 @@ impl TrieTold {
             return Err(FileWhy::Field.into());
         };
         let names = self.front.names();
-        let Some(before) = read_set(names, before) else {
+        let Some(before) = phases_told(names, before) else {
             return Err(FileWhy::Field.into());
         };
-        let Some(after) = read_set_after(names, v, after) else {
+        let Some(after) = phases_after_told(names, v.is_empty(), after) else {
             return Err(FileWhy::Field.into());
         };
         let u = read_word(alloc, u)?;

@@ -20,22 +20,22 @@ returns-in_default-rule_parts c =
     refused_for (Unit {0}) (take_limited_rule_of c.args.self.now (fields_of (Some c.args.text.now))) c.into-in_default-rule_parts.result Field c.args.self.now c.into-in_default-rule_parts.ensures
     (no_shape c.args.self.now (fields_of (Some c.args.text.now)) c.in-Some.field.now c.in-Some.before.now c.in-Some.after.now c.in-Some.ensures c.in_default-rule_parts.ensures)
 
-pub returns-in_default-read_set : goal.returns-in_default-read_set
-returns-in_default-read_set c =
+pub returns-in_default-phases_told : goal.returns-in_default-phases_told
+returns-in_default-phases_told c =
     let named = c.names-names.ensures.value ∙ ap (λ (t : Told). t.front.names) c.self.view_is in
-    refused_for (Unit {0}) (take_limited_rule_of c.args.self.now (fields_of (Some c.args.text.now))) c.into-in_default-read_set.result Field c.args.self.now c.into-in_default-read_set.ensures
+    refused_for (Unit {0}) (take_limited_rule_of c.args.self.now (fields_of (Some c.args.text.now))) c.into-in_default-phases_told.result Field c.args.self.now c.into-in_default-phases_told.ensures
     (no_before c.args.self.now (fields_of (Some c.args.text.now)) c.in-Some.field.now c.in-Some.before.now c.in-Some.after.now c.in-Some.ensures
     (map (string_bytes {Z = Global}) c.names-names.result.now) c.in-Some-rule_parts.u.now c.in-Some-rule_parts.v.now c.in-Some-rule_parts.w.now named c.in-Some-rule_parts.ensures
-    c.in_default-read_set.ensures)
+    c.in_default-phases_told.ensures)
 
-pub returns-in_default-read_set_after : goal.returns-in_default-read_set_after
-returns-in_default-read_set_after c =
+pub returns-in_default-phases_after_told : goal.returns-in_default-phases_after_told
+returns-in_default-phases_after_told c =
     let named = c.names-names.ensures.value ∙ ap (λ (t : Told). t.front.names) c.self.view_is in
-    refused_for (Unit {0}) (take_limited_rule_of c.args.self.now (fields_of (Some c.args.text.now))) c.into-in_default-read_set_after.result Field c.args.self.now
-    c.into-in_default-read_set_after.ensures
+    refused_for (Unit {0}) (take_limited_rule_of c.args.self.now (fields_of (Some c.args.text.now))) c.into-in_default-phases_after_told.result Field c.args.self.now
+    c.into-in_default-phases_after_told.ensures
     (no_after c.args.self.now (fields_of (Some c.args.text.now)) c.in-Some.field.now c.in-Some.before.now c.in-Some.after.now c.in-Some.ensures
     (map (string_bytes {Z = Global}) c.names-names.result.now) c.in-Some-rule_parts.u.now c.in-Some-rule_parts.v.now c.in-Some-rule_parts.w.now named c.in-Some-rule_parts.ensures
-    c.in-Some-read_set.before c.in-Some-read_set.ensures c.in_default-read_set_after.ensures)
+    c.in-Some-phases_told.before c.in-Some-phases_told.ensures c.in_default-phases_after_told.ensures)
 
 pub read_word-requires : goal.read_word-requires
 read_word-requires c =
@@ -59,7 +59,7 @@ returns-in_err-u c =
     rw (p.1, p.2)
     (u_refused c.args.self.now (fields_of (Some c.args.text.now)) c.in-Some.field.now c.in-Some.before.now c.in-Some.after.now c.in-Some.ensures
     (map (string_bytes {Z = Global}) c.names-names.result.now) c.in-Some-rule_parts.u.now c.in-Some-rule_parts.v.now c.in-Some-rule_parts.w.now named c.in-Some-rule_parts.ensures
-    c.in-Some-read_set.before c.in-Some-read_set_after.after c.in-Some-read_set.ensures c.in-Some-read_set_after.ensures (Unit {0}) c.in_err-u.field-0.0 c.args.self.now c.in_err-u.ensures)
+    c.in-Some-phases_told.before c.in-Some-phases_after_told.after c.in-Some-phases_told.ensures c.in-Some-phases_after_told.ensures (Unit {0}) c.in_err-u.field-0.0 c.args.self.now c.in_err-u.ensures)
 
 pub returns-in_err-v : goal.returns-in_err-v
 returns-in_err-v c =
@@ -68,7 +68,7 @@ returns-in_err-v c =
     rw (p.1, p.2)
     (v_refused c.args.self.now (fields_of (Some c.args.text.now)) c.in-Some.field.now c.in-Some.before.now c.in-Some.after.now c.in-Some.ensures
     (map (string_bytes {Z = Global}) c.names-names.result.now) c.in-Some-rule_parts.u.now c.in-Some-rule_parts.v.now c.in-Some-rule_parts.w.now named c.in-Some-rule_parts.ensures
-    c.in-Some-read_set.before c.in-Some-read_set_after.after c.in-Some-read_set.ensures c.in-Some-read_set_after.ensures (Unit {0}) c.in_err-v.field-0.0 c.args.self.now c.in_err-v.ensures)
+    c.in-Some-phases_told.before c.in-Some-phases_after_told.after c.in-Some-phases_told.ensures c.in-Some-phases_after_told.ensures (Unit {0}) c.in_err-v.field-0.0 c.args.self.now c.in_err-v.ensures)
 
 pub returns-in_err-w : goal.returns-in_err-w
 returns-in_err-w c =
@@ -77,7 +77,7 @@ returns-in_err-w c =
     rw (p.1, p.2)
     (w_refused c.args.self.now (fields_of (Some c.args.text.now)) c.in-Some.field.now c.in-Some.before.now c.in-Some.after.now c.in-Some.ensures
     (map (string_bytes {Z = Global}) c.names-names.result.now) c.in-Some-rule_parts.u.now c.in-Some-rule_parts.v.now c.in-Some-rule_parts.w.now named c.in-Some-rule_parts.ensures
-    c.in-Some-read_set.before c.in-Some-read_set_after.after c.in-Some-read_set.ensures c.in-Some-read_set_after.ensures (Unit {0}) c.in_err-w.field-0.0 c.args.self.now c.in_err-w.ensures)
+    c.in-Some-phases_told.before c.in-Some-phases_after_told.after c.in-Some-phases_told.ensures c.in-Some-phases_after_told.ensures (Unit {0}) c.in_err-w.field-0.0 c.args.self.now c.in_err-w.ensures)
 
 pub returns : goal.returns
 returns c =
@@ -85,6 +85,6 @@ returns c =
     subst (λ (taken : Taken). IsAnswer taken c.take_limited.result c.take_limited.new.self)
     (rule_decides c.args.self.now (fields_of (Some c.args.text.now)) c.in-Some.field.now c.in-Some.before.now c.in-Some.after.now c.in-Some.ensures
     (map (string_bytes {Z = Global}) c.names-names.result.now) c.in-Some-rule_parts.u.now c.in-Some-rule_parts.v.now c.in-Some-rule_parts.w.now named c.in-Some-rule_parts.ensures
-    c.in-Some-read_set.before c.in-Some-read_set_after.after c.in-Some-read_set.ensures c.in-Some-read_set_after.ensures c.in_ok-u.u c.in_ok-v.v c.in_ok-w.w
+    c.in-Some-phases_told.before c.in-Some-phases_after_told.after c.in-Some-phases_told.ensures c.in-Some-phases_after_told.ensures c.in_ok-u.u c.in_ok-v.v c.in_ok-w.w
     c.in_ok-u.ensures c.in_ok-v.ensures c.in_ok-w.ensures)
     c.take_limited.ensures

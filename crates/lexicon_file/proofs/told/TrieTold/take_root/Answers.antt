@@ -42,5 +42,10 @@ returns c =
     ((λ i. bytes_eq c.in-Some.name.now (slice_index_or (sym c.names.ensures.value i) (sym c.roots.ensures i) [])) ∙ sym c.is_name.ensures ∙ c.if-not-is_name.false)
     c.in-Some-read_node_number.root c.in-Some-read_node_number.ensures
     (ap (is_root_of c.self.inside.trie.rows) (sym c.new.ensures) ∙ sym c.is_root.ensures ∙ c.if-not-is_root.false)
-    ∙ (λ i. Ok (record { last = Root; front = c.self.inside.front; rows = sym c.in_ok-push_root.ensures.rows i; nodes = node_lines (sym c.in_ok-push_root.ensures.rows i);
-    roots = (ap (λ n. c.self.inside.trie.roots ++ n ∷ []) (sym c.new-2.ensures) ∙ sym c.in_ok-push_root.ensures.roots) i }))
+    ∙ (λ i. Ok (record {
+      last = Root;
+      front = c.self.inside.front;
+      rows = sym c.in_ok-push_root.ensures.rows i;
+      nodes = node_lines (sym c.in_ok-push_root.ensures.rows i);
+      roots = (ap (λ n. c.self.inside.trie.roots ++ n ∷ []) (sym c.new-2.ensures) ∙ sym c.in_ok-push_root.ensures.roots) i;
+    }))
