@@ -5,4 +5,3 @@ pub mod Words
 pub mod Told
 pub mod Contents
 pub mod Added
-pub mod LimitedRules

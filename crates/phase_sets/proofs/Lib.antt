@@ -1,2 +1,0 @@
-pub mod PartsInTurn
-pub mod ListedNames
