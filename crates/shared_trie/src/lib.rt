@@ -5,7 +5,10 @@
 //! lists, with their deltas (`ok`). Children have smaller numbers than their parents, and no two rows are the same (`trie` of
 //! `len`), so no two nodes stand for the same suffixes (`nodes_are_told_by_suffixes` of `lexicon_definitions`). `root`, `child`,
 //! `accepts`, `deltas`, `children` and `len` read the rows (`value`); `height` is the length of the longest suffix. `child`
-//! takes one step, and `children` one for each child and one more (`steps`). That each row is hashed once is only measured.
+//! takes one step, and `children` one for each child and one more (`steps`). A `StoreBuilder` makes a store of entries as they come,
+//! each above the last: contracts see it as the forms of each phase so far, to which `push` adds one entry (`ok`), and `finish` gives
+//! the trie of just these forms (`ok`). That each row is hashed once, and that nothing is kept of a form but its nodes, is only
+//! measured.
 #![tactic(auto)]
 
 mod building;
