@@ -1,8 +1,7 @@
 -- What is made of a number, as contracts see it.
-use Rattle.std.specs.Prelude.{◌≡◌, ℕ, ◌≤◌, List, length}
-use Rattle.lexicon_definitions.specs.declared.limits.TheConstants.{MOST_FORM_LINES}
+use Rattle.std.specs.Prelude.{◌≡◌, ℕ, List, length}
 use Rattle.lexicon_definitions.specs.Lexicons.{tree_of}
-use Rattle.lexicon_definitions.specs.Limits.{count_lines}
+use Rattle.lexicon_text_definitions.specs.TextsOf.{HasText}
 use Rattle.phase_automaton.specs.Automata.{Recognizes}
 use Rattle.form_file.specs.declared.listed_lexicon.ListedLexicon.{ListedLexicon}
 use Rattle.form_file.specs.Contents.{lexicon_listed}
@@ -26,8 +25,7 @@ pub record AreInput (number : ℕ) (stems : List (List ℕ)) (text : List ℕ) :
 -- what is listed is the lexicon of the sources of the number, and it can be searched
 pub record AreDemoContents (number : ℕ) (listed : ListedLexicon) : Type 0 where
   pub is_lexicon : IsDemoLexicon number (stems_spelled number) (lexicon_listed listed)
-  pub count : length listed.lists ≡ length listed.rules.names
-  pub lines : count_lines listed.lists ≤ MOST_FORM_LINES
+  pub has_text : HasText (lexicon_listed listed)
   pub recognizes : Recognizes listed.automaton (tree_of listed.rules)
   pub phases : listed.automaton.phases ≡ length listed.rules.names
 
