@@ -9,7 +9,7 @@ use crate::take_error::TakeError;
 use indexmap::IndexSet;
 use lexicon_definitions::{MOST_LEADS, MOST_RULES};
 use phoneme::{Memory, Word};
-use sandhi_rules::{Lead, Rule, Triple, add_lead as put_lead};
+use sandhi_rules::{Lead, Rule, Triple, add_lead as put_lead, leads_of_rules};
 use std::alloc::Global;
 use std::marker::Model;
 
@@ -45,17 +45,6 @@ fn add_lead(leads: &mut IndexSet<Word>, v: Word) -> Result<(), Memory>
         leads.insert(v)?;
     }
     Ok(())
-}
-
-/// The leads of the rules, rising.
-fn leads_of_rules(alloc: Global, rules: &[Rule]) -> Result<Vec<Lead>, Memory>
-    ensures { IfOk result (λ leads. leads.items ≡ leads_of rules.now) }
-{
-    let mut leads = Vec::new(alloc);
-    for rule in rules {
-        put_lead(alloc, &mut leads, rule)?;
-    }
-    Ok(leads)
 }
 
 impl RulesSoFar {
