@@ -29,8 +29,9 @@ use Rattle.demo_definitions.proofs.LinesRead.{line_read}
 use Rattle.run_definitions.specs.SourceLexicons.{IsLexiconOf}
 use Rattle.run_definitions.specs.DemoOutcomes.{IsDemoLexicon}
 use Rattle.run_definitions.proofs.OneBuildOutcome.{one_decided}
-use Rattle.form_file.specs.declared.contents.Contents.{Contents}
-use Rattle.form_file.specs.Contents.{lexicon_of}
+use Rattle.form_file.specs.declared.listed_lexicon.ListedLexicon.{ListedLexicon}
+use Rattle.form_file.specs.Contents.{lexicon_listed}
+use Rattle.lexicon_text_definitions.specs.TextsOf.{HasText}
 use Rattle.lexicon_builder.specs.Sources.{AreSources, HaveTooManyLines}
 use Rattle.lexicon_builder.proofs.SourcesRead.{sources_read}
 use Rattle.demo_counts.specs.Inputs.{IsStemFile, AreDemoContents}
@@ -93,14 +94,6 @@ stem_file_is_short bytes file =
 few : (number : ℕ) (lexicon : Lexicon) → IsLexiconOf demo_rule_set demo_classes (stems_spelled number) lexicon → count_lines lexicon.phases ≤ 5000
 few number lexicon is = few_lines number lexicon is.entries is.lexicon_itself is.inflected (λ entry h. (is.just_these entry).0 h)
 
-lines_within : (number : ℕ) (lexicon : Lexicon) → IsDemoLexicon number (stems_spelled number) lexicon → count_lines lexicon.phases ≤ MOST_FORM_LINES
-lines_within number lexicon is =
-    let rules = rules_are is.rules is.rules_read in
-    let classes = tables_are is.rules.names (ap (λ (set : RuleSet). set.names) rules) is.classes is.tables_read in
-    let bound = few number lexicon (subst (λ (set : RuleSet). IsLexiconOf set demo_classes (stems_spelled number) lexicon) rules
-    (subst (λ (held : List Class). IsLexiconOf is.rules held (stems_spelled number) lexicon) classes is.is_of)) in
-    omega arith
-
 -- what was read of the three files
 module _ (rules : RuleSet) (classes : List Class) (stems : List Stem) (bytes : List ℕ) (rules_is : rules ≡ demo_rule_set)
     (classes_are : classes ≡ demo_classes) (read : stems_of demo_classes bytes ≡ Ok stems) where
@@ -135,18 +128,17 @@ module _ (rules : RuleSet) (classes : List Class) (stems : List Stem) (bytes : L
     is_of = of_number number lexicon is of;
   }
 
-  pub contents_made : (contents : Contents) (automaton : StateMachine) → Recognizes automaton (tree_of rules) → automaton.phases ≡ length rules.names
-      → contents.automaton ≡ automaton → IsLexiconOf rules classes stems (lexicon_of contents) → (number : ℕ) → bytes ≡ demo_stems number
-      → AreDemoContents number contents
-  contents_made contents automaton recognizes phases kept of number is =
+  pub contents_made : (listed : ListedLexicon) (automaton : StateMachine) → Recognizes automaton (tree_of rules) → automaton.phases ≡ length rules.names
+      → listed.automaton ≡ automaton → IsLexiconOf rules classes stems (lexicon_listed listed) → HasText (lexicon_listed listed) → (number : ℕ) → bytes ≡ demo_stems number
+      → AreDemoContents number listed
+  contents_made listed automaton recognizes phases kept of has_text number is =
       let same = of.same_rules in
-      let lexicon = demo_lexicon number (lexicon_of contents) is of in
+      let lexicon = demo_lexicon number (lexicon_listed listed) is of in
       record {
         is_lexicon = lexicon;
-        count = of.lexicon_itself.count;
-        lines = lines_within number (lexicon_of contents) lexicon;
+        has_text = has_text;
         recognizes =
-            subst (λ (machine : StateMachine). Recognizes machine (tree_of contents.rules)) (sym kept)
+            subst (λ (machine : StateMachine). Recognizes machine (tree_of listed.rules)) (sym kept)
             (subst (λ (set : RuleSet). Recognizes automaton (tree_of set)) (sym same) recognizes);
         phases =
             ap (λ (machine : StateMachine). machine.phases) kept ∙ phases ∙ sym (ap (λ (set : RuleSet). length set.names) same);

@@ -10,8 +10,9 @@ use crate::sources::build;
 use crate::stems::{StemText, draw_stems, stem_file};
 use crate::text::draw_text;
 use annotated_trie::Lexicon;
-use form_file::Contents;
+use form_file::ListedLexicon;
 use phoneme::{Line, Memory};
+use shared_trie::build as build_store;
 use std::alloc::Global;
 use std::thread::Threads;
 use text_line::{LineError, Scheme, read_line};
@@ -57,13 +58,14 @@ fn count_input(
 {
     let bytes = stem_file(alloc, stems)?;
     let line = read_text(alloc, text)?;
-    let Contents {
+    let ListedLexicon {
         rules,
         automaton,
         lists,
     } = build(rt, alloc, bytes.as_slice())?;
     let forms = lists.lines();
-    let lexicon = Lexicon::build(alloc, &lists, rules, automaton)?;
+    let store = build_store(alloc, &lists)?;
+    let lexicon = Lexicon::build(alloc, store, rules, automaton)?;
     let page = count_answers(alloc, &lexicon, &line)?;
     Ok(DemoCounts {
         stems: stems.len() as u32,

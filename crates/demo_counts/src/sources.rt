@@ -6,7 +6,7 @@ ghost use Rattle.demo_definitions.specs.SourceTexts.{demo_stems};
 ghost use Rattle.demo_definitions.specs.SourceContents.{demo_rule_set, demo_classes};
 ghost use Rattle.demo_counts.specs.Inputs.{AreDemoContents, IsStemFile};
 
-use form_file::Contents;
+use form_file::ListedLexicon;
 use lexicon_builder::{BuildError, build_lexicon};
 use paradigms::{StemError, Stems, TableError, Tables, read_stems, read_tables};
 use phoneme::Memory;
@@ -63,15 +63,15 @@ pub(crate) fn build(
     rt: &(impl Threads + Sync),
     alloc: Global,
     stem_bytes: &[u8],
-) -> Result<Contents, Memory>
+) -> Result<ListedLexicon, Memory>
     requires { IsStemFile stem_bytes.now }
-    ensures ok { IfOk result (λ contents. (number : ℕ) → stem_bytes.now ≡ demo_stems number → AreDemoContents number contents) }
+    ensures ok { IfOk result (λ listed. (number : ℕ) → stem_bytes.now ≡ demo_stems number → AreDemoContents number listed) }
 {
     let RuleFile { rules, automaton } = read_rule_file(alloc)?;
     let tables = read_table_file(alloc, rules.phases())?;
     let stems = read_stem_file(alloc, &tables, stem_bytes)?;
     match build_lexicon(rt, alloc, rules, automaton, &tables, &stems) {
-        Ok(contents) => Ok(contents),
+        Ok(listed) => Ok(listed),
         Err(BuildError::Memory) => Err(Memory),
         Err(BuildError::Limit) => unreachable!(),
     }

@@ -1,4 +1,7 @@
 pub mod Decisions
+pub mod TriesThere
+pub mod OrderedNodes
+pub mod OrderedTriesThere
 pub mod FiniteLists
 pub mod GrammarDecisions
 pub mod AnswerDecisions

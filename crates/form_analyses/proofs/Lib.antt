@@ -1,3 +1,2 @@
 pub mod PhaseAnalyses
-pub mod PutAnalyses
 pub mod SearchedForms

@@ -1,5 +1,4 @@
--- An entry above the last goes to the end of the entries: all entries are below it, so no phase after its own has a form, and it
--- goes to the end of its phase. Its phase is the last one afterwards.
+-- An entry within the limits and above the last goes to the end of the entries.
 use Rattle.std.proofs.Common.{◌≡◌, ◌≢◌, ℕ, zero, suc, ◌+◌, ◌<◌, ◌≤◌, Bool, true, false, ◌||◌, nat_le, nat_lt, Option, Ok, Err, List, [], ◌∷◌, ◌++◌, length, map, get_or, refl, sym, ◌∙◌, ap, subst, arith}
 use Rattle.std.specs.List.{AllByRecursion}
 use Rattle.std.specs.Ordering.{nat_cmp}
@@ -28,92 +27,18 @@ use Rattle.lexicon_text_definitions.proofs.FormPhases.{IsLawfulForm, AreLawful, 
 use Rattle.lexicon_text_definitions.proofs.WholeTexts.{counted}
 use Rattle.form_file.specs.declared.take_error.TakeError.{TakeError}
 use Rattle.form_file.specs.declared.take_error.TakeError.TheVariants.{Why, Memory}
-use Rattle.form_file.specs.Told.{IsLastPhase, IsBody, IsAnswer}
-use Rattle.form_file.proofs.FormLemmas.{empty_after}
+use Rattle.form_file.specs.Told.{IsBody, IsAnswer}
+use Rattle.shared_trie.proofs.EntriesEnd.{entries_with}
 use Rattle.list_laws.proofs.Booleans.{when_true, when_false}
 use Rattle.list_laws.proofs.Orderings.{le_from_then}
 
--- ---- all entries are below
+-- ---- what is kept with it
 
-abbrev AreBelow : List Entry → Entry → Type 0
-AreBelow lines entry = AllByRecursion (λ line. compare_entries line entry ≡ Less) lines
-
-abbrev AreUpTo : ℕ → List Entry → Type 0
-AreUpTo last lines = AllByRecursion (λ (line : Entry). line.phase ≤ last) lines
-
-below_new : (lists : List (List Form)) (entry : Entry) → AreLawful lists → compare_last compare_entries (entries_from 0 lists) entry ≡ Less → AreBelow (entries_from 0 lists) entry
-below_new lists entry lawful above =
-    let lines : List Entry = entries_from 0 lists in
-    recursion_from_All (λ line. compare_entries line entry ≡ Less) lines
-    (following_front lines_total lines (entry ∷ []) entry (sorted_with_last lines_total lines entry (lines_rise 0 lists lawful) above) (Contains-first entry []))
-
-up_to : (entry : Entry) (lines : List Entry) → AreBelow lines entry → AreUpTo entry.phase lines
-up_to entry [] h = tt
-up_to entry (line ∷ lines) h = (le_from_then line.phase entry.phase (nat_cmp line.phase entry.phase) refl _ h.0, up_to entry lines h.1)
-
--- ---- no phase after its own has a form
-
-some_entry : (start last : ℕ) (letters : List ℕ) (analyses : List Analysis) (more : List Entry) → analyses ≢ [] → AreUpTo last (map (entry_with start letters) analyses ++ more) → start ≤ last
-some_entry start last letters [] more n h = absurd (n refl)
-some_entry start last letters (a ∷ analyses) more n h = h.0
-
-no_form : (start last : ℕ) (forms : List Form) → AllByRecursion IsLawfulForm forms → AreUpTo last (phase_entries start forms) → last < start → forms ≡ []
-no_form start last [] lawful h above = refl
-no_form start last (form ∷ forms) lawful h above =
-    let low = some_entry start last form.letters form.analyses (phase_entries start forms) lawful.0.entry.analyzed h in absurd (omega (arith, low, above))
-
-none_above : (start last : ℕ) (lists : List (List Form)) (phase : ℕ) → AreLawful lists → AreUpTo last (entries_from start lists) → last < start + phase → get_or lists phase [] ≡ []
-none_above start last [] phase lawful h above = refl
-none_above start last (forms ∷ lists) zero lawful h above =
-    no_form start last forms lawful.0.each (all_left (λ (line : Entry). line.phase ≤ last) (phase_entries start forms) (entries_from (start + 1) lists) h) (omega arith)
-none_above start last (forms ∷ lists) (suc phase) lawful h above =
-    none_above (start + 1) last lists phase lawful.1 (all_right (λ (line : Entry). line.phase ≤ last) (phase_entries start forms) (entries_from (start + 1) lists) h) (omega arith)
-
-none_after : (lists : List (List Form)) (entry : Entry) → AreLawful lists → compare_last compare_entries (entries_from 0 lists) entry ≡ Less → (phase : ℕ) → entry.phase < phase → get_or lists phase [] ≡ []
-none_after lists entry lawful above phase after =
-    none_above 0 entry.phase lists phase lawful (up_to entry (entries_from 0 lists) (below_new lists entry lawful above)) (omega arith)
-
--- ---- the entries with it
-
-pub entries_with : (lists new : List (List Form)) (entry : Entry) → AreLawful lists → entry.phase < length lists → compare_last compare_entries (entries_from 0 lists) entry ≡ Less
-    → new ≡ with_entry lists entry → entries_from 0 new ≡ entries_from 0 lists ++ entry ∷ []
-entries_with lists new entry lawful within above e =
-    let below = below_new lists entry lawful above in
-    let placed = entry_placed 0 lists entry.phase entry.letters entry.analysis lawful
-    (subst (λ new. AllByRecursion (λ other. compare_entries other new ≡ Less) (entries_from 0 lists)) (sym (line_itself entry)) below) in
-    ap (entries_from 0) (e ∙ placed)
-    ∙ lines_with 0 lists entry.phase entry.letters entry.analysis (empty_after lists entry.phase within (none_after lists entry lawful above))
-    ∙ at_zero (entries_from 0 lists) entry
-
--- ---- its phase is the last
-
-some_at : {X : Type 0} (order : Ordering) (new changed x : X) (xs placed : List X) → placed_at order new changed x xs placed ≢ []
-some_at Less new changed x xs placed = λ e. cc
-some_at Equal new changed x xs placed = λ e. cc
-some_at Greater new changed x xs placed = λ e. cc
-
-some_form : (letters : List ℕ) (analysis : Analysis) (forms : List Form) → entries.with_form letters analysis forms ≢ []
-some_form letters analysis [] = λ e. cc
-some_form letters analysis (form ∷ forms) = some_at (compare_words form.letters letters) _ _ form forms _
-
-last_with : (lists : List (List Form)) (entry : Entry) → AreLawful lists → entry.phase < length lists → compare_last compare_entries (entries_from 0 lists) entry ≡ Less
-    → IsLastPhase (with_entry lists entry) entry.phase
-last_with lists entry lawful within above =
-    let new = entries.with_form entry.letters entry.analysis (get_or lists entry.phase []) in
-    record {
-      within = (let long = length-set lists entry.phase new in omega (arith, long, within));
-      none_after = λ phase after.
-          let other : phase ≢ entry.phase = omega (arith, after) in
-          get_or-set_other lists entry.phase phase new [] other ∙ none_after lists entry lawful above phase after;
-      none_at_all = λ e. absurd (some_form entry.letters entry.analysis (get_or lists entry.phase []) (sym (get_or-set_same lists entry.phase new [] within) ∙ e));
-    }
-
-pub body_with : (names : List (List ℕ)) (grammar : List ℕ) (automaton : Option StateMachine) (lists new : List (List Form)) (last : ℕ) (entry : Entry) → IsBody names grammar automaton lists last → AreLawful lists
-    → entry.phase < length lists → compare_last compare_entries (entries_from 0 lists) entry ≡ Less → new ≡ with_entry lists entry → IsBody names grammar automaton new entry.phase
-body_with names grammar automaton lists new last entry body lawful within above e = record {
+pub body_with : (names : List (List ℕ)) (grammar : List ℕ) (automaton : Option StateMachine) (lists new : List (List Form)) (entry : Entry) → IsBody names grammar automaton lists
+    → new ≡ with_entry lists entry → IsBody names grammar automaton new
+body_with names grammar automaton lists new entry body e = record {
   some = body.some;
   as_many = ap length e ∙ length-set lists entry.phase (entries.with_form entry.letters entry.analysis (get_or lists entry.phase [])) ∙ body.as_many;
-  last_phase = subst (λ (lists : List (List Form)). IsLastPhase lists entry.phase) (sym e) (last_with lists entry lawful within above);
   has_automaton = body.has_automaton;
   recognizes = body.recognizes;
   phases = body.phases;

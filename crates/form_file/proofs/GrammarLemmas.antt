@@ -18,27 +18,17 @@ use Rattle.lexicon_text_definitions.proofs.LineSteps.{with_grammar, takes_gramma
 use Rattle.form_file.specs.declared.error.FileWhy.TheVariants.{Grammar}
 use Rattle.form_file.specs.declared.take_error.TakeError.{TakeError}
 use Rattle.form_file.specs.declared.take_error.TakeError.TheVariants.{Why}
-use Rattle.form_file.specs.Told.{IsLastPhase, IsBody, IsStage, IsLineAnswer}
+use Rattle.form_file.specs.Told.{IsBody, IsStage, IsLineAnswer}
 
 -- so many phases without forms
 abbrev pub empty_lists : ℕ → List (List Form)
 empty_lists count = replicate count []
 
-none_at : (count phase : ℕ) → slice_index_or (empty_lists count) phase [] ≡ []
-none_at zero phase = refl
-none_at (suc count) zero = refl
-none_at (suc count) (suc phase) = none_at count phase
-
-last_at_first : (count : ℕ) → 0 < count → IsLastPhase (empty_lists count) 0
-last_at_first count some =
-    let many : length (empty_lists count) ≡ count = length-replicate count [] in
-    record { within = omega (arith, many, some); none_after = λ phase up. none_at count phase; none_at_all = λ none. no_lines_at_first 0 count }
-
 -- what is kept before a grammar line
-pub stage_before_grammar : (last : lines.Kind) (told : Told) (automaton : Option StateMachine) (lists : List (List Form)) (phase : ℕ) → may_follow last lines.Grammar ≡ true
-    → IsStage last told automaton lists phase → (0 < length told.names) × (lists ≡ [])
-stage_before_grammar lines.Phase told automaton lists phase f h = h
-stage_before_grammar last told automaton lists phase f h = absurd (cc)
+pub stage_before_grammar : (last : lines.Kind) (told : Told) (automaton : Option StateMachine) (lists : List (List Form)) → may_follow last lines.Grammar ≡ true
+    → IsStage last told automaton lists → (0 < length told.names) × (lists ≡ [])
+stage_before_grammar lines.Phase told automaton lists f h = h
+stage_before_grammar last told automaton lists f h = absurd (cc)
 
 -- no form before it, and no form after it
 pub no_forms_told : (before after : List (List Form)) (count : ℕ) → before ≡ [] → after ≡ empty_lists count → entries_from 0 before ≡ entries_from 0 after
@@ -74,13 +64,12 @@ module _ {S : Type 0} (bytes : S → List ℕ) where
 
   pub body_told : (items slice : List S) (text grammar : List ℕ) (machine : StateMachine) (lists : List (List Form)) (count : ℕ) → slice ≡ items → grammar ≡ text
       → lists ≡ empty_lists count → count ≡ length items → 0 < length (map bytes items) → Recognizes machine (grammar_of (map bytes slice) text) → machine.phases ≡ length slice
-      → IsBody (map bytes items) grammar (Some machine) lists 0
+      → IsBody (map bytes items) grammar (Some machine) lists
   body_told items slice text grammar machine lists count s g e n some r p =
       let many : length (map bytes items) ≡ length items = length-map items bytes in
       record {
         some = some;
         as_many = ap length e ∙ length-replicate count [] ∙ n ∙ sym many;
-        last_phase = subst (λ lists. IsLastPhase lists 0) (sym e) (last_at_first count (omega (arith, n, many, some)));
         has_automaton = search rules;
         recognizes = subst (λ items. Recognizes machine (grammar_of (map bytes items) grammar)) s (subst (λ text. Recognizes machine (grammar_of (map bytes slice) text)) (sym g) r);
         phases = p ∙ ap length s ∙ sym many;

@@ -1,5 +1,5 @@
 -- What the reader keeps of the lines so far, and what it answers to a line.
-use Rattle.std.specs.Prelude.{◌≡◌, ℕ, ◌<◌, ◌≤◌, ◌⊎◌, Option, Result, Ok, Err, List, [], length, slice_index_or, IfSome, IsSome}
+use Rattle.std.specs.Prelude.{◌≡◌, ℕ, ◌<◌, ◌≤◌, ◌⊎◌, Option, Result, Ok, Err, List, [], length, IfSome, IsSome}
 use Rattle.lexicon_definitions.specs.declared.limits.TheConstants.{MOST_PHASES}
 use Rattle.lexicon_definitions.specs.GrammarTexts.{grammar_of}
 use Rattle.lexicon_definitions.specs.GrammarFaults.{Fault, IsFirstFault, IsGrammarTextWithinLimits}
@@ -7,38 +7,31 @@ use Rattle.lexicon_definitions.specs.Lexicons.{Form}
 use Rattle.phase_automaton.specs.Automata.{StateMachine, Recognizes}
 use Rattle.lexicon_text_definitions.specs.FileFaults as faults
 use Rattle.lexicon_text_definitions.specs.FileLines as lines
-use Rattle.lexicon_text_definitions.specs.FileContents.{Told, entries_from}
+use Rattle.lexicon_text_definitions.specs.FileContents.{Told}
 use Rattle.lexicon_text_definitions.specs.FileSteps.{Taken}
 use Rattle.form_file.specs.declared.take_error.TakeError.{TakeError}
 use Rattle.form_file.specs.declared.take_error.TakeError.TheVariants.{Why, Memory}
 use Rattle.form_file.specs.declared.error.FileWhy.TheVariants.{NoEnd}
 use Rattle.form_file.specs.Faults.{why_of}
 
--- no phase after this one has a form; and where this one has no form, no phase has a form
-pub record IsLastPhase (lists : List (List Form)) (last : ℕ) : Type 0 where
-  pub within : last < length lists
-  pub none_after : (phase : ℕ) → last < phase → slice_index_or lists phase [] ≡ []
-  pub none_at_all : slice_index_or lists last [] ≡ [] → entries_from 0 lists ≡ []
-
--- what is kept besides, once the grammar was told: its automaton, a list for each phase, and the last phase with a form
-pub record IsBody (names : List (List ℕ)) (grammar : List ℕ) (automaton : Option StateMachine) (lists : List (List Form)) (last : ℕ) : Type 0 where
+-- what is kept besides, once the grammar was told: its automaton, and a list for each phase
+pub record IsBody (names : List (List ℕ)) (grammar : List ℕ) (automaton : Option StateMachine) (lists : List (List Form)) : Type 0 where
   pub some : 0 < length names
   pub as_many : length lists ≡ length names
-  pub last_phase : IsLastPhase lists last
   pub has_automaton : IsSome automaton
   pub recognizes : IfSome automaton (λ machine. Recognizes machine (grammar_of names grammar))
   pub phases : IfSome automaton (λ machine. machine.phases ≡ length names)
 
 -- what is kept after a line of each kind
-abbrev pub IsStage : lines.Kind → Told → Option StateMachine → List (List Form) → ℕ → Type 0
-IsStage lines.Opening told automaton lists last = lists ≡ []
-IsStage lines.Head told automaton lists last = lists ≡ []
-IsStage lines.Phase told automaton lists last = (0 < length told.names) × (lists ≡ [])
-IsStage kind told automaton lists last = IsBody told.names told.grammar automaton lists last
+abbrev pub IsStage : lines.Kind → Told → Option StateMachine → List (List Form) → Type 0
+IsStage lines.Opening told automaton lists = lists ≡ []
+IsStage lines.Head told automaton lists = lists ≡ []
+IsStage lines.Phase told automaton lists = (0 < length told.names) × (lists ≡ [])
+IsStage kind told automaton lists = IsBody told.names told.grammar automaton lists
 
-pub record IsKept (told : Told) (automaton : Option StateMachine) (lists : List (List Form)) (last : ℕ) : Type 0 where
+pub record IsKept (told : Told) (automaton : Option StateMachine) (lists : List (List Form)) : Type 0 where
   pub few : length told.names ≤ MOST_PHASES
-  pub stage : IsStage told.last told automaton lists last
+  pub stage : IsStage told.last told automaton lists
 
 -- the answer to a line but a grammar's that is taken so: what is told after it, or why it is refused
 abbrev pub IsAnswer : {A : Type 0} → Taken → Result A TakeError → Told → Type 0

@@ -1,11 +1,11 @@
-use form_lists::FormLists;
 use phase_automaton::Automaton;
 use sandhi_rules::RuleSet;
+use shared_trie::Store;
 
-/// What a lexicon file holds: the rule set, the automaton of its grammar, and the forms of each phase with their analyses.
-#[derive(Debug, Drop)]
+/// What a lexicon file holds: the rule set, the automaton of its grammar, and the trie of its forms.
+#[derive(Drop)]
 pub struct Contents {
     pub rules: RuleSet,
     pub automaton: Automaton,
-    pub lists: FormLists,
+    pub store: Store,
 }

@@ -1,7 +1,9 @@
 ghost use Rattle.std.specs.Prelude.{◌≡◌, ◌≤◌, length, Ok, Err, IfOk, IfErr};
 ghost use Rattle.lexicon_definitions.specs.Lexicons.{tree_of};
+ghost use Rattle.lexicon_definitions.specs.Tries.{IsTrieOf};
 ghost use Rattle.phase_automaton.specs.Automata.{Recognizes};
 ghost use Rattle.lexicon_text_definitions.specs.FileReadings.{IsReadAs};
+ghost use Rattle.trie_text_definitions.specs.TrieForms.{phases_of};
 ghost use Rattle.form_file.specs.Contents.{lexicon_of, error_of, IfFault};
 
 use crate::cutting::first_line;
@@ -25,6 +27,7 @@ fn error_at(line: u32, error: TakeError) -> FileError
 pub fn read(alloc: Global, bytes: &[u8]) -> Result<Contents, FileError>
     requires { length bytes.now ≤ MOST_FILE_BYTES }
     ensures ok { IfOk result (λ contents. IsReadAs bytes.now (Ok (lexicon_of contents))) }
+    ensures trie { IfOk result (λ contents. IsTrieOf contents.store (phases_of contents.store)) }
     ensures automaton { IfOk result (λ contents. Recognizes contents.automaton (tree_of contents.rules)) }
     ensures phases { IfOk result (λ contents. contents.automaton.phases ≡ length contents.rules.names) }
     ensures fault { IfErr result (λ error. IfFault error (λ fault. IsReadAs bytes.now (Err fault))) }

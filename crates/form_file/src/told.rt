@@ -4,6 +4,8 @@ ghost use Rattle.std.specs.Str.{bytes_eq};
 ghost use Rattle.std.specs.String.{string_bytes};
 ghost use Rattle.lexicon_definitions.specs.Lexicons.{IsRuleSet, tree_of, compare_pairs};
 ghost use Rattle.lexicon_definitions.specs.Limits.{IsRuleSetWithinLimits};
+ghost use Rattle.lexicon_definitions.specs.Tries.{IsTrieOf};
+ghost use Rattle.trie_text_definitions.specs.TrieForms.{phases_of};
 ghost use Rattle.phase_automaton.specs.Automata.{Recognizes};
 ghost use Rattle.lexicon_text_definitions.specs.FileLines.{Opening, End, may_follow, Phase, Grammar, Plain, Rule as RuleLine, Form, fields_of, parts_of};
 ghost use Rattle.lexicon_text_definitions.specs.FileContents.{Told as ToldValue, nothing_told, rules_told, lexicon_told, compare_entries, compare_last as compare_last_of};
@@ -20,19 +22,19 @@ use crate::rules_so_far::RulesSoFar;
 use crate::take_error::TakeError;
 use crate::words::{read_letter, read_some_word, read_word};
 use crate::{Contents, FileWhy};
-use form_lists::FormLists;
 use form_tags::{Analysis, Entry, read_tag};
 use lexicon_definitions::{MOST_FORM_LETTERS, MOST_FORM_LINES, MOST_PHASES, MOST_RULE_LETTERS};
 use phase_automaton::{Automaton, GrammarError, read_grammar};
 use phoneme::{Letter, Memory, Word};
 use sandhi_rules::{Rule, RuleSet, is_phase_name, phase_named};
+use shared_trie::StoreBuilder;
 use std::alloc::Global;
 use std::cmp::Ordering;
 use std::marker::Model;
 
 /// What the lines so far told: the kind of the last line, the names of the phases, the grammar's text with its automaton, the
-/// plain pairs, the rules, and the forms, of which the last one is of the last phase.
-#[derive(Debug, Drop)]
+/// plain pairs, the rules, and the trie of the forms.
+#[derive(Drop)]
 pub(crate) struct Told {
     last: Kind,
     names: Vec<String>,
@@ -40,8 +42,7 @@ pub(crate) struct Told {
     automaton: Option<Automaton>,
     plain: Vec<(Letter, Letter)>,
     rules: RulesSoFar,
-    lists: FormLists,
-    last_phase: u32,
+    forms: StoreBuilder,
 }
 
 impl Model for Told {
@@ -52,9 +53,9 @@ impl Model for Told {
 
     ghost Value = { ToldValue };
 
-    ghost view = { λ t. record { last = kind_of t.last; names = map string_bytes t.names.items; grammar = t.grammar.items; plain = t.plain.items; rules = t.rules; forms = entries_from 0 t.lists } };
+    ghost view = { λ t. record { last = kind_of t.last; names = map string_bytes t.names.items; grammar = t.grammar.items; plain = t.plain.items; rules = t.rules; forms = entries_from 0 t.forms } };
 
-    ghost invariant = { λ t. IsKept (record { last = kind_of t.last; names = map string_bytes t.names.items; grammar = t.grammar.items; plain = t.plain.items; rules = t.rules; forms = entries_from 0 t.lists }) t.automaton t.lists t.last_phase };
+    ghost invariant = { λ t. IsKept (record { last = kind_of t.last; names = map string_bytes t.names.items; grammar = t.grammar.items; plain = t.plain.items; rules = t.rules; forms = entries_from 0 t.forms }) t.automaton t.forms };
 }
 
 /// The reason that comes from how a new one compares with the last before it.
@@ -98,8 +99,7 @@ impl Told {
             automaton: None,
             plain: Vec::new(alloc),
             rules: RulesSoFar::new(alloc),
-            lists: FormLists::new(alloc, 0)?,
-            last_phase: 0,
+            forms: StoreBuilder::new(alloc, 0)?,
         })
     }
 
@@ -158,9 +158,8 @@ impl Told {
             Err(GrammarError::Memory) => return Err(TakeError::Memory),
         };
         self.grammar = Vec::from_slice(alloc, text)?;
-        self.lists = FormLists::new(alloc, self.names.len() as u32)?;
+        self.forms = StoreBuilder::new(alloc, self.names.len() as u32)?;
         self.automaton = Some(automaton);
-        self.last_phase = 0;
         self.last = Kind::Grammar;
         Ok(())
     }
@@ -230,32 +229,21 @@ impl Told {
         requires { may_follow self.now.last Form ≡ true }
         ensures { result ≡ compare_last_of compare_entries self.now.forms (text_entry entry.now) }
     {
-        if self.lists.lines() == 0 {
-            return Ordering::Less;
-        }
-        let forms = self.lists.forms(self.last_phase);
-        let place = forms.len() - 1;
-        let analyses = self.lists.analyses(self.last_phase, place as u32);
-        let within_phase = forms[place]
-            .compare(&entry.form)
-            .then(analyses[analyses.len() - 1].compare(&entry.analysis));
-        self.last_phase.cmp(&entry.phase).then(within_phase)
+        self.forms.compare_last(entry)
     }
 
-    fn take_entry(&mut self, entry: Entry) -> Result<(), TakeError>
+    fn take_entry(&mut self, alloc: Global, entry: Entry) -> Result<(), TakeError>
         requires follows { may_follow self.old.last Form ≡ true }
         requires phase { entry.phase < length self.old.names }
         requires form { 0 < length entry.form }
         requires stem { 0 < length entry.analysis.stem }
         ensures { IsAnswer (take_form_line self.old (text_entry entry)) result self.new }
     {
-        if passes_form_limits(self.lists.lines() as usize, &entry) {
+        if passes_form_limits(self.forms.lines() as usize, &entry) {
             return Err(FileWhy::Limit.into());
         }
         rising(self.compare_last(&entry))?;
-        let phase = entry.phase;
-        self.lists.insert(entry)?;
-        self.last_phase = phase;
+        self.forms.push(alloc, entry)?;
         self.last = Kind::Form;
         Ok(())
     }
@@ -276,11 +264,16 @@ impl Told {
         };
         let form = read_some_word(alloc, form)?;
         let stem = read_some_word(alloc, stem)?;
-        self.take_entry(Entry {
-            phase: phase as u32,
-            form,
-            analysis: Analysis { stem, tag },
-        })
+        let phase = phase as u32;
+        let analysis = Analysis { stem, tag };
+        self.take_entry(
+            alloc,
+            Entry {
+                phase,
+                form,
+                analysis,
+            },
+        )
     }
 
     fn take_end(&mut self, rest: Option<&[u8]>) -> Result<(), TakeError>
@@ -361,6 +354,7 @@ impl Told {
         requires set { self.last ≡ End → IsRuleSet (rules_told self) }
         requires limits { self.last ≡ End → IsRuleSetWithinLimits (rules_told self) }
         ensures ok { IfOk result (λ contents. (self.last ≡ End) × (lexicon_of contents ≡ lexicon_told self)) }
+        ensures trie { IfOk result (λ contents. IsTrieOf contents.store (phases_of contents.store)) }
         ensures automaton { IfOk result (λ contents. Recognizes contents.automaton (tree_of (rules_told self))) }
         ensures phases { IfOk result (λ contents. contents.automaton.phases ≡ length contents.rules.names) }
         ensures no_end { IfErr result (λ error. IsNoEnd error (self.last ≡ End)) }
@@ -372,20 +366,20 @@ impl Told {
             automaton,
             plain,
             rules,
-            lists,
-            last_phase: _,
+            forms,
         } = self;
         let Some(automaton) = automaton else {
             return Err(FileWhy::NoEnd.into());
         };
-        if last != Kind::End {
+        let Kind::End = last else {
             return Err(FileWhy::NoEnd.into());
-        }
+        };
         let rules = RuleSet::new(alloc, names, grammar, plain, rules.into_rules())?;
+        let store = forms.finish(alloc)?;
         Ok(Contents {
             rules,
             automaton,
-            lists,
+            store,
         })
     }
 }

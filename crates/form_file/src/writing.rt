@@ -3,9 +3,9 @@ ghost use Rattle.text_definitions.specs.Slp1.{slp1_of_word};
 ghost use Rattle.form_tags.specs.Analyses.{text_analysis};
 ghost use Rattle.lexicon_text_definitions.specs.LexiconTexts.{text_of, text_of_lines, phase_line, grammar_line, plain_line, rule_line, form_line, phase_forms_lines, forms_lines};
 ghost use Rattle.lexicon_text_definitions.specs.TextsOf.{HasText};
-ghost use Rattle.form_file.specs.Contents.{lexicon_of};
+ghost use Rattle.form_file.specs.Contents.{lexicon_listed};
 
-use crate::Contents;
+use crate::ListedLexicon;
 use form_lists::FormLists;
 use form_tags::{Analysis, print_tag};
 use latin_schemes::print_slp1;
@@ -184,17 +184,17 @@ fn push_phases(
 }
 
 /// The text of version 1 of a lexicon (own format).
-pub fn write(alloc: Global, contents: &Contents) -> Result<Vec<u8>, Memory>
-    requires text { HasText (lexicon_of contents.now) }
-    ensures ok { IfOk result (λ bytes. bytes.items ≡ text_of (lexicon_of contents.now)) }
+pub fn write(alloc: Global, listed: &ListedLexicon) -> Result<Vec<u8>, Memory>
+    requires text { HasText (lexicon_listed listed.now) }
+    ensures ok { IfOk result (λ bytes. bytes.items ≡ text_of (lexicon_listed listed.now)) }
 {
-    let names = contents.rules.phases();
+    let names = listed.rules.phases();
     let mut out = Vec::from_slice(alloc, b"slx 1\n")?;
     push_names(&mut out, names)?;
-    push_grammar(&mut out, contents.rules.grammar())?;
-    push_pairs(alloc, &mut out, contents.rules.plain())?;
-    push_rules(alloc, &mut out, contents.rules.rules())?;
-    push_phases(alloc, &mut out, &contents.lists, names)?;
+    push_grammar(&mut out, listed.rules.grammar())?;
+    push_pairs(alloc, &mut out, listed.rules.plain())?;
+    push_rules(alloc, &mut out, listed.rules.rules())?;
+    push_phases(alloc, &mut out, &listed.lists, names)?;
     out.extend_from_slice(b"end\n")?;
     Ok(out)
 }

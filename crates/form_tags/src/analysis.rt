@@ -20,9 +20,10 @@ impl Analysis {
     pub fn compare(&self, other: &Analysis) -> Ordering
         ensures { result ≡ compare_analyses (text_analysis self.now) (text_analysis other.now) }
     {
-        self.stem
-            .compare(&other.stem)
-            .then(self.tag.compare(&other.tag))
+        match self.stem.compare(&other.stem) {
+            Ordering::Equal => self.tag.compare(&other.tag),
+            order => order,
+        }
     }
 
     /// The same analysis, in memory of its own.

@@ -21,10 +21,13 @@ impl Delta {
     pub fn compare(&self, other: &Delta) -> Ordering
         ensures { result ≡ compare_deltas (text_delta self.now) (text_delta other.now) }
     {
-        self.cut
-            .cmp(&other.cut)
-            .then(self.append.compare(&other.append))
-            .then(self.tag.compare(&other.tag))
+        if self.cut != other.cut {
+            return self.cut.cmp(&other.cut);
+        }
+        match self.append.compare(&other.append) {
+            Ordering::Equal => self.tag.compare(&other.tag),
+            order => order,
+        }
     }
 
     /// The same delta, in memory of its own.
@@ -69,7 +72,8 @@ pub fn from_delta(alloc: Global, form: &[Letter], delta: &Delta) -> Result<Analy
     })
 }
 
-fn shared_len(form: &[Letter], stem: &[Letter]) -> usize
+/// The number of letters that the form and the stem share at their beginning.
+pub fn shared_len(form: &[Letter], stem: &[Letter]) -> usize
     ensures in_form { result ≤ length form.now }
     ensures in_stem { result ≤ length stem.now }
     ensures same { take result form.now ≡ take result stem.now }

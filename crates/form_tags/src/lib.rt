@@ -24,7 +24,7 @@ mod voice;
 
 pub use analysis::Analysis;
 pub use case::Case;
-pub use delta::{Delta, from_delta, to_delta};
+pub use delta::{Delta, from_delta, shared_len, to_delta};
 pub use entry::Entry;
 pub use gender::Gender;
 pub use laws::{

@@ -2,12 +2,12 @@ ghost use Rattle.std.specs.Prelude.{◌≡◌, ◌≤◌, ◌<◌, length, IfOk,
 ghost use Rattle.lexicon_text_definitions.specs.LexiconTexts.{text_of};
 ghost use Rattle.lexicon_text_definitions.specs.TextsOf.{HasText};
 ghost use Rattle.run_definitions.specs.SourceLexicons.{IsLexiconOf};
-ghost use Rattle.form_file.specs.Contents.{lexicon_of};
+ghost use Rattle.form_file.specs.Contents.{lexicon_listed};
 ghost use Rattle.lexicon_builder.specs.Sources.{AreSources, HaveTooManyLines, IfLimit};
 
 use crate::BuildError;
 use crate::collecting::{lists_of, sort_entries};
-use form_file::{Contents, write};
+use form_file::{ListedLexicon, write};
 use lexicon_definitions::MOST_FORM_LINES;
 use lexicon_text_definitions::MOST_FILE_BYTES;
 use paradigms::{Stems, Tables, inflect_all};
@@ -25,11 +25,11 @@ pub fn build_lexicon(
     automaton: Automaton,
     tables: &Tables,
     stems: &Stems,
-) -> Result<Contents, BuildError>
+) -> Result<ListedLexicon, BuildError>
     requires { AreSources rules tables.now stems.now }
-    ensures ok { IfOk result (λ contents. IsLexiconOf rules tables.now stems.now (lexicon_of contents)) }
-    ensures text { IfOk result (λ contents. HasText (lexicon_of contents)) }
-    ensures automaton { IfOk result (λ contents. contents.automaton ≡ automaton) }
+    ensures ok { IfOk result (λ listed. IsLexiconOf rules tables.now stems.now (lexicon_listed listed)) }
+    ensures text { IfOk result (λ listed. HasText (lexicon_listed listed)) }
+    ensures automaton { IfOk result (λ listed. listed.automaton ≡ automaton) }
     ensures limit { IfErr result (λ error. IfLimit error (HaveTooManyLines rules tables.now stems.now)) }
 {
     let mut entries = inflect_all(rt, alloc, tables, stems)?;
@@ -39,7 +39,7 @@ pub fn build_lexicon(
     if lists.lines() as usize > MOST_FORM_LINES {
         return Err(BuildError::Limit);
     }
-    Ok(Contents {
+    Ok(ListedLexicon {
         rules,
         automaton,
         lists,
@@ -47,13 +47,13 @@ pub fn build_lexicon(
 }
 
 /// The text of a lexicon, as its file holds it (own format). Refused where it has more bytes than a file may have.
-pub fn lexicon_text(alloc: Global, contents: &Contents) -> Result<Vec<u8>, BuildError>
-    requires { HasText (lexicon_of contents.now) }
-    ensures ok { IfOk result (λ text. text.items ≡ text_of (lexicon_of contents.now)) }
+pub fn lexicon_text(alloc: Global, listed: &ListedLexicon) -> Result<Vec<u8>, BuildError>
+    requires { HasText (lexicon_listed listed.now) }
+    ensures ok { IfOk result (λ text. text.items ≡ text_of (lexicon_listed listed.now)) }
     ensures fits { IfOk result (λ text. length text.items ≤ MOST_FILE_BYTES) }
-    ensures limit { IfErr result (λ error. IfLimit error (MOST_FILE_BYTES < length (text_of (lexicon_of contents.now)))) }
+    ensures limit { IfErr result (λ error. IfLimit error (MOST_FILE_BYTES < length (text_of (lexicon_listed listed.now)))) }
 {
-    let text = write(alloc, contents)?;
+    let text = write(alloc, listed)?;
     if text.len() > MOST_FILE_BYTES {
         return Err(BuildError::Limit);
     }

@@ -1,19 +1,29 @@
 -- What is read of a lexicon file is a lexicon that can be built: it has a text, and so is within the limits.
 use Rattle.std.proofs.Common.{◌≡◌, ℕ, List, length, Ok}
 use Rattle.lexicon_definitions.specs.Lexicons.{IsLexicon, tree_of}
+use Rattle.lexicon_definitions.specs.Tries.{IsTrieOf}
 use Rattle.lexicon_text_definitions.specs.FileReadings.{IsReadAs}
 use Rattle.lexicon_text_definitions.proofs.WholeTexts.{read_text}
+use Rattle.trie_text_definitions.specs.TrieForms.{phases_of}
+use Rattle.trie_text_definitions.proofs.EndTests.{as_many_pairs}
 use Rattle.phase_automaton.specs.Automata.{Recognizes}
 use Rattle.form_file.specs.declared.contents.Contents.{Contents}
 use Rattle.form_file.specs.Contents.{lexicon_of}
 use Rattle.sandhi_program.specs.Segments.{IsBuildable}
 
-pub can_be_built : (contents : Contents) (bytes : List ℕ) → IsReadAs bytes (Ok (lexicon_of contents))
+pub can_be_built : (contents : Contents) (bytes : List ℕ) → IsReadAs bytes (Ok (lexicon_of contents)) → IsTrieOf contents.store (phases_of contents.store)
     → Recognizes contents.automaton (tree_of contents.rules) → contents.automaton.phases ≡ length contents.rules.names
     → IsBuildable contents
-can_be_built contents bytes read recognizes phases =
+can_be_built contents bytes read trie recognizes phases =
     let text = (read_text bytes (lexicon_of contents) read).has_text in
-    record { count = text.lexicon_itself.count; lines = text.limits.lines; recognizes = recognizes; phases = phases }
+    record {
+      trie = trie;
+      lexicon = text.lexicon_itself;
+      limits = text.limits;
+      pairs = as_many_pairs contents.store (phases_of contents.store) trie text.lexicon_itself.phases text.limits.short_forms text.stems;
+      recognizes = recognizes;
+      phases = phases;
+    }
 
 -- and it is a lexicon
 pub is_lexicon : (contents : Contents) (bytes : List ℕ) → IsReadAs bytes (Ok (lexicon_of contents)) → IsLexicon (lexicon_of contents)

@@ -5,13 +5,14 @@ use Rattle.text_definitions.specs.Schemes.{Scheme}
 use Rattle.text_definitions.specs.LineTexts.{line_of_text}
 use Rattle.text_line.specs.declared.text_fault.TextFault.{TextFault}
 use Rattle.text_line.specs.Values.{text_fault}
-use Rattle.lexicon_definitions.specs.declared.limits.TheConstants.{MOST_FORM_LINES}
-use Rattle.lexicon_definitions.specs.Lexicons.{Lexicon, tree_of}
-use Rattle.lexicon_definitions.specs.Limits.{count_lines}
+use Rattle.lexicon_definitions.specs.Lexicons.{Lexicon, IsLexicon, tree_of}
+use Rattle.lexicon_definitions.specs.Limits.{IsWithinLimits, count_lines}
+use Rattle.lexicon_definitions.specs.Tries.{IsTrieOf}
 use Rattle.lexicon_text_definitions.specs.declared.limits.TheConstants.{MOST_FILE_BYTES}
 use Rattle.lexicon_text_definitions.specs.FileReadings.{IsReadAs}
+use Rattle.trie_text_definitions.specs.TrieForms.{count_pairs, phases_of}
 use Rattle.form_file.specs.declared.contents.Contents.{Contents}
-use Rattle.form_file.specs.Contents.{fault_of}
+use Rattle.form_file.specs.Contents.{fault_of, lexicon_of}
 use Rattle.phase_automaton.specs.Automata.{Recognizes}
 use Rattle.segmentation_definitions.specs.Derivations.{Step}
 use Rattle.segmentation_definitions.specs.Listings.{BeforeFirst, IsPage}
@@ -25,11 +26,13 @@ use Rattle.sandhi_program.specs.declared.status.AnyFault.{AnyFault}
 use Rattle.sandhi_program.specs.declared.status.AnyFault.TheVariants.{Large, Lexicon as OfLexicon, Rules, Tables, Stems, Spelling, Note}
 use Rattle.sandhi_program.specs.Faults.{file_fault}
 
--- a lexicon can be built of what was read of a file: there are forms for each phase, not too many, and the automaton is that of
--- the grammar
+-- a lexicon can be built of what was read of a file: the trie is that of its forms, which are within the limits and as many as its
+-- pairs, and the automaton is that of the grammar
 pub record IsBuildable (contents : Contents) : Type 0 where
-  pub count : length contents.lists ≡ length contents.rules.names
-  pub lines : count_lines contents.lists ≤ MOST_FORM_LINES
+  pub trie : IsTrieOf contents.store (phases_of contents.store)
+  pub lexicon : IsLexicon (lexicon_of contents)
+  pub limits : IsWithinLimits (lexicon_of contents)
+  pub pairs : count_pairs contents.store ≡ count_lines (phases_of contents.store)
   pub recognizes : Recognizes contents.automaton (tree_of contents.rules)
   pub phases : contents.automaton.phases ≡ length contents.rules.names
 

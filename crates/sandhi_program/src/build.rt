@@ -91,8 +91,8 @@ pub(crate) fn build(
     ensures refused { IfErr result (IsLimitError file.rules tables.now stems.now) }
 {
     let RuleFile { rules, automaton } = file;
-    let contents = build_lexicon(rt, alloc, rules, automaton, tables, stems)?;
-    let text = lexicon_text(alloc, &contents)?;
-    let output = print_forms(alloc, &contents.lists)?;
+    let listed = build_lexicon(rt, alloc, rules, automaton, tables, stems)?;
+    let text = lexicon_text(alloc, &listed)?;
+    let output = print_forms(alloc, &listed.lists)?;
     Ok(Built { text, output })
 }

@@ -1,6 +1,9 @@
-ghost use Rattle.std.specs.Prelude.{◌≡◌, ◌<◌, [], ◌∷◌, ◌++◌, length, All, IfOk, IfErr, OnOk, None, string_bytes};
+ghost use Rattle.std.specs.Prelude.{◌≡◌, ◌<◌, ◌≤◌, [], ◌∷◌, ◌++◌, length, All, IfOk, IfErr, OnOk, None, string_bytes};
 ghost use Rattle.lexicon_definitions.specs.Rules.{printed_rule};
+ghost use Rattle.lexicon_definitions.specs.declared.limits.TheConstants.{MOST_FORM_LINES};
 ghost use Rattle.lexicon_definitions.specs.Lexicons.{rule_of};
+ghost use Rattle.lexicon_definitions.specs.Limits.{count_lines};
+ghost use Rattle.trie_text_definitions.specs.TrieForms.{phases_of, count_pairs as count_pairs_of};
 ghost use Rattle.segmentation_definitions.specs.Derivations.{IsRuleNumber};
 ghost use Rattle.segmentation_definitions.specs.PrintedAnswers.{output_line};
 ghost use Rattle.run_definitions.specs.Overlaps.{AreFirstOverlaps, printed_counts, printed_overlap, printed_overlaps};
@@ -19,14 +22,15 @@ use super::status::Status;
 use answer_printing::rest_line;
 use command_words::PlacedWord;
 use form_file::Contents;
-use form_lists::FormLists;
 use latin_schemes::print_slp1;
 use outside::{Shelf, Sink};
 use phoneme::Memory;
 use run_definitions::CHECK_OVERLAPS;
 use sandhi_rules::{RuleSet, print_rule};
+use shared_trie::Store;
 use std::alloc::Global;
 use strictness::{Overlap, overlaps};
+use trie_checks::count_pairs;
 
 /// The first overlaps of a lexicon, and whether one is left after them.
 #[derive(Debug, Drop)]
@@ -39,11 +43,12 @@ struct FirstOverlaps {
 fn first_overlaps(
     alloc: Global,
     rules: &RuleSet,
-    lists: &FormLists,
+    store: &Store,
 ) -> Result<FirstOverlaps, Memory>
-    ensures ok { IfOk result (λ found. AreFirstOverlaps (record { rules = rules.now; phases = lists.now }) CHECK_OVERLAPS found.overlaps.items found.more) }
+    requires { length store.now.roots ≡ length rules.now.names }
+    ensures ok { IfOk result (λ found. AreFirstOverlaps (record { rules = rules.now; phases = phases_of store.now }) CHECK_OVERLAPS found.overlaps.items found.more) }
 {
-    let mut overlaps = overlaps(alloc, lists, rules, CHECK_OVERLAPS + 1)?;
+    let mut overlaps = overlaps(alloc, store, rules, CHECK_OVERLAPS + 1)?;
     let more = overlaps.len() > CHECK_OVERLAPS as usize;
     overlaps.truncate(CHECK_OVERLAPS as usize);
     Ok(FirstOverlaps { overlaps, more })
@@ -93,23 +98,38 @@ fn push_overlaps(
     Ok(())
 }
 
+/// How many lines of forms the lexicon has: as many as its trie has pairs of a form and a delta.
+fn count_forms(alloc: Global, store: &Store) -> Result<u32, Memory>
+    requires pairs { count_pairs_of store.now ≡ count_lines (phases_of store.now) }
+    requires few { count_lines (phases_of store.now) ≤ MOST_FORM_LINES }
+    ensures ok { IfOk result (λ count. count ≡ count_lines (phases_of store.now)) }
+{
+    let count = count_pairs(alloc, store)?;
+    Ok(count)
+}
+
 /// The lines that say how many phases, rules and form lines the lexicon has.
-fn print_counts(alloc: Global, rules: &RuleSet, lists: &FormLists) -> Result<String, Memory>
-    ensures ok { IfOk result (λ text. string_bytes text ≡ printed_counts (record { rules = rules.now; phases = lists.now })) }
+fn print_counts(alloc: Global, rules: &RuleSet, store: &Store) -> Result<String, Memory>
+    requires pairs { count_pairs_of store.now ≡ count_lines (phases_of store.now) }
+    requires few { count_lines (phases_of store.now) ≤ MOST_FORM_LINES }
+    ensures ok { IfOk result (λ text. string_bytes text ≡ printed_counts (record { rules = rules.now; phases = phases_of store.now })) }
 {
     let phases = rules.phases().len();
     let count = rules.rules().len();
-    let forms = lists.lines();
+    let forms = count_forms(alloc, store)?;
     Ok(format!(in alloc; "phases {phases}\nrules {count}\nforms {forms}\n")?)
 }
 
 /// The counts of the lexicon, its first overlaps a line each, then `more` or `end`.
-fn print_check(alloc: Global, rules: &RuleSet, lists: &FormLists) -> Result<String, Memory>
-    requires { length lists.now ≡ length rules.now.names }
-    ensures ok { IfOk result (λ output. IsPrintedCheck (record { rules = rules.now; phases = lists.now }) (string_bytes output)) }
+fn print_check(alloc: Global, rules: &RuleSet, store: &Store) -> Result<String, Memory>
+    requires roots { length store.now.roots ≡ length rules.now.names }
+    requires count { length (phases_of store.now) ≡ length rules.now.names }
+    requires pairs { count_pairs_of store.now ≡ count_lines (phases_of store.now) }
+    requires few { count_lines (phases_of store.now) ≤ MOST_FORM_LINES }
+    ensures ok { IfOk result (λ output. IsPrintedCheck (record { rules = rules.now; phases = phases_of store.now }) (string_bytes output)) }
 {
-    let found = first_overlaps(alloc, rules, lists)?;
-    let mut output = print_counts(alloc, rules, lists)?;
+    let found = first_overlaps(alloc, rules, store)?;
+    let mut output = print_counts(alloc, rules, store)?;
     push_overlaps(alloc, &mut output, rules, found.overlaps.as_slice())?;
     output.push_str(rest_line(found.more))?;
     Ok(output)
@@ -120,8 +140,8 @@ pub(crate) fn check(alloc: Global, bytes: &[u8]) -> Result<String, AnyError>
     ensures ok { IfOk result (λ output. IsChecked bytes.now (string_bytes output)) }
     ensures refused { IfErr result (IsFileError bytes.now) }
 {
-    let Contents { rules, lists, .. } = read_contents(alloc, bytes)?;
-    Ok(print_check(alloc, &rules, &lists)?)
+    let Contents { rules, store, .. } = read_contents(alloc, bytes)?;
+    Ok(print_check(alloc, &rules, &store)?)
 }
 
 /// Writes what `check` answers for the bytes of the lexicon file.

@@ -84,7 +84,7 @@ pub(crate) fn read_contents(alloc: Global, bytes: &[u8]) -> Result<Contents, Any
     Ok(read(alloc, bytes)?)
 }
 
-/// The lexicon of a file's contents, as it is searched. The lists of forms are not kept beside it.
+/// The lexicon of a file's contents, as it is searched. The forms themselves are not kept.
 pub(crate) fn build_lexicon(alloc: Global, contents: Contents) -> Result<Lexicon, Memory>
     requires { IsBuildable contents }
     ensures ok { IfOk result (λ lexicon. lexicon.lexicon ≡ lexicon_of contents) }
@@ -92,9 +92,9 @@ pub(crate) fn build_lexicon(alloc: Global, contents: Contents) -> Result<Lexicon
     let Contents {
         rules,
         automaton,
-        lists,
+        store,
     } = contents;
-    Lexicon::build(alloc, &lists, rules, automaton)
+    Lexicon::build(alloc, store, rules, automaton)
 }
 
 /// The page of the line's first answers, found under its chart and numbered from 1.

@@ -30,13 +30,9 @@ use Rattle.form_tags.specs.contracts.delta.DeltaPartialEq.TheImpl.{eq-value as d
 use Rattle.form_tags.specs.contracts.delta.DeltaEq.TheImpl.Laws.{laws-law as delta_laws}
 use Rattle.form_tags.specs.Analyses.{text_delta}
 use Rattle.shared_trie.proofs.RowEquality.{delta_decides, text_delta-once}
+use Rattle.shared_trie.specs.OpenForms.{AreDeltas}
 use Rattle.shared_trie.specs.Runs.{IsDeltaAmong}
 use Rattle.lexicon_definitions.proofs.FormsWithEntry.{analyses_total}
-
--- the deltas stand at the places of their analyses
-pub record AreDeltas (form : List ℕ) (analyses : List Analysis) (deltas : List Delta) : Type 0 where
-  pub count : length deltas ≡ length analyses
-  pub each : (k : ℕ) (a : Analysis) (d : Delta) → k < length analyses → IsDelta form (get_or analyses k a) (get_or deltas k d)
 
 -- some element of a list with a place
 pub some_element : {X : Type 0} (xs : List X) (k : ℕ) → k < length xs → X

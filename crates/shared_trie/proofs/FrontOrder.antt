@@ -21,12 +21,12 @@ compare_words-front (letter ∷ front) left right =
     ap (λ (o : Ordering). ordering_then o (compare_words (front ++ left) (front ++ right))) (equal_itself letter) ∙ compare_words-front front left right
 
 -- no word is below the empty word
-not_below_empty : (word : List ℕ) → compare_words word [] ≡ Less → ⊥
+pub not_below_empty : (word : List ℕ) → compare_words word [] ≡ Less → ⊥
 not_below_empty [] e = absurd cc
 not_below_empty (letter ∷ word) e = absurd cc
 
 -- a greater letter is not below
-not_below_smaller : (a b : ℕ) (left right : List ℕ) → compare_words (a ∷ left) (b ∷ right) ≡ Less → a ≤ b
+pub not_below_smaller : (a b : ℕ) (left right : List ℕ) → compare_words (a ∷ left) (b ∷ right) ≡ Less → a ≤ b
 not_below_smaller a b left right e =
     elim (cases_lt b a) [
       | inl l ↦

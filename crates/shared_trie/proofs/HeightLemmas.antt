@@ -41,7 +41,7 @@ pub ord_max-nat : (m n : ℕ) → ord_max nat_cmp m n ≡ max m n
 ord_max-nat m n = grind (arith, nat_tests)
 
 -- a node with a height above its children has this height
-IsHeight-above : (rows : List Row) (node height : ℕ) (heights : List ℕ) → AreRows rows → node < length rows
+pub IsHeight-above : (rows : List Row) (node height : ℕ) (heights : List ℕ) → AreRows rows → node < length rows
     → All (λ (child : ℕ × ℕ). IsHeight rows child.1 (slice_index heights child.1)) (row_of rows node).children
     → IsHeightAbove heights (row_of rows node).children height → IsHeight rows node height
 IsHeight-above rows node height heights are low known is =

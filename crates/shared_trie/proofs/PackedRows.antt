@@ -47,7 +47,7 @@ list_kept lists more (suc place) within =
 
 module _ (children : List (ℕ × ℕ)) (lists : List (Vec Delta)) (added : List (ℕ × ℕ)) (more : List (Vec Delta)) where
   -- a row that was there
-  row_kept : (node : PackedNode) → IsPacked children lists node → row_with (children ++ added) (lists ++ more) node ≡ row_with children lists node
+  pub row_kept : (node : PackedNode) → IsPacked children lists node → row_with (children ++ added) (lists ++ more) node ≡ row_with children lists node
   row_kept node is =
       let same = part_kept children added node.first (node.first + length (letters_in node.letters)) (omega arith) is.within in
       let deltas = list_kept lists more node.list is.listed in
@@ -89,8 +89,8 @@ module _ (children added : List (ℕ × ℕ)) (lists new_lists : List (Vec Delta
   count = ap length letters ∙ length-map added (λ (child : ℕ × ℕ). child.0)
 
   -- its children are those that were added
-  own_children : children_with (children ++ added) node ≡ added
-  own_children =
+  pub children_added : children_with (children ++ added) node ≡ added
+  children_added =
       let same = count in
       part_added children added node.first (node.first + length (letters_in node.letters)) first (omega (arith, same))
 
@@ -111,7 +111,7 @@ module _ (children added : List (ℕ × ℕ)) (lists new_lists : List (Vec Delta
             (All-weaker (IsPacked children lists) (IsPacked (children ++ added) (lists ++ adds.more)) (λ n is. packed_kept children lists added adds.more n is) nodes are.each))
             (record {
               within = omega (arith, first, same, long);
-              letters = ap (map (λ (child : ℕ × ℕ). child.0)) own_children ∙ sym letters;
+              letters = ap (map (λ (child : ℕ × ℕ). child.0)) children_added ∙ sym letters;
               listed = numbered.listed;
             });
         few = omega (arith, few, long, longer, letters_few, same);
@@ -124,7 +124,7 @@ module _ (children added : List (ℕ × ℕ)) (lists new_lists : List (Vec Delta
       let before : map (row_with (children ++ added) new_lists) nodes ≡ map (row_with children lists) nodes =
       ap (λ (ls : List (Vec Delta)). map (row_with (children ++ added) ls) nodes) adds.is ∙ rows_kept children lists added adds.more nodes are.each in
       let last : row_with (children ++ added) new_lists node ≡ record { deltas = deltas; children = added } =
-      λ i. record { deltas = numbered.is i; children = own_children i } in
+      λ i. record { deltas = numbered.is i; children = children_added i } in
       map_push (row_with (children ++ added) new_lists) nodes node ∙ (λ i. before i ++ last i ∷ [])
 
 -- children whose letters rise, rise by their letters

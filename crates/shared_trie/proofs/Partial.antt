@@ -18,18 +18,13 @@ use Rattle.lexicon_definitions.specs.Lexicons.{Form}
 use Rattle.lexicon_definitions.specs.Tries.{Row, AreRows, IsChild, IsRow, IsNodeAfter, BeginsForm, HasDelta, row_of, empty_row}
 use Rattle.lexicon_definitions.proofs.TrieGrowth.{IsNodeAfter-append, row_of-append}
 use Rattle.lexicon_definitions.proofs.TrieSteps.{IsRowAfter, IsNodeAfter-row}
+use Rattle.shared_trie.specs.OpenForms.{IsKnownChild}
 use Rattle.shared_trie.specs.Runs.{words_of, word_at, HasFront, HasOwnDelta, IsRun, IsNodeFor}
 use Rattle.list_laws.proofs.Sorted.{Contains-cons_cases, not_Contains-nil, sorted_append}
 use Rattle.shared_trie.proofs.DeltaLists.{some_element}
 use Rattle.shared_trie.proofs.FormFacts.{word_of_form}
 use Rattle.shared_trie.proofs.FrontOrder.{letters_rise, front_first}
 use Rattle.list_laws.proofs.Orderings.{nat_cmp-Less}
-
--- the child stands for what follows the front and its letter, with which some form begins
-pub record IsKnownChild (rows : List Row) (forms : List Form) (front : List ℕ) (child : ℕ × ℕ) : Type 0 where
-  pub letter : IsLetter child.0
-  pub known : IsNodeFor rows forms (front ++ child.0 ∷ []) child.1
-  pub begins : BeginsForm forms (front ++ child.0 ∷ [])
 
 -- the row has its deltas, and the children of the words before the place
 pub record IsPartial (rows : List Row) (forms : List Form) (front : List ℕ) (start at stop : ℕ) (row : Row) : Type 0 where
@@ -44,7 +39,7 @@ pub record IsPartial (rows : List Row) (forms : List Form) (front : List ℕ) (s
   pub filled : start < at → row ≢ empty_row
 
 -- a child stays known
-IsKnownChild-append : (rows more : List Row) (forms : List Form) (front : List ℕ) (child : ℕ × ℕ) → AreRows rows
+pub IsKnownChild-append : (rows more : List Row) (forms : List Form) (front : List ℕ) (child : ℕ × ℕ) → AreRows rows
     → IsKnownChild rows forms front child → IsKnownChild (rows ++ more) forms front child
 IsKnownChild-append rows more forms front child are is =
     let long = length-append rows more in
@@ -108,7 +103,7 @@ begins_form (first ∷ forms) word rest k low e =
     }
 
 -- children that rise, and one with a greater letter
-rising_push : (children : List (ℕ × ℕ)) (letter child : ℕ) → IsStrictlySortedBy (on (λ (c : ℕ × ℕ). c.0) nat_cmp) children
+pub rising_push : (children : List (ℕ × ℕ)) (letter child : ℕ) → IsStrictlySortedBy (on (λ (c : ℕ × ℕ). c.0) nat_cmp) children
     → All (λ (c : ℕ × ℕ). c.0 < letter) children → IsStrictlySortedBy (on (λ (c : ℕ × ℕ). c.0) nat_cmp) (children ++ (letter, child) ∷ [])
 unfolding IsStrictlySortedBy
 rising_push children letter child rising below =
@@ -221,7 +216,7 @@ module _ (rows : List Row) (forms : List Form) (front : List ℕ) (start at stop
       not_empty_push (x ∷ xs) c e = absurd cc
 
 -- no children rise
-nil_rises : IsStrictlySortedBy (on (λ (c : ℕ × ℕ). c.0) nat_cmp) []
+pub nil_rises : IsStrictlySortedBy (on (λ (c : ℕ × ℕ). c.0) nat_cmp) []
 unfolding IsStrictlySortedBy
 nil_rises = tt
 

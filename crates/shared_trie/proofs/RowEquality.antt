@@ -39,7 +39,7 @@ pub delta_decides : (a b : Delta) → Decides (delta_eq.it a b) (a ≡ b)
 delta_decides a b = (delta_one a b, λ e. subst (λ (d : Delta). delta_eq.it a d ≡ true) e (delta_laws.refl a))
 
 -- children are equal where they are one
-child_decides : (a b : ℕ × ℕ) → Decides (nat_eq a.0 b.0 && nat_eq a.1 b.1) (a ≡ b)
+pub child_decides : (a b : ℕ × ℕ) → Decides (nat_eq a.0 b.0 && nat_eq a.1 b.1) (a ≡ b)
 child_decides a b = (
   λ e. let two = and_parts (nat_eq a.0 b.0) (nat_eq a.1 b.1) e in λ i. (eqb-true a.0 b.0 two.0 i, eqb-true a.1 b.1 two.1 i),
   λ e. subst (λ (c : ℕ × ℕ). (nat_eq a.0 c.0 && nat_eq a.1 c.1) ≡ true) e (search rules),
@@ -54,7 +54,7 @@ text_delta-once a b e =
     λ i. record { cut = cut i; append = append i; tag = tag i }
 
 -- lists of deltas with one text are one
-text_deltas-once : (xs ys : List Delta) → map text_delta xs ≡ map text_delta ys → xs ≡ ys
+pub text_deltas-once : (xs ys : List Delta) → map text_delta xs ≡ map text_delta ys → xs ≡ ys
 text_deltas-once [] [] e = refl
 text_deltas-once [] (y ∷ ys) e = absurd cc
 text_deltas-once (x ∷ xs) [] e = absurd cc

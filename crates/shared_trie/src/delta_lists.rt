@@ -1,6 +1,6 @@
 ghost use Rattle.std.specs.Prelude.{◌≡◌, ◌+◌, ◌<◌, ◌≤◌, ◌^◌, length, map, IfOk, OnErr};
 ghost use Rattle.form_tags.specs.Analyses.{text_delta};
-ghost use Rattle.shared_trie.specs.Packed.{AddsLists, IsNumberOf};
+ghost use Rattle.shared_trie.specs.Packed.{AddsLists, AreApart, IsNumberOf};
 
 use form_tags::Delta;
 use indexmap::IndexSet;
@@ -14,6 +14,7 @@ pub(crate) fn number_list(
     requires { length lists.old.keys + 1 < 2 ^ 32 }
     ensures grown { AddsLists lists.old.keys lists.new.keys }
     ensures unchanged { OnErr result (lists.new.keys ≡ lists.old.keys) }
+    ensures apart { AreApart lists.old.keys → AreApart lists.new.keys }
     ensures ok { IfOk result (λ number. IsNumberOf lists.new.keys (map text_delta deltas.items) number) }
 {
     if deltas.is_empty() {

@@ -30,7 +30,8 @@ pub(crate) fn to_deltas(
     Ok(deltas)
 }
 
-fn sort_deltas(deltas: &mut [Delta])
+/// Puts the deltas in order.
+pub(crate) fn sort_deltas(deltas: &mut [Delta])
     ensures permutation { IsPermutation deltas.old deltas.new }
     ensures sorted { IsSortedByKey text_delta compare_deltas deltas.new }
 {

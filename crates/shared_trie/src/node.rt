@@ -19,8 +19,8 @@ impl Model for Node {
 }
 
 impl Node {
-    /// The node with this number.
-    pub(crate) fn new(number: u32) -> Node
+    /// The node with this number, counted from 0, of whatever store.
+    pub fn new(number: u32) -> Node
         ensures { result ≡ number }
     {
         Node { number }

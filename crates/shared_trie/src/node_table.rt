@@ -1,8 +1,9 @@
-ghost use Rattle.std.specs.Prelude.{◌≡◌, ◌≢◌, ◌+◌, ◌*◌, ◌<◌, ◌^◌, ◌↔◌, ℕ, [], ◌∷◌, ◌++◌, length, map, IsTrue, OnOk};
+ghost use Rattle.std.specs.Prelude.{◌≡◌, ◌≢◌, ◌+◌, ◌*◌, ◌<◌, ◌^◌, ◌↔◌, ℕ, [], ◌∷◌, ◌++◌, length, map, IsTrue, OnOk, OnErr};
 ghost use Rattle.std.specs.Ordering.{nat_cmp, on};
 ghost use Rattle.std.specs.List.Sorted.{IsStrictlySortedBy};
 ghost use Rattle.form_tags.specs.Analyses.{text_delta};
 ghost use Rattle.lexicon_definitions.specs.Tries.{child_in, row_of};
+ghost use Rattle.shared_trie.specs.Packed.{ArePacked, row_with};
 
 use super::Node;
 use super::delta_lists::number_list;
@@ -46,7 +47,23 @@ impl NodeTable {
         }
     }
 
-    /// Adds a node with these deltas and children after all others.
+    /// The table of these nodes, whose children stand one after another, and whose lists of deltas have numbers from 1 on.
+    pub(crate) fn with_parts(
+        nodes: Vec<PackedNode>,
+        children: Vec<(Letter, Node)>,
+        lists: IndexSet<Vec<Delta>>,
+    ) -> NodeTable
+        requires { ArePacked children.items lists.keys nodes.items }
+        ensures { result ≡ map (row_with children.items lists.keys) nodes.items }
+    {
+        NodeTable {
+            nodes,
+            children,
+            lists,
+        }
+    }
+
+    /// Adds a node with these deltas and children after all others. Where memory is wanting, the rows are as they were.
     pub(crate) fn push(
         &mut self,
         deltas: Vec<Delta>,
@@ -55,6 +72,7 @@ impl NodeTable {
         requires rising { IsStrictlySortedBy (on (λ (child : ℕ × ℕ). child.0) nat_cmp) children.now }
         requires room { 64 * (length self.old + 1) < 2 ^ 32 }
         ensures ok { OnOk result (self.new ≡ self.old ++ record { deltas = map text_delta deltas.items; children = children.now } ∷ []) }
+        ensures unchanged { OnErr result (self.new ≡ self.old) }
     {
         self.nodes.reserve(1)?;
         self.children.reserve(children.len())?;

@@ -1,13 +1,14 @@
-ghost use Rattle.std.specs.Prelude.{◌≡◌, ◌≢◌, ℕ, ◌+◌, ◌<◌, ◌^◌, ◌↔◌, [], length, map, slice_index, IsTrue, IfSome};
+ghost use Rattle.std.specs.Prelude.{◌≡◌, ◌≢◌, ℕ, ◌+◌, ◌*◌, ◌<◌, ◌^◌, ◌↔◌, [], ◌∷◌, ◌++◌, length, map, slice_index, All, IsTrue, IfSome, OnOk, OnErr};
 ghost use Rattle.form_tags.specs.Analyses.{text_delta};
-ghost use Rattle.lexicon_definitions.specs.Tries.{IsHeight, IsTrie, child_in, row_of};
+ghost use Rattle.lexicon_definitions.specs.Tries.{IsHeight, IsRow, IsTrie, child_in, empty_row, row_of};
 ghost use Rattle.shared_trie.specs.Heights.{AreHeights};
 
 use super::Node;
+use super::heights::height_above;
 use super::node_table::NodeTable;
 use form_tags::Delta;
 use outside::Steps;
-use phoneme::Letter;
+use phoneme::{Letter, Memory};
 use std::marker::Model;
 
 /// The nodes of a trie with shared subtrees, each a row, and a root for each phase (Huet 2005). No two rows are the same,
@@ -41,6 +42,15 @@ impl Store {
         ensures node { result < length self.now.rows }
     {
         self.roots[phase as usize]
+    }
+
+    /// The roots of all phases, in their order.
+    pub fn roots(&self) -> &[Node]
+        ensures value { result.now ≡ self.now.roots }
+        ensures nodes { All (λ root. root < length self.now.rows) self.now.roots }
+        ensures trie { IsTrie self.now }
+    {
+        self.roots.as_slice()
     }
 
     /// Where the letter leads from the node. `None` where no suffix of the node begins with it. Takes one step.
@@ -85,6 +95,15 @@ impl Store {
         children
     }
 
+    /// The letters that lead on from the node, rising, each with the node to which it leads.
+    pub fn children_of(&self, node: Node) -> &[(Letter, Node)]
+        requires { node < length self.now.rows }
+        ensures value { result.now ≡ (row_of self.now.rows node).children }
+        ensures trie { IsTrie self.now }
+    {
+        self.table.children(node)
+    }
+
     /// The length of the longest suffix of the node: 0 without children, else 1 more than the greatest height of a child.
     pub fn height(&self, node: Node) -> u32
         requires { node < length self.now.rows }
@@ -107,6 +126,54 @@ impl Store {
         ensures { result ≡ number }
     {
         Node::new(number)
+    }
+
+    /// Whether the node has neither deltas nor children.
+    pub(crate) fn is_empty_row(&self, node: Node) -> bool
+        requires { node < length self.now.rows }
+        ensures { IsTrue result ↔ (row_of self.now.rows node ≡ empty_row) }
+    {
+        self.table.deltas(node).is_empty() && self.table.children(node).is_empty()
+    }
+
+    /// The number of roots.
+    pub(crate) fn root_count(&self) -> usize
+        ensures { result ≡ length self.now.roots }
+    {
+        self.roots.len()
+    }
+
+    /// Adds a node with these deltas and children after all others. Where memory is wanting, the store is as it was.
+    pub(crate) fn push(
+        &mut self,
+        deltas: Vec<Delta>,
+        children: &[(Letter, Node)],
+    ) -> Result<(), Memory>
+        requires row { IsRow self.old.rows (length self.old.rows) (record { deltas = map text_delta deltas.items; children = children.now }) }
+        requires other { All (λ row. row ≢ record { deltas = map text_delta deltas.items; children = children.now }) self.old.rows }
+        requires room { 64 * (length self.old.rows + 1) < 2 ^ 32 }
+        ensures rows { OnOk result (self.new.rows ≡ self.old.rows ++ record { deltas = map text_delta deltas.items; children = children.now } ∷ []) }
+        ensures roots { OnOk result (self.new.roots ≡ self.old.roots) }
+        ensures unchanged { OnErr result (self.new ≡ self.old) }
+    {
+        let height = height_above(self.heights.as_slice(), children);
+        self.heights.reserve(1)?;
+        self.table.push(deltas, children)?;
+        let Ok(()) = self.heights.push(height) else {
+            unreachable!();
+        };
+        Ok(())
+    }
+
+    /// Makes the node the root of the next phase. Where memory is wanting, the store is as it was.
+    pub(crate) fn push_root(&mut self, root: Node) -> Result<(), Memory>
+        requires { root < length self.old.rows }
+        ensures rows { self.new.rows ≡ self.old.rows }
+        ensures roots { OnOk result (self.new.roots ≡ self.old.roots ++ root ∷ []) }
+        ensures unchanged { OnErr result (self.new.roots ≡ self.old.roots) }
+    {
+        self.roots.push(root)?;
+        Ok(())
     }
 
     /// The store with these parts.

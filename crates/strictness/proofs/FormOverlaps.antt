@@ -1,23 +1,20 @@
 -- The overlaps in one form: they rise with the rule before, then with the rule after; and they are overlaps of the lexicon
 -- exactly where the phase has the form.
-use Rattle.std.proofs.Common.{◌≡◌, ℕ, ◌+◌, ◌*◌, ◌<◌, ◌≤◌, List, length, length-append, map, sym, subst, ◌∙◌, arith}
+use Rattle.std.proofs.Common.{◌≡◌, ℕ, ◌+◌, ◌*◌, ◌<◌, ◌≤◌, List, length, length-append, sym, subst, ◌∙◌, arith}
 use Rattle.std.specs.List.{All}
 use Rattle.std.proofs.lemmas.List.Elements.{All-contains}
-use Rattle.std.specs.Ordering.{nat_cmp, on}
-use Rattle.std.specs.List.Sorted.{IsStrictlySortedBy}
-use Rattle.text_definitions.specs.Words.{compare_words}
+use Rattle.std.specs.Ordering.{nat_cmp}
 use Rattle.lexicon_definitions.specs.declared.limits.TheConstants.{MOST_RULE_LETTERS}
 use Rattle.lexicon_definitions.specs.Rules.{HasPhase}
-use Rattle.lexicon_definitions.specs.Lexicons.{Lexicon, RuleSet, Form, IsForm, rule_of}
+use Rattle.lexicon_definitions.specs.Lexicons.{Lexicon, RuleSet, IsForm, rule_of}
 use Rattle.lexicon_definitions.specs.Limits.{IsRuleSetWithinLimits}
 use Rattle.segmentation_definitions.specs.Overlaps.{Overlap, IsOverlap}
 use Rattle.list_laws.specs.Firsts.{AreAll}
-use Rattle.list_laws.proofs.FirstOnes.{sorted-map}
 use Rattle.strictness.specs.Matches.{BeginsForm, EndsForm, AreLonger, IsInForm}
 use Rattle.strictness.specs.Appending.{Takes, AppendsFirst}
 use Rattle.strictness.specs.declared.found.Found.{Found}
-use Rattle.strictness.proofs.OverlapOrder.{less_by_form, less_by_before, less_by_after}
-use Rattle.strictness.proofs.AppendedFirsts.{appends_none, appends_one, appends_with}
+use Rattle.strictness.proofs.OverlapOrder.{less_by_before, less_by_after}
+use Rattle.strictness.proofs.AppendedFirsts.{appends_none, appends_one}
 use Rattle.strictness.proofs.KeyLoops.{RisesWith}
 use Rattle.strictness.proofs.RuleMatches.{not_longer}
 
@@ -89,7 +86,7 @@ module _ (rules : RuleSet) (phase : ℕ) (form : List ℕ) where
       appends_none (IsInForm rules phase form) found (λ x h. omega (arith, (all.complete x.before h.begins).1))
 
 -- what is in a form of a phase is an overlap of the lexicon, and an overlap is in its form
-overlap_from : (lexicon : Lexicon) (phase : ℕ) (form : List ℕ) (x : Overlap) → IsForm lexicon phase form
+pub overlap_from : (lexicon : Lexicon) (phase : ℕ) (form : List ℕ) (x : Overlap) → IsForm lexicon phase form
     → IsInForm lexicon.rules phase form x → IsOverlap lexicon x
 overlap_from lexicon phase form x is here = record {
   of_phase = subst (λ n. IsForm lexicon n x.form) (sym here.phase_is) (subst (IsForm lexicon phase) (sym here.form_is) is);
@@ -102,7 +99,7 @@ overlap_from lexicon phase form x is here = record {
   longer = subst (AreLonger lexicon.rules x.before x.after) (sym here.form_is) here.longer;
 }
 
-in_form_from : (lexicon : Lexicon) (x : Overlap) (phase : ℕ) (form : List ℕ) → x.phase ≡ phase → x.form ≡ form
+pub in_form_from : (lexicon : Lexicon) (x : Overlap) (phase : ℕ) (form : List ℕ) → x.phase ≡ phase → x.form ≡ form
     → IsOverlap lexicon x → IsInForm lexicon.rules phase form x
 in_form_from lexicon x phase form p f is = record {
   phase_is = p;
@@ -125,24 +122,3 @@ module _ (lexicon : Lexicon) (phase : ℕ) where
   -- an overlap of this phase
   abbrev pub IsOfPhase : Overlap → Type 0
   IsOfPhase x = IsOverlap lexicon x × (x.phase ≡ phase)
-
-  pub rises_form : RisesWith compare_words (λ x. x.form) IsOfPhase
-  rises_form x y p q less = less_by_form x y (p.1 ∙ sym q.1) less
-
-  pub of_form : (form : List ℕ) (old new : Found) → IsForm lexicon phase form → AppendsFirst (IsInForm lexicon.rules phase form) old new
-      → AppendsFirst (λ x. IsOfPhase x × (x.form ≡ form)) old new
-  of_form form old new is appends =
-      appends_with (IsInForm lexicon.rules phase form) (λ x. IsOfPhase x × (x.form ≡ form)) old new
-      (λ x h. ((overlap_from lexicon phase form x is h, h.phase_is), h.form_is))
-      (λ x h. in_form_from lexicon x phase form h.0.1 h.1 h.0.0)
-      appends
-
-  pub has_form : (x : Overlap) → IsOfPhase x → IsForm lexicon phase x.form
-  has_form x h = subst (λ n. IsForm lexicon n x.form) h.1 h.0.of_phase
-
--- the forms of a phase rise
-pub rising_forms : (forms : List Form) → IsStrictlySortedBy (on (λ (form : Form). form.letters) compare_words) forms
-    → IsStrictlySortedBy compare_words (map (λ (form : Form). form.letters) forms)
-rising_forms forms rising =
-    sorted-map (on (λ (form : Form). form.letters) compare_words) compare_words (λ (form : Form). form.letters) (λ _. Unit {0})
-    (λ x z _ _ less. less) forms (λ z _. tt) rising

@@ -5,3 +5,6 @@ pub mod NumberLists
 pub mod RuleMatches
 pub mod FormOverlaps
 pub mod PhaseOverlaps
+pub mod LeadsAhead
+pub mod WalkedForms
+pub mod PhaseForms

@@ -75,3 +75,20 @@ module _ (P : ℕ → Type 0) where
   all_among candidates count xs enough complete all =
       all_with nat_cmp (IsAmong candidates count) P xs (λ n h. h.0)
       (λ n p. (p, subst (λ ks. Contains ks n) (sym (take_all count candidates enough)) (complete n p))) all
+
+-- ---- all numbers below a bound
+
+pub no_number : AreAll nat_cmp (λ n. n < 0) []
+no_number = none_at_all nat_cmp (λ n. n < 0) (λ n h. omega (arith, h))
+
+pub next_number : (bound : ℕ) (xs : List ℕ) → AreAll nat_cmp (λ n. n < bound) xs → AreAll nat_cmp (λ n. n < bound + 1) (xs ++ bound ∷ [])
+next_number bound xs all =
+    let Q : ℕ → Type 0 = λ n. n ≡ bound in
+    all_with nat_cmp (λ n. (n < bound) ⊎ Q n) (λ n. n < bound + 1) (xs ++ bound ∷ [])
+    (λ n h. elim h [ inl b ↦ omega (arith, b) | inr e ↦ omega (arith, e) ])
+    (λ n h. elim (cases_lt n bound) [ inl below ↦ inl below | inr above ↦ inr (omega (arith, h, above)) ])
+    (all_of_both nat_cmp (λ n. n < bound) Q xs (bound ∷ []) all (one_in_all nat_cmp Q bound (λ i. bound) (λ n e. e))
+    (λ n m p q. sym (nat_cmp_is n m Less (omega (arith, p, q)))))
+
+pub all_numbers : (bound count : ℕ) (xs : List ℕ) → bound ≡ count → AreAll nat_cmp (λ n. n < bound) xs → AreAll nat_cmp (λ n. n < count) xs
+all_numbers bound count xs e all = subst (λ b. AreAll nat_cmp (λ n. n < b) xs) e all

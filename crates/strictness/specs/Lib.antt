@@ -1,3 +1,4 @@
 pub mod Overlaps
 pub mod Matches
 pub mod Appending
+pub mod Walks

@@ -3,7 +3,8 @@
 //!
 //! Proved: `overlaps` gives the first overlaps in the order of phase, form, rule before and rule after, as many as were asked
 //! for, and all where there are fewer (`ok`); this says which list it is (`the_first_overlaps_are_one_list`). How fast it is
-//! is only measured: a form's first and last letter lead to the few rules that are tried on it.
+//! is only measured: it walks in the trie, and ends where no rule's `v` can begin a form any more, or where a form is too long
+//! for an overlap; and a form's first and last letter lead to the few rules that are tried on it.
 #![tactic(auto)]
 
 mod found;
@@ -13,6 +14,8 @@ mod listing;
 mod matching;
 mod overlap;
 mod pairs;
+mod phase_walk;
+mod walking;
 
 pub use laws::the_first_overlaps_are_one_list;
 pub use listing::overlaps;

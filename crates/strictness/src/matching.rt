@@ -11,7 +11,7 @@ use sandhi_rules::RuleSet;
 use std::alloc::Global;
 
 /// Whether the form begins with the word.
-fn begins_with(form: &Word, word: &Word) -> bool
+pub(crate) fn begins_with(form: &Word, word: &Word) -> bool
     ensures { IsTrue result ↔ ((rest : List ℕ) × (form.now ≡ word.now ++ rest)) }
 {
     form.as_slice().starts_with(word.as_slice())

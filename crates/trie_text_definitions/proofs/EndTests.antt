@@ -22,7 +22,7 @@ use Rattle.lexicon_definitions.specs.Analyses.{Analysis, compare_analyses}
 use Rattle.lexicon_definitions.specs.Deltas.{Delta, compare_deltas, replace_end, analysis_by, IsDelta}
 use Rattle.lexicon_definitions.specs.Lexicons.{Form, IsPhase}
 use Rattle.lexicon_definitions.specs.Limits.{IsShortForm, count_lines}
-use Rattle.lexicon_definitions.specs.Tries.{Row, Trie, AreRows, IsNodeAfter, child_in, row_of, walk}
+use Rattle.lexicon_definitions.specs.Tries.{Row, Trie, AreRows, IsNodeAfter, IsTrieOf, child_in, row_of, walk}
 use Rattle.lexicon_definitions.proofs.FormsWithEntry.{analyses_total}
 use Rattle.lexicon_definitions.proofs.TrieChildren.{Contains-child_among, IsChild-child_in}
 use Rattle.lexicon_definitions.proofs.TrieGrowth.{walk-child, walk-none, walk-within}
@@ -127,29 +127,29 @@ each_longer form set (first ∷ deltas) s h =
     ))
     in omega (arith, one, rest)
 
-sum_least : {X Y : Type 0} (f : X → ℕ) (g : Y → ℕ) (k : X → Y) (xs : List X) → ((x : X) → Contains xs x → f x ≤ g (k x)) → sum_by f xs ≤ sum_by g (map k xs)
-sum_least f g k [] h = omega arith
-sum_least f g k (x ∷ xs) h =
+same_sums : {X Y : Type 0} (f : X → ℕ) (g : Y → ℕ) (k : X → Y) (xs : List X) → ((x : X) → Contains xs x → f x ≡ g (k x)) → sum_by f xs ≡ sum_by g (map k xs)
+same_sums f g k [] h = refl
+same_sums f g k (x ∷ xs) h =
     let left = sum_by-cons f x xs in
     let right = sum_by-cons g (k x) (map k xs) in
     let first = h x (Contains-first x xs) in
-    let rest = sum_least f g k xs (λ y m. h y (Contains-later x xs y m)) in
+    let rest = same_sums f g k xs (λ y m. h y (Contains-later x xs y m)) in
     omega (arith, left, right, first, rest)
 
 -- ---- what is asked at the end
 
-module _ (trie : Trie) (phases : List (List Form)) (h : IsOrderedTrieOf trie phases) (each : All IsPhase phases) (short : All (λ forms. All IsShortForm forms) phases)
-    (spelled : All (λ forms. All HasSpelledStems forms) phases) where
-  pub none_unused : has_unused trie ≡ false
-  none_unused =
-      none_pass (λ node. not (is_led_to trie node)) (range_with_len 0 (length trie.rows)) (λ node m.
-      let led = h.is_used node (let below = range_below 0 (length trie.rows) node m in omega (arith, below)) in
-      let low = All-contains (λ root. root < length trie.rows) trie.roots led.root h.is_trie.is_trie.roots led.is_root in
-      let reaches = walk_reaches trie.rows h.is_trie.is_trie.rows led.word led.root node low led.walked in
-      let here = any_contained (λ reached. reached == node) (nodes_from trie.rows led.root) node reaches (eq-eqb node node refl) in
-      let leads : is_led_to trie node ≡ true = any_contained (λ root. list_any (λ reached. reached == node) (nodes_from trie.rows root)) trie.roots led.root led.is_root here in
-      not_from_true (is_led_to trie node) leads)
+pub none_unused : (trie : Trie) (phases : List (List Form)) → IsOrderedTrieOf trie phases → has_unused trie ≡ false
+none_unused trie phases h =
+    none_pass (λ node. not (is_led_to trie node)) (range_with_len 0 (length trie.rows)) (λ node m.
+    let led = h.is_used node (let below = range_below 0 (length trie.rows) node m in omega (arith, below)) in
+    let low = All-contains (λ root. root < length trie.rows) trie.roots led.root h.is_trie.is_trie.roots led.is_root in
+    let reaches = walk_reaches trie.rows h.is_trie.is_trie.rows led.word led.root node low led.walked in
+    let here = any_contained (λ reached. reached == node) (nodes_from trie.rows led.root) node reaches (eq-eqb node node refl) in
+    let leads : is_led_to trie node ≡ true = any_contained (λ root. list_any (λ reached. reached == node) (nodes_from trie.rows root)) trie.roots led.root led.is_root here in
+    not_from_true (is_led_to trie node) leads)
 
+module _ (trie : Trie) (phases : List (List Form)) (h : IsTrieOf trie phases) (each : All IsPhase phases) (short : All (λ forms. All IsShortForm forms) phases)
+    (spelled : All (λ forms. All HasSpelledStems forms) phases) where
   stem_length : (stem : List ℕ) → stem ≢ [] → length stem ≤ MOST_FORM_LETTERS → is_stem_length stem ≡ true
   stem_length [] some l = absurd (some refl)
   stem_length (letter ∷ stem) some l = and_from _ _ (le-leb 1 (length (letter ∷ stem)) (omega arith)) (le-leb (length (letter ∷ stem)) MOST_FORM_LETTERS l)
@@ -159,12 +159,12 @@ module _ (trie : Trie) (phases : List (List Form)) (h : IsOrderedTrieOf trie pha
       → is_right_delta suffix.word delta ≡ true
   right_suffix root (k, below, is) suffix m delta among =
       let rows = trie.rows in
-      let are = h.is_trie.is_trie.rows in
-      let count = h.is_trie.count in
+      let are = h.is_trie.rows in
+      let count = h.count in
       let forms = get_or phases k [] in
       let here = get_or_default trie.roots k 0 root below ∙ is in
-      let low : root < length rows = All-contains (λ root. root < length rows) trie.roots root h.is_trie.is_trie.roots (k, below, is) in
-      let node : IsNodeAfter rows forms [] root = subst (IsNodeAfter rows forms []) here (h.is_trie.each k (omega (arith, below, count))) in
+      let low : root < length rows = All-contains (λ root. root < length rows) trie.roots root h.is_trie.roots (k, below, is) in
+      let node : IsNodeAfter rows forms [] root = subst (IsNodeAfter rows forms []) here (h.each k (omega (arith, below, count))) in
       let found = suffix_by rows are root low suffix m in
       let has = (node.deltas suffix.word found.reached found.walked delta).0 (subst (λ (ds : List Delta). Contains ds delta) found.is_deltas among) in
       let shorts = All-get_or (λ forms. All IsShortForm forms) phases k [] (omega (arith, below, count)) short in
@@ -182,18 +182,21 @@ module _ (trie : Trie) (phases : List (List Form)) (h : IsOrderedTrieOf trie pha
 
   -- a suffix has as many analyses as deltas
   as_many_analyses : (root : ℕ) → Contains trie.roots root → (suffix : Suffix) → Contains (suffixes_of trie.rows root) suffix
-      → length suffix.deltas ≤ length (form_of_suffix suffix).analyses
+      → length suffix.deltas ≡ length (form_of_suffix suffix).analyses
   as_many_analyses root n suffix m =
-      let low = All-contains (λ root. root < length trie.rows) trie.roots root h.is_trie.is_trie.roots n in
-      let found = suffix_by trie.rows h.is_trie.is_trie.rows root low suffix m in
-      let within = walk-within trie.rows h.is_trie.is_trie.rows suffix.word root found.reached low found.walked in
-      let rising : IsStrictlySortedBy compare_deltas suffix.deltas = subst (IsStrictlySortedBy compare_deltas) (sym found.is_deltas) (h.is_trie.is_trie.rows.each found.reached (omega (arith, within, low))).deltas in
+      let low = All-contains (λ root. root < length trie.rows) trie.roots root h.is_trie.roots n in
+      let found = suffix_by trie.rows h.is_trie.rows root low suffix m in
+      let within = walk-within trie.rows h.is_trie.rows suffix.word root found.reached low found.walked in
+      let rising : IsStrictlySortedBy compare_deltas suffix.deltas = subst (IsStrictlySortedBy compare_deltas) (sym found.is_deltas) (h.is_trie.rows.each found.reached (omega (arith, within, low))).deltas in
       let long = each_longer suffix.word [] suffix.deltas rising (λ delta among. (right_is_delta suffix.word delta (right_suffix root n suffix m delta among), λ inside. not_Contains-nil (analysis_by suffix.word delta) inside)) in
       omega (arith, long)
 
+  -- the trie has as many pairs of a form and a delta as the phases have of a form and an analysis
+  pub as_many_pairs : count_pairs trie ≡ count_lines phases
+  as_many_pairs =
+      same_sums (λ root. sum_by (λ (s : Suffix). length s.deltas) (suffixes_of trie.rows root)) (λ forms. sum_by (λ (form : Form). length form.analyses) forms) (forms_of_root trie.rows) trie.roots
+      (λ root n. same_sums (λ (s : Suffix). length s.deltas) (λ (form : Form). length form.analyses) form_of_suffix (suffixes_of trie.rows root) (λ suffix m. as_many_analyses root n suffix m))
+      ∙ ap count_lines (trie_tells_phases trie phases h each)
+
   pub few_pairs : count_lines phases ≤ MOST_FORM_LINES → has_too_many_pairs trie ≡ false
-  few_pairs few =
-      let same = ap count_lines (trie_tells_phases trie phases h.is_trie each) in
-      let least = sum_least (λ root. sum_by (λ (s : Suffix). length s.deltas) (suffixes_of trie.rows root)) (λ forms. sum_by (λ (form : Form). length form.analyses) forms) (forms_of_root trie.rows) trie.roots
-      (λ root n. sum_least (λ (s : Suffix). length s.deltas) (λ (form : Form). length form.analyses) form_of_suffix (suffixes_of trie.rows root) (λ suffix m. as_many_analyses root n suffix m)) in
-      le-ltb MOST_FORM_LINES (count_pairs trie) (omega (arith, same, least, few))
+  few_pairs few = let same = as_many_pairs in le-ltb MOST_FORM_LINES (count_pairs trie) (omega (arith, same, few))

@@ -18,3 +18,4 @@ pub mod TrieLexicons
 pub mod OneTrie
 pub mod OneText
 pub mod EndTests
+pub mod NodeLinesApart

@@ -28,13 +28,13 @@ use Rattle.trie_text_definitions.proofs.NodeSteps.{sorted_from_rises}
 
 -- ---- bits
 
-has_by_bit : (phases k : ℕ) → bit_at phases k ≡ 1 → has_phase phases k ≡ true
+pub has_by_bit : (phases k : ℕ) → bit_at phases k ≡ 1 → has_phase phases k ≡ true
 has_by_bit phases k h =
     let some = pow_pos k in
     let is : bit_and phases (2 ^ k) ≡ 1 * 2 ^ k = and_pow phases k ∙ ap (λ b. b * 2 ^ k) h in
     not_from_false (eqb (bit_and phases (2 ^ k)) 0) (ne_eqb (bit_and phases (2 ^ k)) 0 (λ e. omega (arith, is, some, e)))
 
-has_not_by_bit : (phases k : ℕ) → bit_at phases k ≡ 0 → has_phase phases k ≡ false
+pub has_not_by_bit : (phases k : ℕ) → bit_at phases k ≡ 0 → has_phase phases k ≡ false
 has_not_by_bit phases k h =
     let is : bit_and phases (2 ^ k) ≡ 0 * 2 ^ k = and_pow phases k ∙ ap (λ b. b * 2 ^ k) h in
     not_from_true (eqb (bit_and phases (2 ^ k)) 0) (eq-eqb (bit_and phases (2 ^ k)) 0 (omega (arith, is)))
@@ -46,21 +46,21 @@ bit_more phase phases k = bit_at_or (2 ^ phase) (set_of phases) k
 bit_at_most : (n k : ℕ) → bit_at n k ≤ 1
 bit_at_most n k = omega arith
 
-bit_here : (phase : ℕ) (phases : List ℕ) → bit_at (set_of (phase ∷ phases)) phase ≡ 1
+pub bit_here : (phase : ℕ) (phases : List ℕ) → bit_at (set_of (phase ∷ phases)) phase ≡ 1
 bit_here phase phases =
     let same = bit_at-pow_same phase in
     let most = bit_at_most (set_of phases) phase in
     let is = bit_more phase phases phase in
     omega (arith, same, most, is)
 
-bit_later : (phase : ℕ) (phases : List ℕ) (k : ℕ) → k ≢ phase → bit_at (set_of (phase ∷ phases)) k ≡ bit_at (set_of phases) k
+pub bit_later : (phase : ℕ) (phases : List ℕ) (k : ℕ) → k ≢ phase → bit_at (set_of (phase ∷ phases)) k ≡ bit_at (set_of phases) k
 bit_later phase phases k n =
     let none = bit_at-pow_other phase k n in
     let is = bit_more phase phases k in
     omega (arith, none, is)
 
 -- phases that are all greater leave a bit unset
-bit_none : (phases : List ℕ) (k : ℕ) → AllByRecursion (λ phase. k < phase) phases → bit_at (set_of phases) k ≡ 0
+pub bit_none : (phases : List ℕ) (k : ℕ) → AllByRecursion (λ phase. k < phase) phases → bit_at (set_of phases) k ≡ 0
 bit_none [] k h = bit_at-zero k
 bit_none (phase ∷ phases) k h = bit_later phase phases k (λ e. let l = h.0 in omega (arith, l, e)) ∙ bit_none phases k h.1
 
@@ -69,7 +69,7 @@ bit_none (phase ∷ phases) k h = bit_later phase phases k (λ e. let l = h.0 in
 abbrev AreWithin : ℕ → ℕ → List ℕ → Type 0
 AreWithin from end phases = AllByRecursion (λ phase. (from ≤ phase) × (phase < end)) phases
 
-above_first : (first : ℕ) (phases : List ℕ) → IsStrictlySortedBy nat_cmp (first ∷ phases) → AllByRecursion (λ phase. first < phase) phases
+pub above_first : (first : ℕ) (phases : List ℕ) → IsStrictlySortedBy nat_cmp (first ∷ phases) → AllByRecursion (λ phase. first < phase) phases
 above_first first phases s = by phases (sorted_head nat_cmp first phases s)
   where
     by : (phases : List ℕ) → AllByRecursion (λ phase. nat_cmp first phase ≡ Less) phases → AllByRecursion (λ phase. first < phase) phases
@@ -129,7 +129,7 @@ names_at phases from (name ∷ names) (number ∷ numbers) s w b =
     ends_at numbers h = let same : from + length (name ∷ names) ≡ from + 1 + length names = omega arith in subst (λ end. AreWithin (from + 1) end numbers) same h
 
 -- where each bit is set, all names are there
-all_names : (phases from : ℕ) (names : List (List ℕ)) → ((k : ℕ) → k < from + length names → bit_at phases k ≡ 1) → names_from phases from names ≡ names
+pub all_names : (phases from : ℕ) (names : List (List ℕ)) → ((k : ℕ) → k < from + length names → bit_at phases k ≡ 1) → names_from phases from names ≡ names
 all_names phases from [] b = refl
 all_names phases from (name ∷ names) b =
     ap (λ test. cond test (name ∷ names_from phases (from + 1) names) (names_from phases (from + 1) names)) (has_by_bit phases from (b from (omega arith)))
@@ -142,7 +142,7 @@ pub record IsSetWithin (count set : ℕ) : Type 0 where
   pub some : 0 < set
   pub within : set < 2 ^ count
 
-set_below : (count : ℕ) (numbers : List ℕ) → AllByRecursion (λ number. number < count) numbers → set_of numbers < 2 ^ count
+pub set_below : (count : ℕ) (numbers : List ℕ) → AllByRecursion (λ number. number < count) numbers → set_of numbers < 2 ^ count
 set_below count [] h = pow_pos count
 set_below count (number ∷ numbers) h = or_lt count (2 ^ number) (set_of numbers) (pow_below number count h.0) (set_below count numbers h.1)
 
@@ -162,7 +162,7 @@ module _ (names : List (List ℕ)) where
   from_zero [] h = tt
   from_zero (number ∷ numbers) h = let l = h.0 in ((omega arith, omega (arith, l)), from_zero numbers h.1)
 
-  written : (numbers : List ℕ) → IsStrictlySortedBy nat_cmp numbers → AllByRecursion (λ number. number < length names) numbers
+  pub written : (numbers : List ℕ) → IsStrictlySortedBy nat_cmp numbers → AllByRecursion (λ number. number < length names) numbers
       → names_from (set_of numbers) 0 names ≡ map (λ number. get_or names number []) numbers
   written numbers s h =
       names_at (set_of numbers) 0 names numbers s (from_zero numbers h) (λ k l. refl)

@@ -137,7 +137,7 @@ module _ (version : Version) (bytes : List ℕ) (content : Told) (r : IsRead IsG
       let (word, walked) = walk_to content.rows r.lawful.nodes.each (suc root) root reached (omega arith) within n in
       record { root = root; is_root = m; word = word; walked = walked ∙ ap Some (eqb-true reached node e) }
 
-  ordered : IsOrderedTrieOf trie (phases_of trie)
+  pub ordered : IsOrderedTrieOf trie (phases_of trie)
   ordered = record {
     is_trie = record {
       is_trie = trie_of_nodes content.rows content.nodes content.roots r.lawful.nodes;

@@ -70,7 +70,7 @@ named_by : (name text : List ℕ) (kind found : Kind) (test : Bool) (rest : Opti
 named_by name text kind found true rest e h n later = let same : kind ≡ found = cc in bytes_same name text e ∙ sym n ∙ ap kind_name same
 named_by name text kind found false rest e h n later = later h
 
-named_kind : (name : List ℕ) (found : Kind) → kind_named name ≡ Some found → name ≡ kind_name found
+pub named_kind : (name : List ℕ) (found : Kind) → kind_named name ≡ Some found → name ≡ kind_name found
 named_kind name found h =
     named_by name (codes "phase") Phase found _ _ refl h refl
     (λ h. named_by name (codes "grammar") Grammar found _ _ refl h refl

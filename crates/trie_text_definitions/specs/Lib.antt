@@ -1,6 +1,7 @@
 pub mod NodeValues
 pub mod TrieForms
 pub mod NodeLines
+pub mod PrintableRows
 pub mod Versions
 pub mod LimitedRules
 pub mod TrieTexts

@@ -1,8 +1,11 @@
 ghost use Rattle.std.specs.Prelude.{◌≡◌, ℕ, List, Ok, All, false};
 ghost use Rattle.lexicon_definitions.specs.Lexicons.{Lexicon, Form, IsPhase};
-ghost use Rattle.lexicon_definitions.specs.Tries.{Trie, IsTrie, IsTrieOf};
-ghost use Rattle.trie_text_definitions.specs.TrieForms.{phases_of, has_too_many_pairs, has_wrong_delta};
+ghost use Rattle.lexicon_definitions.specs.Limits.{count_lines};
+ghost use Rattle.lexicon_definitions.specs.Tries.{Row, Trie, IsTrie, IsTrieOf};
+ghost use Rattle.trie_text_definitions.specs.TrieForms.{phases_of, count_pairs, has_too_many_pairs, has_wrong_delta};
+ghost use Rattle.trie_text_definitions.specs.NodeLines.{node_line};
 ghost use Rattle.trie_text_definitions.specs.NodeValues.{has_unused};
+ghost use Rattle.trie_text_definitions.specs.PrintableRows.{IsPrintable};
 ghost use Rattle.trie_text_definitions.specs.Versions.{Version, version_of};
 ghost use Rattle.trie_text_definitions.specs.VersionFaults.{FileResult};
 ghost use Rattle.trie_text_definitions.specs.VersionReadings.{IsReadAs, HasContent, reading_in};
@@ -47,4 +50,14 @@ pub fn the_trie_of_a_lexicon_ends_well()
     ensures limit { (version : Version) (lexicon : Lexicon) (trie : Trie) → HasText version lexicon → IsOrderedTrieOf trie lexicon.phases → has_too_many_pairs trie ≡ false }
     ensures unused { (version : Version) (lexicon : Lexicon) (trie : Trie) → HasText version lexicon → IsOrderedTrieOf trie lexicon.phases → has_unused trie ≡ false }
     ensures delta { (version : Version) (lexicon : Lexicon) (trie : Trie) → HasText version lexicon → IsOrderedTrieOf trie lexicon.phases → has_wrong_delta trie ≡ false }
+{}
+
+/// The trie of a lexicon that has a text has as many pairs of a form and a delta as the lexicon has lines of forms.
+pub fn a_trie_has_as_many_pairs_as_its_phases_have_lines()
+    ensures { (version : Version) (lexicon : Lexicon) (trie : Trie) → HasText version lexicon → IsTrieOf trie lexicon.phases → count_pairs trie ≡ count_lines lexicon.phases }
+{}
+
+/// Rows with letters and tags are told by their lines.
+pub fn a_node_is_told_by_its_line()
+    ensures { (left right : Row) → IsPrintable left → IsPrintable right → node_line left ≡ node_line right → left ≡ right }
 {}

@@ -9,7 +9,8 @@ use Rattle.form_tags.specs.Analyses.{text_analysis, text_delta}
 use Rattle.lexicon_definitions.specs.Deltas.{compare_deltas}
 use Rattle.std.specs.List.Sorted.{IsStrictlySortedBy}
 use Rattle.shared_trie.specs.Runs.{IsDeltaAmong}
-use Rattle.shared_trie.proofs.DeltaLists.{AreDeltas, AreDeltas-push, Contains-deltas, Contains-moved, deltas_apart, texts_rise}
+use Rattle.shared_trie.specs.OpenForms.{AreDeltas}
+use Rattle.shared_trie.proofs.DeltaLists.{AreDeltas-push, Contains-deltas, Contains-moved, deltas_apart, texts_rise}
 use Rattle.shared_trie.proofs.deltas.to_deltas.Goals as goal
 
 pub loop-analysis-preserved : goal.loop-analysis-preserved

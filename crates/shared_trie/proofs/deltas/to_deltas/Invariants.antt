@@ -1,7 +1,7 @@
 -- the deltas so far stand at the places of their analyses
 use Rattle.std.proofs.Common.{map, take}
 use Rattle.form_tags.specs.Analyses.{text_analysis, text_delta}
-use Rattle.shared_trie.proofs.DeltaLists.{AreDeltas}
+use Rattle.shared_trie.specs.OpenForms.{AreDeltas}
 use Rattle.shared_trie.proofs.deltas.to_deltas.Given as goal
 
 abbrev pub invariant-loop-analysis : goal.invariant-loop-analysis

@@ -16,7 +16,7 @@ returns-then-is_some c =
 pub invariant_of-self : goal.invariant_of-self
 invariant_of-self c = record {
   few = c.self.invariant.few;
-  stage = body_before_end _ _ c.self.inside.automaton c.self.inside.lists c.self.inside.last_phase
+  stage = body_before_end _ _ c.self.inside.automaton c.self.inside.forms
       (subst (λ (told : Told). may_follow told.last End ≡ true) (sym c.self.view_is) c.requires) c.self.invariant.stage;
 }
 

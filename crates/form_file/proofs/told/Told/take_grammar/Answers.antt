@@ -18,7 +18,7 @@ returns-in-Err-Fault c =
 pub invariant_of-self-2 : goal.invariant_of-self-2
 invariant_of-self-2 c =
     let before =
-    stage_before_grammar _ _ c.self.inside.automaton c.self.inside.lists c.self.inside.last_phase
+    stage_before_grammar _ _ c.self.inside.automaton c.self.inside.forms
     (subst (λ (told : Told). may_follow told.last GrammarLine ≡ true) (sym c.self.view_is) c.requires.follows) c.self.invariant.stage in
     record {
       few = c.self.invariant.few;
@@ -30,10 +30,10 @@ invariant_of-self-2 c =
 pub returns : goal.returns
 returns c =
     let before =
-    stage_before_grammar _ _ c.self.inside.automaton c.self.inside.lists c.self.inside.last_phase
+    stage_before_grammar _ _ c.self.inside.automaton c.self.inside.forms
     (subst (λ (told : Told). may_follow told.last GrammarLine ≡ true) (sym c.self.view_is) c.requires.follows) c.self.invariant.stage in (
       grammar_told c.args.self.now _ c.args.text.now c.in_ok-self-inside.field-0.items _ c.self.view_is c.in_ok-self-inside.ensures.items
-          (no_forms_told c.self.inside.lists c.in_ok-self-inside-2.field-0 c.len.result before.1 c.in_ok-self-inside-2.ensures.ok),
+          (no_forms_told c.self.inside.forms c.in_ok-self-inside-2.field-0 c.len.result before.1 c.in_ok-self-inside-2.ensures.ok),
       λ last. limits_told (string_bytes {Z = Global}) c.self.inside.names.items c.as_slice.result.now c.args.text.now c.in_ok-self-inside.field-0.items c.as_slice.ensures.value
           c.in_ok-self-inside.ensures.items c.in-Ok.ensures.text,
     )

@@ -1,8 +1,8 @@
 -- one node more, with the children and the list that were added for it
-use Rattle.std.proofs.Common.{◌≡◌, ◌+◌, ◌++◌, ◌∷◌, [], List, ℕ, length, map, sym, ◌∙◌, ap, subst, arith}
+use Rattle.std.proofs.Common.{◌≡◌, ◌++◌, ◌∷◌, [], List, ℕ, length, map, ◌∙◌, ap, arith}
 use Rattle.form_tags.specs.Analyses.{text_delta}
 use Rattle.lexicon_definitions.specs.Tries.{Row}
-use Rattle.shared_trie.specs.Packed.{ArePacked, row_with}
+use Rattle.shared_trie.specs.Packed.{row_with}
 use Rattle.shared_trie.specs.declared.packed_node.PackedNode.{PackedNode}
 use Rattle.shared_trie.proofs.PackedRows.{packed_push, packed_same, row_pushed}
 use Rattle.shared_trie.proofs.node_table.NodeTable.push.Goals as goal
@@ -28,8 +28,8 @@ invariant_of-self-2 c =
     (packed_push children added lists c.number_list.new.lists.keys nodes node (map text_delta c.args.deltas.items) c.self.invariant
     c.in_ok-number_list.ensures.grown c.in_ok-number_list.ensures.ok first c.letters_of.ensures)
 
-pub returns : goal.returns
-returns c =
+pub returns-clause-ok : goal.returns-clause-ok
+returns-clause-ok c =
     let children = c.self.inside.children.items in
     let added = c.args.children.now in
     let lists = c.self.inside.lists.keys in
@@ -40,9 +40,7 @@ returns c =
     let same = ap length c.reserve-2.ensures.items in
     let first : c.len.result ≡ length children = omega (arith, same, c.len.ensures) in
     let row : Row = record { deltas = map text_delta c.args.deltas.items; children = added } in
-    record {
-      ok = (λ i. map (row_with (all_children i) c.number_list.new.lists.keys) (all_nodes i))
-          ∙ row_pushed children added lists c.number_list.new.lists.keys nodes node (map text_delta c.args.deltas.items) c.self.invariant
-          c.in_ok-number_list.ensures.grown c.in_ok-number_list.ensures.ok first c.letters_of.ensures
-          ∙ ap (λ (rows : List Row). rows ++ row ∷ []) c.self.view_is;
-    }
+    (λ i. map (row_with (all_children i) c.number_list.new.lists.keys) (all_nodes i))
+    ∙ row_pushed children added lists c.number_list.new.lists.keys nodes node (map text_delta c.args.deltas.items) c.self.invariant
+    c.in_ok-number_list.ensures.grown c.in_ok-number_list.ensures.ok first c.letters_of.ensures
+    ∙ ap (λ (rows : List Row). rows ++ row ∷ []) c.self.view_is

@@ -1,0 +1,12 @@
+pub mod OneMore
+pub mod SuffixSteps
+pub mod DepthSteps
+pub mod PutSteps
+pub mod PutBackSteps
+pub mod RightDeltas
+pub mod WrongTries
+pub mod UsedNodes
+pub mod PairCounts
+pub mod NumberBits
+pub mod MarkSteps
+pub mod PlaceSteps

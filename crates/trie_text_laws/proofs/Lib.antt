@@ -1,0 +1,11 @@
+pub mod FrontLines
+pub mod NodeFieldsRead
+pub mod NodeLinesRead
+pub mod PhaseSetsRead
+pub mod LimitedRulesRead
+pub mod NodeCounts
+pub mod OrderedRows
+pub mod CleanLines
+pub mod RuleLinesRead
+pub mod VersionTextsRead
+pub mod TextsReadBack
