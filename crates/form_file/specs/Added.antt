@@ -1,9 +1,11 @@
 -- What is kept of the rules that were read, and what becomes of them when one more comes.
-use Rattle.std.specs.Prelude.{◌≡◌, ℕ, ◌++◌, Bool, true, false, Result, Ok, Err, List, [], ◌∷◌, map}
+use Rattle.std.specs.Prelude.{◌≡◌, ℕ, ◌++◌, ◌⊎◌, ◌||◌, nat_le, nat_lt, Bool, true, false, Result, Ok, Err, List, [], ◌∷◌, length, map}
 use Rattle.std.specs.List.{list_any}
+use Rattle.lexicon_definitions.specs.declared.limits.TheConstants.{MOST_RULES, MOST_LEADS}
 use Rattle.lexicon_definitions.specs.Rules.{Rule}
+use Rattle.lexicon_definitions.specs.Leads.{with_lead, leads_of}
 use Rattle.lexicon_text_definitions.specs.FileContents.{has_triple, different_v}
-use Rattle.form_file.specs.declared.error.FileWhy.TheVariants.{Twice}
+use Rattle.form_file.specs.declared.error.FileWhy.TheVariants.{Limit, Twice}
 use Rattle.form_file.specs.declared.take_error.TakeError.{TakeError}
 use Rattle.form_file.specs.declared.take_error.TakeError.TheVariants.{Why, Memory}
 use Rattle.sandhi_rules.specs.declared.triple.Triple.{Triple}
@@ -24,3 +26,15 @@ abbrev pub IsAdded : {A : Type 0} → List Rule → Rule → Result A TakeError 
 IsAdded old rule (Ok done) new = (has_twin old rule ≡ false) × (new ≡ old ++ rule ∷ [])
 IsAdded old rule (Err (Why why)) new = (why ≡ Twice) × (has_twin old rule ≡ true) × (new ≡ old)
 IsAdded old rule (Err Memory) new = new ≡ old
+
+-- with this rule there are too many rules or leads
+abbrev pub is_over : List Rule → Rule → Bool
+is_over rules rule = nat_le MOST_RULES (length rules) || nat_lt MOST_LEADS (length (with_lead (leads_of rules) rule.v rule.after))
+
+-- the rule is appended where there are not too many with it and no rule has its triple; else this is the reason; memory may be
+-- wanting
+abbrev pub IsAddedWithin : {A : Type 0} → List Rule → Rule → Result A TakeError → List Rule → Type 0
+IsAddedWithin old rule (Ok done) new = (is_over old rule ≡ false) × (has_twin old rule ≡ false) × (new ≡ old ++ rule ∷ [])
+IsAddedWithin old rule (Err (Why why)) new =
+    ((why ≡ Limit) × (is_over old rule ≡ true)) ⊎ ((why ≡ Twice) × (is_over old rule ≡ false) × (has_twin old rule ≡ true))
+IsAddedWithin old rule (Err Memory) new = Unit {0}

@@ -5,3 +5,4 @@ pub mod Words
 pub mod Told
 pub mod Contents
 pub mod Added
+pub mod LimitedRules

@@ -21,7 +21,7 @@ pub fn first_line(bytes: &[u8]) -> Option<(&[u8], bool, &[u8])>
 }
 
 /// The bytes of a line before its first blank, or all its bytes; and what comes after this blank.
-pub(crate) fn kind_and_rest(line: &[u8]) -> (&[u8], Option<&[u8]>)
+pub fn kind_and_rest(line: &[u8]) -> (&[u8], Option<&[u8]>)
     ensures { parts_of line.now ≡ record { kind = result.0.now; rest = text_of_rest result.1 } }
 {
     match cut_at(line, b' ') {
@@ -31,7 +31,7 @@ pub(crate) fn kind_and_rest(line: &[u8]) -> (&[u8], Option<&[u8]>)
 }
 
 /// The only field, where there is one.
-pub(crate) fn one_field(text: &[u8]) -> Option<&[u8]>
+pub fn one_field(text: &[u8]) -> Option<&[u8]>
     ensures { MatchOption result (one_of (fields_of (Some text.now)) ≡ None) (λ field. fields_of (Some text.now) ≡ field.now ∷ []) }
 {
     match cut_at(text, b' ') {
@@ -41,7 +41,7 @@ pub(crate) fn one_field(text: &[u8]) -> Option<&[u8]>
 }
 
 /// Two fields with a blank between.
-pub(crate) fn two_fields(text: &[u8]) -> Option<(&[u8], &[u8])>
+pub fn two_fields(text: &[u8]) -> Option<(&[u8], &[u8])>
     ensures { MatchOption result (two_of (fields_of (Some text.now)) ≡ None)
         (λ fields. fields_of (Some text.now) ≡ fields.0.now ∷ fields.1.now ∷ []) }
 {
@@ -86,7 +86,7 @@ fn has_marks(u: &[u8], v: &[u8], w: &[u8]) -> bool
 }
 
 /// The parts of a rule of the shape `u|v>w`, with one `|` and one `>` in all.
-pub(crate) fn rule_parts(field: &[u8]) -> Option<(&[u8], &[u8], &[u8])>
+pub fn rule_parts(field: &[u8]) -> Option<(&[u8], &[u8], &[u8])>
     ensures { MatchOption result (shape_of field.now ≡ None)
         (λ parts. shape_of field.now ≡ Some (record { u = parts.0.now; v = parts.1.now; w = parts.2.now })) }
 {

@@ -19,8 +19,11 @@ mod words;
 mod writing;
 
 pub use contents::Contents;
-pub use cutting::first_line;
+pub use cutting::{first_line, kind_and_rest, one_field, rule_parts, two_fields};
 pub use error::{FileError, FileFault, FileWhy};
 pub use listed_lexicon::ListedLexicon;
 pub use reading::read;
+pub use take_error::TakeError;
+pub use told::Told;
+pub use words::read_word;
 pub use writing::write;

@@ -1,6 +1,7 @@
-ghost use Rattle.std.specs.Prelude.{◌≡◌, ◌<◌, ◌||◌, nat_le, nat_lt, [], length, IsOk, OnOk};
+ghost use Rattle.std.specs.Prelude.{◌≡◌, ◌<◌, ◌||◌, nat_le, nat_lt, [], length, IsOk, IfOk, OnOk};
 ghost use Rattle.lexicon_text_definitions.specs.FileContents.{with_v, different_v};
-ghost use Rattle.form_file.specs.Added.{IsAdded};
+ghost use Rattle.lexicon_definitions.specs.Leads.{leads_of};
+ghost use Rattle.form_file.specs.Added.{IsAdded, IsAddedWithin};
 ghost use Rattle.indexmap.specs.IndexSet.{spare};
 
 use crate::FileWhy;
@@ -8,28 +9,31 @@ use crate::take_error::TakeError;
 use indexmap::IndexSet;
 use lexicon_definitions::{MOST_LEADS, MOST_RULES};
 use phoneme::{Memory, Word};
-use sandhi_rules::{Rule, Triple};
+use sandhi_rules::{Lead, Rule, Triple, add_lead as put_lead, leads_of_rules};
 use std::alloc::Global;
 use std::marker::Model;
 
-/// The rules that were read, in their order, their triples, and their different `v` that are not empty.
+/// The rules that were read, in their order, their triples, and their different `v` that are not empty; and their leads, rising, as
+/// long as each rule is told with its sets of phases.
 #[derive(Debug, Drop)]
 pub(crate) struct RulesSoFar {
     rules: Vec<Rule>,
     triples: IndexSet<Triple>,
     leads: IndexSet<Word>,
+    limited_leads: Option<Vec<Lead>>,
 }
 
 impl Model for RulesSoFar {
-    ghost use Rattle.std.specs.Prelude.{List};
+    ghost use Rattle.std.specs.Prelude.{◌≡◌, List, IfSome};
     ghost use Rattle.lexicon_definitions.specs.Rules.{Rule as RuleValue};
+    ghost use Rattle.lexicon_definitions.specs.Leads.{leads_of};
     ghost use Rattle.form_file.specs.Added.{AreKept};
 
     ghost Value = { List RuleValue };
 
     ghost view = { λ r. r.rules.items };
 
-    ghost invariant = { λ r. AreKept r.rules.items r.triples.keys r.leads.keys };
+    ghost invariant = { λ r. AreKept r.rules.items r.triples.keys r.leads.keys × IfSome r.limited_leads (λ leads. leads.items ≡ leads_of r.rules.items) };
 }
 
 /// Puts a rule's `v` among the leads, unless it is empty or already there. Wants no memory where there is room for one more.
@@ -51,6 +55,7 @@ impl RulesSoFar {
             rules: Vec::new(alloc),
             triples: IndexSet::new(alloc),
             leads: IndexSet::new(alloc),
+            limited_leads: Some(Vec::new(alloc)),
         }
     }
 
@@ -62,8 +67,16 @@ impl RulesSoFar {
             rules,
             triples: _,
             leads: _,
+            limited_leads: _,
         } = self;
         rules
+    }
+
+    /// The rules, in their order.
+    pub(crate) fn as_slice(&self) -> &[Rule]
+        ensures { result.now ≡ self.now }
+    {
+        self.rules.as_slice()
     }
 
     /// How many different `v` that are not empty the rules have together with this `v`.
@@ -89,6 +102,7 @@ impl RulesSoFar {
         requires { length self.old < MOST_RULES }
         ensures { IsAdded self.old rule result self.new }
     {
+        self.limited_leads = None;
         let alloc = *self.rules.allocator();
         let triple = Triple::of(alloc, &rule)?;
         let lead = rule.v.copy(alloc)?;
@@ -100,6 +114,34 @@ impl RulesSoFar {
         }
         add_lead(&mut self.leads, lead)?;
         self.rules.push(rule)?;
+        Ok(())
+    }
+
+    /// The leads of the rules, rising, which are no longer kept then.
+    fn take_leads(&mut self) -> Result<Vec<Lead>, Memory>
+        ensures ok { IfOk result (λ leads. leads.items ≡ leads_of self.old) }
+        ensures same { self.new ≡ self.old }
+    {
+        let alloc = *self.rules.allocator();
+        match self.limited_leads.take() {
+            Some(leads) => Ok(leads),
+            None => leads_of_rules(alloc, self.rules.as_slice()),
+        }
+    }
+
+    /// Appends the rule, which is told with its sets of phases. `Limit` where there are too many rules or leads with it, and `Twice`
+    /// where one of the same triple is there.
+    pub(crate) fn add_limited(&mut self, rule: Rule) -> Result<(), TakeError>
+        ensures { IsAddedWithin self.old rule result self.new }
+    {
+        let alloc = *self.rules.allocator();
+        let mut leads = self.take_leads()?;
+        put_lead(alloc, &mut leads, &rule)?;
+        if self.rules.len() >= MOST_RULES || leads.len() > MOST_LEADS {
+            return Err(FileWhy::Limit.into());
+        }
+        self.add(rule)?;
+        self.limited_leads = Some(leads);
         Ok(())
     }
 }

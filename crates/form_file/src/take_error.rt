@@ -7,7 +7,7 @@ use std::alloc::{AllocError, AllocFailed};
 
 /// Why a line was not taken: its first reason, or want of memory.
 #[derive(Clone, Copy, Debug)]
-pub(crate) enum TakeError {
+pub enum TakeError {
     Why(FileWhy),
     Memory,
 }

@@ -7,11 +7,12 @@ ghost use Rattle.lexicon_definitions.specs.Limits.{IsRuleSetWithinLimits};
 ghost use Rattle.lexicon_definitions.specs.Tries.{IsTrieOf};
 ghost use Rattle.trie_text_definitions.specs.TrieForms.{phases_of};
 ghost use Rattle.phase_automaton.specs.Automata.{Recognizes};
-ghost use Rattle.lexicon_text_definitions.specs.FileLines.{Opening, End, may_follow, Phase, Grammar, Plain, Rule as RuleLine, Form, fields_of, parts_of};
+ghost use Rattle.lexicon_text_definitions.specs.FileLines.{Opening, Head as HeadLine, End, may_follow, Phase, Grammar, Plain, Rule as RuleLine, Form, fields_of, parts_of};
 ghost use Rattle.lexicon_text_definitions.specs.FileContents.{Told as ToldValue, nothing_told, rules_told, lexicon_told, compare_entries, compare_last as compare_last_of};
 ghost use Rattle.lexicon_text_definitions.specs.FileSteps.{if_rising, passes_rule_limits as passes_rule_limits_of, take_triple as take_triple_of, take_line as take_line_of, take_head as take_head_of, take_end as take_end_of, take_phase as take_phase_of, take_grammar as take_grammar_of, take_plain as take_plain_of, take_rule as take_rule_of, take_form as take_form_of, take_kind as take_kind_of, take_parts as take_parts_of, take_form_line};
 ghost use Rattle.form_lists.specs.Lists.{text_entry};
 ghost use Rattle.form_file.specs.Told.{IsAnswer, IsLineAnswer, IsNoEnd};
+ghost use Rattle.form_file.specs.LimitedRules.{take_limited as take_limited_of};
 ghost use Rattle.form_file.specs.Fields.{text_of_rest};
 ghost use Rattle.form_file.specs.Contents.{lexicon_of};
 ghost use Rattle.form_file.specs.Kinds.{kind_of};
@@ -35,7 +36,7 @@ use std::marker::Model;
 /// What the lines so far told: the kind of the last line, the names of the phases, the grammar's text with its automaton, the
 /// plain pairs, the rules, and the trie of the forms.
 #[derive(Drop)]
-pub(crate) struct Told {
+pub struct Told {
     last: Kind,
     names: Vec<String>,
     grammar: Vec<u8>,
@@ -88,6 +89,15 @@ fn passes_form_limits(lines: usize, entry: &Entry) -> bool
         || entry.analysis.stem.len() > MOST_FORM_LETTERS
 }
 
+/// Whether a part of the rule is too long.
+fn is_long(rule: &Rule) -> bool
+    ensures { result ≡ (nat_lt MOST_RULE_LETTERS (length rule.now.u) || nat_lt MOST_RULE_LETTERS (length rule.now.v) || nat_lt MOST_RULE_LETTERS (length rule.now.w)) }
+{
+    rule.u.len() > MOST_RULE_LETTERS
+        || rule.v.len() > MOST_RULE_LETTERS
+        || rule.w.len() > MOST_RULE_LETTERS
+}
+
 impl Told {
     pub(crate) fn new(alloc: Global) -> Result<Told, Memory>
         ensures { IfOk result (λ told. told ≡ nothing_told) }
@@ -103,6 +113,30 @@ impl Told {
         })
     }
 
+    /// What the first line tells, which is nothing, of whatever version it is.
+    pub fn after_head(alloc: Global) -> Result<Told, Memory>
+        ensures { IfOk result (λ told. told ≡ record nothing_told { last = HeadLine }) }
+    {
+        let mut told = Told::new(alloc)?;
+        told.last = Kind::Head;
+        Ok(told)
+    }
+
+    /// The names of the phases, by number from 0.
+    pub fn names(&self) -> &[String]
+        ensures value { map string_bytes result.now ≡ self.now.names }
+        ensures few { length self.now.names ≤ MOST_PHASES }
+    {
+        self.names.as_slice()
+    }
+
+    /// The rules, in their order.
+    pub fn rules(&self) -> &[Rule]
+        ensures { result.now ≡ self.now.rules }
+    {
+        self.rules.as_slice()
+    }
+
     fn take_head(&mut self, line: &[u8]) -> Result<(), TakeError>
         requires { self.old.last ≡ Opening }
         ensures { IsAnswer (take_head_of self.old line.now) result self.new }
@@ -114,7 +148,8 @@ impl Told {
         Ok(())
     }
 
-    fn phase_named(&self, name: &[u8]) -> Option<usize>
+    /// The number of the phase with this name, counted from 0.
+    pub fn phase_named(&self, name: &[u8]) -> Option<usize>
         ensures named { result ≡ position (bytes_eq name.now) self.now.names }
         ensures within { IfSome result (λ phase. phase < length self.now.names) }
         ensures few { length self.now.names ≤ MOST_PHASES }
@@ -122,7 +157,8 @@ impl Told {
         phase_named(self.names.as_slice(), name)
     }
 
-    fn take_phase(&mut self, alloc: Global, text: &[u8]) -> Result<(), TakeError>
+    /// Takes the line of a phase, with what comes after its blank. It may come next.
+    pub fn take_phase(&mut self, alloc: Global, text: &[u8]) -> Result<(), TakeError>
         requires follows { may_follow self.old.last Phase ≡ true }
         requires fits { length text.now < 2 ^ 32 }
         ensures { IsAnswer (take_phase_of self.old (fields_of (Some text.now))) result self.new }
@@ -147,7 +183,8 @@ impl Told {
         Ok(())
     }
 
-    fn take_grammar(&mut self, alloc: Global, text: &[u8]) -> Result<(), TakeError>
+    /// Takes the line of the grammar, with what comes after its blank. It may come next.
+    pub fn take_grammar(&mut self, alloc: Global, text: &[u8]) -> Result<(), TakeError>
         requires follows { may_follow self.old.last Grammar ≡ true }
         requires fits { length text.now < 2 ^ 32 }
         ensures { IsLineAnswer (take_grammar_of self.old (Some text.now)) result self.new }
@@ -164,7 +201,8 @@ impl Told {
         Ok(())
     }
 
-    fn take_plain(&mut self, alloc: Global, text: &[u8]) -> Result<(), TakeError>
+    /// Takes the line of a plain pair, with what comes after its blank. It may come next.
+    pub fn take_plain(&mut self, alloc: Global, text: &[u8]) -> Result<(), TakeError>
         requires follows { may_follow self.old.last Plain ≡ true }
         requires fits { length text.now < 2 ^ 32 }
         ensures { IsAnswer (take_plain_of self.old (fields_of (Some text.now))) result self.new }
@@ -207,7 +245,8 @@ impl Told {
         Ok(())
     }
 
-    fn take_rule(&mut self, alloc: Global, text: &[u8]) -> Result<(), TakeError>
+    /// Takes the line of a rule, with what comes after its blank. It may come next.
+    pub fn take_rule(&mut self, alloc: Global, text: &[u8]) -> Result<(), TakeError>
         requires follows { may_follow self.old.last RuleLine ≡ true }
         requires fits { length text.now < 2 ^ 32 }
         ensures { IsAnswer (take_rule_of self.old (fields_of (Some text.now))) result self.new }
@@ -222,6 +261,22 @@ impl Told {
         let v = read_word(alloc, v)?;
         let w = read_word(alloc, w)?;
         self.take_triple(u, v, w)
+    }
+
+    /// Takes a rule with its sets of phases, as a later version tells it. Such a line may come next.
+    pub fn take_limited(&mut self, rule: Rule) -> Result<(), TakeError>
+        requires { may_follow self.old.last RuleLine ≡ true }
+        ensures { IsAnswer (take_limited_of self.old rule) result self.new }
+    {
+        if rule.u.is_empty() || rule.w.is_empty() {
+            return Err(FileWhy::Strict.into());
+        }
+        if is_long(&rule) {
+            return Err(FileWhy::Limit.into());
+        }
+        self.rules.add_limited(rule)?;
+        self.last = Kind::Rule;
+        Ok(())
     }
 
     /// How the last entry compares with a new one; `Less` where there is no entry yet.
@@ -347,6 +402,31 @@ impl Told {
             return self.take_head(line);
         }
         self.take_parts(alloc, line)
+    }
+
+    /// The rule set with the automaton of its grammar, where lines of the body were told, but no end.
+    pub fn into_rules(self, alloc: Global) -> Result<(RuleSet, Automaton), Memory>
+        requires body { may_follow self.last End ≡ true }
+        requires set { IsRuleSet (rules_told self) }
+        requires limits { IsRuleSetWithinLimits (rules_told self) }
+        ensures rules { IfOk result (λ parts. parts.0 ≡ rules_told self) }
+        ensures automaton { IfOk result (λ parts. Recognizes parts.1 (tree_of (rules_told self))) }
+        ensures phases { IfOk result (λ parts. parts.1.phases ≡ length self.names) }
+    {
+        let Told {
+            last: _,
+            names,
+            grammar,
+            automaton,
+            plain,
+            rules,
+            forms: _,
+        } = self;
+        let Some(automaton) = automaton else {
+            unreachable!();
+        };
+        let rules = RuleSet::new(alloc, names, grammar, plain, rules.into_rules())?;
+        Ok((rules, automaton))
     }
 
     /// The contents of the file, where the last line was its end.

@@ -10,7 +10,7 @@ use phoneme::{Letter, Word};
 use std::alloc::Global;
 
 /// The word that the bytes spell in SLP1.
-pub(crate) fn read_word(alloc: Global, text: &[u8]) -> Result<Word, TakeError>
+pub fn read_word(alloc: Global, text: &[u8]) -> Result<Word, TakeError>
     requires { length text.now < 2 ^ 32 }
     ensures { IsSpelled (word_of_slp1 text.now) result }
 {

@@ -6,8 +6,8 @@
 //! `leads` are the different pairs of `v` and `after` of the inner rules, rising, and `lead_of` is a rule's place there;
 //! `Rule::is_strict`, `is_inner`, `is_final`, `may_follow` and `may_precede` are their definitions, as is
 //! `Lead::may_precede`, and `print_rule` is the rule's notation. For those who read rules: `Rule::unlimited` and `Triple::of` are
-//! theirs, `add_lead` puts a rule's lead in its place (`ok`), `is_phase_name` is the test of a name, and `phase_named` gives the
-//! phase that has it (`named`).
+//! theirs, `leads_of_rules` gives the leads of rules (`ok`), and `add_lead` puts a rule's lead in its place among them (`ok`);
+//! `is_phase_name` is the test of a name, and `phase_named` gives the phase that has it (`named`).
 #![tactic(auto)]
 
 mod lead;
@@ -22,6 +22,6 @@ pub use lead::{Lead, add_lead};
 pub use names::{is_phase_name, is_small_letter, phase_named};
 pub use printing::print_rule;
 pub use rule::Rule;
-pub use rule_set::RuleSet;
+pub use rule_set::{RuleSet, leads_of_rules};
 pub use sharing::rule_sets_are_shared;
 pub use triple::Triple;

@@ -129,7 +129,7 @@ impl RuleSet {
 }
 
 /// The different leads of the rules, rising.
-fn leads_of_rules(alloc: Global, rules: &[Rule]) -> Result<Vec<Lead>, Memory>
+pub fn leads_of_rules(alloc: Global, rules: &[Rule]) -> Result<Vec<Lead>, Memory>
     ensures ok { IfOk result (λ leads. leads.items ≡ leads_of rules.now) }
 {
     let mut leads = Vec::new(alloc);

@@ -10,8 +10,10 @@
 //! `analyses_by_deltas` gives a form's analyses (`ok`).
 //!
 //! `canonical` gives the nodes to which some root leads in the order in which lexicon files tell them (`ok`), which make the ordered trie
-//! of the same phases (`ordered`), and `numbered` each of them with its number; `push_node_line` appends a node's line (`ok`). That each
-//! row is hashed once is only measured.
+//! of the same phases (`ordered`), and `numbered` each of them with its number; `push_node_line` appends a node's line (`ok`). A `StoreBuilder` makes a store
+//! of entries as they come, each above the last: contracts see it as the forms of each phase so far, to which `push` adds one entry (`ok`),
+//! and `finish` gives the trie of just these forms (`ok`). That each row is hashed once, and that nothing is kept of a form but its nodes,
+//! is only measured.
 #![tactic(auto)]
 
 mod analyses;

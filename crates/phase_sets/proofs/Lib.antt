@@ -1,0 +1,2 @@
+pub mod PartsInTurn
+pub mod ListedNames
