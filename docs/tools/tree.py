@@ -98,17 +98,19 @@ class Tree:
             for found in CONSTANT.finditer((crate.folder / "src/limits.rt").read_text())
         ]
 
-    def code(self):
-        """The text of each source file of the program."""
-        for crate in self.crates.values():
+    def code(self, only=""):
+        """The text of each source file of the program, or of one crate."""
+        for crate in [self.crates[only]] if only else self.crates.values():
             for path in crate.declared:
                 if path.suffix == ".rt":
                     yield path.read_text(encoding="utf-8")
 
     def variants(self, enum):
-        """The variants of the public enum with this name, in their order; none where there is no such enum."""
-        pattern = re.compile(VARIANTS.format(enum), re.MULTILINE | re.DOTALL)
-        bodies = [found[1] for text in self.code() if (found := pattern.search(text))]
+        """The variants of a public enum, in their order; none where there is no such enum. It is told by its name, or as `NAME of CRATE`
+        where several crates have one with this name."""
+        name, _, crate = enum.partition(" of ")
+        pattern = re.compile(VARIANTS.format(name), re.MULTILINE | re.DOTALL)
+        bodies = [found[1] for text in self.code(crate) if (found := pattern.search(text))]
         return re.findall(r"^    (\w+)", bodies[0], re.MULTILINE) if bodies else []
 
     def commands(self):
