@@ -1,10 +1,12 @@
 #!/usr/bin/env python3
 """Runs a program over the worked rows and compares what it does with what they say.
 
-    worked/run.py PROGRAM [WORD]    runs all rows, or those whose name has the word in it
+    worked/run.py [--migrated] PROGRAM [WORD]    runs all rows, or those whose name has the word in it
 
 Each row is run in a folder of its own that has the row's files and nothing else. Each difference is told in a line; the last line
-counts. The exit status is 0 where there was none, and else 1. README.md here says how a row is written."""
+counts. With --migrated each lexicon file of version 1 goes through `migrate` first, which must write its newest text, and the rows that
+have such a file without a fault are run over these texts. The exit status is 0 where there was no difference, and else 1. README.md here
+says how a row is written."""
 
 import json
 import subprocess
@@ -14,6 +16,10 @@ from pathlib import Path
 
 HERE = Path(__file__).resolve().parent
 SECONDS = 60
+
+sys.path.insert(0, str(HERE.parent / "recipes"))
+from lexicon_file import Fault, read
+from lexicon_text import newest_text
 
 
 def content(said):
@@ -28,6 +34,8 @@ def content(said):
         return bytes.fromhex(said["hex"])
     if "repeat" in said:
         return said["repeat"].encode() * said["times"]
+    if "newest" in said:
+        return newest_text(read(content(said["newest"])))
     return b"".join(content(part) for part in said["join"])
 
 
@@ -38,14 +46,21 @@ def rows():
             yield f"{path.stem}/{row['name']}", row
 
 
-def run_row(program, row, folder):
-    """What differs when the program is run as the row says, in this empty folder."""
-    files = {name: content(said) for name, said in row.get("files", {}).items()}
+def files_of(row):
+    return {name: content(said) for name, said in row.get("files", {}).items()}
+
+
+def run(program, words, given, folder):
+    return subprocess.run([program, *words], input=given, capture_output=True, cwd=folder, timeout=SECONDS)
+
+
+def run_row(program, row, files, folder):
+    """What differs when the program is run as the row says over these files, in this empty folder."""
     for name, held in files.items():
         (folder / name).write_bytes(held)
     words = [content(word) for word in row["words"]]
     try:
-        ran = subprocess.run([program, *words], input=content(row.get("input", "")), capture_output=True, cwd=folder, timeout=SECONDS)
+        ran = run(program, words, content(row.get("input", "")), folder)
     except subprocess.TimeoutExpired:
         return [f"it did not end within {SECONDS} seconds"]
     wanted = files | {name: content(said) for name, said in row.get("leaves", {}).items()}
@@ -69,21 +84,59 @@ def difference(what, found, wanted):
     return [f"{what} goes on otherwise"]
 
 
+def lexicon_of(held):
+    """The lexicon of a file of version 1, or None where the file is none."""
+    try:
+        return read(held) if held.startswith(b"slx 1\n") else None
+    except Fault:
+        return None
+
+
+def migrated(program, lexicon, held, folder):
+    """What is written under OUT where the program migrates a file of version 1, and what is wrong with that."""
+    (folder / "old").write_bytes(held)
+    ran = run(program, ["migrate", "old", "new"], b"", folder)
+    out = folder / "new"
+    made = out.read_bytes() if out.exists() else b""
+    wanted = newest_text(lexicon)
+    nodes = b"nodes %d\n" % wanted.count(b"\nnode ")
+    wrong = [] if ran.returncode == 0 else [f"the status is {ran.returncode}"]
+    return made, [*wrong, *difference("the output", ran.stdout, nodes), *difference("OUT", made, wanted)]
+
+
+def run_migrated(program, row, folder):
+    """What differs when the row is run over files that were migrated; None where it has no file to migrate."""
+    files = files_of(row)
+    lexicons = {name: lexicon for name, held in files.items() if (lexicon := lexicon_of(held))}
+    if not lexicons or row["words"][:1] == ["migrate"]:
+        return None
+    wrong = []
+    for name, lexicon in lexicons.items():
+        with tempfile.TemporaryDirectory() as other:
+            files[name], found = migrated(program, lexicon, files[name], Path(other))
+        wrong += [f"migrate of {name}: {text}" for text in found]
+    return wrong or run_row(program, row, files, folder)
+
+
 def main(words):
+    over_migrated = words[:1] == ["--migrated"]
+    words = words[1:] if over_migrated else words
     if len(words) not in (1, 2) or words[0].startswith("-"):
         print(__doc__)
         return 2
     program = str(Path(words[0]).resolve())
-    chosen = [(name, row) for name, row in rows() if words[1:] == [] or words[1] in name]
-    failed = 0
-    for name, row in chosen:
+    count = failed = 0
+    for name, row in rows():
+        if words[1:] != [] and words[1] not in name:
+            continue
         with tempfile.TemporaryDirectory() as folder:
-            wrong = run_row(program, row, Path(folder))
+            wrong = run_migrated(program, row, Path(folder)) if over_migrated else run_row(program, row, files_of(row), Path(folder))
+        count += wrong is not None
         failed += bool(wrong)
-        for text in wrong:
+        for text in wrong or ():
             print(f"{name}: {text}")
-    print(f"{len(chosen)} rows, {failed} with a difference")
-    return 1 if failed or not chosen else 0
+    print(f"{count} rows, {failed} with a difference")
+    return 1 if failed or not count else 0
 
 
 if __name__ == "__main__":
