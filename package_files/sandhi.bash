@@ -4,7 +4,7 @@ _sandhi() {
     local schemes="slp1 wx velthuis devanagari"
     COMPREPLY=()
     if [ "$COMP_CWORD" = 1 ]; then
-        mapfile -t COMPREPLY < <(compgen -W "segment read batch check build convert join split annotate reread demo" -- "$word")
+        mapfile -t COMPREPLY < <(compgen -W "segment read batch check build convert join split annotate reread migrate demo" -- "$word")
         return
     fi
     number="$COMP_CWORD"
@@ -20,7 +20,7 @@ _sandhi() {
     case "$command $number" in
     "batch 3") mapfile -t COMPREPLY < <(compgen -W "$schemes" -- "$word") ;;
     "convert 2" | "convert 3") mapfile -t COMPREPLY < <(compgen -W "$schemes iast hk" -- "$word") ;;
-    "convert 4" | "convert 5" | "segment 2" | "read 2" | "check 2" | "batch 2" | "batch 4" | "join 2" | "split 2" | "annotate 2" | "annotate 4" | "reread "[23] | "build "[2-5]) mapfile -t COMPREPLY < <(compgen -f -- "$word") ;;
+    "convert 4" | "convert 5" | "segment 2" | "read 2" | "check 2" | "batch 2" | "batch 4" | "join 2" | "split 2" | "annotate 2" | "annotate 4" | "reread "[23] | "migrate "[23] | "build "[2-5]) mapfile -t COMPREPLY < <(compgen -f -- "$word") ;;
     esac
 }
 complete -o filenames -F _sandhi sandhi

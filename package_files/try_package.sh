@@ -86,6 +86,8 @@ cmp "$program" "$work/root/usr/bin/sandhi" || fail "another program is installed
 answers="$("$work/root/usr/bin/sandhi" segment --in devanagari "$lexicon" 'आसीद्राजा नलो नाम वीरसेनसुतो बली ।')" ||
     fail "the installed program ended with $?"
 grep -q '^1: AsIt\[.*balI\[[a-z]*\]$' <<<"$answers" || fail "the verse was cut in another way: $answers"
+"$work/root/usr/bin/sandhi" migrate "$lexicon" "$work/migrated.lex" >/dev/null && cmp "$lexicon" "$work/migrated.lex" ||
+    fail "the lexicon of the package is not up to date"
 
 # Completion in bash: of a command, of a scheme, of a file.
 complete_words() {
@@ -98,6 +100,7 @@ complete_words() {
 [ "$(complete_words segment --in v)" = velthuis ] || fail "a scheme is not completed"
 [ "$(complete_words batch "$lexicon" d)" = devanagari ] || fail "the scheme of batch is not completed"
 [ "$(complete_words read "${lexicon%.lex}")" = "$lexicon" ] || fail "a lexicon is not completed"
+[ "$(complete_words migrate "$lexicon" "${lexicon%.lex}")" = "$lexicon" ] || fail "the file that migrate writes is not completed"
 if has zsh; then
     for file in "$work"/root/usr/share/zsh/vendor-completions/*; do
         zsh -n "$file" || fail "zsh cannot read $file"

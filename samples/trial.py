@@ -11,6 +11,7 @@ import tempfile
 from pathlib import Path
 
 SAMPLES = Path(__file__).resolve().parent
+LEXICON_TEXT = SAMPLES.parent / "recipes" / "lexicon_text.py"
 SOURCES = ("rules.toml", "tables.csv", "stems.csv")
 NOBODY = 65534
 
@@ -37,6 +38,11 @@ class Trial:
 
     def build(self, stems="stems.csv", out="made.lex", **more):
         return self.run("build", "rules.toml", "tables.csv", stems, str(out), **more)
+
+    def write_first(self, lexicon, name):
+        """Writes the text of version 1 of a lexicon that was built, which no command does."""
+        with open(self.folder / name, "wb") as file:
+            subprocess.run([sys.executable, LEXICON_TEXT, "first", lexicon], cwd=self.folder, stdout=file, check=True)
 
     def bytes_of(self, name):
         return (self.folder / name).read_bytes()

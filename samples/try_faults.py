@@ -5,8 +5,8 @@
 
 `build` writes two lexicons in turn under one name. Meanwhile it is killed at random moments, other processes read the file,
 files may not grow past a limit, and the disk is full (where this user may mount one; else it is said that this was not tried).
-After each of these the file must be one of the two whole texts. The files that `convert` and `annotate` write are tried in the same way,
-with fewer kills. The last line is `N passed, N failed`.
+After each of these the file must be one of the two whole texts. The files that `convert`, `annotate` and `migrate` write are tried in the
+same way, with fewer kills, and so is a lexicon that `migrate` puts in its own place. The last line is `N passed, N failed`.
 """
 import os
 import random
@@ -114,10 +114,10 @@ def try_limit(trial):
 
 
 def try_full_disk(trial):
-    """A disk of 48 KiB holds one of the texts and not both."""
+    """A disk of 32 KiB holds one of the texts and not both."""
     disk = trial.folder / "disk"
     disk.mkdir()
-    mounted = subprocess.run(["mount", "-t", "tmpfs", "-o", "size=48k", "tmpfs", str(disk)], capture_output=True)
+    mounted = subprocess.run(["mount", "-t", "tmpfs", "-o", "size=32k", "tmpfs", str(disk)], capture_output=True)
     if mounted.returncode != 0:
         trial.tell_not_tried("a full disk", "no disk may be mounted here")
         return
@@ -180,26 +180,39 @@ def try_other_commands(trial, count):
     old = b"the old file\n"
     out = trial.folder / "other.out"
     (trial.folder / "text.slp1").write_text("rAmo vanaM gacCati\n" * 1000, encoding="utf-8")
+    trial.write_first("made.lex", "first.lex")
     line = "_".join(["nadI_gacCati"] * 30)
-    for words in (("convert", "slp1", "iast", "text.slp1", out.name), ("annotate", "made.lex", f"1;{line};;0;", out.name)):
-        begun = time.monotonic()
-        ended = trial.run(*words)
-        seconds = time.monotonic() - begun
-        texts = (old, out.read_bytes())
-        out.write_bytes(old)
-        failed = trial.run(*words, preexec_fn=limited(signal.SIG_IGN))
-        trial.tell(f"a file of {words[0]} that may not grow",
-                   (ended.returncode, failed.returncode, out.read_bytes()) == (0, WROTE_NOT, old) and len(texts[1]) > 4096 and not trial.leftovers())
-        lost = 0
-        for _ in range(count):
-            out.write_bytes(old)
-            running = subprocess.Popen([trial.program, *words], cwd=trial.folder, stdout=subprocess.DEVNULL, stderr=subprocess.DEVNULL)
-            time.sleep(random.uniform(0, 1.2 * seconds))
-            running.kill()
-            running.wait()
-            lost += out.read_bytes() not in texts
-            trial.clear()
-        trial.tell(f"{count} kills of {words[0]}", lost == 0, f": {lost} files lost")
+    for words, before in (
+        (("convert", "slp1", "iast", "text.slp1", out.name), old),
+        (("annotate", "made.lex", f"1;{line};;0;", out.name), old),
+        (("migrate", "first.lex", out.name), old),
+        (("migrate", out.name, out.name), trial.bytes_of("first.lex")),
+    ):
+        try_command(trial, words, out, before, count)
+    trial.tell("the migrated lexicon is the one that was built", out.read_bytes() in (trial.bytes_of("first.lex"), trial.bytes_of("made.lex")))
+
+
+def try_command(trial, words, out, before, count):
+    out.write_bytes(before)
+    begun = time.monotonic()
+    ended = trial.run(*words)
+    seconds = time.monotonic() - begun
+    texts = (before, out.read_bytes())
+    out.write_bytes(before)
+    failed = trial.run(*words, preexec_fn=limited(signal.SIG_IGN))
+    what = f"{words[0]} in its own place" if words[1] == out.name else words[0]
+    trial.tell(f"a file of {what} that may not grow",
+               (ended.returncode, failed.returncode, out.read_bytes()) == (0, WROTE_NOT, before) and len(texts[1]) > 4096 and not trial.leftovers())
+    lost = 0
+    for _ in range(count):
+        out.write_bytes(before)
+        running = subprocess.Popen([trial.program, *words], cwd=trial.folder, stdout=subprocess.DEVNULL, stderr=subprocess.DEVNULL)
+        time.sleep(random.uniform(0, 1.2 * seconds))
+        running.kill()
+        running.wait()
+        lost += out.read_bytes() not in texts
+        trial.clear()
+    trial.tell(f"{count} kills of {what}", lost == 0, f": {lost} files lost")
 
 
 def main():

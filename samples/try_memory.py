@@ -38,6 +38,8 @@ ROWS = (
     Row(("read", "made.lex"), input=SESSION.encode()),
     Row(("batch", "made.lex", "slp1", "text", "9")),
     Row(("build", "rules.toml", "tables.csv", "stems.csv", "out.lex"), out="out.lex"),
+    Row(("migrate", "first.lex", "new.lex"), out="new.lex"),
+    Row(("check", "first.lex")),
     Row(("demo", "0")),
     Row(("convert", "slp1", "iast", "verses", "out.text"), out="out.text"),
     Row(("join", "made.lex", CHAIN)),
@@ -107,7 +109,7 @@ def try_row(refusing, row, wanted):
     statuses = ", ".join(f"{times} ended with {status}" for status, times in sorted(ends.items()))
     holds = whole.returncode == 0 and count > 0 and not found and NO_MEMORY in ends
     refusing.trial.tell(
-        f"{row.words[0]}: {len(numbers)} of {count} requests refused", holds, f" ({statuses}) {'; '.join(found[:5])}".rstrip()
+        f"{row.words[0]} {row.words[1]}: {len(numbers)} of {count} requests refused", holds, f" ({statuses}) {'; '.join(found[:5])}".rstrip()
     )
 
 
@@ -125,6 +127,7 @@ def main():
             trial.tell("the allocator is compiled", False)
             return
         trial.build()
+        trial.write_first("made.lex", "first.lex")
         (trial.folder / "text").write_text(f"{LINE}\nrAmo\n?\n" * 30, encoding="utf-8")
         (trial.folder / "verses").write_text(f"{LINE} | 12 ||\n" * 30, encoding="utf-8")
         trial.run("annotate", "made.lex", MARK, "made.note")

@@ -53,6 +53,9 @@ def rows_of(trial):
     """The rows, over a folder in which their files are made."""
     folder = trial.folder
     trial.build()
+    trial.write_first("made.lex", "first.lex")
+    trial.write_first("made.lex", "old.lex")
+    (folder / "bad.lex").write_bytes(trial.bytes_of("made.lex").replace(b"\nroot ", b"\nroot  ", 1))
     os.symlink("two", folder / "one")
     os.symlink("one", folder / "two")
     (folder / "folder").mkdir()
@@ -109,6 +112,13 @@ def rows_of(trial):
         Row(("reread", "made.lex", "out.note"), 0, ()),
         Row(("reread", "made.lex", "nowhere"), 3, (f"{cannot} read 'nowhere': {NO_FILE}",)),
         Row(("reread", "made.lex", "stems.csv"), 5, ()),
+        Row(("migrate", "first.lex", "new.lex"), 0, ()),
+        Row(("migrate", "old.lex", "old.lex"), 0, ()),
+        Row(("migrate", "nowhere", "new.lex"), 3, (f"{cannot} read 'nowhere': {NO_FILE}",)),
+        Row(("migrate", "first.lex", "no/new.lex"), 4, (f"{cannot} write 'no/new.lex': {NO_FILE}",)),
+        Row(("migrate", "first.lex", "new.lex"), 4, (f"{cannot} write 'new.lex': the file would be too large",), {"preexec_fn": limit_files}),
+        Row(("migrate", "first.lex", "new.lex"), 4, (f"{cannot} write the output: the disk is full",), {"stdout": full}),
+        Row(("migrate", "bad.lex", "new.lex"), 5, ()),
         Row(("read", "made.lex"), 7, (f"sandhi: the input has more than {MOST_INPUT} bytes",), {"input": b"\n" * (MOST_INPUT + 1)}),
         Row((*BUILD, "link.csv"), 0, (replaced.format("stems.csv"),)),
     ]

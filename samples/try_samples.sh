@@ -1,7 +1,8 @@
 #!/usr/bin/env bash
 # Tries the sample files with a program: `try_samples.sh [PROGRAM]`, where PROGRAM is its path; without it `./sandhi` is taken.
 # Builds their lexicon into a temporary folder, checks it, cuts a line with it, reads this line in a session in which a segment
-# is kept, and answers it in a batch. Says what differs, and ends with 1, where something is not as it should be.
+# is kept, and answers it in a batch. Its text of version 1 has the same forms, and migrated is the lexicon that was built; so is
+# that lexicon itself. Says what differs, and ends with 1, where something is not as it should be.
 set -u
 top="$(dirname "$(dirname "$(readlink -f "$0")")")"
 program="$(readlink -f "${1:-$top/sandhi}")"
@@ -44,6 +45,14 @@ overlap pv A a|A>A A|a>A
 END
 [ "$(wc -l <"$work/output")" = 180 ] || fail "check printed another number of overlaps"
 [ "$(tail -n 1 "$work/output")" = end ] || fail "check did not print all overlaps"
+
+recipes/lexicon_text.py first "$lexicon" >"$work/first.lex" || fail "the lexicon has no text of version 1"
+[ "$(grep -c '^form ' "$work/first.lex")" = 948 ] || fail "the text of version 1 has another number of form lines"
+nodes="$(grep -c '^node ' "$lexicon")"
+for old in "$work/first.lex" "$lexicon"; do
+    expect 0 9 migrate "$old" "$work/new.lex" <<<"nodes $nodes"
+    cmp "$lexicon" "$work/new.lex" >&2 || fail "$(basename "$old") is migrated to another text than was built"
+done
 
 line='रामो वनं गच्छति च सेनां नदीं च पश्यति ।'
 answer='1: rAmaH[noun] (aH|v>ov) vanam[noun] (m|g>Mg) gacCati[verb] + ca[ind] + senAm[noun] (m|n>Mn) nadIm[noun] (m|c>Mc) ca[ind] + paSyati[verb]'

@@ -20,10 +20,12 @@ F_SETPIPE_SZ = 1031
 SESSION = [b"text slp1 rAmo vanaM gacCati\n", b"page 1\n", b"summary\n", b"quit\n"]
 BATCH = ("batch", "made.lex", "slp1", "text", "9")
 BUILD = ("build", "rules.toml", "tables.csv", "stems.csv", "out.lex")
+MIGRATE = ("migrate", "first.lex", "out.lex")
 
 
 def make_files(trial):
     trial.build()
+    trial.write_first("made.lex", "first.lex")
     (trial.folder / "text").write_text("rAmo vanaM gacCati\nrAmo\n" * 1000, encoding="utf-8")
 
 
@@ -88,7 +90,7 @@ def try_interrupted(trial):
         return
     library = trial.folder / "interrupting.so"
     subprocess.run(["gcc", "-O1", "-shared", "-fPIC", "-o", str(library), str(SAMPLES / "interrupting.c")], check=True)
-    for words, given in ((BATCH, b""), (BUILD, b""), (("read", "made.lex"), b"".join(SESSION))):
+    for words, given in ((BATCH, b""), (BUILD, b""), (MIGRATE, b""), (("read", "made.lex"), b"".join(SESSION))):
         whole = trial.run(*words, input=given)
         made = trial.bytes_of("out.lex")
         ended = trial.run(*words, input=given, env={**os.environ, "LD_PRELOAD": str(library)})

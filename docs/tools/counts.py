@@ -21,10 +21,10 @@ def facts(tree):
         ("docs/ARCHITECTURE.md", f"The {NUMBER} crates fall into {NUMBER} groups", [len(tree.listed), len(groups)]),
         ("README.md", f"{NUMBER} stem records", [len(stems)]),
         ("README.md", f"{NUMBER} lines of old texts", [readings]),
-        ("README.md", f"{NUMBER} form lines", [forms]),
+        ("README.md", f"{NUMBER} pairs of a form and an analysis", [forms]),
         (starter + "README.md", f"table records \\| {NUMBER}", [len(tables)]),
         (starter + "README.md", f"stem records, different stems \\| {NUMBER}, {NUMBER}", [len(stems), len({stem[0] for stem in stems})]),
-        (starter + "README.md", f"form lines of the lexicon \\| {NUMBER}", [forms]),
+        (starter + "README.md", f"pairs of a form and an analysis \\| {NUMBER}", [forms]),
         (starter + "README.md", f"readings \\| {NUMBER}", [readings]),
     ]
 
