@@ -1,5 +1,5 @@
 ghost use Rattle.std.specs.Prelude.{◌≡◌, ◌<◌, ◌≤◌, ◌^◌, [], ◌∷◌, length, IfOk, IfErr, Ok, None};
-ghost use Rattle.lexicon_text_definitions.specs.FileReadings.{IsReadAs};
+ghost use Rattle.trie_text_definitions.specs.VersionReadings.{IsReadAs};
 ghost use Rattle.form_file.specs.Contents.{lexicon_of};
 ghost use Rattle.text_line.specs.Values.{scheme_of};
 ghost use Rattle.command_words.specs.Meant.{word_meant};
@@ -16,7 +16,7 @@ use super::status::{AnyFault, Status};
 use annotated_trie::Lexicon;
 use answer_printing::{AnswerPrinter, NextAnswers, RuleTexts, push_page};
 use command_words::PlacedWord;
-use form_file::{Contents, read};
+use lexicon_file::{Contents, read};
 use lexicon_text_definitions::MOST_FILE_BYTES;
 use outside::{Shelf, Sink, Steps};
 use phoneme::{Line, Memory};
