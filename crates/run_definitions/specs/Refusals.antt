@@ -43,6 +43,7 @@ abbrev pub name_of_entry_why : entry.Why → List ℕ
 name_of_entry_why entry.Shape = codes "Shape"
 name_of_entry_why entry.Spelling = codes "Spelling"
 name_of_entry_why entry.Class = codes "Class"
+name_of_entry_why entry.Phase = codes "Phase"
 name_of_entry_why entry.Strict = codes "Strict"
 name_of_entry_why entry.Long = codes "Long"
 name_of_entry_why entry.Twice = codes "Twice"
