@@ -9,10 +9,12 @@ use Rattle.lexicon_definitions.specs.Lexicons.{Lexicon, IsLexicon, tree_of}
 use Rattle.lexicon_definitions.specs.Limits.{IsWithinLimits, count_lines}
 use Rattle.lexicon_definitions.specs.Tries.{IsTrieOf}
 use Rattle.lexicon_text_definitions.specs.declared.limits.TheConstants.{MOST_FILE_BYTES}
-use Rattle.lexicon_text_definitions.specs.FileReadings.{IsReadAs}
+use Rattle.trie_text_definitions.specs.VersionReadings.{IsReadAs}
 use Rattle.trie_text_definitions.specs.TrieForms.{count_pairs, phases_of}
 use Rattle.form_file.specs.declared.contents.Contents.{Contents}
-use Rattle.form_file.specs.Contents.{fault_of, lexicon_of}
+use Rattle.form_file.specs.Contents.{lexicon_of}
+use Rattle.lexicon_file.specs.Contents.{fault_of}
+use Rattle.lexicon_file.specs.Writing.{HasNewestText}
 use Rattle.phase_automaton.specs.Automata.{Recognizes}
 use Rattle.segmentation_definitions.specs.Derivations.{Step}
 use Rattle.segmentation_definitions.specs.Listings.{BeforeFirst, IsPage}
@@ -26,12 +28,13 @@ use Rattle.sandhi_program.specs.declared.status.AnyFault.{AnyFault}
 use Rattle.sandhi_program.specs.declared.status.AnyFault.TheVariants.{Large, Lexicon as OfLexicon, Rules, Tables, Stems, Spelling, Note}
 use Rattle.sandhi_program.specs.Faults.{file_fault}
 
--- a lexicon can be built of what was read of a file: the trie is that of its forms, which are within the limits and as many as its
--- pairs, and the automaton is that of the grammar
+-- a lexicon can be built and written of what was read of a file: the trie is that of its forms, which are within the limits, have
+-- stems with a spelling, and are as many as its pairs, and the automaton is that of the grammar
 pub record IsBuildable (contents : Contents) : Type 0 where
   pub trie : IsTrieOf contents.store (phases_of contents.store)
   pub lexicon : IsLexicon (lexicon_of contents)
   pub limits : IsWithinLimits (lexicon_of contents)
+  pub text : HasNewestText (lexicon_of contents)
   pub pairs : count_pairs contents.store ≡ count_lines (phases_of contents.store)
   pub recognizes : Recognizes contents.automaton (tree_of contents.rules)
   pub phases : contents.automaton.phases ≡ length contents.rules.names
