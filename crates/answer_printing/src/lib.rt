@@ -19,6 +19,6 @@ mod sharing;
 
 pub use answer_printer::AnswerPrinter;
 pub use page_printing::{NextAnswers, push_answers, push_page, rest_line};
-pub use refusals::{push_misspelling, push_refusal};
+pub use refusals::{push_refusal, push_text_refusal};
 pub use rule_texts::RuleTexts;
 pub use sharing::rule_texts_are_shared;

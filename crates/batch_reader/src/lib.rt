@@ -4,8 +4,8 @@
 //! Proved of `Batch::serve`, over any sink: where it succeeds, the replies to all lines of the text were written, each after its
 //! number, in the order of the lines (`ok`), however many threads there were; wherever it stops, a prefix of the replies to some first
 //! lines was written (`prefix`); it fails only where the sink counted a fault (`fault`). `read_all` gives a reply for each of
-//! some lines, in their order, and each is the page that the line has when it is answered alone (`ok`); it is refused only for want
-//! of memory.
+//! some lines, in their order, and each is the page that the line has when it is answered alone by `first_page` (`ok`); both are refused
+//! only for want of memory.
 //!
 //! A law beside them: under a chart each move of a search is within the bound that `advance` and `skip` of `segmenter` state
 //! (`moves_under_a_chart_are_bounded`).
@@ -25,3 +25,4 @@ mod replier;
 pub use answering::read_all;
 pub use batch::Batch;
 pub use bounded_moves::moves_under_a_chart_are_bounded;
+pub use replier::first_page;

@@ -5,7 +5,7 @@ ghost use Rattle.session_definitions.specs.Replies.{why_no_line};
 ghost use Rattle.text_line.specs.Values.{text_fault};
 ghost use Rattle.batch_reader.specs.Blocks.{HasRepliedTo};
 
-use answer_printing::{push_misspelling, push_refusal};
+use answer_printing::push_text_refusal;
 use phoneme::Memory;
 use std::alloc::Global;
 use text_line::TextFault;
@@ -16,17 +16,6 @@ fn push_number(alloc: Global, output: &mut Vec<u8>, number: u64) -> Result<(), M
 {
     output.extend_from_slice(format!(in alloc; "line {number}\n")?.as_bytes())?;
     Ok(())
-}
-
-/// Appends `?` and why a text is no line.
-fn push_fault(alloc: Global, output: &mut Vec<u8>, fault: TextFault) -> Result<(), Memory>
-    ensures { OnOk result (output.new.items ≡ output.old.items ++ output_line (codes "? " ++ why_no_line (text_fault fault))) }
-{
-    match fault {
-        TextFault::Spell(fault) => push_misspelling(alloc, output, fault),
-        TextFault::NoLetters => push_refusal(output, "no letters"),
-        TextFault::TooLong => push_refusal(output, "too long"),
-    }
 }
 
 /// Appends the first of the pages, and gives the others.
@@ -62,7 +51,7 @@ fn push_reply<'a>(
     push_number(alloc, output, number)?;
     match fault {
         Some(fault) => {
-            push_fault(alloc, output, *fault)?;
+            push_text_refusal(alloc, output, *fault)?;
             Ok(pages)
         }
         None => push_page(output, pages),

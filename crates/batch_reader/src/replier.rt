@@ -3,7 +3,7 @@ ghost use Rattle.batch_reader.specs.Replies.{IsReply};
 
 use annotated_trie::Lexicon;
 use answer_printing::{AnswerPrinter, NextAnswers, RuleTexts, push_page};
-use outside::{Gate, Steps};
+use outside::{Gate, NoGate, Steps};
 use phoneme::{Line, Memory};
 use reader_choices::Choices;
 use segmenter::Search;
@@ -51,4 +51,24 @@ impl<'a, G: Gate> Replier<'a, G> {
         self.gate.pass(number);
         self.list_answers(alloc, line)
     }
+}
+
+/// The printed page of the line's first answers, at most `count`, numbered from 1: the line's reply, where it is answered alone. Refused
+/// only for want of memory.
+pub fn first_page(
+    alloc: Global,
+    lexicon: &Lexicon,
+    line: &Line,
+    count: u32,
+) -> Result<Vec<u8>, Memory>
+    ensures ok { IfOk result (λ text. IsReply lexicon.now.lexicon count line.now text.items) }
+{
+    let texts = RuleTexts::new(alloc, lexicon.rules())?;
+    let replier = Replier {
+        lexicon,
+        texts: &texts,
+        count,
+        gate: &NoGate,
+    };
+    replier.list_answers(alloc, line)
 }

@@ -8,13 +8,14 @@ ghost use Rattle.reader_session.specs.Readings.{IsReadingOver, GoesOn, state_of}
 use super::reading::Reading;
 use super::refusing::{push_ok, refuse};
 use annotated_trie::Lexicon;
-use answer_printing::push_misspelling;
+use answer_printing::push_text_refusal;
 use phoneme::Memory;
 use reader_choices::Choices;
 use std::alloc::Global;
-use text_line::{LineError, Scheme, read_line};
+use text_line::{Scheme, read_line};
 
 /// `text SCHEME TEXT`: reads the line, or refuses the text with its fault.
+#[tactic(auto, using(text_line::proofs::FaultsTold::fault_told))]
 pub(crate) fn reply_to_text(
     alloc: Global,
     lexicon: &Lexicon,
@@ -37,12 +38,9 @@ pub(crate) fn reply_to_text(
             let reading = Reading::new(alloc, lexicon, line, Choices::new(alloc))?;
             Ok(Some(reading))
         }
-        Err(LineError::Spell(fault)) => {
-            push_misspelling(alloc, output, fault)?;
+        Err(error) => {
+            push_text_refusal(alloc, output, error.fault()?)?;
             Ok(old)
         }
-        Err(LineError::NoLetters) => refuse(output, "no letters", old),
-        Err(LineError::TooLong) => refuse(output, "too long", old),
-        Err(LineError::Memory) => Err(Memory),
     }
 }

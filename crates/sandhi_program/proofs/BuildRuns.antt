@@ -149,7 +149,8 @@ module _ (set : RuleSet) (classes : List Class) (held : List Stem) (stems out : 
     is_it = record {
       lexicon = is.lexicon;
       is_of = is.is_of;
-      is_outcome = OfText is.fits (λ i. record { output = is.output i; files = with_file told out.name (is.text i); end = ends.Done });
+      is_outcome = OfText built.text.items is.text is.within
+          (λ i. record { output = is.output i; files = with_file told out.name built.text.items; end = ends.Done });
     };
   }
 

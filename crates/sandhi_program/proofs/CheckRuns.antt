@@ -6,7 +6,7 @@ use Rattle.run_definitions.specs.Ends as ends
 use Rattle.run_definitions.specs.Ends.{outcome_over}
 use Rattle.run_definitions.specs.LexiconTells.{NotThere, Refused, Holds, IsMissing, IsLexicon}
 use Rattle.run_definitions.specs.CheckOutcomes.{IsCheckOutcome}
-use Rattle.lexicon_text_definitions.specs.FileReadings.{IsReadAs}
+use Rattle.trie_text_definitions.specs.VersionReadings.{IsReadAs}
 use Rattle.lexicon_text_definitions.specs.declared.limits.TheConstants.{MOST_FILE_BYTES}
 use Rattle.sandhi_program.specs.declared.status.Status.{Status}
 use Rattle.sandhi_program.specs.declared.status.Status.TheVariants.{Done, Usage, BadFile}

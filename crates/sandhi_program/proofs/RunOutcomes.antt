@@ -2,7 +2,7 @@
 use Rattle.std.proofs.Common.{◌≡◌, ℕ, List, Option, Some, None, refl, ap, ◌∙◌}
 use Rattle.outside.specs.Files.{Files}
 use Rattle.lexicon_text_definitions.proofs.OneReading.{one_reading}
-use Rattle.run_definitions.specs.Commands.{Command, Segment, Check, Build, Read, Batch, Demo, Convert, Join, Split, Annotate, Reread, FileWord, AreWordsOf, AreOfNoCommand, DoWrite, WriteNoFile, files_of, out_of}
+use Rattle.run_definitions.specs.Commands.{Command, Segment, Check, Build, Read, Batch, Demo, Convert, Join, Split, Annotate, Reread, Migrate, FileWord, AreWordsOf, AreOfNoCommand, DoWrite, WriteNoFile, files_of, out_of}
 use Rattle.run_definitions.specs.Outcomes.{Outcome, IsOutcome, IsOutcomeOf, OfNoCommand, OfCommand}
 use Rattle.run_definitions.specs.Refusals.{usage_outcome}
 use Rattle.run_definitions.proofs.OneCommand.{one_command}
@@ -40,6 +40,7 @@ writes_none (Join lex chain) none = refl
 writes_none (Split lex text count depth) none = refl
 writes_none (Annotate lex mark out) none = absurd (none out refl)
 writes_none (Reread lex file) none = refl
+writes_none (Migrate lex out) none = absurd (none out refl)
 
 -- a run has one outcome
 pub one_run_outcome : (words : List (List ℕ)) (input : Option (List ℕ)) (files : Files) (a b : Outcome) → IsOutcome words files input a

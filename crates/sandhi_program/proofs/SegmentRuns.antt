@@ -8,8 +8,8 @@ use Rattle.run_definitions.specs.Ends.{outcome_over}
 use Rattle.run_definitions.specs.SegmentOutcomes as outcomes
 use Rattle.run_definitions.specs.LexiconTells.{DoesTell, NotThere, Refused, Holds, IsMissing, IsLarge, IsFaulty, IsLexicon}
 use Rattle.run_definitions.specs.SegmentOutcomes.{IsSegmentOutcome}
-use Rattle.lexicon_text_definitions.specs.FileReadings.{IsReadAs}
-use Rattle.form_file.specs.Contents.{fault_of}
+use Rattle.trie_text_definitions.specs.VersionReadings.{IsReadAs}
+use Rattle.lexicon_file.specs.Contents.{fault_of}
 use Rattle.lexicon_text_definitions.specs.declared.limits.TheConstants.{MOST_FILE_BYTES}
 use Rattle.sandhi_program.specs.declared.status.Status.{Status}
 use Rattle.sandhi_program.specs.declared.status.Status.TheVariants.{Done, Usage, BadFile, BadText}

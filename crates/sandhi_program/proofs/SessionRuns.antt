@@ -4,7 +4,7 @@ use Rattle.outside.specs.Counts.{Rose}
 use Rattle.outside.specs.Files.{Files, contents_of, AreFirstBytes}
 use Rattle.lexicon_definitions.specs.Lexicons.{Lexicon}
 use Rattle.lexicon_text_definitions.specs.declared.limits.TheConstants.{MOST_FILE_BYTES}
-use Rattle.lexicon_text_definitions.specs.FileReadings.{IsReadAs}
+use Rattle.trie_text_definitions.specs.VersionReadings.{IsReadAs}
 use Rattle.session_definitions.specs.Sessions as sessions
 use Rattle.reader_session.specs.declared.serve_end.ServeEnd.{ServeEnd}
 use Rattle.reader_session.specs.declared.serve_end.ServeEnd.TheVariants as serve

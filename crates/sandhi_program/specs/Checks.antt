@@ -2,7 +2,7 @@
 use Rattle.std.specs.Prelude.{◌≡◌, ℕ, ◌<◌, ◌≤◌, List, length, Bool, Ok}
 use Rattle.lexicon_definitions.specs.Lexicons.{Lexicon, RuleSet}
 use Rattle.lexicon_text_definitions.specs.declared.limits.TheConstants.{MOST_FILE_BYTES}
-use Rattle.lexicon_text_definitions.specs.FileReadings.{IsReadAs}
+use Rattle.trie_text_definitions.specs.VersionReadings.{IsReadAs}
 use Rattle.segmentation_definitions.specs.Derivations.{IsRuleNumber}
 use Rattle.segmentation_definitions.specs.Overlaps.{Overlap}
 use Rattle.run_definitions.specs.declared.limits.TheConstants.{CHECK_OVERLAPS}

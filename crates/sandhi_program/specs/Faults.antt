@@ -3,7 +3,7 @@ use Rattle.std.specs.Prelude.{◌≡◌}
 use Rattle.run_definitions.specs.Ends as ends
 use Rattle.run_definitions.specs.Ends.{End, Outcome}
 use Rattle.text_line.specs.Values.{text_fault}
-use Rattle.form_file.specs.Contents as files
+use Rattle.lexicon_file.specs.Contents as files
 use Rattle.rule_file.specs.Faults as rules
 use Rattle.paradigms.specs.Answers.{table_why, stem_why}
 use Rattle.more_schemes.specs.Values.{conversion_fault}

@@ -19,3 +19,4 @@ pub mod Sources
 pub mod SourceErrors
 pub mod Annotations
 pub mod Rereads
+pub mod Migrations

@@ -4,8 +4,8 @@ use Rattle.phoneme.specs.declared.memory.Memory.{Memory}
 use Rattle.text_line.specs.declared.line_error.LineError.{LineError}
 use Rattle.text_line.specs.declared.text_fault.TextFault.{TextFault}
 use Rattle.text_line.specs.Values.{fault_of_error}
-use Rattle.form_file.specs.declared.error.FileError.{FileError}
-use Rattle.form_file.specs.declared.error.FileError.TheVariants as file
+use Rattle.lexicon_file.specs.declared.error.FileError.{FileError}
+use Rattle.lexicon_file.specs.declared.error.FileError.TheVariants as file
 use Rattle.rule_file.specs.declared.error.RuleError.{RuleError}
 use Rattle.rule_file.specs.declared.error.RuleError.TheVariants as rules
 use Rattle.paradigms.specs.declared.errors.TableError.{TableError}

@@ -1,5 +1,5 @@
 -- What `segment` writes for the bytes of a lexicon file and a text in a scheme.
-use Rattle.std.specs.Prelude.{◌≡◌, ℕ, ◌<◌, ◌≤◌, List, [], length, Bool, Ok, Err}
+use Rattle.std.specs.Prelude.{◌≡◌, ℕ, ◌<◌, ◌≤◌, List, length, Ok, Err}
 use Rattle.text_definitions.specs.Lines.{Line}
 use Rattle.text_definitions.specs.Schemes.{Scheme}
 use Rattle.text_definitions.specs.LineTexts.{line_of_text}
@@ -9,14 +9,14 @@ use Rattle.lexicon_definitions.specs.Lexicons.{Lexicon, IsLexicon, tree_of}
 use Rattle.lexicon_definitions.specs.Limits.{IsWithinLimits, count_lines}
 use Rattle.lexicon_definitions.specs.Tries.{IsTrieOf}
 use Rattle.lexicon_text_definitions.specs.declared.limits.TheConstants.{MOST_FILE_BYTES}
-use Rattle.lexicon_text_definitions.specs.FileReadings.{IsReadAs}
+use Rattle.trie_text_definitions.specs.VersionReadings.{IsReadAs}
 use Rattle.trie_text_definitions.specs.TrieForms.{count_pairs, phases_of}
 use Rattle.form_file.specs.declared.contents.Contents.{Contents}
-use Rattle.form_file.specs.Contents.{fault_of, lexicon_of}
+use Rattle.form_file.specs.Contents.{lexicon_of}
+use Rattle.lexicon_file.specs.Contents.{fault_of}
+use Rattle.lexicon_file.specs.Writing.{HasNewestText}
 use Rattle.phase_automaton.specs.Automata.{Recognizes}
-use Rattle.segmentation_definitions.specs.Derivations.{Step}
-use Rattle.segmentation_definitions.specs.Listings.{BeforeFirst, IsPage}
-use Rattle.segmentation_definitions.specs.PrintedAnswers.{printed_page}
+use Rattle.batch_reader.specs.Replies.{IsReply}
 use Rattle.run_definitions.specs.declared.limits.TheConstants.{SEGMENT_PAGE}
 use Rattle.run_definitions.specs.Commands.{FileWord}
 use Rattle.run_definitions.specs.Refusals.{file_refusal, text_refusal}
@@ -26,22 +26,16 @@ use Rattle.sandhi_program.specs.declared.status.AnyFault.{AnyFault}
 use Rattle.sandhi_program.specs.declared.status.AnyFault.TheVariants.{Large, Lexicon as OfLexicon, Rules, Tables, Stems, Spelling, Note}
 use Rattle.sandhi_program.specs.Faults.{file_fault}
 
--- a lexicon can be built of what was read of a file: the trie is that of its forms, which are within the limits and as many as its
--- pairs, and the automaton is that of the grammar
+-- a lexicon can be built and written of what was read of a file: the trie is that of its forms, which are within the limits, have
+-- stems with a spelling, and are as many as its pairs, and the automaton is that of the grammar
 pub record IsBuildable (contents : Contents) : Type 0 where
   pub trie : IsTrieOf contents.store (phases_of contents.store)
   pub lexicon : IsLexicon (lexicon_of contents)
   pub limits : IsWithinLimits (lexicon_of contents)
+  pub text : HasNewestText (lexicon_of contents)
   pub pairs : count_pairs contents.store ≡ count_lines (phases_of contents.store)
   pub recognizes : Recognizes contents.automaton (tree_of contents.rules)
   pub phases : contents.automaton.phases ≡ length contents.rules.names
-
--- the output is the printed page of the line before the first answer
-pub record IsPrintedPage (lexicon : Lexicon) (line : Line) (output : List ℕ) : Type 0 where
-  pub answers : List (List Step)
-  pub more : Bool
-  pub page : IsPage lexicon line [] BeforeFirst SEGMENT_PAGE answers more
-  pub printed : output ≡ printed_page lexicon.rules 1 answers more
 
 -- the bytes are those of the lexicon's file, the text has a line, and the output is its page
 pub record IsSegmented (bytes : List ℕ) (scheme : Scheme) (text output : List ℕ) : Type 0 where
@@ -50,7 +44,7 @@ pub record IsSegmented (bytes : List ℕ) (scheme : Scheme) (text output : List 
   pub read : IsReadAs bytes (Ok lexicon)
   pub line : Line
   pub spelled : line_of_text scheme text ≡ Ok line
-  pub page : IsPrintedPage lexicon line output
+  pub page : IsReply lexicon SEGMENT_PAGE line output
 
 -- the bytes are those of no lexicon file, for this reason
 abbrev pub IsRefusedFile : List ℕ → AnyFault → Type 0

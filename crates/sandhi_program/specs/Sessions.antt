@@ -5,7 +5,7 @@ use Rattle.outside.specs.Files.{Files}
 use Rattle.text_definitions.specs.Schemes.{Scheme}
 use Rattle.lexicon_definitions.specs.Lexicons.{Lexicon}
 use Rattle.lexicon_text_definitions.specs.declared.limits.TheConstants.{MOST_FILE_BYTES}
-use Rattle.lexicon_text_definitions.specs.FileReadings.{IsReadAs}
+use Rattle.trie_text_definitions.specs.VersionReadings.{IsReadAs}
 use Rattle.reader_session.specs.declared.serve_end.ServeEnd.{ServeEnd}
 use Rattle.reader_session.specs.declared.serve_end.ServeEnd.TheVariants as serve
 use Rattle.reader_session.specs.Served.{IsEnd, WroteSession, WroteFront, RepliedToTaken}

@@ -2,12 +2,12 @@
 use Rattle.std.specs.Prelude.{◌≡◌, ℕ, ◌<◌, ◌≤◌, List, length, Result, Ok, Err, string_bytes}
 use Rattle.lexicon_definitions.specs.Lexicons.{RuleSet, Lexicon}
 use Rattle.lexicon_text_definitions.specs.declared.limits.TheConstants.{MOST_FILE_BYTES}
-use Rattle.lexicon_text_definitions.specs.LexiconTexts.{text_of}
 use Rattle.morphology_definitions.specs.Inflection.{Class, Stem}
 use Rattle.paradigm_file_definitions.specs.TableFiles.{tables_of}
 use Rattle.rule_file_definitions.specs.RuleFileReadings.{IsReadAs}
+use Rattle.trie_text_definitions.specs.VersionTexts.{IsNewestText}
 use Rattle.run_definitions.specs.Ends.{AnyFault, Large}
-use Rattle.run_definitions.specs.SourceLexicons.{IsLexiconOf, FitsFile}
+use Rattle.run_definitions.specs.SourceLexicons.{IsLexiconOf}
 use Rattle.run_definitions.specs.BuildOutcomes.{printed_build}
 use Rattle.sandhi_program.specs.declared.build.Built.{Built}
 
@@ -31,10 +31,10 @@ AreReadRules rules = (bytes : List ℕ) × IsReadAs bytes (Ok rules)
 abbrev pub AreReadTables : RuleSet → List Class → Type 0
 AreReadTables rules classes = (bytes : List ℕ) × (tables_of rules.names bytes ≡ Ok classes)
 
--- this is the text of the lexicon of the sources, which is not too large, and what is printed of it
+-- this is the newest text of the lexicon of the sources, which is not too large, and what is printed of it
 pub record IsBuilt (rules : RuleSet) (classes : List Class) (stems : List Stem) (built : Built) : Type 0 where
   pub lexicon : Lexicon
   pub is_of : IsLexiconOf rules classes stems lexicon
-  pub fits : FitsFile lexicon
-  pub text : built.text.items ≡ text_of lexicon
+  pub text : IsNewestText lexicon built.text.items
+  pub within : length built.text.items ≤ MOST_FILE_BYTES
   pub output : string_bytes built.output ≡ printed_build lexicon

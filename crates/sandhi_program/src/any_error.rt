@@ -2,7 +2,7 @@ ghost use Rattle.std.specs.Prelude.{◌≡◌};
 
 use super::status::AnyFault;
 use annotation::ReadNoteError;
-use form_file::FileError;
+use lexicon_file::FileError;
 use lexicon_builder::BuildError;
 use more_schemes::ConvertError;
 use paradigms::{StemError, StemFault, StemWhy, TableError};

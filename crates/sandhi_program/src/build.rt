@@ -1,7 +1,6 @@
 ghost use Rattle.std.specs.Prelude.{◌≡◌, ◌≤◌, length, map, ◌++◌, codes, IfOk, IfErr, string_bytes};
 ghost use Rattle.std.specs.Fmt.{decimal};
 ghost use Rattle.segmentation_definitions.specs.PrintedAnswers.{output_line};
-ghost use Rattle.lexicon_definitions.specs.Limits.{count_lines};
 ghost use Rattle.lexicon_definitions.specs.declared.limits.TheConstants.{MOST_PHASES};
 ghost use Rattle.rule_file_definitions.specs.RuleFileReadings.{IsReadAs};
 ghost use Rattle.run_definitions.specs.BuildOutcomes.{AreTables, AreStems};
@@ -12,7 +11,6 @@ ghost use Rattle.sandhi_program.specs.SourceErrors.{IsSourceError, IsLimitError}
 
 use super::any_error::AnyError;
 use super::status::AnyFault;
-use form_lists::FormLists;
 use lexicon_builder::{build_lexicon, lexicon_text};
 use lexicon_text_definitions::MOST_FILE_BYTES;
 use paradigms::{Stems, Tables, read_stems, read_tables};
@@ -71,14 +69,13 @@ pub(crate) struct Built {
 }
 
 /// How many lines of forms the lexicon has, as a line.
-fn print_forms(alloc: Global, lists: &FormLists) -> Result<String, Memory>
-    ensures ok { IfOk result (λ text. string_bytes text ≡ output_line (codes "forms " ++ decimal (count_lines lists.now))) }
+fn print_forms(alloc: Global, forms: u32) -> Result<String, Memory>
+    ensures ok { IfOk result (λ text. string_bytes text ≡ output_line (codes "forms " ++ decimal forms)) }
 {
-    let forms = lists.lines();
     Ok(format!(in alloc; "forms {forms}\n")?)
 }
 
-/// The lexicon of the sources as its text, and how many lines of forms it has.
+/// The lexicon of the sources in its newest text, and how many lines of forms it has.
 pub(crate) fn build(
     rt: &(impl Threads + Sync),
     alloc: Global,
@@ -91,8 +88,8 @@ pub(crate) fn build(
     ensures refused { IfErr result (IsLimitError file.rules tables.now stems.now) }
 {
     let RuleFile { rules, automaton } = file;
-    let listed = build_lexicon(rt, alloc, rules, automaton, tables, stems)?;
-    let text = lexicon_text(alloc, &listed)?;
-    let output = print_forms(alloc, &listed.lists)?;
+    let built = build_lexicon(rt, alloc, rules, automaton, tables, stems)?;
+    let text = lexicon_text(alloc, &built.contents)?;
+    let output = print_forms(alloc, built.lines)?;
     Ok(Built { text, output })
 }

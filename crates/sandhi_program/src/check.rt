@@ -21,7 +21,7 @@ use super::segment::read_contents;
 use super::status::Status;
 use answer_printing::rest_line;
 use command_words::PlacedWord;
-use form_file::Contents;
+use lexicon_file::Contents;
 use latin_schemes::print_slp1;
 use outside::{Shelf, Sink};
 use phoneme::Memory;

@@ -20,6 +20,7 @@ mod ending;
 mod escaped;
 mod explanation;
 mod join;
+mod migrate;
 mod notes;
 mod read;
 mod reading;

@@ -1,5 +1,5 @@
 ghost use Rattle.std.specs.Prelude.{◌≡◌, IfOk, string_bytes};
-ghost use Rattle.form_file.specs.Faults.{why_of};
+ghost use Rattle.lexicon_file.specs.Faults.{why_of};
 ghost use Rattle.joiner.specs.Faults as chains;
 ghost use Rattle.annotation.specs.Readings as notes;
 ghost use Rattle.run_definitions.specs.Refusals.{name_of_why, file_refusal, text_refusal, name_of_chain_why, chain_refusal, name_of_note_why};
@@ -9,7 +9,7 @@ ghost use Rattle.sandhi_program.specs.Faults.{file_fault};
 use super::source_refusal::{name_of_stem_why, name_of_table_why, record_refusal, rules_refusal};
 use super::status::AnyFault;
 use annotation::NoteWhy;
-use form_file::FileWhy;
+use lexicon_file::FileWhy;
 use joiner::{ChainFault, ChainWhy};
 use phoneme::Memory;
 use std::alloc::Global;
@@ -29,9 +29,13 @@ fn name_of(why: FileWhy) -> &'static str
         FileWhy::Spelling => "Spelling",
         FileWhy::Strict => "Strict",
         FileWhy::Grammar(_) => "Grammar",
+        FileWhy::Child => "Child",
         FileWhy::Limit => "Limit",
         FileWhy::Twice => "Twice",
         FileWhy::Falling => "Falling",
+        FileWhy::Unused => "Unused",
+        FileWhy::Delta => "Delta",
+        FileWhy::Unlimited => "Unlimited",
     }
 }
 

@@ -23,6 +23,7 @@ use super::convert::run_convert;
 use super::demo::run_demo;
 use super::ending::finish;
 use super::join::run_join;
+use super::migrate::run_migrate;
 use super::read::run_read;
 use super::reread::run_reread;
 use super::segment::run_segment;
@@ -63,6 +64,7 @@ fn run_command<R: Threads + Sync, H: Shelf, I: Source, O: Sink, G: Gate + Sync>(
         Command::Batch(words) => run_batch(rt, alloc, words, shelf, out, gate),
         Command::Demo { number } => run_demo(rt, alloc, *number, out),
         Command::Convert(words) => run_convert(alloc, words, shelf, out),
+        Command::Migrate(words) => run_migrate(alloc, words, shelf, out),
         Command::Join(words) => run_join(alloc, words, shelf, out),
         Command::Split(words) => run_split(rt, alloc, words, shelf, out, gate),
         Command::Annotate(words) => run_annotate(alloc, words, shelf, out),

@@ -1,12 +1,12 @@
 ghost use Rattle.std.specs.Prelude.{◌≡◌, ◌<◌, ◌≤◌, ◌^◌, [], ◌∷◌, length, IfOk, IfErr, Ok, None};
-ghost use Rattle.lexicon_text_definitions.specs.FileReadings.{IsReadAs};
+ghost use Rattle.trie_text_definitions.specs.VersionReadings.{IsReadAs};
 ghost use Rattle.form_file.specs.Contents.{lexicon_of};
 ghost use Rattle.text_line.specs.Values.{scheme_of};
 ghost use Rattle.command_words.specs.Meant.{word_meant};
 ghost use Rattle.run_definitions.specs.SegmentOutcomes.{IsSegmentOutcome};
 ghost use Rattle.sandhi_program.specs.Ends.{Wrote};
 ghost use Rattle.sandhi_program.specs.RunEnds.{devices, Ran};
-ghost use Rattle.sandhi_program.specs.Segments.{IsBuildable, IsPrintedPage, IsSegmented, Writes};
+ghost use Rattle.sandhi_program.specs.Segments.{IsBuildable, IsSegmented, Writes};
 ghost use Rattle.sandhi_program.specs.SegmentErrors.{IsFileError, IsRefusal};
 
 use super::any_error::AnyError;
@@ -14,17 +14,14 @@ use super::ending::{finish, refuse_file, refuse_text};
 use super::reading::read_file;
 use super::status::{AnyFault, Status};
 use annotated_trie::Lexicon;
-use answer_printing::{AnswerPrinter, NextAnswers, RuleTexts, push_page};
+use batch_reader::first_page;
 use command_words::PlacedWord;
-use form_file::{Contents, read};
+use lexicon_file::{Contents, read};
 use lexicon_text_definitions::MOST_FILE_BYTES;
-use outside::{Shelf, Sink, Steps};
-use phoneme::{Line, Memory};
-use reader_choices::Choices;
+use outside::{Shelf, Sink};
+use phoneme::Memory;
 use run_definitions::SEGMENT_PAGE;
-use segmenter::Search;
 use std::alloc::Global;
-use summary_chart::Chart;
 use text_line::{LineError, Scheme, TextFault, read_line};
 
 /// Why there is no page.
@@ -97,25 +94,6 @@ pub(crate) fn build_lexicon(alloc: Global, contents: Contents) -> Result<Lexicon
     Lexicon::build(alloc, store, rules, automaton)
 }
 
-/// The page of the line's first answers, found under its chart and numbered from 1.
-fn list_answers(alloc: Global, lexicon: &Lexicon, line: &Line) -> Result<Vec<u8>, Memory>
-    ensures ok { IfOk result (λ output. IsPrintedPage lexicon.now.lexicon line.now output.items) }
-{
-    let choices = Choices::new(alloc);
-    let mut steps = Steps::<()>::new();
-    let chart = Chart::build(alloc, lexicon, line, &choices, &mut steps)?;
-    let mut search = Search::new(alloc, lexicon, line, &choices, &chart)?;
-    let texts = RuleTexts::new(alloc, lexicon.rules())?;
-    let mut printer = AnswerPrinter::new(alloc, &texts, line)?;
-    let mut output = Vec::new(alloc);
-    let asked = NextAnswers {
-        number: 1,
-        count: SEGMENT_PAGE,
-    };
-    push_page(&mut output, &mut printer, &mut search, asked, &mut steps)?;
-    Ok(output)
-}
-
 /// What `segment` writes for the bytes of a lexicon file and a text in a scheme.
 pub(crate) fn segment(
     alloc: Global,
@@ -130,7 +108,7 @@ pub(crate) fn segment(
     let contents = read_contents(alloc, bytes)?;
     let line = read_line(alloc, scheme, text.as_bytes())?;
     let lexicon = build_lexicon(alloc, contents)?;
-    Ok(list_answers(alloc, &lexicon, &line)?)
+    Ok(first_page(alloc, &lexicon, &line, SEGMENT_PAGE)?)
 }
 
 /// Writes what `segment` answers for the bytes of the lexicon file.

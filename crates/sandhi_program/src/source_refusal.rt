@@ -16,6 +16,7 @@ fn name_of_entry_why(why: RuleWhy) -> &'static str
         RuleWhy::Shape => "Shape",
         RuleWhy::Spelling => "Spelling",
         RuleWhy::Class => "Class",
+        RuleWhy::Phase => "Phase",
         RuleWhy::Strict => "Strict",
         RuleWhy::Long => "Long",
         RuleWhy::Twice => "Twice",

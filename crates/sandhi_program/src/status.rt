@@ -3,7 +3,7 @@ ghost use Rattle.sandhi_program.specs.Headline.{exit_status};
 
 use annotation::NoteWhy;
 use derivation::Key;
-use form_file::FileFault;
+use lexicon_file::FileFault;
 use joiner::ChainFault;
 use more_schemes::ConvertFault;
 use paradigms::{StemFault, TableFault};

@@ -1,5 +1,5 @@
 /// The name of each command, its line of usage, and what a person may want to know of it.
-static COMMANDS: [(&str, &str); 11] = [
+static COMMANDS: [(&str, &str); 12] = [
     (
         "segment",
         "segment [--in SCHEME] LEX TEXT    (SCHEME is slp1, wx, velthuis or devanagari; without it slp1)",
@@ -24,6 +24,10 @@ static COMMANDS: [(&str, &str); 11] = [
     (
         "convert",
         "convert FROM TO FILE OUT    (a text from scheme to scheme: slp1, wx, velthuis, devanagari, iast or hk)",
+    ),
+    (
+        "migrate",
+        "migrate LEX OUT    (a lexicon file of any version, in the newest one)",
     ),
     (
         "join",

@@ -3,7 +3,7 @@ use Rattle.std.proofs.Common.{◌≡◌, string_bytes, ◌++◌, ◌∙◌, ap, 
 use Rattle.std.specs.Fmt.{decimal}
 use Rattle.text_definitions.specs.LineTexts.{place_of}
 use Rattle.latin_schemes.specs.Faults as spelled
-use Rattle.form_file.specs.Faults.{why_of}
+use Rattle.lexicon_file.specs.Faults.{why_of}
 use Rattle.annotation.specs.Readings as note
 use Rattle.rule_file.specs.Faults.{fault_of}
 use Rattle.run_definitions.specs.Refusals.{name_of_why, rules_refusal, name_of_note_why}

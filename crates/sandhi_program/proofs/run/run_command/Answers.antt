@@ -39,3 +39,6 @@ returns-in-Annotate-clause-ran g c = rw c.in-Annotate.is (Apart refl c.run_annot
 
 pub returns-in-Reread-clause-ran : goal.returns-in-Reread-clause-ran
 returns-in-Reread-clause-ran g c = rw c.in-Reread.is (Apart refl c.run_reread.ensures)
+
+pub returns-in-Migrate-clause-ran : goal.returns-in-Migrate-clause-ran
+returns-in-Migrate-clause-ran g c = rw c.in-Migrate.is (Apart refl c.run_migrate.ensures)

@@ -1,0 +1,13 @@
+-- The nodes that are counted are those of an ordered trie of the phases.
+use Rattle.std.proofs.Common.{refl}
+use Rattle.std.proofs.lemmas.List.{length-map}
+use Rattle.trie_text_definitions.specs.TrieForms.{phases_of}
+use Rattle.shared_trie.specs.CanonicalNodes.{trie_of_nodes}
+use Rattle.sandhi_program.proofs.MigrateRuns.{nodes_counted}
+use Rattle.sandhi_program.proofs.migrate.print_nodes.Goals as goal
+
+pub returns : goal.returns
+returns c = record {
+  ok = nodes_counted (phases_of c.args.store.now) (trie_of_nodes c.args.store.now c.in_ok-nodes.nodes.items) _ _
+      (c.in_ok-nodes.ensures.ordered (phases_of c.args.store.now) c.requires) (length-map _ _) refl;
+}
