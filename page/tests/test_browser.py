@@ -192,8 +192,11 @@ class Clicks(WithPage):
         self.assertGreater(clicks, TRIED)
 
     def test_the_line_with_most_answers(self):
-        number, _, text, chain = readings()[325]
-        self.assertGreaterEqual(len(reference.answers_of(PROGRAM, self.lexicon, text)), 150)
+        rows = readings()
+        counts = reference.counts_of(PROGRAM, self.lexicon, [text for _, _, text, _ in rows])
+        self.assertEqual(len(counts), len(rows))
+        self.assertGreater(max(counts), SHOWN)
+        number, _, text, chain = rows[counts.index(max(counts))]
         self.click_down(number, text, PART.findall(chain))
 
     def test_choices_are_taken_back_in_any_order(self):
@@ -285,7 +288,8 @@ class Texts(WithPage):
         seen = self.page.type(
             "“धर्मक्षेत्रे कुरु-क्षेत्रे समवेता युयुत्सवः ।\nमामकाः पाण्डवाश्चैव किमकुर्वत संजय ॥ १ ॥”"
         )
-        self.assertEqual(count_of(seen["count"]), 8)
+        half = reference.answers_of(PROGRAM, self.lexicon, "धर्मक्षेत्रे कुरुक्षेत्रे समवेता युयुत्सवः")
+        self.assertEqual(count_of(seen["count"]), len(half))
         self.assertIn("Not read as it was typed", seen["notice"])
         self.assertEqual(len(self.browser.all("#parts button")), 2)
         second = self.page.click("#parts button:nth-child(2)")
@@ -388,7 +392,9 @@ class Answers(WithPage):
         self.assertEqual(self.numbers(), list(range(SHOWN + 1, 2 * SHOWN + 1)))
         while not self.browser.run("return document.querySelector('#pager button:last-child').disabled"):
             self.page.click("#pager button:last-child")
-        self.assertEqual(self.numbers()[-1], 174)
+        count = len(reference.answers_of(PROGRAM, self.lexicon, self.LINE, "slp1"))
+        self.assertGreater(count, 2 * SHOWN)
+        self.assertEqual(self.numbers()[-1], count)
         self.assertTrue(self.browser.run("return document.querySelector('#pager button:last-child').disabled"))
         self.page.click("#pager button:first-child")
         self.assertEqual(self.numbers(), list(range(1, SHOWN + 1)))
@@ -425,11 +431,9 @@ class Answers(WithPage):
             self.assertEqual(self.browser.run(forms), form)
 
     def test_compounds_have_hyphens(self):
-        self.page.type(
-            "DarmakzetrekurukzetresamavetAyuyutsavaH".replace("ekuru", "e kuru")
-            .replace("esama", "e sama")
-            .replace("Ayuyu", "A yuyu")
-        )
+        seen = self.page.type("Darmakzetre kurukzetre samavetA yuyutsavaH")
+        first = next(box for box in seen["boxes"] if (box["form"], box["phase"]) == ("kuru", "iic"))
+        self.page.keep(first["number"])
         words = self.browser.run("return document.querySelector('#answers .words').textContent")
         self.assertTrue(words.startswith("Darma-kzetre kuru-kzetre "), words)
 

@@ -226,7 +226,7 @@ class Twin(unittest.TestCase):
         browser = Browser()
         self.addCleanup(browser.close)
         page = Page(browser, server.address).open()
-        text = "रामः वनम् गच्छति च अश्वः"
+        text = "रामः च इति आह"
         self.assertEqual(count_of(page.type(text)["count"]), 0)
         browser.click(browser.find("#twin"))
         browser.wait("return document.querySelectorAll('#answers li').length > 0", seconds=90)
