@@ -16,8 +16,8 @@ MOST_NOTE_BYTES = 33_554_432
 MOST_NOTES = 10_000
 MOST_SECONDS = 60  # that one `annotate` may take
 NOTE_NAME = re.compile(r"(\d{6})-(\d{2})-[0-9a-f]{8}\.json")
-REFUSALS = {10: "no answer", 11: "several", 12: "bookmark"}  # the exit statuses of `annotate`
-USAGE = 2
+# What the exit statuses of `annotate` say.
+REFUSALS = {2: "this program has no command annotate", 10: "no answer", 11: "several", 12: "bookmark"}
 
 
 class NotWritten(Exception):
@@ -46,14 +46,6 @@ def run_annotate(program, lexicon, mark, out):
         check=False,
     )
     return done.returncode
-
-
-def can_annotate(program):
-    """Whether the program has the command. One that has it not says `usage`; one that has it misses this file."""
-    try:
-        return run_annotate(program, "", "", "/dev/null") != USAGE
-    except (OSError, subprocess.TimeoutExpired):
-        return False
 
 
 class NoteFolder:

@@ -7,7 +7,7 @@ import unittest
 from pathlib import Path
 
 from browser import Browser
-from serving import PROGRAM, TOP, PageServer
+from serving import TOP, PageServer
 from test_browser import Page, count_of, starter_path
 
 VERSES = """आसीद्राजा नलो नाम वीरसेनसुतो बली । उपपन्नो गुणैरिष्टै रूपवानश्वकोविदः ॥ १ ॥
@@ -25,8 +25,6 @@ return [...document.querySelectorAll('#text-lines li')].map((line) => {
 
 
 class WithText(unittest.TestCase):
-    program = None
-
     def setUp(self):
         room = tempfile.TemporaryDirectory(prefix="page-texts-")
         self.addCleanup(room.cleanup)
@@ -38,7 +36,7 @@ class WithText(unittest.TestCase):
         self.start()
 
     def start(self):
-        self.server = PageServer(starter_path(), self.text, self.program or PROGRAM, self.folder)
+        self.server = PageServer(starter_path(), self.text, folder=self.folder)
         self.addCleanup(self.server.stop)
         self.page = Page(self.browser, self.server.address).open().setting(output="slp1").open()
         self.wait_for_states()
@@ -172,28 +170,6 @@ class Finishing(WithText):
         path.write_text(path.read_text(encoding="utf-8").replace('"rule":0', '"rule":1', 1), encoding="utf-8")
         self.start()
         self.assertNotIn("finished", [state for _, _, state in self.lines()])
-
-
-class WithoutTheCommand(WithText):
-    """A program without `annotate`, made of the real one by taking the command away."""
-
-    def setUp(self):
-        room = tempfile.TemporaryDirectory(prefix="page-program-")
-        self.addCleanup(room.cleanup)
-        program = Path(room.name) / "sandhi"
-        program.write_text(
-            f'#!/bin/sh\n[ "$1" != annotate ] || {{ echo usage; exit 2; }}\nexec "{PROGRAM}" "$@"\n', encoding="utf-8"
-        )
-        program.chmod(0o755)
-        self.program = str(program)
-        super().setUp()
-
-    def test_the_control_is_hidden(self):
-        self.open_line(2)
-        self.assertTrue(self.browser.run("return document.getElementById('finish').hidden"))
-        place = {"lexicon": 0, "bookmark": "1;na;;0;", "text": "verses.txt", "line": 1, "part": 1}
-        self.assertEqual(self.server.ask("finish", place)[0], 400)
-        self.assertFalse((self.folder / "verses.txt.notes").exists())
 
 
 class Meanings(unittest.TestCase):

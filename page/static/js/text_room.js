@@ -109,8 +109,7 @@ export function useActions(actions) {
 
 export function drawTextRoom() {
   const finished = room.entries.filter((entry) => entry.note?.isFinished).length;
-  const { canFinish } = state.server;
-  byId("text-note").textContent = room.name ? noteOfRoom(finished, canFinish) : "";
+  byId("text-note").textContent = room.name ? noteOfRoom(finished) : "";
   show(byId("export"), finished > 0);
   const cut = new Set(room.entries.filter((entry) => entry.part > 1).map((entry) => entry.line));
   fill(byId("text-lines"), room.entries.map((entry) => entryElement(entry, cut.has(entry.line))));
@@ -125,10 +124,10 @@ export function markLine() {
   drawFinish();
 }
 
-function noteOfRoom(finished, canFinish) {
+function noteOfRoom(finished) {
   const count = room.entries.length;
   const lines = count === 1 ? "1 line" : `${count} lines`;
-  return canFinish ? `${lines}, ${finished} finished` : lines;
+  return `${lines}, ${finished} finished`;
 }
 
 function entryElement(entry, isCut) {
@@ -142,13 +141,13 @@ function entryElement(entry, isCut) {
     make("span", { class: "text sanskrit" }, text), make("span", { class: "state" }, told)));
 }
 
-/** The control that finishes the line: it is there where the program can, and on where one answer is left. */
+/** The control that finishes the line, which is on where one answer is left. */
 function drawFinish() {
   const button = byId("finish");
   const entry = hereEntry();
   const { reading } = state;
-  show(button, Boolean(entry && reading && state.server.canFinish));
-  show(byId("reopen"), Boolean(entry?.note && reading && state.server.canFinish));
+  show(button, Boolean(entry && reading));
+  show(byId("reopen"), Boolean(entry?.note && reading));
   if (!entry || !reading) return;
   const isFinished = Boolean(entry.note?.isFinished && entry.note.bookmark === reading.bookmark);
   if (entry.note?.isFinished && !isFinished) button.textContent = "Finish this line again";
