@@ -137,6 +137,7 @@ class Questions:
         return {
             "pieces": stretch.pieces,
             "isRead": stretch.is_read,
+            "isCrossed": stretch.is_crossed,
             "questions": stretch.questions,
             "isWhole": stretch.is_whole,
         }

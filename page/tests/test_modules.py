@@ -245,6 +245,12 @@ class Questions(WithFolder):
         lexicon = self.lexicon(SMALL)
         stretch = lexicon.answer(lambda exchange: find_stretch(exchange, Bookmark("na_kk_na")))
         self.assertEqual((stretch.is_read, stretch.is_whole), ([True, False, True], True))
+        self.assertEqual(stretch.is_crossed, [False, False])
+
+    def test_blanks_across_which_nothing_is_read(self):
+        lexicon = self.lexicon(SMALL.replace("rule a|a>A\n", "plain i n\nrule a|a>A\n"))
+        stretch = lexicon.answer(lambda exchange: find_stretch(exchange, Bookmark("asti_na_na")))
+        self.assertEqual((stretch.is_read, stretch.is_crossed), ([True, True, True], [True, False]))
 
     def test_states(self):
         lexicon = self.lexicon(SMALL)
