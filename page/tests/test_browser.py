@@ -327,6 +327,14 @@ class Texts(WithPage):
             ["blubBaM"],
         )
 
+    def test_a_blank_across_which_nothing_is_read_is_told(self):
+        """Between words m is written as an anusvara before n, so the two words have no answer as they stand here."""
+        self.page.type("rAmo vanam nayati ca")
+        self.browser.wait("return document.querySelector('.stretch-line')")
+        self.assertEqual(self.browser.all(".unread"), [])
+        self.assertEqual(len(self.browser.all(".unread-blank")), 1)
+        self.assertIn("vanam nayati.", self.page.seen()["stretch"])
+
     def test_a_word_made_unknown_is_found(self):
         """In 40 readings the stretch has the unknown word and at most its two neighbours."""
         tried = 0
@@ -463,10 +471,16 @@ class Keys(WithPage):
             "return document.querySelectorAll('#choices li').length === 1 || document.querySelector('dialog[open]')"
         )
 
-    def test_a_slash_goes_to_the_line(self):
+    def test_a_slash_goes_to_the_line_and_g_to_the_grid(self):
         self.page.open()
         self.browser.press("/")
         self.assertEqual(self.browser.run("return document.activeElement.id"), "line-text")
+        self.browser.press(*"nagaram", "enter")
+        self.assertEqual(self.browser.run("return document.getElementById('line-text').value"), "nagaram")
+        self.browser.wait("return document.querySelectorAll('#grid .box').length > 0")
+        self.browser.run("document.activeElement.blur()")
+        self.browser.press("g")
+        self.assertIsNotNone(self.here())
 
     def test_each_control_has_a_role_and_a_name(self):
         self.page.open().type("sa tu tIraM samAsAdya tamasAyA munistadA")
@@ -487,6 +501,13 @@ class Keys(WithPage):
                 role, ("button", "radio", "checkbox", "combobox", "textbox", "link", "DisclosureTriangle"), label
             )
             self.assertTrue(label.strip(), role)
+
+
+SCROLLING = """
+return [...document.querySelectorAll('body *')]
+  .filter((part) => part.scrollWidth > part.clientWidth + 1 && getComputedStyle(part).overflowX === 'auto')
+  .map((part) => part.id || part.className);
+"""
 
 
 class Widths(WithPage):
@@ -510,6 +531,9 @@ class Widths(WithPage):
                     self.assertLessEqual(width, 360, (theme, text[:20]))
                     if text.startswith("sa tu"):
                         self.assertGreater(grid, frame)
+                        self.page.click("#answers .all-analyses")
+                        self.browser.wait("return document.querySelector('#answers .analyses')")
+                    self.assertLessEqual(set(self.browser.run(SCROLLING)), {"grid-frame"}, (theme, text[:20]))
         finally:
             self.browser.call(
                 "POST", "/goog/cdp/execute", {"cmd": "Emulation.clearDeviceMetricsOverride", "params": {}}

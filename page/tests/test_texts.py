@@ -133,6 +133,44 @@ class Finishing(WithText):
         self.assertIn("guREH: guRa m.pl.ins", rows[1][2])
         self.assertEqual(len(rows), 2)
 
+    def test_a_finished_line_is_finished_again_with_other_choices(self):
+        self.open_line(2)
+        self.finish()
+        (first,) = (self.folder / "verses.txt.notes").iterdir()
+        before = first.read_text(encoding="utf-8")
+        self.page.keep(0)
+        self.assertEqual(
+            self.browser.run("return document.getElementById('finish').textContent"), "Finish this line again"
+        )
+        self.finish()
+        (second,) = (self.folder / "verses.txt.notes").iterdir()
+        note = json.loads(second.read_text(encoding="utf-8"))
+        self.assertEqual((second.name, len(note["choices"])), (first.name, 1))
+        self.assertNotEqual(second.read_text(encoding="utf-8"), before)
+
+    def test_lines_by_keys_alone(self):
+        def number():
+            return self.browser.run("return document.querySelector('.text-line[aria-current] .number')?.textContent")
+
+        def go(key, to):
+            self.browser.press(key)
+            self.browser.wait("return document.querySelector('[aria-current] .number')?.textContent === arguments[0]", to)
+            self.page.seen()
+
+        go("n", "1.1")
+        self.assertIsNotNone(self.browser.run("return document.activeElement.closest('.box')"))
+        go("n", "1.2")
+        go("p", "1.1")
+        go("n", "1.2")
+        self.browser.press("f")
+        self.browser.wait("return document.getElementById('finish').textContent === 'Next line'")
+        self.assertEqual(self.lines()[1][2], "finished")
+        go("f", "3")
+        self.browser.press("f")
+        self.assertEqual((number(), self.lines()[2][2]), ("3", "several answers"))
+        go("n", "4")
+        go("n", "5")
+
     def test_a_finished_line_can_be_taken_back(self):
         self.open_line(2)
         self.assertTrue(self.browser.run("return document.getElementById('reopen').hidden"))
