@@ -9,8 +9,10 @@ from pathlib import Path
 from typing import NamedTuple
 
 from bookmarks import Bookmark, read_bookmark
+from reader import ADDRESS_SPACE
 from readings import keys_of_only_answer
 from replies import Refusal
+from session import limit_memory
 
 MOST_NOTE_BYTES = 33_554_432
 MOST_NOTES = 10_000
@@ -37,15 +39,13 @@ class Note(NamedTuple):
 def run_annotate(program, lexicon, mark, out):
     """The exit status of `sandhi annotate LEX MARK OUT`."""
     words = [program, "annotate", "--", str(lexicon), str(mark), str(out)]
-    done = subprocess.run(
-        words,
-        stdin=subprocess.DEVNULL,
-        stdout=subprocess.DEVNULL,
-        stderr=subprocess.DEVNULL,
-        timeout=MOST_SECONDS,
-        check=False,
-    )
-    return done.returncode
+    silent = subprocess.DEVNULL
+    with subprocess.Popen(words, stdin=silent, stdout=silent, stderr=silent) as started:
+        limit_memory(started.pid, ADDRESS_SPACE)
+        try:
+            return started.wait(timeout=MOST_SECONDS)
+        finally:
+            started.kill()
 
 
 class NoteFolder:

@@ -31,6 +31,37 @@ return {
 };
 """
 COUNT = re.compile(r"([\d,]+) answers")
+CONTROLS = "button, input, select, textarea, summary, a[href]"
+ROLES = ("button", "radio", "checkbox", "combobox", "textbox", "link", "DisclosureTriangle")
+# Texts that stand out too little from what is behind them: by a ratio under 4.5, or under 3 where they are large.
+FAINT = """
+const canvas = new OffscreenCanvas(1, 1).getContext('2d', { willReadFrequently: true });
+const inNumbers = (colour) => {
+  canvas.clearRect(0, 0, 1, 1);
+  canvas.fillStyle = colour;
+  canvas.fillRect(0, 0, 1, 1);
+  return [...canvas.getImageData(0, 0, 1, 1).data];
+};
+const luminance = (colour) => {
+  const [r, g, b] = inNumbers(colour).map((part) => part / 255).map((part) => {
+    return part <= 0.03928 ? part / 12.92 : ((part + 0.055) / 1.055) ** 2.4;
+  });
+  return 0.2126 * r + 0.7152 * g + 0.0722 * b;
+};
+const behind = (element) => {
+  const colour = getComputedStyle(element).backgroundColor;
+  return inNumbers(colour)[3] === 255 || !element.parentElement ? colour : behind(element.parentElement);
+};
+const isShown = (element) => element.checkVisibility() && !element.closest(':disabled, .unseen, .skip, option');
+return [...document.querySelectorAll('body *')].flatMap((element) => {
+  const text = [...element.childNodes].filter((node) => node.nodeType === 3).map((node) => node.data.trim()).join('');
+  if (!text || !isShown(element)) return [];
+  const { color, fontSize } = getComputedStyle(element);
+  const [one, other] = [luminance(color), luminance(behind(element))].sort((a, b) => b - a);
+  const ratio = (one + 0.05) / (other + 0.05);
+  return ratio < (parseFloat(fontSize) >= 24 ? 3 : 4.5) ? [[element.className, text.slice(0, 20), ratio]] : [];
+});
+"""
 
 
 def starter_path():
@@ -92,6 +123,16 @@ class Page:
 
     def reject(self, number):
         return self.click(f"{self.box(number)} .reject")
+
+
+def check_controls(test):
+    """Holds each control that is shown to have a role and a name; gives how many there are."""
+    shown = [element for element in test.browser.all(CONTROLS) if test.browser.is_shown(element)]
+    for element in shown:
+        role, label = test.browser.role(element), test.browser.label(element)
+        test.assertIn(role, ROLES, label)
+        test.assertTrue(label.strip(), role)
+    return len(shown)
 
 
 class WithPage(unittest.TestCase):
@@ -486,21 +527,19 @@ class Keys(WithPage):
         self.page.open().type("sa tu tIraM samAsAdya tamasAyA munistadA")
         self.page.reject(3)
         self.page.click("#answers .all-analyses")
-        found = self.browser.all("button, input, select, textarea, summary, a[href]")
-        shown = [
-            element
-            for element in found
-            if self.browser.run(
-                "return arguments[0].checkVisibility()", {"element-6066-11e4-a52e-4f735466cecf": element}
-            )
-        ]
-        self.assertGreater(len(shown), 60)
-        for element in shown:
-            role, label = self.browser.role(element), self.browser.label(element)
-            self.assertIn(
-                role, ("button", "radio", "checkbox", "combobox", "textbox", "link", "DisclosureTriangle"), label
-            )
-            self.assertTrue(label.strip(), role)
+        self.assertGreater(check_controls(self), 60)
+
+
+class Colours(WithPage):
+    def test_texts_stand_out_in_light_and_in_dark(self):
+        for theme in ("light", "dark"):
+            self.page.setting(output="iast", theme=theme).open()
+            for text in ("saH tu tIraM samAsAdya tamasAyA munistadA", "rAmo vanaM blubBaM gacCati", "rAmo € vanam"):
+                seen = self.page.type(text)
+                for number in [box["number"] for box in seen["boxes"]][:2]:
+                    self.page.keep(number)
+                self.assertEqual(self.browser.run(FAINT), [], (theme, text))
+        self.page.setting(output="slp1", scheme="slp1").open()
 
 
 SCROLLING = """

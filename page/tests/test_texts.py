@@ -8,7 +8,7 @@ from pathlib import Path
 
 from browser import Browser
 from serving import TOP, PageServer
-from test_browser import Page, count_of, starter_path
+from test_browser import FAINT, Page, check_controls, count_of, starter_path
 
 VERSES = """आसीद्राजा नलो नाम वीरसेनसुतो बली । उपपन्नो गुणैरिष्टै रूपवानश्वकोविदः ॥ १ ॥
 
@@ -147,6 +147,17 @@ class Finishing(WithText):
         note = json.loads(second.read_text(encoding="utf-8"))
         self.assertEqual((second.name, len(note["choices"])), (first.name, 1))
         self.assertNotEqual(second.read_text(encoding="utf-8"), before)
+
+    def test_the_list_and_its_controls(self):
+        for theme in ("light", "dark"):
+            self.page.setting(output="slp1", theme=theme).open()
+            self.wait_for_states()
+            self.open_line(2)
+            if theme == "light":
+                self.finish()
+            self.assertTrue(self.browser.run("return document.getElementById('export').checkVisibility()"))
+            self.assertGreater(check_controls(self), 20)
+            self.assertEqual(self.browser.run(FAINT), [], theme)
 
     def test_lines_by_keys_alone(self):
         def number():
