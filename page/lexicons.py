@@ -64,6 +64,10 @@ class Lexicon:
     def answer(self, request):
         return self.reader.answer(request)
 
+    def warm(self):
+        """Starts the program, so that the first request finds the file read. This waits for nothing."""
+        threading.Thread(target=self.reader.warm, daemon=True).start()
+
     def close(self):
         if self._reader:
             self._reader.close()

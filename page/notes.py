@@ -9,15 +9,17 @@ from pathlib import Path
 from typing import NamedTuple
 
 from bookmarks import Bookmark, read_bookmark
+from reader import ADDRESS_SPACE
 from readings import keys_of_only_answer
 from replies import Refusal
+from session import limit_memory
 
 MOST_NOTE_BYTES = 33_554_432
 MOST_NOTES = 10_000
 MOST_SECONDS = 60  # that one `annotate` may take
 NOTE_NAME = re.compile(r"(\d{6})-(\d{2})-[0-9a-f]{8}\.json")
-REFUSALS = {10: "no answer", 11: "several", 12: "bookmark"}  # the exit statuses of `annotate`
-USAGE = 2
+# What the exit statuses of `annotate` say.
+REFUSALS = {2: "this program has no command annotate", 10: "no answer", 11: "several", 12: "bookmark"}
 
 
 class NotWritten(Exception):
@@ -37,23 +39,13 @@ class Note(NamedTuple):
 def run_annotate(program, lexicon, mark, out):
     """The exit status of `sandhi annotate LEX MARK OUT`."""
     words = [program, "annotate", "--", str(lexicon), str(mark), str(out)]
-    done = subprocess.run(
-        words,
-        stdin=subprocess.DEVNULL,
-        stdout=subprocess.DEVNULL,
-        stderr=subprocess.DEVNULL,
-        timeout=MOST_SECONDS,
-        check=False,
-    )
-    return done.returncode
-
-
-def can_annotate(program):
-    """Whether the program has the command. One that has it not says `usage`; one that has it misses this file."""
-    try:
-        return run_annotate(program, "", "", "/dev/null") != USAGE
-    except (OSError, subprocess.TimeoutExpired):
-        return False
+    silent = subprocess.DEVNULL
+    with subprocess.Popen(words, stdin=silent, stdout=silent, stderr=silent) as started:
+        limit_memory(started.pid, ADDRESS_SPACE)
+        try:
+            return started.wait(timeout=MOST_SECONDS)
+        finally:
+            started.kill()
 
 
 class NoteFolder:

@@ -30,10 +30,10 @@ REFUSALS = (Refusal, NoText, NotWritten, CannotBuild, BadLexicon)
 class Questions:
     """Answers questions over the lexicons, the texts and the notes of one server."""
 
-    def __init__(self, program, lexicons, texts, *, can_finish, status_of_program):
+    def __init__(self, program, lexicons, texts, status_of_program):
         self._program, self._texts = program, texts
         self._lexicons = list(lexicons)
-        self._can_finish, self._status_of_program = can_finish, status_of_program
+        self._status_of_program = status_of_program
         self._meanings = {}
         self._by_name = {
             name: getattr(self, f"_{name}")
@@ -59,6 +59,10 @@ class Questions:
             raise Refused(504, "the program took too long and was stopped") from fault
         except Ended as fault:
             raise Refused(502, "the program ended before it answered") from fault
+
+    def warm(self):
+        """Starts the program over the first lexicon, so that the first line finds it read."""
+        self._lexicons[0].warm()
 
     def close(self):
         for lexicon in self._lexicons:
@@ -88,7 +92,6 @@ class Questions:
             "name": own.name,
             "phases": own.phases,
             "hasTwin": len(self._lexicons) > 1,
-            "canFinish": self._can_finish,
             "program": self._status_of_program,
             "texts": self._texts.names(),
             "given": self._texts.given,
@@ -134,6 +137,7 @@ class Questions:
         return {
             "pieces": stretch.pieces,
             "isRead": stretch.is_read,
+            "isCrossed": stretch.is_crossed,
             "questions": stretch.questions,
             "isWhole": stretch.is_whole,
         }
@@ -169,8 +173,6 @@ class Questions:
         lexicon, bookmark, name = self._lexicon(fields), self._bookmark(fields), fields.text("text")
         line, part = read_place(fields)
         fields.done()
-        if not self._can_finish:
-            raise Refused(400, "the program has no command annotate")
         folder = NoteFolder(self._texts.path(name))
         folder.finish(self._program, lexicon.path, line, part, bookmark)
         written = [note for note in folder.notes() if (note.line, note.part) == (line, part)]

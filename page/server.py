@@ -16,7 +16,6 @@ import webbrowser
 from pathlib import Path
 
 from lexicons import CannotBuild, own_lexicon, starter_lexicons
-from notes import can_annotate
 from questions import Questions
 from texts import Texts
 from web import Server
@@ -75,6 +74,9 @@ def status_of_program(program):
 
 def make_questions(words):
     """What answers the page. The program is built and the lexicon is made here, before anything is served."""
+    texts = Texts(Path.cwd(), words.text)
+    if words.text:
+        texts.lines(texts.given)
     program = str(Path(words.program).resolve())
     status = status_of_program(program)
     if words.lexicon == "-":
@@ -82,13 +84,7 @@ def make_questions(words):
     else:
         lexicons = [own_lexicon(program, words.lexicon)]
     lexicons[0].open()
-    texts = Texts(Path.cwd(), words.text)
-    if words.text:
-        texts.lines(texts.given)
-    return (
-        Questions(program, lexicons, texts, can_finish=can_annotate(program), status_of_program=status),
-        lexicons[0],
-    )
+    return Questions(program, lexicons, texts, status)
 
 
 def make_server(port, questions):
@@ -121,12 +117,12 @@ def main():
     words = read_words(sys.argv[1:])
     questions = None
     try:
-        questions, first = make_questions(words)
+        questions = make_questions(words)
+        questions.warm()
         server = make_server(words.port, questions)
         signal.signal(signal.SIGTERM, stop)
         address = f"http://127.0.0.1:{server.server_port}/"
         tell(f"The page is at {address}  (ctrl-C ends it)")
-        threading.Thread(target=first.reader.warm, daemon=True).start()
         if not words.no_browser:
             open_browser(address)
         server.serve_forever()

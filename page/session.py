@@ -49,6 +49,12 @@ def as_line(command):
     return line
 
 
+def limit_memory(process, bytes_):
+    """Bounds the address space of a process that was started."""
+    with contextlib.suppress(ProcessLookupError):
+        resource.prlimit(process, resource.RLIMIT_AS, (bytes_, bytes_))
+
+
 class Session:
     """A running program. It answers one command after another, in the order in which they are asked."""
 
@@ -61,8 +67,7 @@ class Session:
             stderr=subprocess.DEVNULL,
             start_new_session=True,  # ctrl-C is for the server, which ends the program with all that it started
         )
-        with contextlib.suppress(ProcessLookupError):
-            resource.prlimit(self._process.pid, resource.RLIMIT_AS, (address_space, address_space))
+        limit_memory(self._process.pid, address_space)
         self._room = most_input
         self._is_late = False
 

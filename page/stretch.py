@@ -32,10 +32,11 @@ BEFORE_SANDHI = {
 
 
 class Stretch(NamedTuple):
-    """The pieces of a line between its blanks, and which of them stand in a run that can be read."""
+    """The pieces of a line between its blanks, which of them stand in a run that can be read, and which blanks do."""
 
     pieces: list
     is_read: list
+    is_crossed: list  # for each blank whether a run that can be read has the pieces on both its sides
     questions: int
     is_whole: bool  # whether all runs were asked for that could tell more
 
@@ -85,8 +86,10 @@ class Finder:
         return bool(read_page(self._exchange.ask("page 1")).answers)
 
     def _told(self, is_whole):
-        is_read = [any(begin <= place < end for begin, end in self._read) for place in range(len(self._pieces))]
-        return Stretch(self._pieces, is_read, self._questions, is_whole)
+        places = range(len(self._pieces))
+        is_read = [any(begin <= place < end for begin, end in self._read) for place in places]
+        is_crossed = [any(begin < place < end for begin, end in self._read) for place in places[1:]]
+        return Stretch(self._pieces, is_read, is_crossed, self._questions, is_whole)
 
 
 def find_stretch(exchange, bookmark):

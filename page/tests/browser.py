@@ -183,6 +183,9 @@ class Browser:
     def role(self, element):
         return self.call("GET", f"/element/{element}/computedrole")
 
+    def is_shown(self, element):
+        return self.run("return arguments[0].checkVisibility()", {ELEMENT: element})
+
     def label(self, element):
         return self.call("GET", f"/element/{element}/computedlabel")
 

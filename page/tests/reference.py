@@ -2,6 +2,8 @@
 
 import re
 import subprocess
+import tempfile
+from pathlib import Path
 from typing import NamedTuple
 
 PART = re.compile(r"([^ \[\]()]+)\[([a-z0-9_]+)\]|\(([^|]+)\|([^>]*)>([^)]+)\)|(\+)")
@@ -28,6 +30,22 @@ def answers_of(program, lexicon, text, scheme="devanagari"):
     if lines[-1] != "end":
         raise ValueError("the text has too many answers")
     return [placed(line.split(": ", 1)[1]) for line in lines[:-1]]
+
+
+def counts_of(program, lexicon, texts):
+    """How many answers each text in Devanagari has, at most 1,000."""
+    with tempfile.TemporaryDirectory(prefix="page-texts-") as folder:
+        path = Path(folder) / "texts"
+        path.write_text("".join(f"{text}\n" for text in texts), encoding="utf-8")
+        words = [program, "batch", lexicon, "devanagari", str(path), "1000"]
+        lines = subprocess.run(words, capture_output=True, text=True, check=True).stdout.splitlines()
+    counts = []
+    for line in lines:
+        if line.startswith("line "):
+            counts.append(0)
+        elif line[:1].isdigit():
+            counts[-1] += 1
+    return counts
 
 
 def placed(printed):

@@ -14,6 +14,9 @@ PROGRAM = os.environ.get("SANDHI_PROGRAM", str(TOP / "sandhi"))
 LEXICON = os.environ.get("SANDHI_LEXICON", "-")
 READINGS = TOP / "lexicons" / "starter" / "readings" / "readings.tsv"
 
+# A shell has what it runs in the background ignore ctrl-C, and the servers would inherit that and never be stopped by it.
+signal.signal(signal.SIGINT, signal.default_int_handler)
+
 
 def readings():
     """The readings of the starter lexicon: number, source, line in Devanagari, reading."""

@@ -31,6 +31,37 @@ return {
 };
 """
 COUNT = re.compile(r"([\d,]+) answers")
+CONTROLS = "button, input, select, textarea, summary, a[href]"
+ROLES = ("button", "radio", "checkbox", "combobox", "textbox", "link", "DisclosureTriangle")
+# Texts that stand out too little from what is behind them: by a ratio under 4.5, or under 3 where they are large.
+FAINT = """
+const canvas = new OffscreenCanvas(1, 1).getContext('2d', { willReadFrequently: true });
+const inNumbers = (colour) => {
+  canvas.clearRect(0, 0, 1, 1);
+  canvas.fillStyle = colour;
+  canvas.fillRect(0, 0, 1, 1);
+  return [...canvas.getImageData(0, 0, 1, 1).data];
+};
+const luminance = (colour) => {
+  const [r, g, b] = inNumbers(colour).map((part) => part / 255).map((part) => {
+    return part <= 0.03928 ? part / 12.92 : ((part + 0.055) / 1.055) ** 2.4;
+  });
+  return 0.2126 * r + 0.7152 * g + 0.0722 * b;
+};
+const behind = (element) => {
+  const colour = getComputedStyle(element).backgroundColor;
+  return inNumbers(colour)[3] === 255 || !element.parentElement ? colour : behind(element.parentElement);
+};
+const isShown = (element) => element.checkVisibility() && !element.closest(':disabled, .unseen, .skip, option');
+return [...document.querySelectorAll('body *')].flatMap((element) => {
+  const text = [...element.childNodes].filter((node) => node.nodeType === 3).map((node) => node.data.trim()).join('');
+  if (!text || !isShown(element)) return [];
+  const { color, fontSize } = getComputedStyle(element);
+  const [one, other] = [luminance(color), luminance(behind(element))].sort((a, b) => b - a);
+  const ratio = (one + 0.05) / (other + 0.05);
+  return ratio < (parseFloat(fontSize) >= 24 ? 3 : 4.5) ? [[element.className, text.slice(0, 20), ratio]] : [];
+});
+"""
 
 
 def starter_path():
@@ -92,6 +123,16 @@ class Page:
 
     def reject(self, number):
         return self.click(f"{self.box(number)} .reject")
+
+
+def check_controls(test):
+    """Holds each control that is shown to have a role and a name; gives how many there are."""
+    shown = [element for element in test.browser.all(CONTROLS) if test.browser.is_shown(element)]
+    for element in shown:
+        role, label = test.browser.role(element), test.browser.label(element)
+        test.assertIn(role, ROLES, label)
+        test.assertTrue(label.strip(), role)
+    return len(shown)
 
 
 class WithPage(unittest.TestCase):
@@ -192,8 +233,11 @@ class Clicks(WithPage):
         self.assertGreater(clicks, TRIED)
 
     def test_the_line_with_most_answers(self):
-        number, _, text, chain = readings()[325]
-        self.assertGreaterEqual(len(reference.answers_of(PROGRAM, self.lexicon, text)), 150)
+        rows = readings()
+        counts = reference.counts_of(PROGRAM, self.lexicon, [text for _, _, text, _ in rows])
+        self.assertEqual(len(counts), len(rows))
+        self.assertGreater(max(counts), SHOWN)
+        number, _, text, chain = rows[counts.index(max(counts))]
         self.click_down(number, text, PART.findall(chain))
 
     def test_choices_are_taken_back_in_any_order(self):
@@ -285,7 +329,8 @@ class Texts(WithPage):
         seen = self.page.type(
             "“धर्मक्षेत्रे कुरु-क्षेत्रे समवेता युयुत्सवः ।\nमामकाः पाण्डवाश्चैव किमकुर्वत संजय ॥ १ ॥”"
         )
-        self.assertEqual(count_of(seen["count"]), 8)
+        half = reference.answers_of(PROGRAM, self.lexicon, "धर्मक्षेत्रे कुरुक्षेत्रे समवेता युयुत्सवः")
+        self.assertEqual(count_of(seen["count"]), len(half))
         self.assertIn("Not read as it was typed", seen["notice"])
         self.assertEqual(len(self.browser.all("#parts button")), 2)
         second = self.page.click("#parts button:nth-child(2)")
@@ -322,6 +367,14 @@ class Texts(WithPage):
             self.browser.run("return [...document.querySelectorAll('.unread')].map((piece) => piece.textContent)"),
             ["blubBaM"],
         )
+
+    def test_a_blank_across_which_nothing_is_read_is_told(self):
+        """Between words m is written as an anusvara before n, so the two words have no answer as they stand here."""
+        self.page.type("rAmo vanam nayati ca")
+        self.browser.wait("return document.querySelector('.stretch-line')")
+        self.assertEqual(self.browser.all(".unread"), [])
+        self.assertEqual(len(self.browser.all(".unread-blank")), 1)
+        self.assertIn("vanam nayati.", self.page.seen()["stretch"])
 
     def test_a_word_made_unknown_is_found(self):
         """In 40 readings the stretch has the unknown word and at most its two neighbours."""
@@ -388,7 +441,9 @@ class Answers(WithPage):
         self.assertEqual(self.numbers(), list(range(SHOWN + 1, 2 * SHOWN + 1)))
         while not self.browser.run("return document.querySelector('#pager button:last-child').disabled"):
             self.page.click("#pager button:last-child")
-        self.assertEqual(self.numbers()[-1], 174)
+        count = len(reference.answers_of(PROGRAM, self.lexicon, self.LINE, "slp1"))
+        self.assertGreater(count, 2 * SHOWN)
+        self.assertEqual(self.numbers()[-1], count)
         self.assertTrue(self.browser.run("return document.querySelector('#pager button:last-child').disabled"))
         self.page.click("#pager button:first-child")
         self.assertEqual(self.numbers(), list(range(1, SHOWN + 1)))
@@ -425,11 +480,9 @@ class Answers(WithPage):
             self.assertEqual(self.browser.run(forms), form)
 
     def test_compounds_have_hyphens(self):
-        self.page.type(
-            "DarmakzetrekurukzetresamavetAyuyutsavaH".replace("ekuru", "e kuru")
-            .replace("esama", "e sama")
-            .replace("Ayuyu", "A yuyu")
-        )
+        seen = self.page.type("Darmakzetre kurukzetre samavetA yuyutsavaH")
+        first = next(box for box in seen["boxes"] if (box["form"], box["phase"]) == ("kuru", "iic"))
+        self.page.keep(first["number"])
         words = self.browser.run("return document.querySelector('#answers .words').textContent")
         self.assertTrue(words.startswith("Darma-kzetre kuru-kzetre "), words)
 
@@ -459,30 +512,41 @@ class Keys(WithPage):
             "return document.querySelectorAll('#choices li').length === 1 || document.querySelector('dialog[open]')"
         )
 
-    def test_a_slash_goes_to_the_line(self):
+    def test_a_slash_goes_to_the_line_and_g_to_the_grid(self):
         self.page.open()
         self.browser.press("/")
         self.assertEqual(self.browser.run("return document.activeElement.id"), "line-text")
+        self.browser.press(*"nagaram", "enter")
+        self.assertEqual(self.browser.run("return document.getElementById('line-text').value"), "nagaram")
+        self.browser.wait("return document.querySelectorAll('#grid .box').length > 0")
+        self.browser.run("document.activeElement.blur()")
+        self.browser.press("g")
+        self.assertIsNotNone(self.here())
 
     def test_each_control_has_a_role_and_a_name(self):
         self.page.open().type("sa tu tIraM samAsAdya tamasAyA munistadA")
         self.page.reject(3)
         self.page.click("#answers .all-analyses")
-        found = self.browser.all("button, input, select, textarea, summary, a[href]")
-        shown = [
-            element
-            for element in found
-            if self.browser.run(
-                "return arguments[0].checkVisibility()", {"element-6066-11e4-a52e-4f735466cecf": element}
-            )
-        ]
-        self.assertGreater(len(shown), 60)
-        for element in shown:
-            role, label = self.browser.role(element), self.browser.label(element)
-            self.assertIn(
-                role, ("button", "radio", "checkbox", "combobox", "textbox", "link", "DisclosureTriangle"), label
-            )
-            self.assertTrue(label.strip(), role)
+        self.assertGreater(check_controls(self), 60)
+
+
+class Colours(WithPage):
+    def test_texts_stand_out_in_light_and_in_dark(self):
+        for theme in ("light", "dark"):
+            self.page.setting(output="iast", theme=theme).open()
+            for text in ("saH tu tIraM samAsAdya tamasAyA munistadA", "rAmo vanaM blubBaM gacCati", "rAmo € vanam"):
+                seen = self.page.type(text)
+                for number in [box["number"] for box in seen["boxes"]][:2]:
+                    self.page.keep(number)
+                self.assertEqual(self.browser.run(FAINT), [], (theme, text))
+        self.page.setting(output="slp1", scheme="slp1").open()
+
+
+SCROLLING = """
+return [...document.querySelectorAll('body *')]
+  .filter((part) => part.scrollWidth > part.clientWidth + 1 && getComputedStyle(part).overflowX === 'auto')
+  .map((part) => part.id || part.className);
+"""
 
 
 class Widths(WithPage):
@@ -506,6 +570,9 @@ class Widths(WithPage):
                     self.assertLessEqual(width, 360, (theme, text[:20]))
                     if text.startswith("sa tu"):
                         self.assertGreater(grid, frame)
+                        self.page.click("#answers .all-analyses")
+                        self.browser.wait("return document.querySelector('#answers .analyses')")
+                    self.assertLessEqual(set(self.browser.run(SCROLLING)), {"grid-frame"}, (theme, text[:20]))
         finally:
             self.browser.call(
                 "POST", "/goog/cdp/execute", {"cmd": "Emulation.clearDeviceMetricsOverride", "params": {}}

@@ -10,7 +10,7 @@ from pathlib import Path
 from bookmarks import MOST_CHOICES, Bookmark, Segment, read_bookmark
 from boxes import make_boxes
 from lexicons import Builder, Meanings, own_lexicon, read_phases, unsplit_rules
-from notes import NoteFolder, NotWritten, can_annotate, is_finished, run_annotate
+from notes import NoteFolder, NotWritten, is_finished, run_annotate
 from reader import Reader, TooManyCommands
 from readings import mark_of_text, read_from, shown_answers, state_of
 from replies import Refusal, Rule, read_page
@@ -245,6 +245,12 @@ class Questions(WithFolder):
         lexicon = self.lexicon(SMALL)
         stretch = lexicon.answer(lambda exchange: find_stretch(exchange, Bookmark("na_kk_na")))
         self.assertEqual((stretch.is_read, stretch.is_whole), ([True, False, True], True))
+        self.assertEqual(stretch.is_crossed, [False, False])
+
+    def test_blanks_across_which_nothing_is_read(self):
+        lexicon = self.lexicon(SMALL.replace("rule a|a>A\n", "plain i n\nrule a|a>A\n"))
+        stretch = lexicon.answer(lambda exchange: find_stretch(exchange, Bookmark("asti_na_na")))
+        self.assertEqual((stretch.is_read, stretch.is_crossed), ([True, True, True], [True, False]))
 
     def test_states(self):
         lexicon = self.lexicon(SMALL)
@@ -338,9 +344,11 @@ class Notes(WithFolder):
     def finish(self, bookmark, line=1, part=1):
         return self.notes.finish(PROGRAM, self.small.path, line, part, read_bookmark(bookmark))
 
-    def test_the_program_tells_whether_it_has_the_command(self):
-        self.assertTrue(can_annotate(PROGRAM))
-        self.assertFalse(can_annotate(str(self.file("none", "#!/bin/sh\necho usage\nexit 2\n", 0o755))))
+    def test_a_program_without_the_command_is_told(self):
+        program = str(self.file("none", "#!/bin/sh\necho usage\nexit 2\n", 0o755))
+        with self.assertRaisesRegex(NotWritten, "no command annotate"):
+            self.notes.finish(program, self.small.path, 1, 1, read_bookmark("1;na;;0;"))
+        self.assertEqual(self.notes.notes(), [])
 
     def test_a_line_with_one_answer_is_finished_and_found_again(self):
         name = self.finish("1;nAsti;+2.1.0.Asti;0;")

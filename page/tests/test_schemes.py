@@ -4,6 +4,7 @@ import random
 import re
 import subprocess
 import tempfile
+import tomllib
 import unittest
 from pathlib import Path
 
@@ -44,6 +45,14 @@ const done = arguments[arguments.length - 1];
 const [scheme, text] = arguments;
 import('/js/cleaning.js').then(({ clean }) => done(clean(scheme, text)));
 """
+PHASES = """
+const done = arguments[arguments.length - 1];
+const [phases] = arguments;
+import('/js/phases.js').then(({ hueOf, isJoined, phaseInWords }) => done({
+  words: phases.map(phaseInWords), hues: phases.map((phase) => hueOf(phase, [])),
+  joined: phases.map((phase) => phases.filter((next) => isJoined(phase, next))),
+}));
+"""
 HEADS = """
 const done = arguments[arguments.length - 1];
 const [scheme, letters, blanks] = arguments;
@@ -55,15 +64,6 @@ def drawn_words():
     """Words drawn by lot from all letters, so that each letter comes after each other one many times."""
     lot = random.Random(35)
     return list(LETTERS) + ["".join(lot.choices(LETTERS, k=lot.randint(1, 12))) for _ in range(WORDS)]
-
-
-def can_convert():
-    """Whether the program has the command `convert`: without it, it answers `usage`."""
-    with tempfile.TemporaryDirectory() as folder:
-        path = Path(folder) / "text"
-        path.write_text("na\n", encoding="utf-8")
-        words = [PROGRAM, "convert", "slp1", "wx", str(path), str(path.with_name("out"))]
-        return subprocess.run(words, capture_output=True, text=True).stdout != "usage\n"
 
 
 class WithPage(unittest.TestCase):
@@ -140,8 +140,6 @@ class Tables(WithPage):
 
     def test_the_page_and_convert_agree(self):
         """Each word in each scheme, converted by the program to each other one, is what the page prints there."""
-        if not can_convert():
-            self.skipTest("the program has no command convert yet")
         words = drawn_words()
         printed = {scheme: self.later(PRINT, scheme, words) for scheme in ALL}
         with tempfile.TemporaryDirectory() as folder:
@@ -196,6 +194,10 @@ class Cleaning(WithPage):
             ("iast", "saṁgama r̥ṣi", ["saNgama fzi"]),
             ("devanagari", "तं च संवादं संस्कृतम्", ["taM ca saMvAdaM saMskftam"]),
             ("iast", "rāmaḥ // BhG_1.1 // sītā (Rām. 2.3) 12ab", ["rAmaH", "sItA"]),
+            ("iast", "sthitaḥ mānadaṇḍaḥ // KumS 1.1 //", ["sTitaH mAnadaRqaH"]),
+            ("devanagari", "रामः ॥ रघु १.१ ॥ वनम्", ["rAmaH", "vanam"]),
+            ("hk", "rAmaH || zloka 12", ["rAmaH"]),
+            ("hk", "rAmaH | vanam yAti 12 |", ["rAmaH", "vanam yAti"]),
             ("slp1", "rAmaH1 vanaM2 gacCati3", ["rAmaH vanaM gacCati"]),
             ("slp1", "", []),
             ("slp1", "|| 12 ||", []),
@@ -212,6 +214,27 @@ class Cleaning(WithPage):
         told = {change["what"].split(" ")[0]: change["count"] for change in part["changes"]}
         self.assertEqual(told, {"quotes,": 2, "hyphens": 1, "anusvara": 2})
         self.assertEqual(self.later(CLEAN, "iast", "saṅgama")["parts"][0]["changes"], [])
+
+
+class Phases(WithPage):
+    STARTER = TOP / "lexicons" / "starter" / "rules.toml"
+
+    def test_each_phase_of_the_starter_lexicon_is_told_in_words_and_has_its_hue(self):
+        phases = tomllib.loads(self.STARTER.read_text(encoding="utf-8"))["phases"]
+        told = self.later(PHASES, ["none", *phases])
+        self.assertEqual(told["words"][0], "none")
+        for phase, words, hue in zip(phases, told["words"][1:], told["hues"][1:]):
+            self.assertNotEqual(words, phase)
+            self.assertTrue(hue != told["hues"][0] or phase in ("noun", "stem"), phase)
+        self.assertLessEqual(len(set(told["hues"])), 8)
+
+    def test_hyphens_stand_where_one_segment_makes_one_word_with_the_next(self):
+        phases = ["iic", "stem", "noun", "pv", "verb", "part", "encl"]
+        joined = dict(zip(phases, self.later(PHASES, phases)["joined"]))
+        self.assertEqual(joined["iic"], ["iic", "stem", "noun", "pv", "part"])
+        self.assertEqual(joined["stem"], ["iic", "stem", "noun", "part"])
+        self.assertEqual(joined["pv"], ["pv", "verb", "part"])
+        self.assertEqual([joined[phase] for phase in ("noun", "verb", "part", "encl")], [[], [], [], []])
 
 
 class Heads(WithPage):

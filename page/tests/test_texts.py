@@ -7,8 +7,8 @@ import unittest
 from pathlib import Path
 
 from browser import Browser
-from serving import PROGRAM, TOP, PageServer
-from test_browser import Page, count_of, starter_path
+from serving import TOP, PageServer
+from test_browser import FAINT, Page, check_controls, count_of, starter_path
 
 VERSES = """आसीद्राजा नलो नाम वीरसेनसुतो बली । उपपन्नो गुणैरिष्टै रूपवानश्वकोविदः ॥ १ ॥
 
@@ -25,8 +25,6 @@ return [...document.querySelectorAll('#text-lines li')].map((line) => {
 
 
 class WithText(unittest.TestCase):
-    program = None
-
     def setUp(self):
         room = tempfile.TemporaryDirectory(prefix="page-texts-")
         self.addCleanup(room.cleanup)
@@ -38,7 +36,7 @@ class WithText(unittest.TestCase):
         self.start()
 
     def start(self):
-        self.server = PageServer(starter_path(), self.text, self.program or PROGRAM, self.folder)
+        self.server = PageServer(starter_path(), self.text, folder=self.folder)
         self.addCleanup(self.server.stop)
         self.page = Page(self.browser, self.server.address).open().setting(output="slp1").open()
         self.wait_for_states()
@@ -135,6 +133,55 @@ class Finishing(WithText):
         self.assertIn("guREH: guRa m.pl.ins", rows[1][2])
         self.assertEqual(len(rows), 2)
 
+    def test_a_finished_line_is_finished_again_with_other_choices(self):
+        self.open_line(2)
+        self.finish()
+        (first,) = (self.folder / "verses.txt.notes").iterdir()
+        before = first.read_text(encoding="utf-8")
+        self.page.keep(0)
+        self.assertEqual(
+            self.browser.run("return document.getElementById('finish').textContent"), "Finish this line again"
+        )
+        self.finish()
+        (second,) = (self.folder / "verses.txt.notes").iterdir()
+        note = json.loads(second.read_text(encoding="utf-8"))
+        self.assertEqual((second.name, len(note["choices"])), (first.name, 1))
+        self.assertNotEqual(second.read_text(encoding="utf-8"), before)
+
+    def test_the_list_and_its_controls(self):
+        for theme in ("light", "dark"):
+            self.page.setting(output="slp1", theme=theme).open()
+            self.wait_for_states()
+            self.open_line(2)
+            if theme == "light":
+                self.finish()
+            self.assertTrue(self.browser.run("return document.getElementById('export').checkVisibility()"))
+            self.assertGreater(check_controls(self), 20)
+            self.assertEqual(self.browser.run(FAINT), [], theme)
+
+    def test_lines_by_keys_alone(self):
+        def number():
+            return self.browser.run("return document.querySelector('.text-line[aria-current] .number')?.textContent")
+
+        def go(key, to):
+            self.browser.press(key)
+            self.browser.wait("return document.querySelector('[aria-current] .number')?.textContent === arguments[0]", to)
+            self.page.seen()
+
+        go("n", "1.1")
+        self.assertIsNotNone(self.browser.run("return document.activeElement.closest('.box')"))
+        go("n", "1.2")
+        go("p", "1.1")
+        go("n", "1.2")
+        self.browser.press("f")
+        self.browser.wait("return document.getElementById('finish').textContent === 'Next line'")
+        self.assertEqual(self.lines()[1][2], "finished")
+        go("f", "3")
+        self.browser.press("f")
+        self.assertEqual((number(), self.lines()[2][2]), ("3", "several answers"))
+        go("n", "4")
+        go("n", "5")
+
     def test_a_finished_line_can_be_taken_back(self):
         self.open_line(2)
         self.assertTrue(self.browser.run("return document.getElementById('reopen').hidden"))
@@ -174,28 +221,6 @@ class Finishing(WithText):
         self.assertNotIn("finished", [state for _, _, state in self.lines()])
 
 
-class WithoutTheCommand(WithText):
-    """A program without `annotate`, made of the real one by taking the command away."""
-
-    def setUp(self):
-        room = tempfile.TemporaryDirectory(prefix="page-program-")
-        self.addCleanup(room.cleanup)
-        program = Path(room.name) / "sandhi"
-        program.write_text(
-            f'#!/bin/sh\n[ "$1" != annotate ] || {{ echo usage; exit 2; }}\nexec "{PROGRAM}" "$@"\n', encoding="utf-8"
-        )
-        program.chmod(0o755)
-        self.program = str(program)
-        super().setUp()
-
-    def test_the_control_is_hidden(self):
-        self.open_line(2)
-        self.assertTrue(self.browser.run("return document.getElementById('finish').hidden"))
-        place = {"lexicon": 0, "bookmark": "1;na;;0;", "text": "verses.txt", "line": 1, "part": 1}
-        self.assertEqual(self.server.ask("finish", place)[0], 400)
-        self.assertFalse((self.folder / "verses.txt.notes").exists())
-
-
 class Meanings(unittest.TestCase):
     def test_roots_and_glosses_stand_beside_the_analyses(self):
         room = tempfile.TemporaryDirectory(prefix="page-meanings-")
@@ -226,7 +251,7 @@ class Twin(unittest.TestCase):
         browser = Browser()
         self.addCleanup(browser.close)
         page = Page(browser, server.address).open()
-        text = "रामः वनम् गच्छति च अश्वः"
+        text = "रामः च इति आह"
         self.assertEqual(count_of(page.type(text)["count"]), 0)
         browser.click(browser.find("#twin"))
         browser.wait("return document.querySelectorAll('#answers li').length > 0", seconds=90)

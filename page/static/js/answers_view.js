@@ -43,9 +43,10 @@ function answerElement(answer, blanks, actions) {
 
 function formElement(step, onClick) {
   const form = showWord(setting("output"), step.form);
+  const title = phaseInWords(step.phase);
   return make("button", {
-    type: "button", class: `form hue-${hueOf(step.phase, state.server.phases)}`,
-    "aria-label": `Analyses of ${form}, ${phaseInWords(step.phase)}`, data: { phase: step.phase }, on: { click: onClick },
+    type: "button", class: `form hue-${hueOf(step.phase, state.server.phases)}`, title,
+    "aria-label": `Analyses of ${form}, ${title}`, data: { phase: step.phase }, on: { click: onClick },
   }, form);
 }
 

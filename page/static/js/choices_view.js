@@ -66,21 +66,35 @@ export function drawStretch() {
   }
 }
 
-function toldStretch({ pieces, isRead, questions, isWhole }) {
-  const words = pieces.flatMap((piece, number) => {
-    const written = showWord(setting("output"), piece);
-    const element = isRead[number]
-      ? make("span", {}, written)
-      : make("mark", { class: "unread" }, written);
-    return number === 0 ? [element] : [" ", element];
+function toldStretch(stretch) {
+  const { pieces, isRead, questions, isWhole } = stretch;
+  const written = pieces.map((piece) => showWord(setting("output"), piece));
+  const blanks = uncrossed(stretch);
+  const words = written.flatMap((word, number) => {
+    const element = isRead[number] ? make("span", {}, word) : make("mark", { class: "unread" }, word);
+    if (number === 0) return [element];
+    return [blanks.includes(number) ? make("mark", { class: "unread-blank" }, "\u2002") : " ", element];
   });
-  const isNothingRead = !isRead.includes(true);
   const asked = `${questions} ${questions === 1 ? "question" : "questions"} to the program`;
-  const told = isRead.includes(false)
-    ? "What is marked is not read here or at its edges: a word may be lacking in the lexicon, or be misspelled."
-    : "Each piece is read in some run, but not the whole line: look at where the pieces meet.";
   return make("div", { class: "stretch" },
     make("p", { class: "sanskrit stretch-line" }, words),
-    make("p", { class: "note" }, isNothingRead ? "No run of these pieces is read by itself." : told,
-      ` (${asked}${isWhole ? "" : ", and no more were asked"}.)`));
+    make("p", { class: "note" }, inWords(stretch, blanks, written),
+      questions > 0 ? ` (${asked}${isWhole ? "" : ", and no more were asked"}.)` : null));
+}
+
+/** The blanks that no run crosses, by the numbers of the pieces after them, where all pieces are read. */
+function uncrossed({ isRead, isCrossed, isWhole }) {
+  if (isRead.includes(false) || !isWhole) return [];
+  return isCrossed.flatMap((is, number) => (is ? [] : [number + 1]));
+}
+
+function inWords({ isRead }, blanks, written) {
+  if (isRead.length === 1) return "This is not read: a word may be lacking in the lexicon, or be misspelled.";
+  if (!isRead.includes(true)) return "No run of these pieces is read by itself.";
+  if (isRead.includes(false)) {
+    return "What is marked is not read here or at its edges: a word may be lacking in the lexicon, or be misspelled.";
+  }
+  if (blanks.length === 0) return "Each piece is read with its neighbours, but not the whole line.";
+  const pairs = blanks.map((number) => `${written[number - 1]} ${written[number]}`).join("; ");
+  return `Each piece is read, but none across the marked blank, as it is written: ${pairs}.`;
 }

@@ -114,10 +114,17 @@ export function drawLegend() {
 
 // Keys. One box at a time can be reached by Tab; the arrow keys go on from it.
 
+/** Goes to the grid, where it has a box. */
+export function focusGrid() {
+  byId("grid").querySelector(".keep[tabindex='0']")?.focus();
+}
+
 function prepareKeys(grid, actions, isFocused) {
   const elements = [...grid.querySelectorAll(".box")];
   if (elements.length === 0) return;
-  const old = Number(grid.dataset.here ?? 0);
+  const { line } = state.reading;
+  const old = grid.dataset.line === line ? Number(grid.dataset.here ?? 0) : 0;
+  Object.assign(grid.dataset, { line, here: old });
   const here = elements[Math.min(old, elements.length - 1)];
   here.querySelector(".keep").tabIndex = 0;
   here.querySelector(".reject").tabIndex = 0;

@@ -5,7 +5,7 @@ import { Failed, ask } from "./api.js";
 import { drawAnswers } from "./answers_view.js";
 import { drawChoices, drawStretch } from "./choices_view.js";
 import { byId, fill, make, show } from "./dom.js";
-import { drawGrid, drawLegend } from "./grid.js";
+import { drawGrid, drawLegend, focusGrid } from "./grid.js";
 import { drawFailure, drawFault, drawLine, lineInOutput, prepareLine, putLine, typedLine } from "./line_view.js";
 import * as reader from "./reader.js";
 import { choose, setting } from "./settings.js";
@@ -69,6 +69,12 @@ const actions = {
     const entry = texts.nextEntry();
     if (entry) await readEntry(entry);
   }),
+  goToLine: (by) => guarded(async () => {
+    const entry = texts.entryAfter(by);
+    if (!entry) return;
+    await readEntry(entry);
+    focusGrid();
+  }),
   finish: () => guarded(async () => {
     const { refused } = await texts.finishLine();
     if (refused) drawFailure(`The line was not finished: ${refused}.`);
@@ -86,6 +92,8 @@ async function readEntry(entry) {
   const asTyped = await reader.readTyped(typed, [scheme]);
   const isFurther = bookmark && bookmark !== state.reading?.bookmark;
   await settle(isFurther ? await reader.readBookmark(bookmark) : asTyped);
+  texts.scrollToLine();
+  byId("reading-heading").scrollIntoView({ block: "nearest" });
 }
 
 let running = 0; // things that the reader did and that are not done yet
@@ -210,12 +218,25 @@ function drawServer() {
   show(byId("twin-field"), hasTwin);
 }
 
+/** Keys that can be pressed anywhere but in a field. */
+const SHORTCUTS = {
+  "/": () => byId("line-text").focus(),
+  g: focusGrid,
+  f: () => {
+    const button = byId("finish");
+    if (!button.hidden) button.click();
+  },
+  n: () => actions.goToLine(1),
+  p: () => actions.goToLine(-1),
+};
+
 function prepareShortcuts() {
   document.addEventListener("keydown", (event) => {
-    const isTyping = event.target.closest("input, textarea, select");
-    if (event.key !== "/" || isTyping || event.ctrlKey || event.metaKey || event.altKey) return;
+    const isTyping = event.target.closest("textarea, select, dialog, input:not([type='radio'], [type='checkbox'])");
+    const act = SHORTCUTS[event.key];
+    if (!act || isTyping || event.ctrlKey || event.metaKey || event.altKey) return;
     event.preventDefault();
-    byId("line-text").focus();
+    act();
   });
 }
 

@@ -9,18 +9,19 @@ const FAMILIES = {
   pronoun: ["pron", "ipr"],
   preverb: ["pv", "pvi"],
   verb: ["verb"],
-  absolute: ["inv", "absy"],
+  absolute: ["absy"],
   participle: ["part", "pstem"],
-  particle: ["ind", "encl"],
+  particle: ["ind", "encl", "proh"],
 };
 const HUES = Object.keys(FAMILIES);
 const FAMILY = new Map(Object.entries(FAMILIES).flatMap(([family, names]) => names.map((name) => [name, family])));
 
 const WORDS = {
-  ind: "indeclinable", encl: "enclitic", pron: "pronoun", ipr: "interrogative", noun: "noun, adjective or numeral",
+  ind: "indeclinable", encl: "enclitic", proh: "mā, prohibitive or enclitic", pron: "pronoun", ipr: "interrogative",
+  noun: "noun, adjective or numeral",
   stem: "noun form that is a first member too", thing: "bare stem of a thing, in compounds only",
   iic: "first member of a compound", ifc: "last member of a compound", pv: "preverb", pvi: "preverb or preposition",
-  verb: "finite verb", inv: "infinitive or absolutive", absy: "absolutive in -ya", part: "participle or gerundive",
+  verb: "finite verb, infinitive or absolutive", absy: "absolutive in -ya", part: "participle or gerundive",
   pstem: "participle that is a first member too",
 };
 
@@ -28,7 +29,7 @@ const WORDS = {
 const BEFORE_MEMBER = new Set(["iic", "thing", "stem", "pstem"]);
 const MEMBER = new Set(["iic", "thing", "stem", "pstem", "ifc", "noun", "part"]);
 const PREVERB = new Set(["pv", "pvi"]);
-const AFTER_PREVERB = new Set(["pv", "pvi", "verb", "inv", "absy", "part", "pstem"]);
+const AFTER_PREVERB = new Set(["pv", "pvi", "verb", "absy", "part", "pstem"]);
 
 /** The hue of a phase. One of no known family has a hue by its number. */
 export function hueOf(phase, phases) {
@@ -42,5 +43,6 @@ export function phaseInWords(phase) {
 
 /** Whether a segment and the next one make a compound, or a preverb and its verb, where no blank is between them. */
 export function isJoined(phase, next) {
-  return (BEFORE_MEMBER.has(phase) && MEMBER.has(next)) || (PREVERB.has(phase) && AFTER_PREVERB.has(next));
+  if (PREVERB.has(phase)) return AFTER_PREVERB.has(next);
+  return (BEFORE_MEMBER.has(phase) && MEMBER.has(next)) || (phase === "iic" && PREVERB.has(next));
 }

@@ -18,7 +18,7 @@ export function prepareTextRoom(actions) {
   byId("text-name").addEventListener("change", () => actions.openText(byId("text-name").value));
   byId("export").addEventListener("click", exportFinished);
   byId("reopen").addEventListener("click", actions.reopen);
-  byId("finish").addEventListener("click", () => (hereEntry()?.note?.isFinished ? actions.nextLine() : actions.finish()));
+  byId("finish").addEventListener("click", () => (isFinished() ? actions.nextLine() : actions.finish()));
   return given;
 }
 
@@ -62,11 +62,23 @@ function hereEntry() {
   return state.place && entryAt(state.place);
 }
 
-/** The entry after the one that is read that is not finished, or the one after it. */
+/** Whether the line that is read is finished with the choices that are made now. */
+function isFinished() {
+  const { note } = hereEntry() ?? {};
+  return Boolean(note?.isFinished && note.bookmark === state.reading?.bookmark);
+}
+
+/** The next entry that is not finished: after the one that is read, or from the beginning; else the one after it. */
 export function nextEntry() {
+  const later = room.entries.slice(room.entries.indexOf(hereEntry()) + 1);
+  const isOpen = (entry) => !entry.note?.isFinished;
+  return later.find(isOpen) ?? room.entries.find(isOpen) ?? later[0];
+}
+
+/** The entry so many after the one that is read; without one, the first. */
+export function entryAfter(by) {
   const here = room.entries.indexOf(hereEntry());
-  const later = room.entries.slice(here + 1);
-  return later.find((entry) => !entry.note?.isFinished) ?? later[0];
+  return here < 0 ? room.entries[0] : room.entries[here + by];
 }
 
 /** Makes an entry the one that is read. */
@@ -109,8 +121,7 @@ export function useActions(actions) {
 
 export function drawTextRoom() {
   const finished = room.entries.filter((entry) => entry.note?.isFinished).length;
-  const { canFinish } = state.server;
-  byId("text-note").textContent = room.name ? noteOfRoom(finished, canFinish) : "";
+  byId("text-note").textContent = room.name ? noteOfRoom(finished) : "";
   show(byId("export"), finished > 0);
   const cut = new Set(room.entries.filter((entry) => entry.part > 1).map((entry) => entry.line));
   fill(byId("text-lines"), room.entries.map((entry) => entryElement(entry, cut.has(entry.line))));
@@ -125,10 +136,20 @@ export function markLine() {
   drawFinish();
 }
 
-function noteOfRoom(finished, canFinish) {
+/** Scrolls the list, and not the page, to where the line that is read can be seen. */
+export function scrollToLine() {
+  const list = byId("text-lines");
+  const here = list.querySelector("[aria-current]")?.getBoundingClientRect();
+  if (!here) return;
+  const { top, bottom } = list.getBoundingClientRect();
+  if (here.top < top) list.scrollTop -= top - here.top;
+  else if (here.bottom > bottom) list.scrollTop += here.bottom - bottom;
+}
+
+function noteOfRoom(finished) {
   const count = room.entries.length;
   const lines = count === 1 ? "1 line" : `${count} lines`;
-  return canFinish ? `${lines}, ${finished} finished` : lines;
+  return `${lines}, ${finished} finished`;
 }
 
 function entryElement(entry, isCut) {
@@ -142,18 +163,17 @@ function entryElement(entry, isCut) {
     make("span", { class: "text sanskrit" }, text), make("span", { class: "state" }, told)));
 }
 
-/** The control that finishes the line: it is there where the program can, and on where one answer is left. */
+/** The control that finishes the line, which is on where one answer is left. */
 function drawFinish() {
   const button = byId("finish");
   const entry = hereEntry();
   const { reading } = state;
-  show(button, Boolean(entry && reading && state.server.canFinish));
-  show(byId("reopen"), Boolean(entry?.note && reading && state.server.canFinish));
+  show(button, Boolean(entry && reading));
+  show(byId("reopen"), Boolean(entry?.note && reading));
   if (!entry || !reading) return;
-  const isFinished = Boolean(entry.note?.isFinished && entry.note.bookmark === reading.bookmark);
-  if (entry.note?.isFinished && !isFinished) button.textContent = "Finish this line again";
-  else button.textContent = isFinished ? "Next line" : "Finish this line";
-  button.disabled = !isFinished && (reading.count !== 1 || reading.hasMore);
+  if (isFinished()) button.textContent = "Next line";
+  else button.textContent = entry.note?.isFinished ? "Finish this line again" : "Finish this line";
+  button.disabled = !isFinished() && (reading.count !== 1 || reading.hasMore);
 }
 
 function exportFinished() {

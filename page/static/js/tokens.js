@@ -15,6 +15,8 @@ const BRACKETS = "()[]{}<>\u27e8\u27e9";
 const OTHER_MARKS = ",:*\u0950\u02bc\u02bd\u0951\u0952\u200b\u200c\u200d\u2060\ufeff";
 const NUMBER = /\p{N}+(?:[.,:/\u2013-]\p{N}+)*[a-d]{0,2}(?!\p{L})|\p{N}+/uy;
 const REFERENCE = /[([][^()[\]]*\p{N}[^()[\]]*[)\]]|\p{L}[\p{L}\p{M}]{0,5}[_.,]+\p{N}[\p{N}.,:_-]*[a-d]{0,2}(?!\p{L})/uy;
+// What stands between dandas, or after the last one, and is a word with a number: `KumS 1.1`.
+const NUMBERED = /\p{L}[\p{L}\p{M}]{0,9}\.?[ \t]{0,2}\p{N}[\p{N}.,:_-]*[a-d]{0,2}(?=\s*(?:[|/\u0964\u0965]|$))/uy;
 const DANDA = /\|+|\/+|[\u0964\u0965]+/uy;
 
 // Spellings of IAST as it is printed, beside those that the scheme has.
@@ -36,10 +38,11 @@ export function tokensOf(scheme, text) {
   return tokens;
 }
 
-/** A reference such as `BhG_1.1` or `(2.47)`, which stands where a word begins. It counts as a number. */
+/** A reference such as `BhG_1.1`, `(2.47)` or `KumS 1.1`, which stands where a word begins. It counts as a number. */
 function reference(text, place, tokens) {
   if (tokens.at(-1)?.kind === "letter") return null;
-  const found = matchAt(REFERENCE, text, place);
+  const isAfterDanda = tokens.findLast(({ kind }) => kind !== "gap")?.kind === "danda";
+  const found = matchAt(REFERENCE, text, place) ?? (isAfterDanda ? matchAt(NUMBERED, text, place) : undefined);
   return found ? { kind: "number", from: place, to: place + found.length, letters: "" } : null;
 }
 
