@@ -64,11 +64,11 @@ fn run_command<R: Threads + Sync, H: Shelf, I: Source, O: Sink, G: Gate + Sync>(
         Command::Batch(words) => run_batch(rt, alloc, words, shelf, out, gate),
         Command::Demo { number } => run_demo(rt, alloc, *number, out),
         Command::Convert(words) => run_convert(alloc, words, shelf, out),
-        Command::Migrate(words) => run_migrate(alloc, words, shelf, out),
         Command::Join(words) => run_join(alloc, words, shelf, out),
         Command::Split(words) => run_split(rt, alloc, words, shelf, out, gate),
         Command::Annotate(words) => run_annotate(alloc, words, shelf, out),
         Command::Reread(words) => run_reread(alloc, words, shelf, out),
+        Command::Migrate(words) => run_migrate(alloc, words, shelf, out),
     }
 }
 

@@ -26,10 +26,6 @@ static COMMANDS: [(&str, &str); 12] = [
         "convert FROM TO FILE OUT    (a text from scheme to scheme: slp1, wx, velthuis, devanagari, iast or hk)",
     ),
     (
-        "migrate",
-        "migrate LEX OUT    (a lexicon file of any version, in the newest one)",
-    ),
-    (
         "join",
         "join LEX CHAIN    (CHAIN is an answer as it is printed, without its number, in quotes)",
     ),
@@ -44,6 +40,10 @@ static COMMANDS: [(&str, &str); 12] = [
     (
         "reread",
         "reread LEX FILE    (the answer of a note that `annotate` wrote, where it still holds)",
+    ),
+    (
+        "migrate",
+        "migrate LEX OUT    (a lexicon file of any version, in the newest one)",
     ),
 ];
 
