@@ -6,7 +6,6 @@ use Rattle.std.proofs.lemmas.List.{length-append}
 use Rattle.list_laws.specs.EmptyLists.{is_empty}
 use Rattle.text_definitions.specs.Spellings.{Reading}
 use Rattle.text_definitions.specs.Slp1.{word_of_slp1}
-use Rattle.lexicon_definitions.specs.Rules.{Rule}
 use Rattle.lexicon_text_definitions.specs.FileLines.{Shape, shape_of}
 use Rattle.lexicon_text_definitions.proofs.LineCuts.{three_parts, field_from_shape}
 use Rattle.trie_text_definitions.specs.LimitedRules.{set_told, set_after_told}

@@ -2,8 +2,7 @@
 use Rattle.std.proofs.Common.{rules, ◌≡◌, ◌≢◌, ℕ, inl, Bool, true, false, not, Option, Some, None, Result, Ok, Err, List, [], ◌∷◌, ◌++◌, codes, true≢false, refl, sym, ◌∙◌, ap, subst, Bor}
 use Rattle.std.specs.Str.{is_utf8}
 use denote.Enum.Bare.{sameb, differs_true, differs_false}
-use Rattle.list_laws.proofs.Booleans.{if_passed, if_refused, when_true, when_false}
-use Rattle.lexicon_text_definitions.specs.FileLines as lines
+use Rattle.list_laws.proofs.Booleans.{when_true, when_false}
 use Rattle.lexicon_text_definitions.specs.FileLines.{Line, Parts, parts_of, fields_of}
 use Rattle.lexicon_text_definitions.proofs.LineCuts as cuts
 use Rattle.lexicon_text_definitions.specs.FileSteps as steps

@@ -1,5 +1,5 @@
 -- Line by line, what is read from the next line on is what is read in all; at the end what was told is a lexicon with a shared trie.
-use Rattle.std.proofs.Common.{sym, ap, subst, ◌∙◌, arith}
+use Rattle.std.proofs.Common.{sym, subst, arith}
 use Rattle.lexicon_definitions.specs.Tries.{Trie, IsTrieOf}
 use Rattle.lexicon_text_definitions.specs.FileLines.{lines_of_bytes}
 use Rattle.trie_text_definitions.specs.TrieForms.{phases_of}
@@ -7,7 +7,7 @@ use Rattle.trie_text_definitions.specs.VersionReadings.{read_lines as read_lines
 use Rattle.trie_text_definitions.specs.VersionSteps.{head_told}
 use Rattle.lexicon_file.specs.Kinds.{version_of}
 use Rattle.lexicon_file.proofs.LineSteps.{after_line}
-use Rattle.lexicon_file.proofs.ReadLemmas.{reads_on, tells_on, line_fault, end_fault, told_at_end, rule_set_told, limits_told, shared_trie_told}
+use Rattle.lexicon_file.proofs.ReadLemmas.{reads_on, tells_on, line_fault, told_at_end, rule_set_told, limits_told, shared_trie_told}
 use Rattle.lexicon_file.proofs.reading.read_lines.Goals as goal
 
 pub loop-line-preserved : goal.loop-line-preserved

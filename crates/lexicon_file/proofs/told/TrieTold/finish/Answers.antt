@@ -1,9 +1,9 @@
 -- The last line was the end.
-use Rattle.std.proofs.Common.{◌≡◌, sym, ◌∙◌, ap, subst}
+use Rattle.std.proofs.Common.{sym, ◌∙◌, ap, subst}
 use Rattle.lexicon_definitions.specs.Lexicons.{IsRuleSet}
 use Rattle.lexicon_definitions.specs.Limits.{IsRuleSetWithinLimits}
 use Rattle.lexicon_text_definitions.specs.FileContents.{rules_told}
-use Rattle.trie_text_definitions.specs.VersionSteps.{End, Told, trie_told}
+use Rattle.trie_text_definitions.specs.VersionSteps.{Told, trie_told}
 use Rattle.lexicon_file.proofs.LinesTaken.{ended, not_ended, end_missing}
 use Rattle.lexicon_file.proofs.told.TrieTold.finish.Goals as goal
 

@@ -1,5 +1,5 @@
 -- The fields and their shapes, the words and then the rule decide one after another.
-use Rattle.std.proofs.Common.{◌≡◌, ℕ, Some, List, Global, map, ap, ◌∙◌, subst, arith}
+use Rattle.std.proofs.Common.{Some, Global, map, ap, ◌∙◌, subst, arith}
 use Rattle.std.proofs.lemmas.Result.{err_from_is_err_and}
 use Rattle.std.specs.String.{string_bytes}
 use Rattle.lexicon_text_definitions.specs.FileLines.{fields_of}
