@@ -93,10 +93,10 @@ export function goToEntry(entry) {
   return { typed: entry.typed, scheme: room.scheme, bookmark: entry.bookmark };
 }
 
-/** Keeps how far the reader came with the line of a text. */
+/** Keeps how far the reader came with the line of a text. What was typed in its place is not kept. */
 export function rememberReading() {
   const entry = hereEntry();
-  if (entry && state.reading) entry.bookmark = state.reading.bookmark;
+  if (entry && state.reading?.line === entry.lineText) entry.bookmark = state.reading.bookmark;
 }
 
 /** Writes the note of the line that is read. */
@@ -192,6 +192,7 @@ function drawFinish() {
   show(byId("reopen"), Boolean(entry?.note && reading));
   if (!entry || !reading) return;
   if (isFinished()) button.textContent = "Next line";
+  else if (reading.line !== entry.lineText) button.textContent = `Finish line ${entry.line} with this text`;
   else button.textContent = entry.note?.isFinished ? "Finish this line again" : "Finish this line";
   button.disabled = !isFinished() && (reading.count !== 1 || reading.hasMore);
 }
