@@ -14,6 +14,7 @@ from readings import KeptReadings
 from reader import Reader
 
 SOURCES = ("rules.toml", "tables.csv", "stems.csv")
+MADE_AS = "slx 2"  # a lexicon that was made before `build` wrote tries is read as well, but later, and is made anew
 EVERY_LETTER = "aAiIuUfFxeEoOM~HkKgGNcCjJYwWqQRtTdDnpPbBmyrlvSzsh'"
 MOST_TABLE_BYTES = 8_000_000  # of roots.csv and of glosses.csv
 
@@ -105,7 +106,7 @@ class Builder:
     def build(self, name, rules, tables, stems):
         """The path of the lexicon of these three texts. The file is there whole or not at all."""
         sources = (rules, tables, stems)
-        digest = hashlib.sha256(b"\0".join(text.encode("utf-8") for text in sources)).hexdigest()
+        digest = hashlib.sha256("\0".join((MADE_AS, *sources)).encode("utf-8")).hexdigest()
         target = self._folder / f"{name}-{digest[:12]}.lex"
         if target.exists():
             return target

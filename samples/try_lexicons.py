@@ -5,8 +5,8 @@
 
 Four lexicons of `worked/files` are cut off after each of their bytes, and each of their bytes is replaced by each of REPLACING. Besides
 N files are made of these and of others by exchanging, leaving out and repeating lines, fields and bytes, which are the same in each run of
-this script. What `check` says of each file, its counts or its first fault, must be what `recipes/lexicon_file.py` reads in it, which
-was written from docs/FORMATS.md alone. A file that is read is migrated too, and must become its newest text."""
+this script. What `check` says of each file, its counts or its first fault, must be what `recipes/lexicon_file.py` reads in it, which asks no
+program and goes by docs/FORMATS.md. A file that is read is migrated too, and must become its newest text."""
 import itertools
 import random
 import sys
