@@ -4,7 +4,7 @@ use Rattle.std.proofs.Common.{◌≡◌, ℕ, ◌+◌, ◌-◌, ◌*◌, ◌^◌
 use Rattle.std.specs.List.{All}
 use Rattle.run_definitions.specs.declared.limits.TheConstants.{MOST_WORD_BYTES}
 use Rattle.run_definitions.specs.Arguments.{Given, FileWord, given_by}
-use Rattle.run_definitions.specs.Commands.{Command, Segment, Check, Build, Read, Batch, Demo, Convert, Join, Split, Annotate, Reread, Takes, name_of_command, AreWordsOf, AreOfNoCommand}
+use Rattle.run_definitions.specs.Commands.{Command, Segment, Check, Build, Read, Batch, Demo, Convert, Join, Split, Annotate, Reread, Migrate, Takes, name_of_command, AreWordsOf, AreOfNoCommand}
 use Rattle.command_words.proofs.WordCounts.{few_words}
 
 -- a scheme takes one value at most
@@ -19,6 +19,7 @@ one_value values (Join lex chain) given takes = omega (arith, ap length takes.0,
 one_value values (Split lex text count depth) given takes = omega (arith, ap length takes.0, ap length takes.1.are)
 one_value values (Annotate lex mark out) given takes = omega (arith, ap length takes.0, ap length takes.1.1)
 one_value values (Reread lex file) given takes = omega (arith, ap length takes.0, ap length takes.1)
+one_value values (Migrate lex out) given takes = omega (arith, ap length takes.0, ap length takes.1)
 one_value [] (Segment lex scheme text) given takes = omega (arith, ap length takes.1.1)
 one_value (value ∷ []) (Segment lex scheme text) given takes = omega (arith, ap length takes.1.1)
 one_value (value ∷ other ∷ values) (Segment lex scheme text) given takes = absurd takes.0

@@ -6,7 +6,7 @@ use Rattle.run_definitions.specs.Arguments as arguments
 use Rattle.run_definitions.specs.Commands as defined
 use Rattle.command_words.specs.declared.placed_word.PlacedWord.{PlacedWord}
 use Rattle.command_words.specs.declared.command.Command.{Command}
-use Rattle.command_words.specs.declared.command.Command.TheVariants.{Segment, Check, Build, Read, Batch, Demo, Convert, Join, Split, Annotate, Reread}
+use Rattle.command_words.specs.declared.command.Command.TheVariants.{Segment, Check, Build, Read, Batch, Demo, Convert, Join, Split, Annotate, Reread, Migrate}
 use Rattle.command_words.specs.declared.given.Given.{Given}
 use Rattle.command_words.specs.declared.arguments.NextWord.{NextWord}
 use Rattle.command_words.specs.declared.arguments.NextWord.TheVariants.{Any, Value, Argument}
@@ -29,6 +29,7 @@ command_meant (Join words) = defined.Join (word_meant words.lex) words.chain.nam
 command_meant (Split words) = defined.Split (word_meant words.lex) words.text.name.now words.count words.depth
 command_meant (Annotate words) = defined.Annotate (word_meant words.lex) words.mark.name.now (word_meant words.out)
 command_meant (Reread words) = defined.Reread (word_meant words.lex) (word_meant words.file)
+command_meant (Migrate words) = defined.Migrate (word_meant words.lex) (word_meant words.out)
 command_meant (Batch words) = defined.Batch (word_meant words.lex) (scheme_of words.scheme) (word_meant words.file) words.count
 
 -- what a next word may be

@@ -12,6 +12,7 @@ use super::convert_words::ConvertWords;
 use super::demo_number::demo_number_of;
 use super::given::{Given, given_of};
 use super::join_words::JoinWords;
+use super::migrate_words::MigrateWords;
 use super::placed_word::PlacedWord;
 use super::reread_words::RereadWords;
 use super::split_words::SplitWords;
@@ -57,6 +58,8 @@ pub enum Command<'a> {
     Annotate(AnnotateWords<'a>),
     /// The lexicon file, and the file of a note.
     Reread(RereadWords<'a>),
+    /// The lexicon file, and the file to write.
+    Migrate(MigrateWords<'a>),
 }
 
 /// Whether no word is too long.
@@ -274,6 +277,22 @@ fn reread_with<'a>(given: &Given<'a>) -> Option<Command<'a>>
     }
 }
 
+/// `migrate` with what is given.
+fn migrate_with<'a>(given: &Given<'a>) -> Option<Command<'a>>
+    ensures some { IfSome result (λ command. (name_of_command (command_meant command) ≡ codes "migrate")
+        × Takes (command_meant command) (given_meant given.now).values (given_meant given.now).arguments) }
+    ensures none { IfNone result ((command : DefinedCommand) → name_of_command command ≡ codes "migrate"
+        → Takes command (given_meant given.now).values (given_meant given.now).arguments → ⊥) }
+{
+    match (given.values.as_slice(), given.arguments.as_slice()) {
+        ([], [lex, out]) => Some(Command::Migrate(MigrateWords {
+            lex: *lex,
+            out: *out,
+        })),
+        _ => None,
+    }
+}
+
 /// The command of this name that takes what is given.
 fn command_with<'a>(name: &str, given: &Given<'a>) -> Option<Command<'a>>
     ensures some { IfSome result (λ command. (name.now ≡ name_of_command (command_meant command))
@@ -293,6 +312,7 @@ fn command_with<'a>(name: &str, given: &Given<'a>) -> Option<Command<'a>>
         "split" => split_with(given),
         "annotate" => annotate_with(given),
         "reread" => reread_with(given),
+        "migrate" => migrate_with(given),
         _ => None,
     }
 }

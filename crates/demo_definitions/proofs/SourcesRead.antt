@@ -12,6 +12,7 @@ use Rattle.rule_file_definitions.specs.RuleTexts.{texts_of_document, read_texts}
 use Rattle.rule_file_definitions.specs.SoundClasses.{may_come_next, read_phases, class_letters, read_classes, letters_named}
 use Rattle.rule_file_definitions.specs.PlainEntries.{side_letters, pairs_of, read_plain}
 use Rattle.rule_file_definitions.specs.RuleNotations.{notation_of, pattern_of}
+use Rattle.rule_file_definitions.specs.EntryPhases.{fields_of}
 use Rattle.rule_file_definitions.specs.RuleEntries.{rules_of_entry, add_rules, add_entry, read_entries}
 use Rattle.rule_file_definitions.specs.RuleFileReadings.{FileResult, IsDecided, IsReadAs, read_set, read_before_grammar}
 use Rattle.paradigm_file_definitions.specs.TableFiles.{take_table, tables_of}
@@ -27,7 +28,7 @@ use Rattle.demo_definitions.proofs.LexiconLines.{no_more_lines}
 use Rattle.demo_definitions.proofs.DemoGrammar.{grammar_within}
 
 pub rules_read : read_before_grammar demo_rules ≡ Ok demo_rule_set
-unfolding is_utf8 chars toml_on_literals demo_rules demo_rule_set slp1_table word_of_slp1 texts_of_document read_texts may_come_next read_phases class_letters read_classes letters_named side_letters pairs_of read_plain notation_of pattern_of rules_of_entry add_rules add_entry read_entries read_set read_before_grammar
+unfolding is_utf8 chars toml_on_literals demo_rules demo_rule_set slp1_table word_of_slp1 texts_of_document read_texts may_come_next read_phases class_letters read_classes letters_named side_letters pairs_of read_plain notation_of pattern_of fields_of rules_of_entry add_rules add_entry read_entries read_set read_before_grammar
 rules_read = refl
 
 pub tables_read : tables_of demo_rule_set.names demo_tables ≡ Ok demo_classes

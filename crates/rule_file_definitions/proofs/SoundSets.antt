@@ -1,7 +1,6 @@
 -- What is read is a rule set within the limits: its parts are sound, and its grammar's text has no fault.
-use Rattle.std.proofs.Common.{◌≡◌, ℕ, Result, Ok, Err, inl, inr, List, length, All, refl, sym, subst}
+use Rattle.std.proofs.Common.{◌≡◌, ℕ, Result, Ok, Err, inl, inr, List, refl, sym, subst}
 use Rattle.toml.specs.Data.{Members}
-use Rattle.lexicon_definitions.specs.Rules.{IsUnlimited}
 use Rattle.lexicon_definitions.specs.Lexicons.{RuleSet, IsRuleSet}
 use Rattle.lexicon_definitions.specs.Limits.{IsRuleSetWithinLimits}
 use Rattle.lexicon_definitions.specs.GrammarFaults.{IsGrammarTextWithinLimits}
@@ -19,16 +18,15 @@ use Rattle.lexicon_definitions.proofs.GrammarFaultCases.{grammar_over}
 pub record IsFileSet (set : RuleSet) : Type 0 where
   pub set_itself : IsRuleSet set
   pub limits : IsRuleSetWithinLimits set
-  pub unlimited : All (IsUnlimited (length set.names)) set.rules
 
 -- the parts of a rule set, each as it is read
 pub file_set : (entries : List (List ℕ)) (classes : Members) (pairs rules : List (List ℕ)) (set : RuleSet) → read_phases entries ≡ Ok set.names
-    → read_plain classes pairs ≡ Ok set.plain → read_entries (length set.names) classes rules ≡ Ok set.rules
+    → read_plain classes pairs ≡ Ok set.plain → read_entries set.names classes rules ≡ Ok set.rules
     → IsGrammarTextWithinLimits set.names set.grammar → IsFileSet set
 file_set entries classes pairs rules set a b c g =
     let phases = named entries set.names a in
     let plain = paired classes pairs set.plain b in
-    let inner = ruled (length set.names) phases.1 classes rules set.rules c in
+    let inner = ruled set.names phases.1 classes rules set.rules c in
     record {
       set_itself = record {
         names_are_names = phases.0.each;
@@ -47,7 +45,6 @@ file_set entries classes pairs rules set a b c g =
         short_rules = λ k d l. (inner.each k d l).short;
         leads = inner.leads;
       };
-      unlimited = λ k d l. (inner.each k d l).unlimited;
     }
 
 -- ---- from the whole file
@@ -64,7 +61,7 @@ set_read texts set e g =
     let (names, a, e1) = went_on (read_phases texts.phases) _ set e in
     let (classes, b, e2) = went_on (read_classes texts.classes) _ set e1 in
     let (plain, c, e3) = went_on (read_plain classes texts.plain) _ set e2 in
-    let (rules, d, e4) = went_on (read_entries (length names) classes texts.rules) _ set e3 in
+    let (rules, d, e4) = went_on (read_entries names classes texts.rules) _ set e3 in
     let made : record { names = names; grammar = texts.grammar; plain = plain; rules = rules } ≡ set = cc in
     subst IsFileSet made
     (file_set texts.phases classes texts.plain texts.rules (record { names = names; grammar = texts.grammar; plain = plain; rules = rules }) a c d

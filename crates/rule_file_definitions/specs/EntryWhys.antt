@@ -5,6 +5,7 @@ pub data Why : Type 0 where
   Shape : Why
   Spelling : Why
   Class : Why
+  Phase : Why
   Strict : Why
   Long : Why
   Twice : Why

@@ -4,5 +4,6 @@ pub mod RuleTexts
 pub mod SoundClasses
 pub mod PlainEntries
 pub mod RuleNotations
+pub mod EntryPhases
 pub mod RuleEntries
 pub mod RuleFileReadings

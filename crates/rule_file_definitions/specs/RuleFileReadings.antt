@@ -1,5 +1,5 @@
 -- What a rule file tells: its rule set, or its first fault (own).
-use Rattle.std.specs.Prelude.{◌≡◌, ℕ, ◌⊎◌, Result, Ok, Err, List, length}
+use Rattle.std.specs.Prelude.{◌≡◌, ℕ, ◌⊎◌, Result, Ok, Err, List}
 use Rattle.lexicon_definitions.specs.GrammarFaults as grammars
 use Rattle.lexicon_definitions.specs.GrammarFaults.{IsFirstFault, IsGrammarTextWithinLimits}
 use Rattle.lexicon_definitions.specs.Lexicons.{RuleSet}
@@ -24,7 +24,7 @@ read_set texts =
     and_then (read_phases texts.phases) (λ names.
     and_then (read_classes texts.classes) (λ classes.
     and_then (read_plain classes texts.plain) (λ plain.
-    and_then (read_entries (length names) classes texts.rules) (λ rules.
+    and_then (read_entries names classes texts.rules) (λ rules.
     Ok (record { names = names; grammar = texts.grammar; plain = plain; rules = rules })))))
 
 -- the rule set of a file, or its first fault but for the grammar's

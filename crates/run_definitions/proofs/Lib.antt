@@ -2,6 +2,7 @@ pub mod OneCommand
 pub mod OneContent
 pub mod OneOverlapList
 pub mod OneSourceLexicon
+pub mod OneMigrateOutcome
 pub mod OneBuildOutcome
 pub mod OneBatchOutcome
 pub mod OneDemoOutcome

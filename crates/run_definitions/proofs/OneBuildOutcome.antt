@@ -9,9 +9,14 @@ use Rattle.rule_file_definitions.specs.RuleFileFaults.{Grammar}
 use Rattle.rule_file_definitions.specs.RuleFileReadings.{FileResult, IsReadAs, IsDecided, read_before_grammar}
 use Rattle.run_definitions.specs.Commands.{FileWord}
 use Rattle.run_definitions.specs.Ends.{Outcome, AnyFault, Rules, Tables, Stems}
-use Rattle.run_definitions.specs.SourceLexicons.{IsOversized, FitsFile}
+use Rattle.run_definitions.specs.SourceLexicons.{IsOversized}
+use Rattle.lexicon_definitions.specs.declared.limits.TheConstants.{MOST_FORM_LINES}
+use Rattle.lexicon_text_definitions.specs.declared.limits.TheConstants.{MOST_FILE_BYTES}
+use Rattle.trie_text_definitions.specs.VersionTexts.{IsNewestText}
+use Rattle.trie_text_definitions.proofs.OneText.{one_newest}
+use Rattle.run_definitions.proofs.OneMigrateOutcome.{not_long}
 use Rattle.run_definitions.specs.SourceTells.{SourceTells, Missing, Refused, Holds, DoesTellSource, IsMissing, IsLarge, IsFaulty, IsSound, IsOutcomeAfter}
-use Rattle.run_definitions.specs.BuildOutcomes.{AreTables, AreStems, IsWrittenOutcome, OfLimit, OfText, IsLexiconOutcome, IsStemsOutcome, IsTablesOutcome, IsBuildOutcome}
+use Rattle.run_definitions.specs.BuildOutcomes.{AreTables, AreStems, built_outcome, IsWrittenOutcome, OfLimit, OfText, IsLexiconOutcome, IsStemsOutcome, IsTablesOutcome, IsBuildOutcome}
 use Rattle.run_definitions.proofs.OneContent.{same_bytes, not_missing}
 use Rattle.run_definitions.proofs.OneSourceLexicon.{one_lexicon}
 
@@ -68,17 +73,18 @@ one_after (Holds held) word files a b left right one p q = one held p q
 
 -- ---- what is done with the lexicon
 
--- a lexicon that fits is not too large
-not_oversized : (lexicon : Lexicon) → FitsFile lexicon → IsOversized lexicon → ⊥
-not_oversized lexicon fits (inl lines) = let l = fits.lines in omega arith
-not_oversized lexicon fits (inr bytes) = let l = fits.bytes in omega arith
+-- a lexicon with a newest text within the limit is not too large, since a text has not too many lines
+not_oversized : (lexicon : Lexicon) (bytes : List ℕ) → IsNewestText lexicon bytes → length bytes ≤ MOST_FILE_BYTES → IsOversized lexicon → ⊥
+not_oversized lexicon bytes (version, text) within (inl lines) = let few = text.has_text.limits.lines in omega (arith, few, lines)
+not_oversized lexicon bytes newest within (inr long) = not_long lexicon bytes newest within long
 
 one_written : (lexicon : Lexicon) (stems out : FileWord) (files : Files) (a b : Outcome) → IsWrittenOutcome lexicon stems out files a
     → IsWrittenOutcome lexicon stems out files b → a ≡ b
 one_written lexicon stems out files a b (OfLimit p e) (OfLimit q f) = e ∙ sym f
-one_written lexicon stems out files a b (OfLimit p e) (OfText q f) = absurd (not_oversized lexicon q p)
-one_written lexicon stems out files a b (OfText p e) (OfLimit q f) = absurd (not_oversized lexicon p q)
-one_written lexicon stems out files a b (OfText p e) (OfText q f) = e ∙ sym f
+one_written lexicon stems out files a b (OfLimit p e) (OfText bytes q within f) = absurd (not_oversized lexicon bytes q within p)
+one_written lexicon stems out files a b (OfText bytes p within e) (OfLimit q f) = absurd (not_oversized lexicon bytes p within q)
+one_written lexicon stems out files a b (OfText bytes p within e) (OfText more q small f) =
+    e ∙ ap (λ (b : List ℕ). built_outcome lexicon b out files) (one_newest lexicon bytes more p q) ∙ sym f
 
 one_lexicon_outcome : (rules : RuleSet) (classes : List Class) (held : List Stem) (stems out : FileWord) (files : Files) (a b : Outcome)
     → IsLexiconOutcome rules classes held stems out files a → IsLexiconOutcome rules classes held stems out files b → a ≡ b

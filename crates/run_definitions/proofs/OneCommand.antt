@@ -8,7 +8,7 @@ use Rattle.conversion_definitions.specs.AnySchemes.{AnyScheme, name_of_any_schem
 use Rattle.session_definitions.specs.Numbers.{page_size_of}
 use Rattle.run_definitions.specs.SplitOutcomes.{split_depth_of}
 use Rattle.run_definitions.specs.Arguments.{Given, given_by}
-use Rattle.run_definitions.specs.Commands.{Command, Segment, Check, Build, Read, Batch, Demo, Convert, Join, Split, Annotate, Reread, FileWord, demo_number_of, GiveScheme, name_of_command, Takes, AreWordsOf}
+use Rattle.run_definitions.specs.Commands.{Command, Segment, Check, Build, Read, Batch, Demo, Convert, Join, Split, Annotate, Reread, Migrate, FileWord, demo_number_of, GiveScheme, name_of_command, Takes, AreWordsOf}
 
 -- schemes are told by the first byte of their names
 scheme_begun : List ℕ → Scheme
@@ -94,6 +94,10 @@ reread_from : List FileWord → Option Command
 reread_from (lex ∷ file ∷ others) = Some (Reread lex file)
 reread_from arguments = None
 
+migrate_from : List FileWord → Option Command
+migrate_from (lex ∷ out ∷ others) = Some (Migrate lex out)
+migrate_from arguments = None
+
 command_from : List ℕ → List (List ℕ) → List FileWord → Option Command
 command_from name values arguments =
     if bytes_eq name (codes "segment") then segment_from values arguments
@@ -105,11 +109,12 @@ command_from name values arguments =
     else (if bytes_eq name (codes "join") then join_from arguments
     else (if bytes_eq name (codes "split") then split_from arguments
     else (if bytes_eq name (codes "annotate") then annotate_from arguments
-    else (if bytes_eq name (codes "reread") then reread_from arguments else demo_from arguments)))))))))
+    else (if bytes_eq name (codes "reread") then reread_from arguments
+    else (if bytes_eq name (codes "migrate") then migrate_from arguments else demo_from arguments))))))))))
 
 read_back : (command : Command) (values : List (List ℕ)) (arguments : List FileWord) → Takes command values arguments
     → command_from (name_of_command command) values arguments ≡ Some command
-unfolding command_from segment_from check_from build_from read_from batch_from convert_from join_from split_from annotate_from reread_from demo_from
+unfolding command_from segment_from check_from build_from read_from batch_from convert_from join_from split_from annotate_from reread_from migrate_from demo_from
 read_back (Segment lex scheme text) values arguments takes =
     ap (segment_from values) takes.1.1 ∙ ap (λ s. Some (Segment lex s text)) (given_back values scheme takes.0)
 read_back (Check lex) values arguments takes = ap check_from takes.1
@@ -135,6 +140,7 @@ read_back (Split lex text count depth) values arguments takes =
     ∙ ap (option_map (λ d. Split lex text count d)) is.is_depth
 read_back (Annotate lex mark out) values arguments takes = ap annotate_from takes.1.1
 read_back (Reread lex file) values arguments takes = ap reread_from takes.1
+read_back (Migrate lex out) values arguments takes = ap migrate_from takes.1
 
 -- words are those of one command
 pub one_command : (words : List (List ℕ)) (left right : Command) → AreWordsOf left words → AreWordsOf right words → left ≡ right

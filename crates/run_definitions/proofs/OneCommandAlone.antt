@@ -31,7 +31,9 @@ use Rattle.run_definitions.specs.AnnotateOutcomes as annotate
 use Rattle.run_definitions.specs.AnnotateOutcomes.{IsAnnotateRun}
 use Rattle.run_definitions.specs.RereadOutcomes as reread
 use Rattle.run_definitions.specs.RereadOutcomes.{IsRereadRun}
-use Rattle.run_definitions.specs.Commands.{Command, Segment, Check, Build, Read, Batch, Demo, Convert, Join, Split, Annotate, Reread, name_of_command, AreWordsOf, AreOfNoCommand, out_of, DoWrite, ReadsInput, DoReadInput}
+use Rattle.run_definitions.specs.MigrateOutcomes as migrate
+use Rattle.run_definitions.specs.MigrateOutcomes.{IsMigrateRun}
+use Rattle.run_definitions.specs.Commands.{Command, Segment, Check, Build, Read, Batch, Demo, Convert, Join, Split, Annotate, Reread, Migrate, name_of_command, AreWordsOf, AreOfNoCommand, out_of, DoWrite, ReadsInput, DoReadInput}
 use Rattle.run_definitions.specs.Outcomes.{IsOutcome, IsOutcomeOf, OfNoCommand, OfCommand, IsSoFar, IsSoFarOf, OfNone, OfOne}
 use Rattle.run_definitions.proofs.OneCommand.{one_command}
 
@@ -105,6 +107,7 @@ only_segment P own (Join lex chain) e = absurd (not_both (ap (is_named (codes "s
 only_segment P own (Split lex text count depth) e = absurd (not_both (ap (is_named (codes "segment")) e))
 only_segment P own (Annotate lex mark out) e = absurd (not_both (ap (is_named (codes "segment")) e))
 only_segment P own (Reread lex file) e = absurd (not_both (ap (is_named (codes "segment")) e))
+only_segment P own (Migrate lex out) e = absurd (not_both (ap (is_named (codes "segment")) e))
 
 only_check : (P : Command → Type 0) → ((lex : FileWord) → P (Check lex))
     → (command : Command) → name_of_command command ≡ codes "check" → P command
@@ -119,6 +122,7 @@ only_check P own (Join lex chain) e = absurd (not_both (ap (is_named (codes "che
 only_check P own (Split lex text count depth) e = absurd (not_both (ap (is_named (codes "check")) e))
 only_check P own (Annotate lex mark out) e = absurd (not_both (ap (is_named (codes "check")) e))
 only_check P own (Reread lex file) e = absurd (not_both (ap (is_named (codes "check")) e))
+only_check P own (Migrate lex out) e = absurd (not_both (ap (is_named (codes "check")) e))
 
 only_build : (P : Command → Type 0) → ((rules tables stems out : FileWord) → P (Build rules tables stems out))
     → (command : Command) → name_of_command command ≡ codes "build" → P command
@@ -133,6 +137,7 @@ only_build P own (Join lex chain) e = absurd (not_both (ap (is_named (codes "bui
 only_build P own (Split lex text count depth) e = absurd (not_both (ap (is_named (codes "build")) e))
 only_build P own (Annotate lex mark out) e = absurd (not_both (ap (is_named (codes "build")) e))
 only_build P own (Reread lex file) e = absurd (not_both (ap (is_named (codes "build")) e))
+only_build P own (Migrate lex out) e = absurd (not_both (ap (is_named (codes "build")) e))
 
 only_read : (P : Command → Type 0) → ((lex : FileWord) → P (Read lex))
     → (command : Command) → name_of_command command ≡ codes "read" → P command
@@ -147,6 +152,7 @@ only_read P own (Join lex chain) e = absurd (not_both (ap (is_named (codes "read
 only_read P own (Split lex text count depth) e = absurd (not_both (ap (is_named (codes "read")) e))
 only_read P own (Annotate lex mark out) e = absurd (not_both (ap (is_named (codes "read")) e))
 only_read P own (Reread lex file) e = absurd (not_both (ap (is_named (codes "read")) e))
+only_read P own (Migrate lex out) e = absurd (not_both (ap (is_named (codes "read")) e))
 
 only_batch : (P : Command → Type 0) → ((lex : FileWord) (scheme : Scheme) (file : FileWord) (count : ℕ) → P (Batch lex scheme file count))
     → (command : Command) → name_of_command command ≡ codes "batch" → P command
@@ -161,6 +167,7 @@ only_batch P own (Join lex chain) e = absurd (not_both (ap (is_named (codes "bat
 only_batch P own (Split lex text count depth) e = absurd (not_both (ap (is_named (codes "batch")) e))
 only_batch P own (Annotate lex mark out) e = absurd (not_both (ap (is_named (codes "batch")) e))
 only_batch P own (Reread lex file) e = absurd (not_both (ap (is_named (codes "batch")) e))
+only_batch P own (Migrate lex out) e = absurd (not_both (ap (is_named (codes "batch")) e))
 
 only_demo : (P : Command → Type 0) → ((number : ℕ) → P (Demo number))
     → (command : Command) → name_of_command command ≡ codes "demo" → P command
@@ -175,6 +182,7 @@ only_demo P own (Join lex chain) e = absurd (not_both (ap (is_named (codes "demo
 only_demo P own (Split lex text count depth) e = absurd (not_both (ap (is_named (codes "demo")) e))
 only_demo P own (Annotate lex mark out) e = absurd (not_both (ap (is_named (codes "demo")) e))
 only_demo P own (Reread lex file) e = absurd (not_both (ap (is_named (codes "demo")) e))
+only_demo P own (Migrate lex out) e = absurd (not_both (ap (is_named (codes "demo")) e))
 
 only_convert : (P : Command → Type 0) → ((from to : AnyScheme) (file out : FileWord) → P (Convert from to file out))
     → (command : Command) → name_of_command command ≡ codes "convert" → P command
@@ -189,6 +197,7 @@ only_convert P own (Join lex chain) e = absurd (not_both (ap (is_named (codes "c
 only_convert P own (Split lex text count depth) e = absurd (not_both (ap (is_named (codes "convert")) e))
 only_convert P own (Annotate lex mark out) e = absurd (not_both (ap (is_named (codes "convert")) e))
 only_convert P own (Reread lex file) e = absurd (not_both (ap (is_named (codes "convert")) e))
+only_convert P own (Migrate lex out) e = absurd (not_both (ap (is_named (codes "convert")) e))
 
 only_join : (P : Command → Type 0) → ((lex : FileWord) (chain : List ℕ) → P (Join lex chain))
     → (command : Command) → name_of_command command ≡ codes "join" → P command
@@ -203,6 +212,7 @@ only_join P own (Join lex chain) e = own lex chain
 only_join P own (Split lex text count depth) e = absurd (not_both (ap (is_named (codes "join")) e))
 only_join P own (Annotate lex mark out) e = absurd (not_both (ap (is_named (codes "join")) e))
 only_join P own (Reread lex file) e = absurd (not_both (ap (is_named (codes "join")) e))
+only_join P own (Migrate lex out) e = absurd (not_both (ap (is_named (codes "join")) e))
 
 only_split : (P : Command → Type 0) → ((lex : FileWord) (text : List ℕ) (count depth : ℕ) → P (Split lex text count depth))
     → (command : Command) → name_of_command command ≡ codes "split" → P command
@@ -217,6 +227,7 @@ only_split P own (Join lex chain) e = absurd (not_both (ap (is_named (codes "spl
 only_split P own (Split lex text count depth) e = own lex text count depth
 only_split P own (Annotate lex mark out) e = absurd (not_both (ap (is_named (codes "split")) e))
 only_split P own (Reread lex file) e = absurd (not_both (ap (is_named (codes "split")) e))
+only_split P own (Migrate lex out) e = absurd (not_both (ap (is_named (codes "split")) e))
 
 only_annotate : (P : Command → Type 0) → ((lex : FileWord) (mark : List ℕ) (out : FileWord) → P (Annotate lex mark out))
     → (command : Command) → name_of_command command ≡ codes "annotate" → P command
@@ -231,6 +242,7 @@ only_annotate P own (Join lex chain) e = absurd (not_both (ap (is_named (codes "
 only_annotate P own (Split lex text count depth) e = absurd (not_both (ap (is_named (codes "annotate")) e))
 only_annotate P own (Annotate lex mark out) e = own lex mark out
 only_annotate P own (Reread lex file) e = absurd (not_both (ap (is_named (codes "annotate")) e))
+only_annotate P own (Migrate lex out) e = absurd (not_both (ap (is_named (codes "annotate")) e))
 
 only_reread : (P : Command → Type 0) → ((lex file : FileWord) → P (Reread lex file))
     → (command : Command) → name_of_command command ≡ codes "reread" → P command
@@ -245,6 +257,22 @@ only_reread P own (Join lex chain) e = absurd (not_both (ap (is_named (codes "re
 only_reread P own (Split lex text count depth) e = absurd (not_both (ap (is_named (codes "reread")) e))
 only_reread P own (Annotate lex mark out) e = absurd (not_both (ap (is_named (codes "reread")) e))
 only_reread P own (Reread lex file) e = own lex file
+only_reread P own (Migrate lex out) e = absurd (not_both (ap (is_named (codes "reread")) e))
+
+only_migrate : (P : Command → Type 0) → ((lex out : FileWord) → P (Migrate lex out))
+    → (command : Command) → name_of_command command ≡ codes "migrate" → P command
+only_migrate P own (Segment lex scheme text) e = absurd (not_both (ap (is_named (codes "migrate")) e))
+only_migrate P own (Check lex) e = absurd (not_both (ap (is_named (codes "migrate")) e))
+only_migrate P own (Build rules tables stems out) e = absurd (not_both (ap (is_named (codes "migrate")) e))
+only_migrate P own (Read lex) e = absurd (not_both (ap (is_named (codes "migrate")) e))
+only_migrate P own (Batch lex scheme file count) e = absurd (not_both (ap (is_named (codes "migrate")) e))
+only_migrate P own (Demo number) e = absurd (not_both (ap (is_named (codes "migrate")) e))
+only_migrate P own (Convert from to file out) e = absurd (not_both (ap (is_named (codes "migrate")) e))
+only_migrate P own (Join lex chain) e = absurd (not_both (ap (is_named (codes "migrate")) e))
+only_migrate P own (Split lex text count depth) e = absurd (not_both (ap (is_named (codes "migrate")) e))
+only_migrate P own (Annotate lex mark out) e = absurd (not_both (ap (is_named (codes "migrate")) e))
+only_migrate P own (Reread lex file) e = absurd (not_both (ap (is_named (codes "migrate")) e))
+only_migrate P own (Migrate lex out) e = own lex out
 
 -- the command has the first word as its name
 named : (words : List (List ℕ)) (name : List ℕ) (following : List (List ℕ)) (command : Command) → words ≡ name ∷ following
@@ -408,3 +436,17 @@ module _ (words following : List (List ℕ)) (files : Files) (input : Option (Li
 
   pub reread_run_alone : words ≡ codes "reread" ∷ following → IsOutcome words files input outcome ↔ IsRereadRun words files outcome
   reread_run_alone e = (reread_run e, of_reread_run e)
+
+  migrate_run : words ≡ codes "migrate" ∷ following → IsOutcome words files input outcome → IsMigrateRun words files outcome
+  migrate_run e (OfNoCommand none is) = migrate.OfOthers (λ lex out are. none (Migrate lex out) are) is
+  migrate_run e (OfCommand command are is) =
+      only_migrate (λ c. AreWordsOf c words → IsOutcomeOf c files input outcome → IsMigrateRun words files outcome)
+      (λ lex out. migrate.OfWords lex out) command (named words (codes "migrate") following command e are) are is
+
+  of_migrate_run : words ≡ codes "migrate" ∷ following → IsMigrateRun words files outcome → IsOutcome words files input outcome
+  of_migrate_run e (migrate.OfWords lex out are is) = OfCommand (Migrate lex out) are is
+  of_migrate_run e (migrate.OfOthers none is) =
+      OfNoCommand (λ command are. only_migrate (λ c. AreWordsOf c words → ⊥) none command (named words (codes "migrate") following command e are) are) is
+
+  pub migrate_run_alone : words ≡ codes "migrate" ∷ following → IsOutcome words files input outcome ↔ IsMigrateRun words files outcome
+  migrate_run_alone e = (migrate_run e, of_migrate_run e)

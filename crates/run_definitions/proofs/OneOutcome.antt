@@ -5,14 +5,15 @@ use Rattle.text_definitions.specs.Lines.{Line}
 use Rattle.text_definitions.specs.Schemes.{Scheme}
 use Rattle.text_definitions.specs.LineTexts.{LineFault}
 use Rattle.lexicon_definitions.specs.Lexicons.{Lexicon}
-use Rattle.lexicon_text_definitions.specs.FileReadings.{FileResult, IsReadAs}
+use Rattle.trie_text_definitions.specs.VersionFaults.{FileResult}
+use Rattle.trie_text_definitions.specs.VersionReadings.{IsReadAs}
 use Rattle.segmentation_definitions.specs.Listings.{BeforeFirst}
 use Rattle.segmentation_definitions.specs.PrintedAnswers.{printed_page}
 use Rattle.segmentation_definitions.proofs.Listings.{same_page}
 use Rattle.session_definitions.specs.Sessions.{IsSession}
 use Rattle.session_definitions.proofs.OneSession.{one_session}
 use Rattle.run_definitions.specs.declared.limits.TheConstants.{CHECK_OVERLAPS, SEGMENT_PAGE}
-use Rattle.run_definitions.specs.Commands.{Command, Segment, Check, Build, Read, Batch, Demo, Convert, Join, Split, Annotate, Reread, FileWord}
+use Rattle.run_definitions.specs.Commands.{Command, Segment, Check, Build, Read, Batch, Demo, Convert, Join, Split, Annotate, Reread, Migrate, FileWord}
 use Rattle.run_definitions.specs.Ends as ends
 use Rattle.run_definitions.specs.Ends.{Outcome, Done, Large, outcome_over}
 use Rattle.run_definitions.specs.Refusals.{text_refusal}
@@ -33,6 +34,8 @@ use Rattle.run_definitions.specs.AnnotateOutcomes.{IsAnnotateOutcomeWith, IsAnno
 use Rattle.run_definitions.proofs.OneAnnotateOutcome.{one_mark_outcome}
 use Rattle.run_definitions.specs.RereadOutcomes.{IsRereadOutcomeWith, IsRereadOutcome}
 use Rattle.run_definitions.proofs.OneRereadOutcome.{one_note_file_outcome}
+use Rattle.run_definitions.specs.MigrateOutcomes.{IsMigrateOutcomeWith, IsMigrateOutcome}
+use Rattle.run_definitions.proofs.OneMigrateOutcome.{one_migrated}
 use Rattle.run_definitions.proofs.OneBuildOutcome.{one_build_outcome}
 use Rattle.run_definitions.proofs.OneCommand.{one_command}
 use Rattle.run_definitions.proofs.OneContent.{same_bytes, not_missing}
@@ -214,6 +217,18 @@ module _ (one : (bytes : List ℕ) (left right : FileResult) → IsReadAs bytes 
       let same = one_telling files lex.name p.tells q.tells p.does_tell q.does_tell in
       one_reread_with q.tells lex file files a b (subst (λ (t : FileTells). IsRereadOutcomeWith t lex file files a) same p.is_outcome) q.is_outcome
 
+  one_migrate_with : (tells : FileTells) (lex out : FileWord) (files : Files) (a b : Outcome)
+      → IsMigrateOutcomeWith tells lex out files a → IsMigrateOutcomeWith tells lex out files b → a ≡ b
+  one_migrate_with NotThere lex out files a b p q = p ∙ sym q
+  one_migrate_with (Refused fault) lex out files a b p q = p ∙ sym q
+  one_migrate_with (Holds lexicon) lex out files a b p q = one_migrated lexicon lex out files a b p q
+
+  pub one_migrate_outcome : (lex out : FileWord) (files : Files) (a b : Outcome) → IsMigrateOutcome lex out files a
+      → IsMigrateOutcome lex out files b → a ≡ b
+  one_migrate_outcome lex out files a b p q =
+      let same = one_telling files lex.name p.tells q.tells p.does_tell q.does_tell in
+      one_migrate_with q.tells lex out files a b (subst (λ (t : FileTells). IsMigrateOutcomeWith t lex out files a) same p.is_outcome) q.is_outcome
+
   -- each command has one outcome at most
   pub one_outcome_of : (command : Command) (files : Files) (input : Option (List ℕ)) (a b : Outcome) → IsOutcomeOf command files input a
       → IsOutcomeOf command files input b → a ≡ b
@@ -228,6 +243,7 @@ module _ (one : (bytes : List ℕ) (left right : FileResult) → IsReadAs bytes 
   one_outcome_of (Split lex text count depth) files input a b p q = one_split_outcome lex text count files a b p q
   one_outcome_of (Annotate lex mark out) files input a b p q = one_annotate_outcome lex mark out files a b p q
   one_outcome_of (Reread lex file) files input a b p q = one_reread_outcome lex file files a b p q
+  one_outcome_of (Migrate lex out) files input a b p q = one_migrate_outcome lex out files a b p q
 
   -- and so has a run
   pub one_outcome : (words : List (List ℕ)) (files : Files) (input : Option (List ℕ)) (a b : Outcome)

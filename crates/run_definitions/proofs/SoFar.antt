@@ -5,12 +5,13 @@ use Rattle.outside.specs.Files.{Files}
 use Rattle.text_definitions.specs.Schemes.{Scheme}
 use Rattle.lexicon_definitions.specs.Lexicons.{Lexicon}
 use Rattle.lexicon_text_definitions.specs.FileLines as file
-use Rattle.lexicon_text_definitions.specs.FileReadings.{FileResult, IsReadAs}
+use Rattle.trie_text_definitions.specs.VersionFaults.{FileResult}
+use Rattle.trie_text_definitions.specs.VersionReadings.{IsReadAs}
 use Rattle.session_definitions.specs.SessionLines.{lines_of_input}
 use Rattle.session_definitions.specs.States.{opening}
 use Rattle.session_definitions.specs.Sessions.{AreReplies}
 use Rattle.session_definitions.proofs.FrontReplies.{begun}
-use Rattle.run_definitions.specs.Commands.{Command, Segment, Check, Build, Read, Batch, Demo, Convert, Join, Split, Annotate, Reread, FileWord}
+use Rattle.run_definitions.specs.Commands.{Command, Segment, Check, Build, Read, Batch, Demo, Convert, Join, Split, Annotate, Reread, Migrate, FileWord}
 use Rattle.run_definitions.specs.Ends.{Outcome}
 use Rattle.run_definitions.specs.LexiconTells.{FileTells, NotThere, Refused, Holds}
 use Rattle.run_definitions.specs.ReadOutcomes.{IsSessionOutcome, IsReadOutcomeWith, IsReadOutcome, AreFirstReplies, IsReadSoFarWith, IsReadSoFar}
@@ -65,6 +66,7 @@ all_is_so_far (Join lex chain) files input outcome p = (outcome, p, refl)
 all_is_so_far (Split lex text count depth) files input outcome p = (outcome, p, refl)
 all_is_so_far (Annotate lex mark out) files input outcome p = (outcome, p, refl)
 all_is_so_far (Reread lex file) files input outcome p = (outcome, p, refl)
+all_is_so_far (Migrate lex out) files input outcome p = (outcome, p, refl)
 
 -- ---- a beginning of it
 
@@ -130,6 +132,7 @@ module _ (one : (bytes : List ℕ) (left right : FileResult) → IsReadAs bytes 
   begins_of (Split lex text count depth) files input output outcome p q = output_begins (Split lex text count depth) files input output outcome p q
   begins_of (Annotate lex mark out) files input output outcome p q = output_begins (Annotate lex mark out) files input output outcome p q
   begins_of (Reread lex file) files input output outcome p q = output_begins (Reread lex file) files input output outcome p q
+  begins_of (Migrate lex out) files input output outcome p q = output_begins (Migrate lex out) files input output outcome p q
 
   -- what a run may have come to write begins the output of its outcome
   pub so_far_begins : (words : List (List ℕ)) (files : Files) (input : Option (List ℕ)) (output : List ℕ) (outcome : Outcome)

@@ -1,10 +1,11 @@
 -- The words of `build`, and what it does with the names of a rule file, a table file, a stem file and a file to write (own).
-use Rattle.std.specs.Prelude.{◌≡◌, ℕ, ◌++◌, List, [], ◌∷◌, codes}
+use Rattle.std.specs.Prelude.{◌≡◌, ℕ, ◌≤◌, ◌++◌, List, [], ◌∷◌, length, codes}
 use Rattle.std.specs.Fmt.{decimal}
 use Rattle.outside.specs.Files.{Files, with_file}
 use Rattle.lexicon_definitions.specs.Lexicons.{RuleSet, Lexicon}
 use Rattle.lexicon_definitions.specs.Limits.{count_lines}
-use Rattle.lexicon_text_definitions.specs.LexiconTexts.{text_of}
+use Rattle.lexicon_text_definitions.specs.declared.limits.TheConstants.{MOST_FILE_BYTES}
+use Rattle.trie_text_definitions.specs.VersionTexts.{IsNewestText}
 use Rattle.segmentation_definitions.specs.PrintedAnswers.{output_line}
 use Rattle.morphology_definitions.specs.Inflection.{Class, Stem}
 use Rattle.rule_file_definitions.specs.RuleFileReadings.{IsReadAs}
@@ -17,7 +18,7 @@ use Rattle.run_definitions.specs.Arguments.{FileWord, AreNamed}
 use Rattle.run_definitions.specs.Ends.{Outcome, AnyFault, Rules, Tables, Stems, Done, BadFile, outcome_over}
 use Rattle.run_definitions.specs.Refusals.{file_refusal, usage_outcome}
 use Rattle.run_definitions.specs.SourceTells.{SourceTells, DoesTellSource, IsOutcomeAfter}
-use Rattle.run_definitions.specs.SourceLexicons.{IsLexiconOf, IsOversized, FitsFile}
+use Rattle.run_definitions.specs.SourceLexicons.{IsLexiconOf, IsOversized}
 
 -- ---- the words
 
@@ -59,16 +60,17 @@ lexicon_fault = Stems (record { number = 0; why = Limit })
 abbrev pub printed_build : Lexicon → List ℕ
 printed_build lexicon = output_line (codes "forms " ++ decimal (count_lines lexicon.phases))
 
--- what is left where the lexicon is written: the file has its text, and all others are as they were
-abbrev pub built_outcome : Lexicon → FileWord → Files → Outcome
-built_outcome lexicon out files =
-    record { output = printed_build lexicon; files = with_file files out.name (text_of lexicon); end = Done }
+-- what is left where the lexicon is written: the file has these bytes, and all others are as they were
+abbrev pub built_outcome : Lexicon → List ℕ → FileWord → Files → Outcome
+built_outcome lexicon bytes out files =
+    record { output = printed_build lexicon; files = with_file files out.name bytes; end = Done }
 
--- with the lexicon of the sources, the stem file is refused where it is too large, and otherwise it is written
+-- with the lexicon of the sources, the stem file is refused where this lexicon is too large, and otherwise its newest text is written
 pub data IsWrittenOutcome (lexicon : Lexicon) (stems out : FileWord) (files : Files) (outcome : Outcome) : Type 0 where
   OfLimit : IsOversized lexicon → outcome ≡ outcome_over files (file_refusal stems.name lexicon_fault) (BadFile stems.place lexicon_fault)
       → IsWrittenOutcome lexicon stems out files outcome
-  OfText : FitsFile lexicon → outcome ≡ built_outcome lexicon out files → IsWrittenOutcome lexicon stems out files outcome
+  OfText : (bytes : List ℕ) → IsNewestText lexicon bytes → length bytes ≤ MOST_FILE_BYTES
+      → outcome ≡ built_outcome lexicon bytes out files → IsWrittenOutcome lexicon stems out files outcome
 
 -- with what the three files hold
 pub record IsLexiconOutcome (rules : RuleSet) (classes : List Class) (held : List Stem) (stems out : FileWord) (files : Files)

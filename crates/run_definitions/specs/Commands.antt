@@ -15,6 +15,7 @@ use Rattle.run_definitions.specs.JoinOutcomes.{TakesJoin}
 use Rattle.run_definitions.specs.SplitOutcomes.{TakesSplit}
 use Rattle.run_definitions.specs.AnnotateOutcomes.{TakesAnnotate}
 use Rattle.run_definitions.specs.RereadOutcomes.{TakesReread}
+use Rattle.run_definitions.specs.MigrateOutcomes.{TakesMigrate}
 use Rattle.run_definitions.specs.DemoOutcomes.{TakesDemo}
 pub use Rattle.run_definitions.specs.DemoOutcomes.{demo_number_of}
 
@@ -31,6 +32,7 @@ pub data Command : Type 0 where
   Split : (lex : FileWord) → (text : List ℕ) → (count depth : ℕ) → Command
   Annotate : (lex : FileWord) → (mark : List ℕ) → (out : FileWord) → Command
   Reread : (lex file : FileWord) → Command
+  Migrate : (lex out : FileWord) → Command
 
 -- the files that the command reads, in their order
 abbrev pub files_of : Command → List FileWord
@@ -45,6 +47,7 @@ files_of (Join lex chain) = lex ∷ []
 files_of (Split lex text count depth) = lex ∷ []
 files_of (Annotate lex mark out) = lex ∷ []
 files_of (Reread lex file) = lex ∷ file ∷ []
+files_of (Migrate lex out) = lex ∷ []
 
 -- the file that the command writes, where it writes one
 abbrev pub out_of : Command → Option FileWord
@@ -59,6 +62,7 @@ out_of (Join lex chain) = None
 out_of (Split lex text count depth) = None
 out_of (Annotate lex mark out) = Some out
 out_of (Reread lex file) = None
+out_of (Migrate lex out) = Some out
 
 -- the command reads the input
 abbrev pub ReadsInput : Command → Type 0
@@ -73,6 +77,7 @@ ReadsInput (Join lex chain) = ⊥
 ReadsInput (Split lex text count depth) = ⊥
 ReadsInput (Annotate lex mark out) = ⊥
 ReadsInput (Reread lex file) = ⊥
+ReadsInput (Migrate lex out) = ⊥
 
 -- the first word of a command
 abbrev pub name_of_command : Command → List ℕ
@@ -87,6 +92,7 @@ name_of_command (Join lex chain) = codes "join"
 name_of_command (Split lex text count depth) = codes "split"
 name_of_command (Annotate lex mark out) = codes "annotate"
 name_of_command (Reread lex file) = codes "reread"
+name_of_command (Migrate lex out) = codes "migrate"
 
 -- these values of `--in` and these arguments are the command's
 abbrev pub Takes : Command → List (List ℕ) → List FileWord → Type 0
@@ -101,6 +107,7 @@ Takes (Join lex chain) values arguments = TakesJoin lex chain values arguments
 Takes (Split lex text count depth) values arguments = TakesSplit lex text count depth values arguments
 Takes (Annotate lex mark out) values arguments = TakesAnnotate lex mark out values arguments
 Takes (Reread lex file) values arguments = TakesReread lex file values arguments
+Takes (Migrate lex out) values arguments = TakesMigrate lex out values arguments
 
 -- the words are those of the command
 abbrev pub AreWordsOf : Command → List (List ℕ) → Type 0

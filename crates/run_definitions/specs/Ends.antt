@@ -2,7 +2,7 @@
 use Rattle.std.specs.Prelude.{ℕ, List}
 use Rattle.outside.specs.Files.{Files}
 use Rattle.text_definitions.specs.LineTexts.{LineFault}
-use Rattle.lexicon_text_definitions.specs.FileFaults.{FileFault}
+use Rattle.trie_text_definitions.specs.VersionFaults.{FileFault}
 use Rattle.rule_file_definitions.specs.RuleFileFaults as rule_file
 use Rattle.paradigm_file_definitions.specs.Records as records
 use Rattle.paradigm_file_definitions.specs.TableFaults.{TableWhy}

@@ -1,10 +1,10 @@
--- What the file under a name tells as a lexicon file (own).
+-- What the file under a name tells as a lexicon file of any version (own).
 use Rattle.std.specs.Prelude.{◌≡◌, ℕ, ◌<◌, ◌≤◌, List, length, Some, None, Ok, Err}
 use Rattle.outside.specs.Files.{Files, contents_of}
 use Rattle.lexicon_definitions.specs.Lexicons.{Lexicon}
 use Rattle.lexicon_text_definitions.specs.declared.limits.TheConstants.{MOST_FILE_BYTES}
-use Rattle.lexicon_text_definitions.specs.FileFaults.{FileFault}
-use Rattle.lexicon_text_definitions.specs.FileReadings.{IsReadAs}
+use Rattle.trie_text_definitions.specs.VersionFaults.{FileFault}
+use Rattle.trie_text_definitions.specs.VersionReadings.{IsReadAs}
 use Rattle.run_definitions.specs.Ends as ends
 use Rattle.run_definitions.specs.Ends.{AnyFault, Large}
 

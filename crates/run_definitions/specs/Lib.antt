@@ -7,6 +7,7 @@ pub mod SourceTells
 pub mod SegmentOutcomes
 pub mod Overlaps
 pub mod CheckOutcomes
+pub mod LongTexts
 pub mod SourceLexicons
 pub mod BuildOutcomes
 pub mod DemoOutcomes
@@ -17,5 +18,6 @@ pub mod JoinOutcomes
 pub mod SplitOutcomes
 pub mod AnnotateOutcomes
 pub mod RereadOutcomes
+pub mod MigrateOutcomes
 pub mod Commands
 pub mod Outcomes

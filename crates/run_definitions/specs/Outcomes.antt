@@ -2,7 +2,7 @@
 -- come first; then each command has its case.
 use Rattle.std.specs.Prelude.{◌≡◌, ℕ, List, Option}
 use Rattle.outside.specs.Files.{Files}
-use Rattle.run_definitions.specs.Commands.{Command, Segment, Check, Build, Read, Batch, Demo, Convert, Join, Split, Annotate, Reread, AreWordsOf, AreOfNoCommand}
+use Rattle.run_definitions.specs.Commands.{Command, Segment, Check, Build, Read, Batch, Demo, Convert, Join, Split, Annotate, Reread, Migrate, AreWordsOf, AreOfNoCommand}
 use Rattle.run_definitions.specs.Ends as ends
 use Rattle.run_definitions.specs.Refusals.{usage_outcome}
 use Rattle.run_definitions.specs.SegmentOutcomes.{IsSegmentOutcome}
@@ -16,6 +16,7 @@ use Rattle.run_definitions.specs.JoinOutcomes.{IsJoinOutcome}
 use Rattle.run_definitions.specs.SplitOutcomes.{IsSplitOutcome}
 use Rattle.run_definitions.specs.AnnotateOutcomes.{IsAnnotateOutcome}
 use Rattle.run_definitions.specs.RereadOutcomes.{IsRereadOutcome}
+use Rattle.run_definitions.specs.MigrateOutcomes.{IsMigrateOutcome}
 
 abbrev pub Outcome : Type 0
 Outcome = ends.Outcome
@@ -33,6 +34,7 @@ IsOutcomeOf (Join lex chain) files input outcome = IsJoinOutcome lex chain files
 IsOutcomeOf (Split lex text count depth) files input outcome = IsSplitOutcome lex text count files outcome
 IsOutcomeOf (Annotate lex mark out) files input outcome = IsAnnotateOutcome lex mark out files outcome
 IsOutcomeOf (Reread lex file) files input outcome = IsRereadOutcome lex file files outcome
+IsOutcomeOf (Migrate lex out) files input outcome = IsMigrateOutcome lex out files outcome
 
 -- the outcome of a run with these words over these files and this input
 pub data IsOutcome (words : List (List ℕ)) (files : Files) (input : Option (List ℕ)) (outcome : Outcome) : Type 0 where
@@ -58,6 +60,7 @@ IsSoFarOf (Join lex chain) files input output = IsOutputOf (Join lex chain) file
 IsSoFarOf (Split lex text count depth) files input output = IsOutputOf (Split lex text count depth) files input output
 IsSoFarOf (Annotate lex mark out) files input output = IsOutputOf (Annotate lex mark out) files input output
 IsSoFarOf (Reread lex file) files input output = IsOutputOf (Reread lex file) files input output
+IsSoFarOf (Migrate lex out) files input output = IsOutputOf (Migrate lex out) files input output
 
 -- what a run with these words may have come to write over these files and this input
 pub data IsSoFar (words : List (List ℕ)) (files : Files) (input : Option (List ℕ)) (output : List ℕ) : Type 0 where

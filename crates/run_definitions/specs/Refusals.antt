@@ -3,8 +3,8 @@ use Rattle.std.specs.Prelude.{ℕ, List, ◌++◌, codes}
 use Rattle.std.specs.Fmt.{decimal}
 use Rattle.outside.specs.Files.{Files}
 use Rattle.text_definitions.specs.LineTexts.{LineFault, Misspelled, NoLetters, TooLong, place_of}
-use Rattle.lexicon_text_definitions.specs.FileFaults as file
-use Rattle.lexicon_text_definitions.specs.FileFaults.{Why}
+use Rattle.trie_text_definitions.specs.VersionFaults as file
+use Rattle.trie_text_definitions.specs.VersionFaults.{Why}
 use Rattle.segmentation_definitions.specs.PrintedAnswers.{output_line}
 use Rattle.rule_file_definitions.specs.EntryWhys as entry
 use Rattle.rule_file_definitions.specs.RuleFileFaults as rule_file
@@ -19,7 +19,7 @@ use Rattle.run_definitions.specs.Ends.{AnyFault, Large, Lexicon, Rules, Tables, 
 abbrev pub usage_outcome : Files → Outcome
 usage_outcome files = outcome_over files (output_line (codes "usage")) ends.Usage
 
--- the name of a reason, without what it carries
+-- the name of a reason of a lexicon file of any version, without what it carries
 abbrev pub name_of_why : Why → List ℕ
 name_of_why file.Trailing = codes "Trailing"
 name_of_why file.NoEnd = codes "NoEnd"
@@ -30,15 +30,20 @@ name_of_why file.Field = codes "Field"
 name_of_why file.Spelling = codes "Spelling"
 name_of_why file.Strict = codes "Strict"
 name_of_why (file.Grammar fault) = codes "Grammar"
+name_of_why file.Child = codes "Child"
 name_of_why file.Limit = codes "Limit"
 name_of_why file.Twice = codes "Twice"
 name_of_why file.Falling = codes "Falling"
+name_of_why file.Unused = codes "Unused"
+name_of_why file.Delta = codes "Delta"
+name_of_why file.Unlimited = codes "Unlimited"
 
 -- the name of a reason of an entry of the rules
 abbrev pub name_of_entry_why : entry.Why → List ℕ
 name_of_entry_why entry.Shape = codes "Shape"
 name_of_entry_why entry.Spelling = codes "Spelling"
 name_of_entry_why entry.Class = codes "Class"
+name_of_entry_why entry.Phase = codes "Phase"
 name_of_entry_why entry.Strict = codes "Strict"
 name_of_entry_why entry.Long = codes "Long"
 name_of_entry_why entry.Twice = codes "Twice"

@@ -1,13 +1,12 @@
 -- The lexicon of a rule set, tables and stems: as its forms it has the entries of all stems (after Huet 2005; exact clauses are
 -- own).
-use Rattle.std.specs.Prelude.{◌≡◌, ◌↔◌, ◌<◌, ◌≤◌, ◌⊎◌, List, length, Contains}
+use Rattle.std.specs.Prelude.{◌≡◌, ◌↔◌, ◌<◌, ◌⊎◌, List, Contains}
 use Rattle.lexicon_definitions.specs.declared.limits.TheConstants.{MOST_FORM_LINES}
 use Rattle.lexicon_definitions.specs.FormEntries.{Entry, HasEntry}
 use Rattle.lexicon_definitions.specs.Lexicons.{RuleSet, Form, Lexicon, IsLexicon}
 use Rattle.lexicon_definitions.specs.Limits.{count_lines}
-use Rattle.lexicon_text_definitions.specs.declared.limits.TheConstants.{MOST_FILE_BYTES}
-use Rattle.lexicon_text_definitions.specs.LexiconTexts.{text_of}
 use Rattle.morphology_definitions.specs.Inflection.{Class, Stem, AreAllInflected}
+use Rattle.run_definitions.specs.LongTexts.{HasLongText}
 
 -- the phases have just these entries
 abbrev pub HaveJust : List (List Form) → List Entry → Type 0
@@ -21,11 +20,6 @@ pub record IsLexiconOf (rules : RuleSet) (classes : List Class) (stems : List St
   pub inflected : AreAllInflected classes stems entries
   pub just_these : HaveJust lexicon.phases entries
 
--- the lexicon has too many lines of forms, or its text has too many bytes for a file
+-- the lexicon has too many lines of forms, or its newest text has too many bytes for a file
 abbrev pub IsOversized : Lexicon → Type 0
-IsOversized lexicon = (MOST_FORM_LINES < count_lines lexicon.phases) ⊎ (MOST_FILE_BYTES < length (text_of lexicon))
-
--- the lexicon has not too many lines of forms, and its text not too many bytes
-pub record FitsFile (lexicon : Lexicon) : Type 0 where
-  pub lines : count_lines lexicon.phases ≤ MOST_FORM_LINES
-  pub bytes : length (text_of lexicon) ≤ MOST_FILE_BYTES
+IsOversized lexicon = (MOST_FORM_LINES < count_lines lexicon.phases) ⊎ HasLongText lexicon

@@ -16,7 +16,8 @@ ghost use Rattle.run_definitions.specs.JoinOutcomes.{AreJoinWords, IsJoinOutcome
 ghost use Rattle.run_definitions.specs.SplitOutcomes.{AreSplitWords, IsSplitOutcome, IsSplitRun};
 ghost use Rattle.run_definitions.specs.AnnotateOutcomes.{AreAnnotateWords, IsAnnotateOutcome, IsAnnotateRun};
 ghost use Rattle.run_definitions.specs.RereadOutcomes.{AreRereadWords, IsRereadOutcome, IsRereadRun};
-ghost use Rattle.run_definitions.specs.Commands.{Command, Segment, Check, Build, Read, Batch, Demo, Convert, Join, Split, Annotate, Reread};
+ghost use Rattle.run_definitions.specs.MigrateOutcomes.{AreMigrateWords, IsMigrateOutcome, IsMigrateRun};
+ghost use Rattle.run_definitions.specs.Commands.{Command, Segment, Check, Build, Read, Batch, Demo, Convert, Join, Split, Annotate, Reread, Migrate};
 ghost use Rattle.run_definitions.specs.Commands.{name_of_command, AreWordsOf, DoWrite, WriteNoFile, DoReadInput};
 ghost use Rattle.run_definitions.specs.Outcomes.{IsOutcome, IsSoFar};
 
@@ -183,6 +184,21 @@ pub fn reread_alone()
         ↔ ((outcome : Outcome) × IsRereadOutcome lex file files outcome × (output ≡ outcome.output)) }
     ensures writes { (lex file : FileWord) (words : List (List ℕ)) → AreRereadWords lex file words → WriteNoFile words }
     ensures input { (lex file : FileWord) (words : List (List ℕ)) → AreRereadWords lex file words → DoReadInput words → ⊥ }
+{}
+
+/// The outcomes of a run whose first word is `migrate` are just those that the definitions of `migrate` alone give; so is what it may have
+/// come to write where it stops.
+pub fn migrate_alone()
+    ensures words { (lex out : FileWord) (words : List (List ℕ)) → AreMigrateWords lex out words ↔ AreWordsOf (Migrate lex out) words }
+    ensures run { (words following : List (List ℕ)) (files : Files) (input : Option (List ℕ)) (outcome : Outcome)
+        → words ≡ codes "migrate" ∷ following → IsOutcome words files input outcome ↔ IsMigrateRun words files outcome }
+    ensures outcome { (lex out : FileWord) (words : List (List ℕ)) (files : Files) (input : Option (List ℕ)) (outcome : Outcome)
+        → AreMigrateWords lex out words → IsOutcome words files input outcome ↔ IsMigrateOutcome lex out files outcome }
+    ensures so_far { (lex out : FileWord) (words : List (List ℕ)) (files : Files) (input : Option (List ℕ)) (output : List ℕ)
+        → AreMigrateWords lex out words → IsSoFar words files input output
+        ↔ ((outcome : Outcome) × IsMigrateOutcome lex out files outcome × (output ≡ outcome.output)) }
+    ensures writes { (lex out : FileWord) (words : List (List ℕ)) (other : FileWord) → AreMigrateWords lex out words → DoWrite words other → other ≡ out }
+    ensures input { (lex out : FileWord) (words : List (List ℕ)) → AreMigrateWords lex out words → DoReadInput words → ⊥ }
 {}
 
 /// A run whose first word is the name of no command, or that has no word, is refused with `usage`.

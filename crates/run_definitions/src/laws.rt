@@ -16,6 +16,7 @@ ghost use Rattle.run_definitions.specs.ConvertOutcomes.{IsConvertOutcome};
 ghost use Rattle.run_definitions.specs.JoinOutcomes.{IsJoinOutcome};
 ghost use Rattle.run_definitions.specs.SplitOutcomes.{IsSplitOutcome};
 ghost use Rattle.run_definitions.specs.SegmentOutcomes.{IsSegmentOutcome};
+ghost use Rattle.run_definitions.specs.MigrateOutcomes.{IsMigrateOutcome};
 
 /// Words are those of one command at most.
 pub fn words_are_of_one_command()
@@ -80,6 +81,12 @@ pub fn join_has_one_outcome()
 pub fn split_has_one_outcome()
     ensures { (lex : FileWord) (text : List ℕ) (count : ℕ) (files : Files) (left right : Outcome)
         → IsSplitOutcome lex text count files left → IsSplitOutcome lex text count files right → left ≡ right }
+{}
+
+/// With a lexicon file and a file to write, `migrate` has one outcome at most over the same files.
+pub fn migrate_has_one_outcome()
+    ensures { (lex out : FileWord) (files : Files) (left right : Outcome)
+        → IsMigrateOutcome lex out files left → IsMigrateOutcome lex out files right → left ≡ right }
 {}
 
 /// A run has one outcome at most: these words over these files and this input write one output, leave one set of files,

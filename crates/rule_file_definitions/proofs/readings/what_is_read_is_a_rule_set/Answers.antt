@@ -7,6 +7,3 @@ returns-clause-set c = λ bytes set h. (read_sound bytes set h).set_itself
 
 pub returns-clause-limits : goal.returns-clause-limits
 returns-clause-limits c = λ bytes set h. (read_sound bytes set h).limits
-
-pub returns-clause-unlimited : goal.returns-clause-unlimited
-returns-clause-unlimited c = λ bytes set h. (read_sound bytes set h).unlimited

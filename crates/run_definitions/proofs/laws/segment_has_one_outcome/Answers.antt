@@ -1,7 +1,7 @@
 -- Outcomes of two cases exclude each other, and those of one case are the same, since bytes are read in one way.
-use Rattle.lexicon_text_definitions.proofs.OneReading.{one_reading}
+use Rattle.trie_text_definitions.proofs.OneVersionReading.{one_version_reading}
 use Rattle.run_definitions.proofs.OneOutcome.{one_segment_outcome}
 use Rattle.run_definitions.proofs.laws.segment_has_one_outcome.Goals as goal
 
 pub returns : goal.returns
-returns c = one_segment_outcome one_reading
+returns c = one_segment_outcome one_version_reading
