@@ -1,4 +1,5 @@
 pub mod EntriesAdded
+pub mod SortedEntries
 pub mod CollectedLists
 pub mod ListableEntries
 pub mod SourcesRead

@@ -1,102 +1,84 @@
--- The entries of sources may be listed, and they are as many as the sources say: pair by pair of a row and a stem.
-use Rattle.std.proofs.Common.{◌≡◌, ℕ, zero, suc, ◌<◌, ◌≤◌, List, [], ◌∷◌, length, map, All, sym, ◌∙◌, ap, subst, arith}
-use Rattle.std.specs.Prelude.{sum_by}
+-- The entries of sources may be listed: pair by pair of a row and a stem.
+use Rattle.std.proofs.Common.{◌≡◌, ℕ, ◌<◌, ◌≤◌, List, [], ◌∷◌, length, map, All, sym, subst, arith}
 use Rattle.std.specs.List.{AllZip, flat_map}
-use Rattle.std.proofs.lemmas.List.{length-map}
-use Rattle.std.proofs.lemmas.List.Concat.{flat_map-cons, length-flat_map}
+use Rattle.std.proofs.lemmas.List.Concat.{flat_map-cons}
 use Rattle.std.proofs.lemmas.List.Elements.{All-head, All-tail, All-nil, All-cons, All-append}
-use Rattle.std.proofs.lemmas.Slice.Zip.{AllZip-long}
 use Rattle.lexicon_definitions.specs.declared.limits.TheConstants.{MOST_FORM_LETTERS}
 use Rattle.lexicon_definitions.specs.FormEntries.{Entry, IsListedStem}
 use Rattle.lexicon_definitions.specs.Lexicons.{RuleSet}
 use Rattle.morphology_definitions.specs.Inflection.{Row, Class, Stem, IsInflected, AreAllInflected, IsInflectable, IsInflectableStem, rows_of, rows_with}
 use Rattle.morphology_definitions.proofs.Inflections.{inflected-length}
-use Rattle.paradigm_file_definitions.specs.declared.limits.TheConstants.{MOST_INFLECTIONS}
-use Rattle.paradigm_file_definitions.specs.StemFiles.{count_inflections}
-use Rattle.lexicon_builder.specs.Sources.{HasPhases, IsShortStem, AreSources, IsListable}
+use Rattle.run_definitions.specs.SoundSources.{IsSoundEntry}
+use Rattle.run_definitions.proofs.SourcesSound.{entries_sound}
+use Rattle.lexicon_builder.specs.Sources.{IsShortStem, AreSources, IsListable}
 
 -- ---- the pairs of rows and stems
 
 -- what is asked of a row and a stem
-record IsSound (count : ℕ) (pair : Row × List ℕ) : Type 0 where
-  pub phase : pair.0.phase < count
+record IsShortPair (pair : Row × List ℕ) : Type 0 where
   pub inflectable : IsInflectable pair.1 pair.0
   pub not_empty : 0 < length pair.1
   pub short : length pair.1 ≤ MOST_FORM_LETTERS
 
--- the rows of the class with a number have these phases
-rows_have : (count : ℕ) (classes : List Class) (number : ℕ) → All (HasPhases count) classes → All (λ (row : Row). row.phase < count) (rows_of classes number)
-rows_have count [] number each = All-nil (λ (row : Row). row.phase < count)
-rows_have count (class ∷ classes) zero each = All-head (HasPhases count) class classes each
-rows_have count (class ∷ classes) (suc number) each = rows_have count classes number (All-tail (HasPhases count) class classes each)
-
 -- the pairs of one stem
-sound_pairs : (count : ℕ) (stem : List ℕ) (rows : List Row) → 0 < length stem → length stem ≤ MOST_FORM_LETTERS → All (λ (row : Row). row.phase < count) rows
-    → All (IsInflectable stem) rows → All (IsSound count) (map (λ row. (row, stem)) rows)
-sound_pairs count stem [] some short phases each = All-nil (IsSound count)
-sound_pairs count stem (row ∷ rows) some short phases each =
-    All-cons (IsSound count) (row, stem) (map (λ row. (row, stem)) rows)
-    (record {
-      phase = All-head (λ (row : Row). row.phase < count) row rows phases;
-      inflectable = All-head (IsInflectable stem) row rows each;
-      not_empty = some;
-      short = short;
-    })
-    (sound_pairs count stem rows some short (All-tail (λ (row : Row). row.phase < count) row rows phases) (All-tail (IsInflectable stem) row rows each))
+short_pairs : (stem : List ℕ) (rows : List Row) → 0 < length stem → length stem ≤ MOST_FORM_LETTERS → All (IsInflectable stem) rows
+    → All IsShortPair (map (λ row. (row, stem)) rows)
+short_pairs stem [] some short each = All-nil IsShortPair
+short_pairs stem (row ∷ rows) some short each =
+    All-cons IsShortPair (row, stem) (map (λ row. (row, stem)) rows)
+    (record { inflectable = All-head (IsInflectable stem) row rows each; not_empty = some; short = short })
+    (short_pairs stem rows some short (All-tail (IsInflectable stem) row rows each))
 
 -- the pairs of all stems
-all_sound : (count : ℕ) (classes : List Class) (stems : List Stem) → All (HasPhases count) classes → All (IsInflectableStem classes) stems → All IsShortStem stems
-    → All (IsSound count) (flat_map (rows_with classes) stems)
-all_sound count classes [] phases inflectable short = All-nil (IsSound count)
-all_sound count classes (stem ∷ stems) phases inflectable short =
+all_short : (classes : List Class) (stems : List Stem) → All (IsInflectableStem classes) stems → All IsShortStem stems
+    → All IsShortPair (flat_map (rows_with classes) stems)
+all_short classes [] inflectable short = All-nil IsShortPair
+all_short classes (stem ∷ stems) inflectable short =
     let first = All-head (IsInflectableStem classes) stem stems inflectable in
     let letters = All-head IsShortStem stem stems short in
-    let rest = all_sound count classes stems phases (All-tail (IsInflectableStem classes) stem stems inflectable) (All-tail IsShortStem stem stems short) in
-    let here = sound_pairs count stem.letters (rows_of classes stem.class) letters.not_empty letters.short (rows_have count classes stem.class phases) first.rows in
-    subst (All (IsSound count)) (sym (flat_map-cons (rows_with classes) stem stems))
-    (All-append (IsSound count) (rows_with classes stem) (flat_map (rows_with classes) stems) here rest)
+    let rest = all_short classes stems (All-tail (IsInflectableStem classes) stem stems inflectable) (All-tail IsShortStem stem stems short) in
+    let here = short_pairs stem.letters (rows_of classes stem.class) letters.not_empty letters.short first.rows in
+    subst (All IsShortPair) (sym (flat_map-cons (rows_with classes) stem stems))
+    (All-append IsShortPair (rows_with classes stem) (flat_map (rows_with classes) stems) here rest)
 
 -- ---- the entries
 
--- the entry of a sound pair may be listed
-listable : (count : ℕ) (pair : Row × List ℕ) (entry : Entry) → IsSound count pair → IsInflected pair.0 pair.1 entry → IsListable count entry
-listable count pair entry sound is =
+-- the entry has letters, but not too many, and so has its stem
+record IsShortEntry (entry : Entry) : Type 0 where
+  pub not_empty : 0 < length entry.letters
+  pub short : length entry.letters ≤ MOST_FORM_LETTERS
+  pub stem : IsListedStem entry.analysis
+
+short_entry : (pair : Row × List ℕ) (entry : Entry) → IsShortPair pair → IsInflected pair.0 pair.1 entry → IsShortEntry entry
+short_entry pair entry is_short is =
     let long = inflected-length pair.0 pair.1 entry is in
-    let some = sound.inflectable.not_empty in
-    let short = sound.inflectable.short in
-    let phase = is.phase in
-    let below = sound.phase in
+    let some = is_short.inflectable.not_empty in
+    let short = is_short.inflectable.short in
     record {
-      phase = omega (arith, phase, below);
       not_empty = omega (arith, long, some);
       short = omega (arith, long, short);
-      stem = subst IsListedStem (sym is.analysis) (record { not_empty = sound.not_empty; short = sound.short });
+      stem = subst IsListedStem (sym is.analysis) (record { not_empty = is_short.not_empty; short = is_short.short });
     }
 
-all_listable : (count : ℕ) (pairs : List (Row × List ℕ)) (entries : List Entry) → All (IsSound count) pairs
-    → AllZip (λ (pair : Row × List ℕ) (entry : Entry). IsInflected pair.0 pair.1 entry) pairs entries → All (IsListable count) entries
-all_listable count [] [] sound is = All-nil (IsListable count)
-all_listable count [] (entry ∷ entries) sound is = absurd is
-all_listable count (pair ∷ pairs) [] sound is = absurd is
-all_listable count (pair ∷ pairs) (entry ∷ entries) sound is =
-    All-cons (IsListable count) entry entries (listable count pair entry (All-head (IsSound count) pair pairs sound) is.0)
-    (all_listable count pairs entries (All-tail (IsSound count) pair pairs sound) is.1)
+short_entries : (pairs : List (Row × List ℕ)) (entries : List Entry) → All IsShortPair pairs
+    → AllZip (λ (pair : Row × List ℕ) (entry : Entry). IsInflected pair.0 pair.1 entry) pairs entries → All IsShortEntry entries
+short_entries [] [] short is = All-nil IsShortEntry
+short_entries [] (entry ∷ entries) short is = absurd is
+short_entries (pair ∷ pairs) [] short is = absurd is
+short_entries (pair ∷ pairs) (entry ∷ entries) short is =
+    All-cons IsShortEntry entry entries (short_entry pair entry (All-head IsShortPair pair pairs short) is.0)
+    (short_entries pairs entries (All-tail IsShortPair pair pairs short) is.1)
 
--- the pairs are as many as the inflections
-counted : (classes : List Class) (stems : List Stem) → length (flat_map (rows_with classes) stems) ≡ count_inflections classes stems
-counted classes stems =
-    length-flat_map (rows_with classes) stems
-    ∙ ap (λ (count : Stem → ℕ). sum_by count stems) (λ i stem. length-map {B = Row × List ℕ} (rows_of classes stem.class) (λ row. (row, stem.letters)) i)
-
-module _ (rules : RuleSet) (classes : List Class) (stems : List Stem) (entries : List Entry) (sources : AreSources rules classes stems) (are : AreAllInflected classes stems entries) where
-  pub entries_listable : All (IsListable (length rules.names)) entries
-  entries_listable =
-      all_listable (length rules.names) (flat_map (rows_with classes) stems) entries
-      (all_sound (length rules.names) classes stems sources.phases sources.inflectable sources.short) are
-
-  pub entries_few : length entries ≤ MOST_INFLECTIONS
-  entries_few =
-      let long = AllZip-long (λ (pair : Row × List ℕ) (entry : Entry). IsInflected pair.0 pair.1 entry) (flat_map (rows_with classes) stems) entries are in
-      let count = counted classes stems in
-      let few = sources.few in
-      omega (arith, long, count, few)
+pub entries_listable : (rules : RuleSet) (classes : List Class) (stems : List Stem) (entries : List Entry) → AreSources rules classes stems
+    → AreAllInflected classes stems entries → All (IsListable (length rules.names)) entries
+entries_listable rules classes stems entries sources are k d below =
+    let short : IsShortEntry _ = short_entries (flat_map (rows_with classes) stems) entries (all_short classes stems sources.inflectable sources.short) are k d below in
+    let sound : IsSoundEntry (length rules.names) _ = entries_sound (length rules.names) classes stems entries sources.rows sources.words sources.inflectable are k d below in
+    record {
+      phase = sound.phase;
+      word = sound.word;
+      not_empty = short.not_empty;
+      short = short.short;
+      analysis = sound.analysis;
+      stem = short.stem;
+    }

@@ -22,6 +22,7 @@ use Rattle.lexicon_definitions.specs.FormEntries.{Entry}
 use Rattle.lexicon_text_definitions.specs.FileContents.{is_tag_text}
 use Rattle.lexicon_text_definitions.specs.FileSteps.{some_word}
 use Rattle.lexicon_text_definitions.proofs.TagTests.{tag_from_test}
+use Rattle.trie_text_definitions.proofs.SuffixLaws.{Contains-flat_map_cases}
 use Rattle.morphology_definitions.specs.InternalSandhi.{TurnsFrom, IsJoined, IsTurningSibilant, IsTurningStop, IsTurningNasal, letter_z, letter_w, letter_W, letter_t, letter_R}
 use Rattle.morphology_definitions.specs.Inflection.{Row, Class, Stem, IsInflected, AreAllInflected, IsInflectable, IsInflectableStem, front_of, without_last, rows_of, rows_with}
 use Rattle.morphology_definitions.proofs.Inflections.{inflected-length}
@@ -30,17 +31,20 @@ use Rattle.paradigm_file_definitions.specs.TableFaults as table
 use Rattle.paradigm_file_definitions.specs.TableFiles.{has_name, has_row, with_row, with_last_row, passes_row_limits, is_class_name, cut_of, take_row, take_affixes, take_phase, take_cut, take_table, tables_of}
 use Rattle.paradigm_file_definitions.specs.StemFaults as stem
 use Rattle.paradigm_file_definitions.specs.StemFiles.{is_same_stem, is_too_short, passes_stem_limits, take_classed, take_class, take_letters, take_stem, stems_of}
-use Rattle.existence_laws.proofs.Decisions.{Decided, both, is_at_most}
-use Rattle.existence_laws.proofs.FiniteLists.{Contains-flat_map_cases}
+use Rattle.run_definitions.specs.SoundSources.{IsSoundRow, HasSoundRows, IsStemWord, IsSoundEntry}
 
 -- ---- joined words
 
-is_letter : (n : ℕ) → Decided (IsLetter n)
-is_letter n = both (is_at_most 1 n) (is_at_most n 50)
-
-if_not_refuted : {A : Type 0} → Decided A → ((A → ⊥) → ⊥) → A
-if_not_refuted (inl a) h = a
-if_not_refuted (inr n) h = absurd (h n)
+-- what is not refuted is a letter, since a number is one or is none
+letter_if_not_refuted : (n : ℕ) → ((IsLetter n → ⊥) → ⊥) → IsLetter n
+letter_if_not_refuted n h =
+    elim (cases_lt n 1) [
+      | inl low ↦ absurd (h (λ l. let some = l.0 in omega (arith, low, some)))
+      | inr some ↦ elim (cases_lt 50 n) [
+        | inl above ↦ absurd (h (λ l. let within = l.1 in omega (arith, above, within)))
+        | inr within ↦ (some, within)
+      ]
+    ]
 
 turned_word : (start : ℕ) (Turns : ℕ → Type 0) (turned : ℕ → ℕ) (old new : List ℕ) → TurnsFrom start Turns turned old new
     → ((n : ℕ) → IsLetter n → IsLetter (turned n)) → IsWord old → IsWord new
@@ -49,7 +53,7 @@ turned_word start Turns turned old new h keeps word k d below =
     let was : IsLetter (slice_index old k) = word k 0 within in
     let now : IsLetter (slice_index new k) = elim (cases_lt k start) [
       | inl in_front ↦ subst IsLetter (sym (h.front k in_front)) was
-      | inr later ↦ if_not_refuted (is_letter (slice_index new k)) (λ none.
+      | inr later ↦ letter_if_not_refuted (slice_index new k) (λ none.
           let stays : Turns k → ⊥ = λ t. none (subst IsLetter (sym (h.turns k later t)) (keeps (slice_index old k) was)) in
           none (subst IsLetter (sym (h.stays k stays)) was))
     ] in
@@ -71,26 +75,6 @@ joined_word front ending result h f e =
     turned_word start (IsTurningNasal start h.after_stops result) (λ n. letter_R) h.after_stops result h.nasals (λ n l. (omega arith, omega arith)) stops
 
 -- ---- entries
-
--- a row with one of so many phases, a tag, and words
-pub record IsSoundRow (count : ℕ) (row : Row) : Type 0 where
-  pub phase : row.phase < count
-  pub tag : IsTagText row.tag
-  pub prefix : IsWord row.prefix
-  pub ending : IsWord row.ending
-
-abbrev pub HasSoundRows : ℕ → Class → Type 0
-HasSoundRows count class = All (IsSoundRow count) class.rows
-
-abbrev pub IsStemWord : Stem → Type 0
-IsStemWord stem = IsWord stem.letters
-
--- an entry that may stand in a lexicon
-pub record IsSoundEntry (count : ℕ) (entry : Entry) : Type 0 where
-  pub phase : entry.phase < count
-  pub word : IsWord entry.letters
-  pub not_empty : entry.letters ≢ []
-  pub analysis : IsAnalysis entry.analysis
 
 entry_sound : (count : ℕ) (row : Row) (stem : List ℕ) (entry : Entry) → IsSoundRow count row → IsWord stem → IsInflectable stem row
     → IsInflected row stem entry → IsSoundEntry count entry
@@ -161,7 +145,7 @@ module _ {Told Why : Type 0} (take_record : ℕ → Told → List (List ℕ) →
   kept_on number records end (Err why) one rest h = absurd (cc)
   kept_on number records end (Ok after) one rest h = rest after (one after refl) h
 
-  kept : (records : List (List (List ℕ))) (number : ℕ) (told end : Told) → P told → read_records take_record number told records ≡ Ok end → P end
+  pub kept : (records : List (List (List ℕ))) (number : ℕ) (told end : Told) → P told → read_records take_record number told records ≡ Ok end → P end
   kept [] number told end holds h = let same : told ≡ end = cc (h) in subst P same holds
   kept (fields ∷ records) number told end holds h =
       kept_on number records end (take_record number told fields)
