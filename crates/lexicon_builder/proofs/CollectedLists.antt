@@ -1,6 +1,6 @@
 -- Phases that have just the entries put into them so far, and what is still to come, entry by entry: the next one is above the last, or it is
 -- the last again. Where there is no room for it, all that are left make too many.
-use Rattle.std.proofs.Common.{◌≡◌, ℕ, zero, suc, ◌+◌, ◌<◌, ◌≤◌, ◌⊎◌, inl, inr, List, [], ◌∷◌, ◌++◌, length, get_or, replicate, All, refl, sym, ◌∙◌, ap, subst, arith}
+use Rattle.std.proofs.Common.{◌≡◌, ℕ, zero, suc, ◌+◌, ◌<◌, ◌≤◌, ◌⊎◌, inl, inr, List, [], ◌∷◌, ◌++◌, length, map, get_or, replicate, All, refl, sym, ◌∙◌, ap, subst, arith}
 use Rattle.std.specs.Prelude.{Contains}
 use Rattle.std.specs.Ordering.{nat_cmp, ordering_then}
 use Rattle.std.specs.declared.cmp.Ordering.{Ordering}
@@ -21,6 +21,8 @@ use Rattle.lexicon_text_definitions.proofs.FormLines.{no_lines}
 use Rattle.list_laws.proofs.Orderings.{equal_then_both}
 use Rattle.list_laws.proofs.Sorted.{Contains-first, Contains-later, Contains-cons_cases, not_Contains-nil}
 use Rattle.run_definitions.specs.SourceLexicons.{HaveJust}
+use Rattle.form_tags.specs.declared.entry.Entry.{Entry as FormEntry}
+use Rattle.form_lists.specs.Lists.{text_entry}
 use Rattle.form_lists.proofs.AnalysisOrder.{exact_analyses}
 use Rattle.form_lists.proofs.ListLemmas.{no_forms}
 use Rattle.shared_trie.proofs.EntriesEnd.{are_empty, compare_last-push, entries_with, lawful_lists}
@@ -187,6 +189,11 @@ module _ (count : ℕ) (all : List Entry) (lists : List (List Form)) (left rest 
   collected_more new h = added count all lists new entry rest next h
 
 -- ---- at the end
+
+-- a list of no elements has no entries
+pub none_left : (entries : List FormEntry) → length entries ≡ 0 → map text_entry entries ≡ []
+none_left [] none = refl
+none_left (entry ∷ entries) none = absurd (omega (arith, none))
 
 -- where no entry is left, the phases have just these
 collected_in : (count : ℕ) (all : List Entry) (lists : List (List Form)) → AreCollected count all lists [] → AreCollectedIn count all lists
