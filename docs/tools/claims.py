@@ -36,6 +36,7 @@ LISTS = {
     "split": [(RUN, "SplitOutcomes", "IsSplitRun")],
     "annotate": [(RUN, "AnnotateOutcomes", "IsAnnotateRun")],
     "reread": [(RUN, "RereadOutcomes", "IsRereadRun")],
+    "migrate": [(RUN, "MigrateOutcomes", "IsMigrateRun")],
     "the headline": [
         (PROGRAM, "Headline", "WroteAll"),
         (PROGRAM, "Headline", "WrotePrefix"),

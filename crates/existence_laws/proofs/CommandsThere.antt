@@ -20,8 +20,9 @@ use Rattle.run_definitions.specs.JoinOutcomes.{TakesJoin}
 use Rattle.run_definitions.specs.SplitOutcomes.{TakesSplit, AreSplitArguments, split_depth_of}
 use Rattle.run_definitions.specs.AnnotateOutcomes.{TakesAnnotate}
 use Rattle.run_definitions.specs.RereadOutcomes.{TakesReread}
+use Rattle.run_definitions.specs.MigrateOutcomes.{TakesMigrate}
 use Rattle.run_definitions.specs.DemoOutcomes.{TakesDemo, AreDemoArguments, demo_number_of}
-use Rattle.run_definitions.specs.Commands.{Command, Segment, Check, Build, Read, Batch, Demo, Convert, Join, Split, Annotate, Reread, AreWordsOf, AreOfNoCommand}
+use Rattle.run_definitions.specs.Commands.{Command, Segment, Check, Build, Read, Batch, Demo, Convert, Join, Split, Annotate, Reread, Migrate, AreWordsOf, AreOfNoCommand}
 use Rattle.existence_laws.proofs.Decisions.{Decided, told_by, both, is_at_most, is_same_word, is_same_list, holds_of_all, one_has}
 
 -- ---- what the words give
@@ -293,6 +294,10 @@ takes_reread : (values : List (List ℕ)) (arguments : List FileWord) → Decide
 takes_reread values arguments =
     told_by (λ h. (h.1.0, (h.0, h.1.1))) (λ h. (h.1.0, (h.0, h.1.1))) (both (no_values values) (takes_two arguments))
 
+takes_migrate : (values : List (List ℕ)) (arguments : List FileWord) → Decided ((c : FileWord × FileWord) × TakesMigrate c.0 c.1 values arguments)
+takes_migrate values arguments =
+    told_by (λ h. (h.1.0, (h.0, h.1.1))) (λ h. (h.1.0, (h.0, h.1.1))) (both (no_values values) (takes_two arguments))
+
 -- ---- the command
 
 -- the command whose words they are, or none
@@ -310,6 +315,7 @@ command_there words =
     (named (codes "split") (λ (p : FileWord × List ℕ × ℕ × ℕ). TakesSplit p.0 p.1 p.2 p.3) takes_split words)
     (named (codes "annotate") (λ (a : FileWord × List ℕ × FileWord). TakesAnnotate a.0 a.1 a.2) takes_annotate words)
     (named (codes "reread") (λ (f : FileWord × FileWord). TakesReread f.0 f.1) takes_reread words)
+    (named (codes "migrate") (λ (m : FileWord × FileWord). TakesMigrate m.0 m.1) takes_migrate words)
   where
     by_all : Decided ((c : FileWord × Scheme × List ℕ) × AreNamed (codes "segment") (TakesSegment c.0 c.1 c.2) words)
         → Decided ((lex : FileWord) × AreNamed (codes "check") (TakesCheck lex) words)
@@ -322,19 +328,21 @@ command_there words =
         → Decided ((p : FileWord × List ℕ × ℕ × ℕ) × AreNamed (codes "split") (TakesSplit p.0 p.1 p.2 p.3) words)
         → Decided ((a : FileWord × List ℕ × FileWord) × AreNamed (codes "annotate") (TakesAnnotate a.0 a.1 a.2) words)
         → Decided ((f : FileWord × FileWord) × AreNamed (codes "reread") (TakesReread f.0 f.1) words)
+        → Decided ((m : FileWord × FileWord) × AreNamed (codes "migrate") (TakesMigrate m.0 m.1) words)
         → Decided ((command : Command) × AreWordsOf command words)
-    by_all (inl c) check build read batch demo convert join split annotate reread = inl (Segment c.0.0 c.0.1 c.0.2, c.1)
-    by_all (inr s) (inl c) build read batch demo convert join split annotate reread = inl (Check c.0, c.1)
-    by_all (inr s) (inr c) (inl b) read batch demo convert join split annotate reread = inl (Build b.0.0 b.0.1 b.0.2 b.0.3, b.1)
-    by_all (inr s) (inr c) (inr b) (inl r) batch demo convert join split annotate reread = inl (Read r.0, r.1)
-    by_all (inr s) (inr c) (inr b) (inr r) (inl x) demo convert join split annotate reread = inl (Batch x.0.0 x.0.1 x.0.2 x.0.3, x.1)
-    by_all (inr s) (inr c) (inr b) (inr r) (inr x) (inl d) convert join split annotate reread = inl (Demo d.0, d.1)
-    by_all (inr s) (inr c) (inr b) (inr r) (inr x) (inr d) (inl v) join split annotate reread = inl (Convert v.0.0 v.0.1 v.0.2 v.0.3, v.1)
-    by_all (inr s) (inr c) (inr b) (inr r) (inr x) (inr d) (inr v) (inl j) split annotate reread = inl (Join j.0.0 j.0.1, j.1)
-    by_all (inr s) (inr c) (inr b) (inr r) (inr x) (inr d) (inr v) (inr j) (inl p) annotate reread = inl (Split p.0.0 p.0.1 p.0.2 p.0.3, p.1)
-    by_all (inr s) (inr c) (inr b) (inr r) (inr x) (inr d) (inr v) (inr j) (inr p) (inl a) reread = inl (Annotate a.0.0 a.0.1 a.0.2, a.1)
-    by_all (inr s) (inr c) (inr b) (inr r) (inr x) (inr d) (inr v) (inr j) (inr p) (inr a) (inl f) = inl (Reread f.0.0 f.0.1, f.1)
-    by_all (inr s) (inr c) (inr b) (inr r) (inr x) (inr d) (inr v) (inr j) (inr p) (inr a) (inr f) = inr (λ h. none h.0 h.1)
+    by_all (inl c) check build read batch demo convert join split annotate reread migrate = inl (Segment c.0.0 c.0.1 c.0.2, c.1)
+    by_all (inr s) (inl c) build read batch demo convert join split annotate reread migrate = inl (Check c.0, c.1)
+    by_all (inr s) (inr c) (inl b) read batch demo convert join split annotate reread migrate = inl (Build b.0.0 b.0.1 b.0.2 b.0.3, b.1)
+    by_all (inr s) (inr c) (inr b) (inl r) batch demo convert join split annotate reread migrate = inl (Read r.0, r.1)
+    by_all (inr s) (inr c) (inr b) (inr r) (inl x) demo convert join split annotate reread migrate = inl (Batch x.0.0 x.0.1 x.0.2 x.0.3, x.1)
+    by_all (inr s) (inr c) (inr b) (inr r) (inr x) (inl d) convert join split annotate reread migrate = inl (Demo d.0, d.1)
+    by_all (inr s) (inr c) (inr b) (inr r) (inr x) (inr d) (inl v) join split annotate reread migrate = inl (Convert v.0.0 v.0.1 v.0.2 v.0.3, v.1)
+    by_all (inr s) (inr c) (inr b) (inr r) (inr x) (inr d) (inr v) (inl j) split annotate reread migrate = inl (Join j.0.0 j.0.1, j.1)
+    by_all (inr s) (inr c) (inr b) (inr r) (inr x) (inr d) (inr v) (inr j) (inl p) annotate reread migrate = inl (Split p.0.0 p.0.1 p.0.2 p.0.3, p.1)
+    by_all (inr s) (inr c) (inr b) (inr r) (inr x) (inr d) (inr v) (inr j) (inr p) (inl a) reread migrate = inl (Annotate a.0.0 a.0.1 a.0.2, a.1)
+    by_all (inr s) (inr c) (inr b) (inr r) (inr x) (inr d) (inr v) (inr j) (inr p) (inr a) (inl f) migrate = inl (Reread f.0.0 f.0.1, f.1)
+    by_all (inr s) (inr c) (inr b) (inr r) (inr x) (inr d) (inr v) (inr j) (inr p) (inr a) (inr f) (inl m) = inl (Migrate m.0.0 m.0.1, m.1)
+    by_all (inr s) (inr c) (inr b) (inr r) (inr x) (inr d) (inr v) (inr j) (inr p) (inr a) (inr f) (inr m) = inr (λ h. none h.0 h.1)
       where
         none : (command : Command) → AreWordsOf command words → ⊥
         none (Segment lex scheme text) h = s ((lex, scheme, text), h)
@@ -348,6 +356,7 @@ command_there words =
         none (Split lex text count depth) h = p ((lex, text, count, depth), h)
         none (Annotate lex mark out) h = a ((lex, mark, out), h)
         none (Reread lex file) h = f ((lex, file), h)
+        none (Migrate lex out) h = m ((lex, out), h)
 
 pub command_or_none : (words : List (List ℕ)) → ((command : Command) × AreWordsOf command words) ⊎ AreOfNoCommand words
 command_or_none words = elim (command_there words) [ inl c ↦ inl c | inr none ↦ inr (λ command are. none (command, are)) ]

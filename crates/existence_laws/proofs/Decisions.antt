@@ -24,6 +24,11 @@ pub refuted : {A : Type 0} → Decided A → Decided (A → ⊥)
 refuted (inl a) = inr (λ n. n a)
 refuted (inr n) = inl n
 
+-- it holds where it is not refuted
+pub if_not_refuted : {A : Type 0} → Decided A → ((A → ⊥) → ⊥) → A
+if_not_refuted (inl a) h = a
+if_not_refuted (inr n) h = absurd (h n)
+
 -- ---- of several facts
 
 pub both : {A B : Type 0} → Decided A → Decided B → Decided (A × B)

@@ -15,4 +15,5 @@ pub mod ChainsThere
 pub mod CommandsThere
 pub mod NotesThere
 pub mod NotesReread
+pub mod NewestTextsThere
 pub mod OutcomesThere

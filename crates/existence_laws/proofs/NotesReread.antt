@@ -12,7 +12,8 @@ use Rattle.segmentation_definitions.specs.Derivations.{Step}
 use Rattle.segmentation_definitions.specs.Items.{Choice}
 use Rattle.segmentation_definitions.specs.PrintedAnswers.{printed_page}
 use Rattle.lexicon_text_definitions.specs.declared.limits.TheConstants.{MOST_FILE_BYTES}
-use Rattle.lexicon_text_definitions.proofs.WholeTexts.{read_text}
+use Rattle.trie_text_definitions.specs.Versions.{version_of}
+use Rattle.trie_text_definitions.proofs.LexiconsTold.{read_lexicon}
 use Rattle.bookmark_definitions.specs.Bookmarks.{Bookmark, IsItemWithinBounds}
 use Rattle.bookmark_definitions.proofs.WrittenBookmarks.{bookmark_tells}
 use Rattle.note_definitions.specs.Notes.{Note, IsOnlyAnswer, IsChoiceOver, IsNote}
@@ -24,6 +25,7 @@ use Rattle.run_definitions.specs.LexiconTells.{FileTells, NotThere, Refused, Hol
 use Rattle.run_definitions.specs.SourceTells as sources
 use Rattle.run_definitions.specs.AnnotateOutcomes.{IsMarkOver, IsNotedOutcome, OfOnly, OfNone, OfSeveral, IsMarkOutcome, OfNoMark, OfMark, IsAnnotateOutcomeWith, IsAnnotateOutcome}
 use Rattle.run_definitions.specs.RereadOutcomes.{IsRereadOutcome}
+use Rattle.existence_laws.proofs.NewestTextsThere.{lexicon_of_text}
 
 -- ---- the lexicon file
 
@@ -44,8 +46,7 @@ tells_lexicon files name lexicon tells is (IsFaulty bytes e small fault read tol
 tells_lexicon files name lexicon tells is (IsLexicon bytes e small other read told) =
     let f : Holds other ≡ Holds lexicon = sym told ∙ is in
     let same : other ≡ lexicon = cc in
-    let text = read_text bytes other read in
-    subst (λ l. lexicons.IsLexicon l × IsWithinLimits l) same (text.has_text.lexicon_itself, text.has_text.limits)
+    subst (λ l. lexicons.IsLexicon l × IsWithinLimits l) same (lexicon_of_text (version_of bytes) other (read_lexicon bytes other read))
 
 -- ---- the note
 

@@ -3,7 +3,7 @@
 use Rattle.std.proofs.Common.{◌≡◌, ◌≢◌, inl, inr, ℕ, zero, suc, ◌+◌, ◌-◌, ◌*◌, ◌<◌, ◌≤◌, ◌^◌, Option, Some, None, List, [], ◌∷◌, ◌++◌, length, map, take, get_or, false, refl, sym, ◌∙◌, ap, subst, arith}
 use Rattle.std.specs.Prelude.{All, AllPairs, Contains, is_some, sum_by}
 use Rattle.std.specs.List.{range_with_len}
-use Rattle.std.specs.List.Sorted.{IsStrictlySortedBy, IsSortedByKey}
+use Rattle.std.specs.List.Sorted.{IsSortedByKey}
 use Rattle.std.specs.Ordering.{nat_cmp, ordering_then, ordering_reverse, is_lt}
 use Rattle.std.specs.Cmp.Lexicographic.{slice_cmp}
 use Rattle.std.specs.declared.cmp.Ordering.{Ordering}
@@ -11,38 +11,38 @@ use Rattle.std.specs.declared.cmp.Ordering.TheVariants.{Less, Equal, Greater}
 use Rattle.std.proofs.lemmas.Bool.{cases_lt}
 use Rattle.std.proofs.lemmas.Cmp.{nat_list_cmp_total}
 use Rattle.std.proofs.lemmas.List.{get_or-map, get_or_default, length-append, length-map}
-use Rattle.std.proofs.lemmas.List.Elements.{All-contains, All-get_or, Contains-append_left, Contains-append_right, Contains-get_or}
+use Rattle.std.proofs.lemmas.List.Elements.{All-contains, All-get_or, Contains-append_left, Contains-append_right}
 use Rattle.std.proofs.lemmas.List.FromFn.{length-range_with_len}
 use Rattle.std.proofs.lemmas.List.Sorted.{IsPermutation-refl}
 use Rattle.std.proofs.lemmas.List.Sums.{sum_by-cons}
 use Rattle.std.proofs.lemmas.Map.Keys.{Less-from_sorted}
 use Rattle.list_laws.proofs.FirstOnes.{Contains-map, Contains-map_cases}
-use Rattle.list_laws.proofs.Sorted.{All-from_Contains, Contains-first, Contains-later, Contains-cons_cases, not_Contains-nil, not_Less-both, not_Less-itself, sorted_nil}
+use Rattle.list_laws.proofs.Sorted.{All-from_Contains, Contains-first, Contains-later, Contains-cons_cases, not_Contains-nil, not_Less-itself, sorted_nil}
 use Rattle.text_definitions.specs.Letters.{IsLetter}
 use Rattle.text_definitions.specs.Words.{IsWord}
-use Rattle.lexicon_definitions.specs.declared.limits.TheConstants.{MOST_FORM_LETTERS, MOST_FORM_LINES, MOST_PHASES}
+use Rattle.lexicon_definitions.specs.declared.limits.TheConstants.{MOST_FORM_LINES, MOST_PHASES}
 use Rattle.lexicon_definitions.specs.Analyses.{Analysis}
 use Rattle.lexicon_definitions.specs.Deltas.{Delta}
 use Rattle.lexicon_definitions.specs.Lexicons.{Form, IsAnalysis, IsFormEntry, IsPhase}
 use Rattle.lexicon_definitions.specs.Limits.{IsShortForm, count_lines}
 use Rattle.lexicon_definitions.specs.Tags.{IsTagText}
-use Rattle.lexicon_definitions.specs.Tries.{Row, Trie, IsChild, IsNodeAfter, IsTrieOf, BeginsForm, row_of, walk}
+use Rattle.lexicon_definitions.specs.Tries.{Row, Trie, IsChild, IsTrieOf, row_of, walk}
 use Rattle.lexicon_definitions.proofs.TrieGrowth.{walk-within}
 use Rattle.lexicon_definitions.proofs.TrieSteps.{child_among-Contains}
-use Rattle.demo_definitions.proofs.DifferentElements.{In, in_from_contains, contains_from_in, different_are_few, different_from_pairs}
-use Rattle.trie_text_definitions.specs.NodeLines.{NodeLine, compare_node_lines, node_line}
+use Rattle.demo_definitions.proofs.DifferentElements.{in_from_contains, contains_from_in, different_are_few, different_from_pairs}
+use Rattle.trie_text_definitions.specs.NodeLines.{compare_node_lines, node_line}
 use Rattle.trie_text_definitions.specs.PrintableRows.{IsPrintable, IsPrintableDelta, IsPrintableChild}
 use Rattle.trie_text_definitions.specs.VersionTexts.{IsLedTo, IsOrderedTrieOf}
 use Rattle.trie_text_definitions.proofs.NodeSteps.{node_lines_total}
 use Rattle.trie_text_definitions.proofs.RootNodes.{in_range}
 use Rattle.trie_text_definitions.proofs.ToldTries.{no_line}
-use Rattle.shared_trie.specs.CanonicalNodes.{number_in, numbered_child, numbered_row, trie_of_nodes, height_of, line_in, NodeText, text_of_node, ArePlaced, IsLevelOf}
+use Rattle.shared_trie.specs.CanonicalNodes.{numbered_child, numbered_row, trie_of_nodes, height_of, line_in, NodeText, text_of_node, ArePlaced, IsLevelOf}
 use Rattle.shared_trie.proofs.CanonicalLevels.{placed_next}
 use Rattle.shared_trie.proofs.CanonicalOrders.{canonical_order}
 use Rattle.shared_trie.proofs.LineHeights.{child_lower}
 use Rattle.shared_trie.proofs.NumbersIn.{number_at}
 use Rattle.shared_trie.proofs.NumberedTries.{led_to_child, ordered_trie}
-use Rattle.existence_laws.proofs.OrderedNodes.{apart_sorted, numbers_exact, compare, compare_total, level, level_has, level_rises, line}
+use Rattle.existence_laws.proofs.OrderedNodes.{apart_sorted, compare, compare_total, level, level_has, level_rises}
 use Rattle.existence_laws.proofs.TriesThere.{trie_there}
 
 -- ---- candidates

@@ -1,6 +1,6 @@
 -- Each command has an outcome, from what its files tell, and the page, the session or the lexicon that is there; and so has a run,
 -- whose words are those of a command or of none.
-use Rattle.std.proofs.Common.{◌≡◌, ℕ, ◌+◌, ◌++◌, inl, inr, List, [], ◌∷◌, length, Option, Some, Result, Ok, Err, refl, sym, ◌∙◌, subst, arith}
+use Rattle.std.proofs.Common.{◌≡◌, ◌≤◌, ℕ, ◌+◌, ◌++◌, inl, inr, List, [], ◌∷◌, length, Option, Some, Result, Ok, Err, refl, sym, ◌∙◌, subst, arith}
 use Rattle.std.specs.Prelude.{codes, false}
 use Rattle.outside.specs.Files.{Files, with_file}
 use Rattle.text_definitions.specs.Lines.{Line}
@@ -11,8 +11,9 @@ use Rattle.lexicon_definitions.specs.Limits.{count_lines}
 use Rattle.lexicon_text_definitions.specs.declared.limits.TheConstants.{MOST_FILE_BYTES}
 use Rattle.lexicon_text_definitions.specs.FileLines as file
 use Rattle.lexicon_text_definitions.specs.FileLines.{lines_of_bytes}
-use Rattle.lexicon_text_definitions.specs.LexiconTexts.{text_of}
-use Rattle.lexicon_text_definitions.proofs.WholeTexts.{read_text}
+use Rattle.trie_text_definitions.specs.Versions.{Version, version_of}
+use Rattle.trie_text_definitions.specs.VersionTexts.{HasTextIn, IsNewestText}
+use Rattle.trie_text_definitions.proofs.LexiconsTold.{read_lexicon}
 use Rattle.lexicon_definitions.specs.declared.limits.TheConstants.{MOST_FORM_LINES}
 use Rattle.segmentation_definitions.specs.Listings.{BeforeFirst}
 use Rattle.segmentation_definitions.specs.PrintedAnswers.{output_line, printed_page}
@@ -29,7 +30,7 @@ use Rattle.demo_definitions.proofs.StemsRead.{stems_read}
 use Rattle.demo_definitions.proofs.LinesRead.{line_read}
 use Rattle.run_definitions.specs.declared.limits.TheConstants.{CHECK_OVERLAPS, SEGMENT_PAGE}
 use Rattle.run_definitions.specs.Arguments.{FileWord}
-use Rattle.run_definitions.specs.Commands.{Command, Segment, Check, Build, Read, Batch, Demo, Convert, Join, Split, Annotate, Reread, AreWordsOf}
+use Rattle.run_definitions.specs.Commands.{Command, Segment, Check, Build, Read, Batch, Demo, Convert, Join, Split, Annotate, Reread, Migrate, AreWordsOf}
 use Rattle.run_definitions.specs.Ends.{Outcome, Spelling, Done, ReadFault, BadFile, BadText, BadChain, AnyFault, Rules, Tables, Stems, Note, outcome_over}
 use Rattle.run_definitions.specs.Refusals.{file_refusal, text_refusal, chain_refusal, usage_outcome}
 use Rattle.run_definitions.specs.LexiconTells as lexicons
@@ -60,6 +61,8 @@ use Rattle.run_definitions.specs.SplitOutcomes.{IsSplitTextOutcome, IsSplitOutco
 use Rattle.note_definitions.specs.NoteReadings.{IsNoteRead}
 use Rattle.run_definitions.specs.AnnotateOutcomes.{IsAnnotateOutcomeWith, IsAnnotateOutcome}
 use Rattle.run_definitions.specs.RereadOutcomes.{IsRereadNoteOutcome, IsNoteFileOutcome, IsRereadOutcomeWith, IsRereadOutcome}
+use Rattle.run_definitions.specs.MigrateOutcomes as migrate
+use Rattle.run_definitions.specs.MigrateOutcomes.{text_fault, migrated_outcome, IsMigratedOutcome, IsMigrateOutcomeWith, IsMigrateOutcome}
 use Rattle.run_definitions.specs.DemoOutcomes.{DemoCounts, IsDemoLexicon, printed_demo, IsDemoOutcome}
 use Rattle.run_definitions.specs.Outcomes.{IsOutcomeOf, IsOutcome, IsSoFar, OfNoCommand, OfCommand, OfNone, OfOne}
 use Rattle.run_definitions.proofs.SoFar.{all_is_so_far}
@@ -71,18 +74,24 @@ use Rattle.existence_laws.proofs.OverlapsThere.{overlaps_there}
 use Rattle.existence_laws.proofs.LexiconsThere.{lexicon_there}
 use Rattle.existence_laws.proofs.ChainsThere.{chain_read_there, joined_there}
 use Rattle.existence_laws.proofs.CommandsThere.{command_there}
+use Rattle.existence_laws.proofs.NewestTextsThere.{newest_of_text, lexicon_of_text, newest_of_sources}
 use Rattle.existence_laws.proofs.NotesThere.{mark_there, note_read_there}
 
--- what a file holds is a lexicon
-held_is_lexicon : (files : Files) (name : List ℕ) (tells : FileTells) (lexicon : Lexicon) → DoesTell files name tells → tells ≡ lexicons.Holds lexicon
-    → IsLexicon lexicon
-held_is_lexicon files name tells lexicon (lexicons.IsMissing p e) h = let f = sym e ∙ h in absurd (cc)
-held_is_lexicon files name tells lexicon (lexicons.IsLarge bytes p l e) h = let f = sym e ∙ h in absurd (cc)
-held_is_lexicon files name tells lexicon (lexicons.IsFaulty bytes p l fault r e) h = let f = sym e ∙ h in absurd (cc)
-held_is_lexicon files name tells lexicon (lexicons.IsLexicon bytes p l other r e) h =
+-- what a file holds is a lexicon that has a text of some version
+held_has_text : (files : Files) (name : List ℕ) (tells : FileTells) (lexicon : Lexicon) → DoesTell files name tells → tells ≡ lexicons.Holds lexicon
+    → (version : Option Version) × HasTextIn version lexicon
+held_has_text files name tells lexicon (lexicons.IsMissing p e) h = let f = sym e ∙ h in absurd (cc)
+held_has_text files name tells lexicon (lexicons.IsLarge bytes p l e) h = let f = sym e ∙ h in absurd (cc)
+held_has_text files name tells lexicon (lexicons.IsFaulty bytes p l fault r e) h = let f = sym e ∙ h in absurd (cc)
+held_has_text files name tells lexicon (lexicons.IsLexicon bytes p l other r e) h =
     let f : lexicons.Holds other ≡ lexicons.Holds lexicon = sym e ∙ h in
     let same : other ≡ lexicon = cc in
-    subst IsLexicon same (read_text bytes other r).has_text.lexicon_itself
+    (version_of bytes, subst (HasTextIn (version_of bytes)) same (read_lexicon bytes other r))
+
+held_is_lexicon : (files : Files) (name : List ℕ) (tells : FileTells) (lexicon : Lexicon) → DoesTell files name tells → tells ≡ lexicons.Holds lexicon
+    → IsLexicon lexicon
+held_is_lexicon files name tells lexicon told h =
+    let has = held_has_text files name tells lexicon told h in (lexicon_of_text has.0 lexicon has.1).0
 
 -- ---- segment
 
@@ -145,13 +154,14 @@ module _ {A Fault : Type 0} (is_read : List ℕ → Result A Fault → Type 0) (
       let same : other ≡ held = cc in
       (bytes, subst (λ (x : A). is_read bytes (Ok x)) same r)
 
-written_there : (lexicon : Lexicon) (stems out : FileWord) (files : Files) → (outcome : Outcome) × IsWrittenOutcome lexicon stems out files outcome
-written_there lexicon stems out files =
+written_there : (lexicon : Lexicon) → (count_lines lexicon.phases ≤ MOST_FORM_LINES → (bytes : List ℕ) × IsNewestText lexicon bytes)
+    → (stems out : FileWord) (files : Files) → (outcome : Outcome) × IsWrittenOutcome lexicon stems out files outcome
+written_there lexicon there stems out files =
     elim (is_below MOST_FORM_LINES (count_lines lexicon.phases)) [
       | inl many ↦ too_large (inl many)
-      | inr few ↦ elim (is_below MOST_FILE_BYTES (length (text_of lexicon))) [
-        | inl long ↦ too_large (inr long)
-        | inr short ↦ (built_outcome lexicon out files, build.OfText (record { lines = omega (arith, few); bytes = omega (arith, short) }) refl)
+      | inr few ↦ let newest = there (omega (arith, few)) in elim (is_below MOST_FILE_BYTES (length newest.0)) [
+        | inl long ↦ too_large (inr (newest.0, newest.1, long))
+        | inr short ↦ (built_outcome lexicon newest.0 out files, build.OfText newest.0 newest.1 (omega (arith, short)) refl)
       ]
     ]
   where
@@ -170,7 +180,8 @@ build_there rules tables stems out files =
         → (outcome : Outcome) × IsLexiconOutcome set classes held stems out files outcome
     with_stems set classes held rule_bytes table_bytes stem_bytes r t s =
         let lexicon = lexicon_there rule_bytes table_bytes stem_bytes set classes held r t s in
-        let written = written_there lexicon.0 stems out files in
+        let written = written_there lexicon.0
+        (newest_of_sources rule_bytes table_bytes stem_bytes set classes held lexicon.0 r t s lexicon.1) stems out files in
         (written.0, record { lexicon = lexicon.0; is_of = lexicon.1; is_outcome = written.1 })
 
     with_tables : (set : RuleSet) (classes : List Class) (rule_bytes table_bytes : List ℕ) → IsReadAs rule_bytes (Ok set)
@@ -393,6 +404,35 @@ reread_there lex word files =
     let outcome = reread_with told.0 (λ lexicon e. held_is_lexicon files lex.name told.0 lexicon told.1 e) lex word files in
     (outcome.0, record { tells = told.0; does_tell = told.1; is_outcome = outcome.1 })
 
+-- ---- migrate
+
+migrated_there : (lexicon : Lexicon) → (bytes : List ℕ) × IsNewestText lexicon bytes → (lex out : FileWord) (files : Files)
+    → (outcome : Outcome) × IsMigratedOutcome lexicon lex out files outcome
+migrated_there lexicon (bytes, (version, text)) lex out files =
+    elim (is_below MOST_FILE_BYTES (length bytes)) [
+      | inl long ↦ (
+        outcome_over files (file_refusal lex.name text_fault) (BadFile lex.place text_fault),
+        migrate.OfLimit (bytes, (version, text), long) refl,
+      )
+      | inr short ↦ (
+        migrated_outcome (length text.trie.rows) bytes out files,
+        migrate.OfText version bytes text (omega (arith, short)) refl,
+      )
+    ]
+
+migrate_with : (tells : FileTells) → ((lexicon : Lexicon) → tells ≡ lexicons.Holds lexicon → (version : Option Version) × HasTextIn version lexicon)
+    → (lex out : FileWord) (files : Files) → (outcome : Outcome) × IsMigrateOutcomeWith tells lex out files outcome
+migrate_with lexicons.NotThere has lex out files = (outcome_over files [] ReadFault, refl)
+migrate_with (lexicons.Refused fault) has lex out files = (outcome_over files (file_refusal lex.name fault) (BadFile lex.place fault), refl)
+migrate_with (lexicons.Holds lexicon) has lex out files =
+    let text = has lexicon refl in migrated_there lexicon (newest_of_text text.0 lexicon text.1) lex out files
+
+pub migrate_there : (lex out : FileWord) (files : Files) → (outcome : Outcome) × IsMigrateOutcome lex out files outcome
+migrate_there lex out files =
+    let told = lexicon_told_there files lex.name in
+    let outcome = migrate_with told.0 (λ lexicon e. held_has_text files lex.name told.0 lexicon told.1 e) lex out files in
+    (outcome.0, record { tells = told.0; does_tell = told.1; is_outcome = outcome.1 })
+
 -- ---- a run
 
 of_command : (words : List (List ℕ)) (files : Files) (input : Option (List ℕ)) → IsToldWhereServed words files input
@@ -408,6 +448,7 @@ of_command words files input told (Join lex chain) are = join_there lex chain fi
 of_command words files input told (Split lex text count depth) are = split_there lex text count files
 of_command words files input told (Annotate lex mark out) are = annotate_there lex mark out files
 of_command words files input told (Reread lex word) are = reread_there lex word files
+of_command words files input told (Migrate lex out) are = migrate_there lex out files
 
 pub outcome_there : (words : List (List ℕ)) (files : Files) (input : Option (List ℕ)) → IsToldWhereServed words files input
     → (outcome : Outcome) × IsOutcome words files input outcome

@@ -1,6 +1,6 @@
 -- Phases have a trie: for each front, from the longest ones on, there are rows with a node that stands for what follows it. They come after
 -- the rows that are there already, and a row that is there is not put again.
-use Rattle.std.proofs.Common.{◌≡◌, ◌≢◌, ◌↔◌, ◌⊎◌, inl, inr, ℕ, zero, suc, ◌+◌, ◌<◌, ◌≤◌, List, [], ◌∷◌, ◌++◌, length, map, get_or, refl, sym, ◌∙◌, ap, subst, arith, append_assoc, append-nil}
+use Rattle.std.proofs.Common.{◌≡◌, ◌≢◌, ◌↔◌, inl, inr, ℕ, zero, suc, ◌+◌, ◌<◌, ◌≤◌, List, [], ◌∷◌, ◌++◌, length, map, get_or, refl, sym, ◌∙◌, ap, subst, arith, append_assoc, append-nil}
 use Rattle.std.specs.Prelude.{All, AllPairs, Contains}
 use Rattle.std.specs.List.{AllByRecursion}
 use Rattle.std.specs.List.Sorted.{IsStrictlySortedBy}
@@ -10,7 +10,7 @@ use Rattle.std.specs.declared.cmp.Ordering.TheVariants.{Equal, Less}
 use Rattle.std.proofs.lemmas.Bool.{cases_lt, cases_eq}
 use Rattle.std.proofs.lemmas.Cmp.{nat_cmp_total, nat_list_cmp_total, on_total}
 use Rattle.std.proofs.lemmas.List.{get_or_append_left, get_or_push, get_or_default, length-append, length_push}
-use Rattle.std.proofs.lemmas.List.Elements.{All-nil, All-cons, All-push, All-weaker, All-contains, All-from_recursion, recursion_from_All, Contains-append_left, Contains-append_right, Contains-get_or, Contains-push}
+use Rattle.std.proofs.lemmas.List.Elements.{All-nil, All-cons, All-push, All-weaker, All-contains, recursion_from_All, Contains-append_left, Contains-append_right, Contains-get_or}
 use Rattle.std.proofs.lemmas.Map.Keys.{sorted_tail}
 use Rattle.std.proofs.lemmas.Map.Lookups.{CmpEqualImpliesEq, exact_bytes}
 use Rattle.list_laws.specs.RisingSets.{with_elements}
@@ -18,13 +18,13 @@ use Rattle.list_laws.proofs.Elements.{some_element, some_by_element}
 use Rattle.list_laws.proofs.FirstOnes.{Contains-map, Contains-map_cases}
 use Rattle.list_laws.proofs.Orderings.{equal_then_both, nat_cmp-Less}
 use Rattle.list_laws.proofs.RisingSetLaws.{Contains-with_elements, sorted-with_elements}
-use Rattle.list_laws.proofs.Sorted.{sorted_append, sorted_nil, Less-from_later, not_Less-itself, Contains-first, Contains-later, Contains-cons_cases, not_Contains-nil}
+use Rattle.list_laws.proofs.Sorted.{sorted_append, sorted_nil, Less-from_later, not_Less-itself, Contains-first, Contains-cons_cases, not_Contains-nil}
 use Rattle.text_definitions.specs.Letters.{IsLetter}
 use Rattle.text_definitions.specs.Words.{compare_words}
 use Rattle.lexicon_definitions.specs.Analyses.{Analysis}
 use Rattle.lexicon_definitions.specs.Deltas.{Delta, IsDelta, compare_deltas}
 use Rattle.lexicon_definitions.specs.Lexicons.{Form, IsFormEntry, IsPhase}
-use Rattle.lexicon_definitions.specs.Tries.{Row, Trie, AreRows, IsChild, IsRow, IsTrie, IsNodeAfter, IsTrieOf, BeginsForm, HasDelta, row_of, empty_row}
+use Rattle.lexicon_definitions.specs.Tries.{Row, Trie, AreRows, IsChild, IsRow, IsNodeAfter, IsTrieOf, BeginsForm, HasDelta, row_of, empty_row}
 use Rattle.lexicon_definitions.proofs.FormsWithEntry.{by_letters, forms_total}
 use Rattle.lexicon_definitions.proofs.TrieGrowth.{AreRows-push, IsNodeAfter-append, row_of-append, row_of-push}
 use Rattle.lexicon_definitions.proofs.TrieSteps.{IsRowAfter, IsNodeAfter-row}

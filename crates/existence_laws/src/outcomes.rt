@@ -15,6 +15,7 @@ ghost use Rattle.run_definitions.specs.LexiconTells.{Holds, DoesTell};
 ghost use Rattle.run_definitions.specs.Outcomes.{Outcome, IsOutcome, IsSoFar};
 ghost use Rattle.run_definitions.specs.ReadOutcomes.{IsReadOutcome, IsToldWhereServed};
 ghost use Rattle.run_definitions.specs.RereadOutcomes.{IsRereadOutcome};
+ghost use Rattle.run_definitions.specs.MigrateOutcomes.{IsMigrateOutcome};
 ghost use Rattle.run_definitions.specs.SegmentOutcomes.{IsSegmentOutcome};
 ghost use Rattle.run_definitions.specs.SplitOutcomes.{IsSplitOutcome};
 
@@ -84,6 +85,11 @@ pub fn annotate_has_an_outcome()
 /// `reread` has an outcome over any files.
 pub fn reread_has_an_outcome()
     ensures { (lex file : FileWord) (files : Files) → (outcome : Outcome) × IsRereadOutcome lex file files outcome }
+{}
+
+/// `migrate` has an outcome over any files.
+pub fn migrate_has_an_outcome()
+    ensures { (lex out : FileWord) (files : Files) → (outcome : Outcome) × IsMigrateOutcome lex out files outcome }
 {}
 
 /// A run has an outcome, whatever its words and files are, where the input is told if a session is served. All of its output is

@@ -11,14 +11,15 @@ use Rattle.lexicon_definitions.specs.Limits.{count_lines}
 use Rattle.lexicon_definitions.specs.Tries.{Trie, IsTrieOf}
 use Rattle.trie_text_definitions.specs.TrieForms.{phases_of}
 use Rattle.morphology_definitions.specs.Inflection.{Class, Stem, AreAllInflected}
+use Rattle.run_definitions.specs.SoundSources.{IsSoundEntry}
 use Rattle.run_definitions.specs.SourceLexicons.{IsLexiconOf}
+use Rattle.run_definitions.proofs.SourcesSound.{entries_sound}
 use Rattle.form_tags.specs.declared.entry.Entry.{Entry}
 use Rattle.form_lists.specs.Lists.{text_entry}
 use Rattle.form_file.proofs.ListsTold.{lists_tell}
 use Rattle.lexicon_file.specs.Writing.{HasNewestText}
-use Rattle.lexicon_builder.specs.Sources.{AreSources, IsListable, HaveTooManyLines}
+use Rattle.lexicon_builder.specs.Sources.{AreSources, HaveTooManyLines}
 use Rattle.lexicon_builder.specs.Collected.{AreCollectedIn, AreTooMany}
-use Rattle.lexicon_builder.proofs.ListableEntries.{entries_listable}
 use Rattle.list_laws.proofs.Elements.{some_by_length}
 
 -- names are as many as the texts that hold them
@@ -31,12 +32,12 @@ module _ (rules : RuleSet) (classes : List Class) (stems : List Stem) (sources :
   few_phases = let few = sources.limits.phases in omega (arith, few, phases_are)
 
   module _ (entries sorted : List Entry) (are : AreAllInflected classes stems (map text_entry entries)) (moved : IsPermutation entries sorted) where
-    -- the entries in order may be listed
-    pub sorted_listable : All (IsListable phases) (map text_entry sorted)
-    sorted_listable =
-        subst (λ (count : ℕ). All (IsListable count) (map text_entry sorted)) (sym phases_are)
-        (All-map-IsPermutation text_entry (IsListable (length rules.names)) entries sorted moved
-        (entries_listable rules classes stems (map text_entry entries) sources are))
+    -- the entries in order may stand in a lexicon
+    pub sorted_sound : All (IsSoundEntry phases) (map text_entry sorted)
+    sorted_sound =
+        subst (λ (count : ℕ). All (IsSoundEntry count) (map text_entry sorted)) (sym phases_are)
+        (All-map-IsPermutation text_entry (IsSoundEntry (length rules.names)) entries sorted moved
+        (entries_sound (length rules.names) classes stems (map text_entry entries) sources.rows sources.words sources.inflectable are))
 
     -- phases that have just these are the lexicon of the sources
     pub built : (lists : List (List Form)) → AreCollectedIn phases (map text_entry sorted) lists → IsLexiconOf rules classes stems (record { rules = rules; phases = lists })

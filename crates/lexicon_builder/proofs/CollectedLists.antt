@@ -15,19 +15,19 @@ use Rattle.lexicon_definitions.specs.Lexicons.{Form}
 use Rattle.lexicon_definitions.specs.Limits.{count_lines}
 use Rattle.lexicon_definitions.specs.Analyses.{compare_analyses}
 use Rattle.text_definitions.specs.Words.{compare_words}
+use Rattle.lexicon_definitions.proofs.FormsPlaced.{some_length}
 use Rattle.lexicon_definitions.proofs.FormsWithEntry.{IsListedPhase-with_form}
 use Rattle.lexicon_text_definitions.specs.FileContents.{compare_entries, compare_last, entries_from}
 use Rattle.lexicon_text_definitions.proofs.FormLines.{no_lines}
 use Rattle.list_laws.proofs.Orderings.{equal_then_both}
 use Rattle.list_laws.proofs.Sorted.{Contains-first, Contains-later, Contains-cons_cases, not_Contains-nil}
-use Rattle.run_definitions.specs.SourceLexicons.{HaveJust}
+use Rattle.run_definitions.specs.SoundSources.{IsSoundEntry}
 use Rattle.form_tags.specs.declared.entry.Entry.{Entry as FormEntry}
 use Rattle.form_lists.specs.Lists.{text_entry}
 use Rattle.form_lists.proofs.AnalysisOrder.{exact_analyses}
 use Rattle.form_lists.proofs.ListLemmas.{no_forms}
 use Rattle.shared_trie.proofs.EntriesEnd.{are_empty, compare_last-push, entries_with, lawful_lists}
 use Rattle.shared_trie.proofs.NextEntries.{one_line_more}
-use Rattle.lexicon_builder.specs.Sources.{IsListable}
 use Rattle.lexicon_builder.specs.Collected.{AreInOrder, last_before, IsAdded, HasNoRoom, AreCollectedIn, AreTooMany}
 use Rattle.lexicon_builder.proofs.EntriesAdded.{entry_cases, entry_stays, entry_comes, entry_phases}
 
@@ -36,7 +36,7 @@ pub record AreCollected (count : ℕ) (all : List Entry) (lists : List (List For
   pub count_is : length lists ≡ count
   pub listed : All IsListedPhase lists
   pub has_last : (entry : Entry) → last_before lists entry ≡ Equal → HasEntry lists entry
-  pub each : All (IsListable count) left
+  pub each : All (IsSoundEntry count) left
   pub not_below : All (λ entry. last_before lists entry ≡ Greater → ⊥) left
   pub in_order : AreInOrder left
   pub from_lists : (entry : Entry) → HasEntry lists entry → Contains all entry
@@ -61,7 +61,7 @@ above_none : (count : ℕ) (entry : Entry) → last_before (replicate count []) 
 above_none count entry =
     ap (λ (es : List Entry). compare_last compare_entries es entry) (no_lines 0 (replicate count []) (are_empty (replicate count []) (none_at count)))
 
-pub collected_at_first : (count : ℕ) (all : List Entry) (lists : List (List Form)) → lists ≡ replicate count [] → All (IsListable count) all
+pub collected_at_first : (count : ℕ) (all : List Entry) (lists : List (List Form)) → lists ≡ replicate count [] → All (IsSoundEntry count) all
     → AreInOrder all → AreCollected count all lists all
 collected_at_first count all lists is each in_order =
     subst (λ (l : List (List Form)). AreCollected count all l all) (sym is)
@@ -90,16 +90,16 @@ exact_entries left right e =
     λ i. record { phase = phase i; letters = letters i; analysis = analysis i }
 
 -- phases with an entry that may be listed are listed
-listed_with : (lists : List (List Form)) (count : ℕ) (entry : Entry) → IsListable count entry → entry.phase < length lists → All IsListedPhase lists
+listed_with : (lists : List (List Form)) (count : ℕ) (entry : Entry) → IsSoundEntry count entry → entry.phase < length lists → All IsListedPhase lists
     → All IsListedPhase (with_entry lists entry)
 listed_with lists count entry is within listed =
     All-set IsListedPhase lists entry.phase (with_form entry.letters entry.analysis (get_or lists entry.phase []))
-    (IsListedPhase-with_form entry.letters entry.analysis is.word is.not_empty is.short is.analysis is.stem (get_or lists entry.phase []) (listed entry.phase [] within))
+    (IsListedPhase-with_form entry.letters entry.analysis is.word (some_length entry.letters is.not_empty) is.short is.analysis is.stem (get_or lists entry.phase []) (listed entry.phase [] within))
     listed
 
 module _ (count : ℕ) (all : List Entry) (lists new : List (List Form)) (entry : Entry) (left : List Entry) (c : AreCollected count all lists (entry ∷ left)) where
-  abbrev listable : IsListable count entry
-  listable = All-head (IsListable count) entry left c.each
+  abbrev listable : IsSoundEntry count entry
+  listable = All-head (IsSoundEntry count) entry left c.each
 
   within : entry.phase < length lists
   within = let p = listable.phase in let l = c.count_is in omega (arith, p, l)
@@ -123,7 +123,7 @@ module _ (count : ℕ) (all : List Entry) (lists new : List (List Form)) (entry 
           count_is = ap length is ∙ entry_phases lists entry within ∙ c.count_is;
           listed = subst (All IsListedPhase) (sym is) (listed_with lists count entry listable within c.listed);
           has_last = λ x e. subst (HasEntry new) (exact_entries entry x (sym (last_is x) ∙ e)) (forth entry (entry_comes lists entry within));
-          each = All-tail (IsListable count) entry left c.each;
+          each = All-tail (IsSoundEntry count) entry left c.each;
           not_below = λ k d below e. c.in_order 0 (suc k) d (omega arith) (omega (arith, below)) (sym (last_is (get_or left k d)) ∙ e);
           in_order = λ i j d less below. c.in_order (suc i) (suc j) d (omega (arith, less)) (omega (arith, below));
           from_lists = λ x h. elim (entry_cases lists entry within x (back x h)) [
@@ -150,7 +150,7 @@ module _ (count : ℕ) (all : List Entry) (lists new : List (List Form)) (entry 
         count_is = c.count_is;
         listed = c.listed;
         has_last = c.has_last;
-        each = All-tail (IsListable count) entry left c.each;
+        each = All-tail (IsSoundEntry count) entry left c.each;
         not_below = All-tail (λ (x : Entry). last_before lists x ≡ Greater → ⊥) entry left c.not_below;
         in_order = λ i j d less below. c.in_order (suc i) (suc j) d (omega (arith, less)) (omega (arith, below));
         from_lists = c.from_lists;
@@ -175,8 +175,8 @@ module _ (count : ℕ) (all : List Entry) (lists : List (List Form)) (left rest 
   next = subst (AreCollected count all lists) is c
 
   -- the next one may be listed
-  pub next_listable : IsListable count entry
-  next_listable = All-head (IsListable count) entry rest next.each
+  pub next_listable : IsSoundEntry count entry
+  next_listable = All-head (IsSoundEntry count) entry rest next.each
 
   pub next_within : entry.phase < length lists
   next_within = within count all lists lists entry rest next

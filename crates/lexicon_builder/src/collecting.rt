@@ -6,8 +6,9 @@ ghost use Rattle.lexicon_definitions.specs.declared.limits.TheConstants.{MOST_FO
 ghost use Rattle.lexicon_definitions.specs.FormEntries.{IsListedStem};
 ghost use Rattle.lexicon_definitions.specs.Limits.{count_lines};
 ghost use Rattle.lexicon_text_definitions.specs.FileContents.{compare_entries as compare_entries_of};
+ghost use Rattle.run_definitions.specs.SoundSources.{IsSoundEntry};
 ghost use Rattle.form_lists.specs.Lists.{text_entry};
-ghost use Rattle.lexicon_builder.specs.Sources.{IsListable, IfLimit};
+ghost use Rattle.lexicon_builder.specs.Sources.{IfLimit};
 ghost use Rattle.lexicon_builder.specs.Collected.{AreInOrder, last_before, IsAdded, HasNoRoom, AreCollectedIn, AreTooMany};
 
 use crate::BuildError;
@@ -65,7 +66,7 @@ pub(crate) fn collected(
     entries: Vec<Entry>,
 ) -> Result<StoreBuilder, BuildError>
     requires phases { phases ≤ MOST_PHASES }
-    requires each { All (IsListable phases) (map text_entry entries.items) }
+    requires each { All (IsSoundEntry phases) (map text_entry entries.items) }
     requires in_order { AreInOrder (map text_entry entries.items) }
     ensures ok { IfOk result (λ builder. AreCollectedIn phases (map text_entry entries.items) builder) }
     ensures lines { IfOk result (λ builder. count_lines builder ≤ MOST_FORM_LINES) }

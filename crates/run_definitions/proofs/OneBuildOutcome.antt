@@ -10,7 +10,6 @@ use Rattle.rule_file_definitions.specs.RuleFileReadings.{FileResult, IsReadAs, I
 use Rattle.run_definitions.specs.Commands.{FileWord}
 use Rattle.run_definitions.specs.Ends.{Outcome, AnyFault, Rules, Tables, Stems}
 use Rattle.run_definitions.specs.SourceLexicons.{IsOversized}
-use Rattle.lexicon_definitions.specs.declared.limits.TheConstants.{MOST_FORM_LINES}
 use Rattle.lexicon_text_definitions.specs.declared.limits.TheConstants.{MOST_FILE_BYTES}
 use Rattle.trie_text_definitions.specs.VersionTexts.{IsNewestText}
 use Rattle.trie_text_definitions.proofs.OneText.{one_newest}

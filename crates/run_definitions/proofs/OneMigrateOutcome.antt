@@ -1,5 +1,5 @@
 -- A lexicon has one newest text at most, whose length decides, and one trie in order, whose nodes are counted.
-use Rattle.std.proofs.Common.{◌≡◌, ◌<◌, ◌≤◌, ℕ, List, length, sym, ◌∙◌, ap, arith}
+use Rattle.std.proofs.Common.{◌≡◌, ◌≤◌, ℕ, List, length, sym, ◌∙◌, ap, arith}
 use Rattle.outside.specs.Files.{Files}
 use Rattle.lexicon_definitions.specs.Lexicons.{Lexicon}
 use Rattle.lexicon_definitions.specs.Tries.{Trie}

@@ -1,10 +1,10 @@
--- What is read of tables and stems is sound: rows have a phase of the rule file, a tag and words, and stems are words. So the entries
--- of stems may stand in a lexicon, since a turned letter is a letter again.
-use Rattle.std.proofs.Common.{◌≡◌, ◌≢◌, ℕ, zero, suc, ◌+◌, ◌<◌, Bool, true, false, Option, Some, None, Result, Ok, Err, List, [], ◌∷◌, ◌++◌, length, inl, inr, refl, sym, ap, subst, arith}
+-- What is read of tables and stems is sound: rows have a phase of the rule file, a tag and words, and stems are words that are not too
+-- long. So the entries of stems may stand in a lexicon that has a text, since a turned letter is a letter again.
+use Rattle.std.proofs.Common.{◌≡◌, ◌≢◌, ℕ, zero, suc, ◌+◌, ◌<◌, Bool, true, false, Option, Some, None, Result, Ok, Err, List, [], ◌∷◌, ◌++◌, length, inl, inr, refl, sym, ap, subst, arith, ◌≤◌, ◌||◌, nat_lt}
 use Rattle.std.specs.Prelude.{if◌then◌else◌, ◌==◌, slice_index}
 use Rattle.std.specs.List.{All, AllZip, list_any, position, flat_map}
 use Rattle.std.specs.Str.{bytes_eq}
-use Rattle.std.proofs.lemmas.Bool.{cases_lt}
+use Rattle.std.proofs.lemmas.Bool.{cases_lt, or_parts, ltb-false}
 use Rattle.std.proofs.lemmas.List.{get_or_default}
 use Rattle.std.proofs.lemmas.List.Elements.{All-push, All-nil, All-cons, All-head, All-tail, All-append, All-take, All-contains}
 use Rattle.std.proofs.lemmas.List.Quantifiers.{position-Some}
@@ -18,7 +18,9 @@ use Rattle.text_definitions.specs.Slp1.{word_of_slp1}
 use Rattle.text_definitions.proofs.SpelledWords.{word_from_read}
 use Rattle.lexicon_definitions.specs.Tags.{IsTagText}
 use Rattle.lexicon_definitions.specs.Lexicons.{IsAnalysis}
-use Rattle.lexicon_definitions.specs.FormEntries.{Entry}
+use Rattle.lexicon_definitions.specs.FormEntries.{Entry, IsListedStem}
+use Rattle.lexicon_definitions.specs.declared.limits.TheConstants.{MOST_FORM_LETTERS}
+use Rattle.lexicon_definitions.proofs.FormsPlaced.{some_length}
 use Rattle.lexicon_text_definitions.specs.FileContents.{is_tag_text}
 use Rattle.lexicon_text_definitions.specs.FileSteps.{some_word}
 use Rattle.lexicon_text_definitions.proofs.TagTests.{tag_from_test}
@@ -30,8 +32,9 @@ use Rattle.paradigm_file_definitions.specs.Records.{read_on, read_records, recor
 use Rattle.paradigm_file_definitions.specs.TableFaults as table
 use Rattle.paradigm_file_definitions.specs.TableFiles.{has_name, has_row, with_row, with_last_row, passes_row_limits, is_class_name, cut_of, take_row, take_affixes, take_phase, take_cut, take_table, tables_of}
 use Rattle.paradigm_file_definitions.specs.StemFaults as stem
-use Rattle.paradigm_file_definitions.specs.StemFiles.{is_same_stem, is_too_short, passes_stem_limits, take_classed, take_class, take_letters, take_stem, stems_of}
-use Rattle.run_definitions.specs.SoundSources.{IsSoundRow, HasSoundRows, IsStemWord, IsSoundEntry}
+use Rattle.paradigm_file_definitions.specs.declared.limits.TheConstants.{MOST_STEM_RECORDS, MOST_INFLECTIONS}
+use Rattle.paradigm_file_definitions.specs.StemFiles.{is_same_stem, is_too_short, is_too_long, count_inflections, passes_stem_limits, take_classed, take_class, take_letters, take_stem, stems_of}
+use Rattle.run_definitions.specs.SoundSources.{IsSoundRow, HasSoundRows, IsStemWord, HasStemWord, IsSoundEntry}
 
 -- ---- joined words
 
@@ -76,26 +79,29 @@ joined_word front ending result h f e =
 
 -- ---- entries
 
-entry_sound : (count : ℕ) (row : Row) (stem : List ℕ) (entry : Entry) → IsSoundRow count row → IsWord stem → IsInflectable stem row
+entry_sound : (count : ℕ) (row : Row) (stem : List ℕ) (entry : Entry) → IsSoundRow count row → IsStemWord stem → IsInflectable stem row
     → IsInflected row stem entry → IsSoundEntry count entry
 entry_sound count row stem entry sound word inflectable is =
     let long = inflected-length row stem entry is in
     let some = inflectable.not_empty in
+    let few = inflectable.short in
     let phase = is.phase in
     let below = sound.phase in
     let front : IsWord (front_of row stem) =
-    All-append IsLetter row.prefix (without_last row.cut stem) sound.prefix (All-take IsLetter _ stem word) in
+    All-append IsLetter row.prefix (without_last row.cut stem) sound.prefix (All-take IsLetter _ stem word.word) in
     record {
       phase = omega (arith, phase, below);
       word = joined_word (front_of row stem) row.ending entry.letters is.form front sound.ending;
       not_empty = λ e. let none : length entry.letters ≡ 0 = ap length e in omega (arith, none, long, some);
-      analysis = subst IsAnalysis (sym is.analysis) (record { stem = word; tag = sound.tag });
+      short = omega (arith, long, few);
+      analysis = subst IsAnalysis (sym is.analysis) (record { stem = word.word; tag = sound.tag });
+      stem = subst IsListedStem (sym is.analysis) (record { not_empty = word.not_empty; short = word.short });
     }
 
 -- what is asked of a row and a stem
 record IsSoundPair (count : ℕ) (pair : Row × List ℕ) : Type 0 where
   row : IsSoundRow count pair.0
-  word : IsWord pair.1
+  word : IsStemWord pair.1
   inflectable : IsInflectable pair.1 pair.0
 
 rows_sound : (count : ℕ) (classes : List Class) (number : ℕ) → All (HasSoundRows count) classes → All (IsSoundRow count) (rows_of classes number)
@@ -103,7 +109,7 @@ rows_sound count [] number each = All-nil (IsSoundRow count)
 rows_sound count (class ∷ classes) zero each = All-head (HasSoundRows count) class classes each
 rows_sound count (class ∷ classes) (suc number) each = rows_sound count classes number (All-tail (HasSoundRows count) class classes each)
 
-pairs_sound : (count : ℕ) (classes : List Class) (stems : List Stem) → All (HasSoundRows count) classes → All IsStemWord stems
+pairs_sound : (count : ℕ) (classes : List Class) (stems : List Stem) → All (HasSoundRows count) classes → All HasStemWord stems
     → All (IsInflectableStem classes) stems → All (IsSoundPair count) (flat_map (rows_with classes) stems)
 pairs_sound count classes stems rows words inflectable =
     All-from_Contains (IsSoundPair count) (flat_map (rows_with classes) stems) (λ pair m.
@@ -113,7 +119,7 @@ pairs_sound count classes stems rows words inflectable =
     subst (IsSoundPair count) row.2
     (record {
       row = All-contains (IsSoundRow count) (rows_of classes at.0.class) row.0 (rows_sound count classes at.0.class rows) row.1;
-      word = All-contains IsStemWord stems at.0 words at.1;
+      word = All-contains HasStemWord stems at.0 words at.1;
       inflectable = All-contains (IsInflectable at.0.letters) (rows_of classes at.0.class) row.0 stem.rows row.1;
     }))
 
@@ -129,7 +135,7 @@ zipped_sound count (pair ∷ pairs) (entry ∷ entries) sound is =
 
 -- the entries of sound sources are sound
 pub entries_sound : (count : ℕ) (classes : List Class) (stems : List Stem) (entries : List Entry) → All (HasSoundRows count) classes
-    → All IsStemWord stems → All (IsInflectableStem classes) stems → AreAllInflected classes stems entries → All (IsSoundEntry count) entries
+    → All HasStemWord stems → All (IsInflectableStem classes) stems → AreAllInflected classes stems entries → All (IsSoundEntry count) entries
 entries_sound count classes stems entries rows words inflectable are =
     zipped_sound count (flat_map (rows_with classes) stems) entries (pairs_sound count classes stems rows words inflectable) are
 
@@ -145,7 +151,7 @@ module _ {Told Why : Type 0} (take_record : ℕ → Told → List (List ℕ) →
   kept_on number records end (Err why) one rest h = absurd (cc)
   kept_on number records end (Ok after) one rest h = rest after (one after refl) h
 
-  pub kept : (records : List (List (List ℕ))) (number : ℕ) (told end : Told) → P told → read_records take_record number told records ≡ Ok end → P end
+  kept : (records : List (List (List ℕ))) (number : ℕ) (told end : Told) → P told → read_records take_record number told records ≡ Ok end → P end
   kept [] number told end holds h = let same : told ≡ end = cc (h) in subst P same holds
   kept (fields ∷ records) number told end holds h =
       kept_on number records end (take_record number told fields)
@@ -230,34 +236,45 @@ module _ (names : List (List ℕ)) where
 -- ---- stems
 
 module _ (classes : List Class) where
-  classed : (number : ℕ) (stems after : List Stem) (new : Stem) → IsStemWord new → take_classed classes number stems new ≡ Ok after
-      → All IsStemWord stems → All IsStemWord after
-  classed number stems after new word h so_far =
-      let first = if_refused (list_any (is_too_short new.letters) (rows_of classes new.class)) _ stem.Short after h in
+  classed : (number : ℕ) (stems after : List Stem) (new : Stem) → IsWord new.letters → new.letters ≢ [] → take_classed classes number stems new ≡ Ok after
+      → All HasStemWord stems → All HasStemWord after
+  classed number stems after new word some h so_far =
+      let rows = rows_of classes new.class in
+      let first = if_refused (list_any (is_too_short new.letters) rows) _ stem.Short after h in
       let second = if_refused (passes_stem_limits classes number stems new) _ stem.Limit after first.1 in
       let third = if_refused (list_any (is_same_stem new) stems) _ stem.Twice after second.1 in
       let pushed : stems ++ new ∷ [] ≡ after = cc (third.1) in
-      subst (All IsStemWord) pushed (All-push IsStemWord stems new so_far word)
+      let long = nat_lt MOST_FORM_LETTERS (length new.letters) in
+      let any = list_any (is_too_long new.letters) rows in
+      let many = nat_lt MOST_STEM_RECORDS number in
+      let forms = nat_lt MOST_INFLECTIONS (count_inflections classes stems + length rows) in
+      let three = or_parts (long || any || many) forms second.0 in
+      let two = or_parts (long || any) many three.0 in
+      let one = or_parts long any two.0 in
+      let here : HasStemWord new =
+      record { word = word; not_empty = some_length new.letters some; short = ltb-false MOST_FORM_LETTERS (length new.letters) one.0 } in
+      subst (All HasStemWord) pushed (All-push HasStemWord stems new so_far here)
 
-  by_class : (number : ℕ) (stems after : List Stem) (letters : List ℕ) (class : Option ℕ) → IsWord letters → take_class classes number stems letters class ≡ Ok after
-      → All IsStemWord stems → All IsStemWord after
-  by_class number stems after letters None word h so_far = absurd (cc)
-  by_class number stems after letters (Some class) word h so_far = classed number stems after (record { letters = letters; class = class }) word h so_far
+  by_class : (number : ℕ) (stems after : List Stem) (letters : List ℕ) (class : Option ℕ) → IsWord letters → letters ≢ []
+      → take_class classes number stems letters class ≡ Ok after → All HasStemWord stems → All HasStemWord after
+  by_class number stems after letters None word some h so_far = absurd (cc)
+  by_class number stems after letters (Some class) word some h so_far =
+      classed number stems after (record { letters = letters; class = class }) word some h so_far
 
   by_reading : (number : ℕ) (stems after : List Stem) (text : List ℕ) (reading : Reading) (name : List ℕ) → word_of_slp1 text ≡ reading
-      → take_letters classes number stems (some_word reading) name ≡ Ok after → All IsStemWord stems → All IsStemWord after
+      → take_letters classes number stems (some_word reading) name ≡ Ok after → All HasStemWord stems → All HasStemWord after
   by_reading number stems after text (Ok []) name is h so_far = absurd (cc)
   by_reading number stems after text (Ok (letter ∷ word)) name is h so_far =
-      by_class number stems after (letter ∷ word) (position (has_name name) classes) (word_from_read text (letter ∷ word) is) h so_far
+      by_class number stems after (letter ∷ word) (position (has_name name) classes) (word_from_read text (letter ∷ word) is) (λ e. cc) h so_far
   by_reading number stems after text (Err fault) name is h so_far = absurd (cc)
 
   stem_taken : (number : ℕ) (stems after : List Stem) (fields : List (List ℕ)) → take_stem classes number stems fields ≡ Ok after
-      → All IsStemWord stems → All IsStemWord after
+      → All HasStemWord stems → All HasStemWord after
   unfolding take_stem
   stem_taken number stems after (letters ∷ name ∷ []) h so_far = by_reading number stems after letters (word_of_slp1 letters) name refl h so_far
   stem_taken number stems after fields h so_far = absurd (cc)
 
-  pub stems_are_words : (bytes : List ℕ) (stems : List Stem) → stems_of classes bytes ≡ Ok stems → All IsStemWord stems
+  pub stems_are_words : (bytes : List ℕ) (stems : List Stem) → stems_of classes bytes ≡ Ok stems → All HasStemWord stems
   unfolding stems_of
   stems_are_words bytes stems h =
-      kept (take_stem classes) (All IsStemWord) stem_taken (records_of bytes) 1 [] stems (All-nil IsStemWord) h
+      kept (take_stem classes) (All HasStemWord) stem_taken (records_of bytes) 1 [] stems (All-nil HasStemWord) h

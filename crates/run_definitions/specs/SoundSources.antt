@@ -1,7 +1,8 @@
 -- What holds of the rows and stems that are read of source files, so that the entries of stems may stand in a lexicon.
-use Rattle.std.specs.Prelude.{◌≢◌, ℕ, ◌<◌, [], All}
+use Rattle.std.specs.Prelude.{◌≢◌, ℕ, ◌<◌, ◌≤◌, List, [], length, All}
 use Rattle.text_definitions.specs.Words.{IsWord}
-use Rattle.lexicon_definitions.specs.FormEntries.{Entry}
+use Rattle.lexicon_definitions.specs.declared.limits.TheConstants.{MOST_FORM_LETTERS}
+use Rattle.lexicon_definitions.specs.FormEntries.{Entry, IsListedStem}
 use Rattle.lexicon_definitions.specs.Lexicons.{IsAnalysis}
 use Rattle.lexicon_definitions.specs.Tags.{IsTagText}
 use Rattle.morphology_definitions.specs.Inflection.{Row, Class, Stem}
@@ -17,13 +18,21 @@ pub record IsSoundRow (count : ℕ) (row : Row) : Type 0 where
 abbrev pub HasSoundRows : ℕ → Class → Type 0
 HasSoundRows count class = All (IsSoundRow count) class.rows
 
--- the stem's letters are a word
-abbrev pub IsStemWord : Stem → Type 0
-IsStemWord stem = IsWord stem.letters
+-- a word that may be a stem
+pub record IsStemWord (letters : List ℕ) : Type 0 where
+  pub word : IsWord letters
+  pub not_empty : 0 < length letters
+  pub short : length letters ≤ MOST_FORM_LETTERS
 
--- an entry that may stand in a lexicon
+-- the stem's letters are such
+abbrev pub HasStemWord : Stem → Type 0
+HasStemWord stem = IsStemWord stem.letters
+
+-- an entry that may stand in a lexicon with a text
 pub record IsSoundEntry (count : ℕ) (entry : Entry) : Type 0 where
   pub phase : entry.phase < count
   pub word : IsWord entry.letters
   pub not_empty : entry.letters ≢ []
+  pub short : length entry.letters ≤ MOST_FORM_LETTERS
   pub analysis : IsAnalysis entry.analysis
+  pub stem : IsListedStem entry.analysis

@@ -3,3 +3,4 @@ pub mod SmallAnswers
 pub mod SmallLexicons
 pub mod SmallListings
 pub mod WrittenLexicons
+pub mod SmallRuns

@@ -1,1 +1,2 @@
 pub mod WorkedLexicons
+pub mod WorkedRuns

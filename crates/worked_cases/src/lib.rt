@@ -1,8 +1,9 @@
-//! Small cases that are followed by hand, as whole listings, summaries and pages, and texts of chains, which show that the definitions
-//! of segmentation and of chains mean what they should. Nothing rests on them.
+//! Small cases that are followed by hand, as whole listings, summaries and pages, texts of chains, and a run of `migrate`, which show that
+//! the definitions of segmentation, of chains and of runs mean what they should. Nothing rests on them.
 #![tactic(auto)]
 
 mod cases;
+mod runs;
 #[cfg(test)]
 mod tests;
 
@@ -15,3 +16,4 @@ pub use cases::{
     phases_are_a_word_of_the_grammar, the_smaller_rule_is_first, the_worked_lexicons_are_lexicons,
     these_steps_derive_no_word,
 };
+pub use runs::{a_small_lexicon_is_migrated, lexicon_files_are_refused_by_line_and_reason};

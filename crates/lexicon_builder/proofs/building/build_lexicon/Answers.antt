@@ -1,13 +1,13 @@
 -- The entries in order are those that were inflected, so phases with just these are the lexicon of the sources, which the trie tells.
 use Rattle.std.proofs.Common.{◌∙◌, length, string_bytes}
 use Rattle.std.proofs.lemmas.Result.{err_from_is_err_and}
-use Rattle.lexicon_builder.proofs.BuiltLexicons.{as_many, few_phases, sorted_listable, too_many_lines, built_store, store_text, store_lines, store_itself}
+use Rattle.lexicon_builder.proofs.BuiltLexicons.{as_many, few_phases, sorted_sound, too_many_lines, built_store, store_text, store_lines, store_itself}
 use Rattle.lexicon_builder.proofs.Limits.{limit_follows}
 use Rattle.lexicon_builder.proofs.building.build_lexicon.Goals as goal
 
 pub collected-requires-clause-each : goal.collected-requires-clause-each
 collected-requires-clause-each g c =
-    sorted_listable c.args.rules c.args.tables.now c.args.stems.now c.requires (length c.phases.result.now) (as_many string_bytes c.phases.result.now c.args.rules.names c.phases.ensures)
+    sorted_sound c.args.rules c.args.tables.now c.args.stems.now c.requires (length c.phases.result.now) (as_many string_bytes c.phases.result.now c.args.rules.names c.phases.ensures)
     c.in_ok-entries.entries.items c.sort_entries.new.entries.items c.in_ok-entries.ensures.ok c.sort_entries.ensures.permutation
 
 pub returns-in_err-builder-clause-limit : goal.returns-in_err-builder-clause-limit

@@ -3,7 +3,8 @@ use Rattle.std.proofs.Common.{rules, ◌≡◌, List, map, sym, ap, subst, arith
 use Rattle.std.proofs.lemmas.Result.{err_from_is_err_and}
 use Rattle.form_tags.specs.declared.entry.Entry.{Entry}
 use Rattle.form_lists.specs.Lists.{text_entry}
-use Rattle.lexicon_builder.specs.Sources.{IsListable}
+use Rattle.lexicon_definitions.proofs.FormsPlaced.{some_length}
+use Rattle.run_definitions.specs.SoundSources.{IsSoundEntry}
 use Rattle.lexicon_builder.proofs.CollectedLists.{AreCollected, none_left, collected_at_first, next_listable, next_within, next_not_below, collected_more, collected_at_end, no_room}
 use Rattle.lexicon_builder.proofs.Limits.{limit_follows}
 use Rattle.lexicon_builder.proofs.collecting.collected.Goals as goal
@@ -14,7 +15,7 @@ loop-entry-init c =
     subst (λ (entries : List Entry). AreCollected c.args.phases (map text_entry c.args.entries.items) c.in_ok-builder.builder (map text_entry entries)) (sym all)
     (collected_at_first c.args.phases (map text_entry c.args.entries.items) c.in_ok-builder.builder c.in_ok-builder.ensures.ok c.requires.each c.requires.in_order)
 
-next : (c : goal.After-builder-in-loop-entry-1) → IsListable c.args.phases (text_entry c.in-Some.entry)
+next : (c : goal.After-builder-in-loop-entry-1) → IsSoundEntry c.args.phases (text_entry c.in-Some.entry)
 next c =
     next_listable c.args.phases (map text_entry c.args.entries.items) c.loop-entry.builder (map text_entry c.loop-entry.entry-iterator.rest.items)
     (map text_entry c.next.new.self.rest.items) (text_entry c.in-Some.entry) c.loop-entry.invariant (ap (map text_entry) c.in-Some.ensures.steps.0)
@@ -25,7 +26,7 @@ add_entry-requires-clause-phase c =
     (map text_entry c.next.new.self.rest.items) (text_entry c.in-Some.entry) c.loop-entry.invariant (ap (map text_entry) c.in-Some.ensures.steps.0)
 
 pub add_entry-requires-clause-not_empty : goal.add_entry-requires-clause-not_empty
-add_entry-requires-clause-not_empty c = (next c).not_empty
+add_entry-requires-clause-not_empty c = some_length _ (next c).not_empty
 
 pub add_entry-requires-clause-short : goal.add_entry-requires-clause-short
 add_entry-requires-clause-short c = (next c).short
