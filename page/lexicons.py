@@ -75,7 +75,7 @@ class Lexicon:
 
 
 def read_phases(path):
-    """The names that the `phase` lines at the beginning of a lexicon file give."""
+    """The names that the `phase` lines of a lexicon file give. In each version they come next after the first line."""
     names = []
     try:
         with open(path, encoding="utf-8", errors="replace") as file:

@@ -53,6 +53,31 @@ for old in "$work/first.lex" "$lexicon"; do
     expect 0 9 migrate "$old" "$work/new.lex" <<<"nodes $nodes"
     cmp "$lexicon" "$work/new.lex" >&2 || fail "$(basename "$old") is migrated to another text than was built"
 done
+# Rules that are limited to phases: saH loses its H before consonants, and Ar comes of the a of a preverb alone.
+pronouns="$work/pronouns.lex"
+expect 0 9 build samples/pronouns.toml samples/pronoun_tables.csv samples/pronoun_stems.csv "$pronouns" <<'END'
+forms 15
+END
+expect 0 9 check "$pronouns" <<'END'
+phases 5
+rules 148
+forms 15
+end
+END
+expect 0 9 segment "$pronouns" 'sa gacCati' <<'END'
+1: saH[dem] (aH|g>ag) gacCati[verb]
+end
+END
+expect 0 9 segment "$pronouns" 'so gacCati' <<'END'
+end
+END
+expect 0 9 segment "$pronouns" 'upArcCati' <<'END'
+1: upa[pv] (a|f>Ar) fcCati[verb]
+end
+END
+expect 0 9 segment "$pronouns" 'ihArziH' <<'END'
+end
+END
 
 line='रामो वनं गच्छति च सेनां नदीं च पश्यति ।'
 answer='1: rAmaH[noun] (aH|v>ov) vanam[noun] (m|g>Mg) gacCati[verb] + ca[ind] + senAm[noun] (m|n>Mn) nadIm[noun] (m|c>Mc) ca[ind] + paSyati[verb]'

@@ -3,9 +3,9 @@
 
     page/tests/measure.py [--program PROGRAM] [--lexicon LEX]
 
-Lines with 150 to 250 answers are readings, and pairs of readings that are read as one line. On each line every box is
-rejected and kept once, each time on the line without choices, and the choice is taken back. The time goes from a click
-that chooses to the end of the first frame in which the page is drawn anew. The processor time is that of the browser with
+Lines with 150 to 250 answers are readings, lines of `fresh.tsv` beside them, and pairs of these that are read as one
+line. On each line every box is rejected and kept once, each time on the line without choices, and the choice is taken
+back. The time goes from a click that chooses to the end of the first frame in which the page is drawn anew. The processor time is that of the browser with
 all its processes, the server and the program, for each click, those that take back counted too: it tells what a click
 costs where other work keeps the processors busy. The first line is timed from the start of `sandhi-page`, and from Enter.
 """
@@ -59,12 +59,12 @@ const drawnAfter = (button) => new Promise((end) => {
 """
 
 
-def lines_with_answers(session, rows):
-    """Texts with LEAST to MOST answers: single readings first, then pairs."""
+def lines_with_answers(session, texts):
+    """Texts with LEAST to MOST answers: single ones of these first, then pairs."""
     counts = {}
-    for row in rows:
-        session.ask(f"text devanagari {row[2]}")
-        counts[row[2]] = len(session.ask("page 1000")) - 1
+    for text in texts:
+        session.ask(f"text devanagari {text}")
+        counts[text] = len(session.ask("page 1000")) - 1
     found = [text for text, count in counts.items() if LEAST <= count <= MOST]
     pairs = (
         (one, other)
@@ -139,13 +139,14 @@ def main():
     os.environ["SANDHI_PROGRAM"] = str(Path(words.program).resolve())
     os.environ["SANDHI_LEXICON"] = words.lexicon if words.lexicon == "-" else str(Path(words.lexicon).resolve())
     from browser import Browser
-    from serving import PROGRAM, PageServer, readings
+    from serving import PROGRAM, READINGS, PageServer, readings
     from session import Session
-    from test_browser import Page, starter_path
+    from test_browser import Page, count_of, starter_path
 
     lexicon = starter_path()
     session = Session(PROGRAM, lexicon, 2 * 1024**3)
-    texts = lines_with_answers(session, readings())
+    rows = readings() + readings(READINGS.with_name("fresh.tsv"))
+    texts = lines_with_answers(session, [text for _, _, text, *_ in rows])
     session.close()
     browser = Browser()
     try:
@@ -153,16 +154,17 @@ def main():
         server = PageServer(lexicon)
         page = Page(browser, server.address).open()
         browser.call("POST", "/timeouts", {"script": 600_000})
+        counts = [count_of(page.type(text)["count"]) for text in texts]
         lines = [click_times(browser, page, text, {browser.process, server.process.pid}) for text in texts]
         most, now = memory_of(server.process.pid)
         server.stop()
     finally:
         browser.close()
     print(f"load {os.getloadavg()[0]:.1f} on {os.cpu_count()} processors")
-    for text, (times, spent) in zip(texts, lines):
+    for count, text, (times, spent) in zip(counts, texts, lines):
         times.sort()
         print(
-            f"line of {len(text)} signs, {len(times)} clicks: median {statistics.median(times):.0f} ms, "
+            f"line of {len(text)} signs with {count} answers, {len(times)} clicks: median {statistics.median(times):.0f} ms, "
             f"95th of 100 {times[int(0.95 * len(times))]:.0f} ms, processor time {500 * spent / len(times):.0f} ms a click"
         )
     print(

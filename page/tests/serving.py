@@ -18,9 +18,9 @@ READINGS = TOP / "lexicons" / "starter" / "readings" / "readings.tsv"
 signal.signal(signal.SIGINT, signal.default_int_handler)
 
 
-def readings():
+def readings(path=READINGS):
     """The readings of the starter lexicon: number, source, line in Devanagari, reading."""
-    return [line.split("\t") for line in READINGS.read_text(encoding="utf-8").splitlines()]
+    return [line.split("\t") for line in path.read_text(encoding="utf-8").splitlines()]
 
 
 class PageServer:

@@ -309,6 +309,11 @@ class Lexicons(WithFolder):
         self.assertEqual(list(self.folder.iterdir()), [path])
         self.assertEqual(read_phases(path)[:2], ["noun", "verb"])
 
+    def test_phases_are_told_by_the_head_of_a_file_of_any_version(self):
+        for version in (1, 2, 3):
+            path = self.file("some.lex", f"slx {version}\nphase noun\nphase {'v' * 16}\ngrammar noun\nplain a a\n")
+            self.assertEqual(read_phases(path), ["noun", "v" * 16])
+
     def test_meanings(self):
         self.file("roots.csv", "gacCa,gam,present\n")
         self.file("glosses.csv", 'gacCa,pr.a,"go, come"\nbad\n')

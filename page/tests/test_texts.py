@@ -96,6 +96,51 @@ class Lines(WithText):
         self.assertEqual(self.open_line(1)["boxes"], chosen["boxes"])
 
 
+class ManyLines(WithText):
+    FIRST = "उपपन्नो गुणैरिष्टै रूपवानश्वकोविदः"
+
+    def setUp(self):
+        super().setUp()
+        (self.folder / "long.txt").write_text("\n".join([self.FIRST] + ["रामो राजा बभूव ह"] * 400), encoding="utf-8")
+        (self.folder / "short.txt").write_text(f"{self.FIRST}\n", encoding="utf-8")
+        place = {"lexicon": 0, "text": "long.txt", "line": 1, "part": 1}
+        bookmark = "1;upapanno_guRErizwE_rUpavAnaSvakovidaH;;0;"
+        self.assertIn("note", self.server.ask("finish", {**place, "bookmark": bookmark})[1])
+        self.page.open()
+        self.wait_for_states()
+
+    def choose(self, *names):
+        self.browser.run(
+            "const file = document.getElementById('text-name');"
+            "for (const name of arguments[0]) { file.value = name; file.dispatchEvent(new Event('change')); }",
+            names,
+        )
+
+    def test_a_text_that_is_left_for_another_gives_it_nothing(self):
+        self.choose("long.txt", "short.txt")
+        self.browser.wait("return document.querySelectorAll('#text-lines li').length === 1")
+        self.wait_for_states()
+        self.page.seen()
+        self.assertEqual([state for _, _, state in self.lines()], ["one answer"])
+        self.choose("long.txt")
+        self.browser.wait("return document.querySelectorAll('#text-lines li').length === 401")
+        self.choose("short.txt")
+        self.wait_for_states()
+        self.page.seen()
+        self.assertEqual([state for _, _, state in self.lines()], ["one answer"])
+
+    def test_a_line_keeps_its_element_and_the_focus_while_states_come(self):
+        self.choose("long.txt")
+        self.browser.wait("return document.querySelectorAll('#text-lines li').length === 401")
+        last = self.browser.find("#text-lines li:last-child button")
+        self.browser.run("document.querySelector('#text-lines li:last-child button').focus()")
+        self.wait_for_states()
+        self.browser.wait("return document.querySelector('#text-lines .finished')")
+        self.browser.click(last)
+        self.assertEqual(count_of(self.page.seen()["count"]), 1)
+        self.assertTrue(self.browser.run("return document.activeElement.matches('#text-lines li:last-child button')"))
+
+
 class Finishing(WithText):
     def test_finished_lines_are_opened_again_finished(self):
         self.open_line(1)

@@ -3,13 +3,9 @@ use Rattle.std.proofs.Common.{◌≡◌, ℕ, ◌*◌, ◌<◌, ◌≤◌, List,
 use Rattle.std.specs.List.{flat_map}
 use Rattle.std.proofs.lemmas.List.{length-map}
 use Rattle.text_definitions.specs.Lines.{Line}
-use Rattle.lexicon_definitions.specs.Lexicons.{Lexicon, Form, IsLexicon}
-use Rattle.lexicon_definitions.specs.Limits.{count_lines, IsWithinLimits}
-use Rattle.lexicon_definitions.specs.Tries.{Trie, IsTrieOf}
-use Rattle.lexicon_definitions.specs.declared.limits.TheConstants.{MOST_PHASES}
-use Rattle.lexicon_text_definitions.specs.TextsOf.{HasText}
+use Rattle.lexicon_definitions.specs.Lexicons.{Lexicon}
+use Rattle.lexicon_definitions.specs.Limits.{count_lines}
 use Rattle.trie_text_definitions.specs.TrieForms.{phases_of}
-use Rattle.trie_text_definitions.proofs.TrieLexicons.{trie_tells_phases}
 use Rattle.segmentation_definitions.specs.Listings.{BeforeFirst, IsPage}
 use Rattle.demo_definitions.specs.declared.limits.TheConstants.{STEM_DRAWS, TEXT_WORDS, DEMO_PAGE}
 use Rattle.demo_definitions.specs.Draws.{seed_after}
@@ -20,8 +16,8 @@ use Rattle.demo_definitions.specs.SourceContents.{stem_spelled, stems_spelled, l
 use Rattle.demo_definitions.proofs.StemTexts.{stems_are_texts, some_stems}
 use Rattle.demo_definitions.proofs.LinesRead.{line_read}
 use Rattle.run_definitions.specs.DemoOutcomes.{AreDemoCounts}
-use Rattle.form_file.specs.declared.listed_lexicon.ListedLexicon.{ListedLexicon}
-use Rattle.form_file.specs.Contents.{lexicon_listed}
+use Rattle.form_file.specs.declared.contents.Contents.{Contents}
+use Rattle.form_file.specs.Contents.{lexicon_of}
 use Rattle.demo_counts.specs.declared.counting.PageCount.{PageCount}
 use Rattle.demo_counts.specs.Pages.{IsPageCount}
 use Rattle.demo_counts.specs.Inputs.{AreInput, AreDemoContents, counts_told}
@@ -57,48 +53,24 @@ as_many : (number : ℕ) → length (stems_spelled number) ≡ length (stems_of_
 unfolding stems_spelled
 as_many number = length-map (stems_of_number number) stem_spelled
 
-pub counts_made : (number : ℕ) (stems : List (List ℕ)) (text : List ℕ) (listed : ListedLexicon) (lexicon : Lexicon) (line : Line) (page : PageCount)
-    (forms letters : ℕ) → AreInput number stems text → AreDemoContents number listed → lexicon ≡ lexicon_listed listed → line ≡ line_spelled number
-    → IsPageCount lexicon line page → forms ≡ count_lines listed.lists → letters ≡ length line.letters
+pub counts_made : (number : ℕ) (stems : List (List ℕ)) (text : List ℕ) (contents : Contents) (lexicon : Lexicon) (line : Line) (page : PageCount)
+    (forms letters : ℕ) → AreInput number stems text → AreDemoContents number contents → lexicon ≡ lexicon_of contents → line ≡ line_spelled number
+    → IsPageCount lexicon line page → forms ≡ count_lines (phases_of contents.store) → letters ≡ length line.letters
     → AreDemoCounts number (counts_told (record { stems = length stems; forms = forms; letters = letters; answers = page.answers; more = page.more }))
-counts_made number stems text listed lexicon line page forms letters input made lexicon_is line_is counted forms_are letters_are =
+counts_made number stems text contents lexicon line page forms letters input made lexicon_is line_is counted forms_are letters_are =
     let stems_are : length stems ≡ length (stems_spelled number) = ap length input.stems_are ∙ sym (as_many number) in
     let letters_is : letters ≡ length (line_spelled number).letters = letters_are ∙ ap (λ (l : Line). length l.letters) line_is in
     let answers_are : page.answers ≡ length counted.answers = sym counted.many in
     record {
       stems = stems_spelled number;
-      lexicon = lexicon_listed listed;
+      lexicon = lexicon_of contents;
       is_lexicon = made.is_lexicon;
       line = line_spelled number;
       text_read = line_read number;
       answers = counted.answers;
       more = page.more;
       page =
-          subst (λ (l : Line). IsPage (lexicon_listed listed) l [] BeforeFirst DEMO_PAGE counted.answers page.more) line_is
+          subst (λ (l : Line). IsPage (lexicon_of contents) l [] BeforeFirst DEMO_PAGE counted.answers page.more) line_is
           (subst (λ (l : Lexicon). IsPage l line [] BeforeFirst DEMO_PAGE counted.answers page.more) lexicon_is counted.is_page);
       are = λ i. record { stems = stems_are i; forms = forms_are i; letters = letters_is i; answers = answers_are i; more = page.more };
     }
-
--- ---- the lexicon that is searched
-
-module _ (listed : ListedLexicon) (store : Trie) (is : IsTrieOf store listed.lists) (has_text : HasText (lexicon_listed listed)) where
-  pub lists_told : phases_of store ≡ listed.lists
-  lists_told = trie_tells_phases store listed.lists is has_text.lexicon_itself.phases
-
-  pub trie_itself : IsTrieOf store (phases_of store)
-  trie_itself = subst (IsTrieOf store) (sym lists_told) is
-
-  pub lexicon_itself : IsLexicon (record { rules = listed.rules; phases = phases_of store })
-  lexicon_itself = subst (λ (lists : List (List Form)). IsLexicon (record { rules = listed.rules; phases = lists })) (sym lists_told) has_text.lexicon_itself
-
-  pub limits_kept : IsWithinLimits (record { rules = listed.rules; phases = phases_of store })
-  limits_kept = subst (λ (lists : List (List Form)). IsWithinLimits (record { rules = listed.rules; phases = lists })) (sym lists_told) has_text.limits
-
-  pub lexicon_told : (lexicon : Lexicon) → lexicon ≡ record { rules = listed.rules; phases = phases_of store } → lexicon ≡ lexicon_listed listed
-  lexicon_told lexicon same = same ∙ ap (λ (lists : List (List Form)). record { rules = listed.rules; phases = lists }) lists_told
-
-pub some_lists : (listed : ListedLexicon) → HasText (lexicon_listed listed) → 0 < length listed.lists
-some_lists listed has_text = let some = has_text.limits.rule_set.some_phase in let count = has_text.lexicon_itself.count in omega (arith, some, count)
-
-pub few_lists : (listed : ListedLexicon) → HasText (lexicon_listed listed) → length listed.lists ≤ MOST_PHASES
-few_lists listed has_text = let few = has_text.limits.rule_set.phases in let count = has_text.lexicon_itself.count in omega (arith, few, count)

@@ -29,9 +29,11 @@ use Rattle.demo_definitions.proofs.LinesRead.{line_read}
 use Rattle.run_definitions.specs.SourceLexicons.{IsLexiconOf}
 use Rattle.run_definitions.specs.DemoOutcomes.{IsDemoLexicon}
 use Rattle.run_definitions.proofs.OneBuildOutcome.{one_decided}
-use Rattle.form_file.specs.declared.listed_lexicon.ListedLexicon.{ListedLexicon}
-use Rattle.form_file.specs.Contents.{lexicon_listed}
-use Rattle.lexicon_text_definitions.specs.TextsOf.{HasText}
+use Rattle.form_file.specs.declared.contents.Contents.{Contents}
+use Rattle.form_file.specs.Contents.{lexicon_of}
+use Rattle.lexicon_definitions.specs.Tries.{IsTrieOf}
+use Rattle.trie_text_definitions.specs.TrieForms.{phases_of}
+use Rattle.lexicon_file.specs.Writing.{HasNewestText}
 use Rattle.lexicon_builder.specs.Sources.{AreSources, HaveTooManyLines}
 use Rattle.lexicon_builder.proofs.SourcesRead.{sources_read}
 use Rattle.demo_counts.specs.Inputs.{IsStemFile, AreDemoContents}
@@ -128,17 +130,18 @@ module _ (rules : RuleSet) (classes : List Class) (stems : List Stem) (bytes : L
     is_of = of_number number lexicon is of;
   }
 
-  pub contents_made : (listed : ListedLexicon) (automaton : StateMachine) → Recognizes automaton (tree_of rules) → automaton.phases ≡ length rules.names
-      → listed.automaton ≡ automaton → IsLexiconOf rules classes stems (lexicon_listed listed) → HasText (lexicon_listed listed) → (number : ℕ) → bytes ≡ demo_stems number
-      → AreDemoContents number listed
-  contents_made listed automaton recognizes phases kept of has_text number is =
+  pub contents_made : (contents : Contents) (automaton : StateMachine) → Recognizes automaton (tree_of rules) → automaton.phases ≡ length rules.names
+      → contents.automaton ≡ automaton → IsLexiconOf rules classes stems (lexicon_of contents) → IsTrieOf contents.store (phases_of contents.store)
+      → HasNewestText (lexicon_of contents) → (number : ℕ) → bytes ≡ demo_stems number → AreDemoContents number contents
+  contents_made contents automaton recognizes phases kept of trie has_text number is =
       let same = of.same_rules in
-      let lexicon = demo_lexicon number (lexicon_listed listed) is of in
+      let lexicon = demo_lexicon number (lexicon_of contents) is of in
       record {
         is_lexicon = lexicon;
+        trie = trie;
         has_text = has_text;
         recognizes =
-            subst (λ (machine : StateMachine). Recognizes machine (tree_of listed.rules)) (sym kept)
+            subst (λ (machine : StateMachine). Recognizes machine (tree_of contents.rules)) (sym kept)
             (subst (λ (set : RuleSet). Recognizes automaton (tree_of set)) (sym same) recognizes);
         phases =
             ap (λ (machine : StateMachine). machine.phases) kept ∙ phases ∙ sym (ap (λ (set : RuleSet). length set.names) same);

@@ -1,10 +1,12 @@
 -- What is made of a number, as contracts see it.
 use Rattle.std.specs.Prelude.{◌≡◌, ℕ, List, length}
 use Rattle.lexicon_definitions.specs.Lexicons.{tree_of}
-use Rattle.lexicon_text_definitions.specs.TextsOf.{HasText}
+use Rattle.lexicon_definitions.specs.Tries.{IsTrieOf}
+use Rattle.trie_text_definitions.specs.TrieForms.{phases_of}
 use Rattle.phase_automaton.specs.Automata.{Recognizes}
-use Rattle.form_file.specs.declared.listed_lexicon.ListedLexicon.{ListedLexicon}
-use Rattle.form_file.specs.Contents.{lexicon_listed}
+use Rattle.form_file.specs.declared.contents.Contents.{Contents}
+use Rattle.form_file.specs.Contents.{lexicon_of}
+use Rattle.lexicon_file.specs.Writing.{HasNewestText}
 use Rattle.demo_definitions.specs.DrawnStems.{stems_of_number}
 use Rattle.demo_definitions.specs.DrawnTexts.{text_of_number}
 use Rattle.demo_definitions.specs.SourceTexts.{demo_stems}
@@ -22,12 +24,13 @@ pub record AreInput (number : ℕ) (stems : List (List ℕ)) (text : List ℕ) :
   pub stems_are : stems ≡ stems_of_number number
   pub text_is : text ≡ text_of_number number
 
--- what is listed is the lexicon of the sources of the number, and it can be searched
-pub record AreDemoContents (number : ℕ) (listed : ListedLexicon) : Type 0 where
-  pub is_lexicon : IsDemoLexicon number (stems_spelled number) (lexicon_listed listed)
-  pub has_text : HasText (lexicon_listed listed)
-  pub recognizes : Recognizes listed.automaton (tree_of listed.rules)
-  pub phases : listed.automaton.phases ≡ length listed.rules.names
+-- the contents are the lexicon of the sources of the number, and it can be searched
+pub record AreDemoContents (number : ℕ) (contents : Contents) : Type 0 where
+  pub is_lexicon : IsDemoLexicon number (stems_spelled number) (lexicon_of contents)
+  pub trie : IsTrieOf contents.store (phases_of contents.store)
+  pub has_text : HasNewestText (lexicon_of contents)
+  pub recognizes : Recognizes contents.automaton (tree_of contents.rules)
+  pub phases : contents.automaton.phases ≡ length contents.rules.names
 
 -- the counts, as the definitions have them
 abbrev pub counts_told : DemoCounts → outcomes.DemoCounts

@@ -10,9 +10,9 @@ use crate::sources::build;
 use crate::stems::{StemText, draw_stems, stem_file};
 use crate::text::draw_text;
 use annotated_trie::Lexicon;
-use form_file::ListedLexicon;
+use form_file::Contents;
+use lexicon_builder::BuiltLexicon;
 use phoneme::{Line, Memory};
-use shared_trie::build as build_store;
 use std::alloc::Global;
 use std::thread::Threads;
 use text_line::{LineError, Scheme, read_line};
@@ -58,18 +58,17 @@ fn count_input(
 {
     let bytes = stem_file(alloc, stems)?;
     let line = read_text(alloc, text)?;
-    let ListedLexicon {
+    let BuiltLexicon { contents, lines } = build(rt, alloc, bytes.as_slice())?;
+    let Contents {
         rules,
         automaton,
-        lists,
-    } = build(rt, alloc, bytes.as_slice())?;
-    let forms = lists.lines();
-    let store = build_store(alloc, &lists)?;
+        store,
+    } = contents;
     let lexicon = Lexicon::build(alloc, store, rules, automaton)?;
     let page = count_answers(alloc, &lexicon, &line)?;
     Ok(DemoCounts {
         stems: stems.len() as u32,
-        forms,
+        forms: lines,
         letters: line.letters.len() as u32,
         answers: page.answers,
         more: page.more,

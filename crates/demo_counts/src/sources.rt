@@ -1,13 +1,14 @@
 ghost use Rattle.std.specs.Prelude.{◌≡◌, ℕ, Ok, IfOk, length, map, string_bytes};
 ghost use Rattle.lexicon_definitions.specs.Lexicons.{tree_of};
+ghost use Rattle.lexicon_definitions.specs.Limits.{count_lines};
+ghost use Rattle.trie_text_definitions.specs.TrieForms.{phases_of};
 ghost use Rattle.phase_automaton.specs.Automata.{Recognizes};
 ghost use Rattle.paradigm_file_definitions.specs.StemFiles.{stems_of};
 ghost use Rattle.demo_definitions.specs.SourceTexts.{demo_stems};
 ghost use Rattle.demo_definitions.specs.SourceContents.{demo_rule_set, demo_classes};
 ghost use Rattle.demo_counts.specs.Inputs.{AreDemoContents, IsStemFile};
 
-use form_file::ListedLexicon;
-use lexicon_builder::{BuildError, build_lexicon};
+use lexicon_builder::{BuildError, BuiltLexicon, build_lexicon};
 use paradigms::{StemError, Stems, TableError, Tables, read_stems, read_tables};
 use phoneme::Memory;
 use rule_file::{RuleError, RuleFile, read};
@@ -63,15 +64,16 @@ pub(crate) fn build(
     rt: &(impl Threads + Sync),
     alloc: Global,
     stem_bytes: &[u8],
-) -> Result<ListedLexicon, Memory>
+) -> Result<BuiltLexicon, Memory>
     requires { IsStemFile stem_bytes.now }
-    ensures ok { IfOk result (λ listed. (number : ℕ) → stem_bytes.now ≡ demo_stems number → AreDemoContents number listed) }
+    ensures ok { IfOk result (λ built. (number : ℕ) → stem_bytes.now ≡ demo_stems number → AreDemoContents number built.contents) }
+    ensures lines { IfOk result (λ built. built.lines ≡ count_lines (phases_of built.contents.store)) }
 {
     let RuleFile { rules, automaton } = read_rule_file(alloc)?;
     let tables = read_table_file(alloc, rules.phases())?;
     let stems = read_stem_file(alloc, &tables, stem_bytes)?;
     match build_lexicon(rt, alloc, rules, automaton, &tables, &stems) {
-        Ok(listed) => Ok(listed),
+        Ok(built) => Ok(built),
         Err(BuildError::Memory) => Err(Memory),
         Err(BuildError::Limit) => unreachable!(),
     }

@@ -25,10 +25,11 @@ use Rattle.paradigm_file_definitions.specs.StemFiles.{stems_of}
 use Rattle.paradigm_file_definitions.proofs.StemsTaken.{all_inflectable_stems}
 use Rattle.rule_file_definitions.specs.RuleFileReadings.{IsReadAs}
 use Rattle.rule_file_definitions.proofs.SoundSets.{read_sound}
+use Rattle.run_definitions.specs.SoundSources.{IsSoundEntry}
 use Rattle.run_definitions.specs.SourceLexicons.{HaveJust, IsLexiconOf}
+use Rattle.run_definitions.proofs.SourcesSound.{entries_sound, tables_sound, stems_are_words}
 use Rattle.existence_laws.proofs.Decisions.{Decided, told_by, both, is_same_word, is_element, holds_of_some}
 use Rattle.existence_laws.proofs.FiniteLists.{all_that_have}
-use Rattle.existence_laws.proofs.SourcesSound.{IsSoundEntry, entries_sound, tables_sound, stems_are_words}
 
 is_same_analysis : (left right : Analysis) → Decided (left ≡ right)
 is_same_analysis left right =

@@ -10,7 +10,6 @@ pub mod StateDecisions
 pub mod SessionsThere
 pub mod FilesThere
 pub mod OverlapsThere
-pub mod SourcesSound
 pub mod LexiconsThere
 pub mod ChainsThere
 pub mod CommandsThere

@@ -28,7 +28,8 @@ use Rattle.rule_file_definitions.proofs.SoundSets.{read_sound}
 use Rattle.run_definitions.specs.SourceLexicons.{HaveJust, IsLexiconOf}
 use Rattle.existence_laws.proofs.Decisions.{Decided, both, follows, refuted, if_not_refuted, is_same_word, holds_of_some}
 use Rattle.existence_laws.proofs.OrderedTriesThere.{ordered_trie_there}
-use Rattle.existence_laws.proofs.SourcesSound.{IsSoundEntry, entries_sound, tables_sound, stems_are_words}
+use Rattle.run_definitions.specs.SoundSources.{IsSoundEntry}
+use Rattle.run_definitions.proofs.SourcesSound.{entries_sound, tables_sound, stems_are_words}
 
 -- ---- the version
 

@@ -1,5 +1,6 @@
 pub mod EntriesAdded
+pub mod SortedEntries
 pub mod CollectedLists
-pub mod ListableEntries
+pub mod Limits
 pub mod SourcesRead
 pub mod BuiltLexicons

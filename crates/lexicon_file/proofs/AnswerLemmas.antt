@@ -1,5 +1,5 @@
 -- Answers to a line: a refusal for one reason, and what version 1 answers to the lines that it has too.
-use Rattle.std.proofs.Common.{◌≡◌, ℕ, ◌⊎◌, inl, inr, Bool, true, false, cond, ◌||◌, Option, Some, None, Result, Ok, Err, List, [], ◌∷◌, ◌++◌, refl, sym, ◌∙◌, ap, subst}
+use Rattle.std.proofs.Common.{◌≡◌, ℕ, Bool, true, false, cond, ◌||◌, Option, Ok, Err, List, [], ◌∷◌, ◌++◌, refl, sym, ◌∙◌, ap, subst}
 use Rattle.std.specs.List.{list_any}
 use Rattle.list_laws.specs.EmptyLists.{is_empty}
 use Rattle.lexicon_definitions.specs.GrammarFaults.{IsGrammarTextWithinLimits}
@@ -22,9 +22,9 @@ use Rattle.form_file.specs.LimitedRules as form_rules
 use Rattle.form_file.specs.Told as form_told
 use Rattle.lexicon_file.specs.declared.error.FileWhy.{FileWhy}
 use Rattle.lexicon_file.specs.declared.take_error.TakeError.{TakeError}
-use Rattle.lexicon_file.specs.declared.take_error.TakeError.TheVariants.{Why, Memory}
+use Rattle.lexicon_file.specs.declared.take_error.TakeError.TheVariants.{Why}
 use Rattle.lexicon_file.specs.Faults.{why_of, why_from, take_error_from}
-use Rattle.lexicon_file.specs.Told.{IsAnswer, IsLineAnswer}
+use Rattle.lexicon_file.specs.Told.{IsAnswer}
 
 -- refused for this reason
 pub refused_for : (A : Type 0) (taken : Taken) (error : TakeError) (why : FileWhy) (after : Told) → error ≡ Why why → taken ≡ Err (why_of why) → IsAnswer {A = A} taken (Err error) after

@@ -1,9 +1,8 @@
 -- The answers to the last line: what is asked of the trie and of the rules decides one after another.
-use Rattle.std.proofs.Common.{◌≡◌, ℕ, Bool, true, false, cond, Option, Some, None, Ok, Err, List, true≢false, refl, sym, ◌∙◌, ap}
+use Rattle.std.proofs.Common.{◌≡◌, ℕ, Bool, true, false, cond, Option, Some, None, Ok, Err, List, true≢false, refl, sym, ◌∙◌}
 use Rattle.std.specs.Option.{is_some}
 use Rattle.std.specs.Borrow.{Bor}
 use Rattle.list_laws.proofs.Booleans.{when_true, when_false}
-use Rattle.lexicon_definitions.specs.Tries.{Trie}
 use Rattle.trie_text_definitions.specs.NodeValues.{has_unused}
 use Rattle.trie_text_definitions.specs.TrieForms.{has_too_many_pairs, has_wrong_delta}
 use Rattle.trie_text_definitions.specs.Versions.{Version}

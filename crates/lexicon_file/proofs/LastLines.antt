@@ -1,5 +1,5 @@
 -- The last node is told by its height and its line, and a node whose line is above it is another than all before.
-use Rattle.std.proofs.Common.{◌≡◌, ◌≢◌, ℕ, zero, suc, ◌+◌, ◌-◌, ◌<◌, ◌≤◌, List, [], ◌∷◌, ◌++◌, length, get_or, Bool, true, false, refl, sym, ◌∙◌, ap, subst, arith}
+use Rattle.std.proofs.Common.{◌≡◌, ◌≢◌, ℕ, ◌-◌, ◌<◌, List, [], ◌∷◌, ◌++◌, length, get_or, refl, sym, ◌∙◌, ap, subst, arith}
 use Rattle.std.specs.Prelude.{All}
 use Rattle.std.specs.List.Sorted.{IsStrictlySortedBy}
 use Rattle.std.specs.Cmp.Lexicographic.{slice_cmp}
@@ -9,11 +9,11 @@ use Rattle.std.proofs.lemmas.List.{length_push, get_or_push, get_or_append_left}
 use Rattle.std.proofs.lemmas.List.Elements.{All-from_get_or}
 use Rattle.std.proofs.lemmas.Map.Keys.{Less-from_sorted}
 use Rattle.list_laws.proofs.Sorted.{not_Less-itself}
-use Rattle.lexicon_definitions.specs.Tries.{Row, AreRows, IsRow, IsHeight, row_of, empty_row}
+use Rattle.lexicon_definitions.specs.Tries.{Row, AreRows, IsRow, IsHeight, empty_row}
 use Rattle.lexicon_definitions.proofs.TrieGrowth.{AreRows-push}
 use Rattle.lexicon_text_definitions.specs.FileContents.{compare_last}
 use Rattle.lexicon_text_definitions.proofs.LineTests.{pairs_push}
-use Rattle.trie_text_definitions.specs.NodeLines.{NodeLine, compare_node_lines, heights, node_line, node_line_over, node_lines}
+use Rattle.trie_text_definitions.specs.NodeLines.{NodeLine, compare_node_lines, node_line, node_line_over, node_lines}
 use Rattle.trie_text_definitions.specs.VersionSteps.{Told, Node}
 use Rattle.trie_text_definitions.proofs.NodeSteps.{node_lines_total}
 use Rattle.trie_text_definitions.proofs.NodeValueLaws.{length-values, values_push}

@@ -1,9 +1,11 @@
 -- The answers to a rule's line of version 3, by its fields, the parts of the first, the sets of the others, and the words that the parts spell.
-use Rattle.std.proofs.Common.{◌≡◌, ℕ, ◌≤◌, Option, Some, None, Ok, Err, List, [], ◌∷◌, ◌++◌, length, refl, sym, ◌∙◌, ap, arith}
+use Rattle.std.proofs.Common.{◌≡◌, ℕ, ◌≤◌, Bool, Option, Some, None, Ok, Err, List, [], ◌∷◌, ◌++◌, length, refl, sym, ◌∙◌, ap, arith}
+use Rattle.std.specs.Prelude.{◌==◌}
+use Rattle.std.proofs.lemmas.Bool.{ne_eqb}
 use Rattle.std.proofs.lemmas.List.{length-append}
+use Rattle.list_laws.specs.EmptyLists.{is_empty}
 use Rattle.text_definitions.specs.Spellings.{Reading}
 use Rattle.text_definitions.specs.Slp1.{word_of_slp1}
-use Rattle.lexicon_definitions.specs.Rules.{Rule}
 use Rattle.lexicon_text_definitions.specs.FileLines.{Shape, shape_of}
 use Rattle.lexicon_text_definitions.proofs.LineCuts.{three_parts, field_from_shape}
 use Rattle.trie_text_definitions.specs.LimitedRules.{set_told, set_after_told}
@@ -15,6 +17,16 @@ use Rattle.form_file.specs.Words.{IsSpelled, word_of}
 use Rattle.lexicon_file.specs.Faults.{why_of, why_from, take_error_from}
 use Rattle.lexicon_file.specs.Parts.{parts_at, three_of}
 use Rattle.lexicon_file.specs.Told.{IsAnswer}
+
+-- a text is empty where its length is 0
+empty_by_length : (v : List ℕ) (test : Bool) → test ≡ (length v == 0) → is_empty v ≡ test
+empty_by_length [] test e = sym e
+empty_by_length (x ∷ v) test e = sym (e ∙ ne_eqb (length (x ∷ v)) 0 (λ n. omega (arith, n)))
+
+-- the set that is told of each word which is empty or not, as this one
+pub told_of : (v : List ℕ) (test : Bool) (set : Option ℕ) (names : List (List ℕ)) (field : List ℕ) → test ≡ (length v == 0)
+    → ((other : List ℕ) → is_empty other ≡ test → set ≡ set_after_told names other field) → set ≡ set_after_told names v field
+told_of v test set names field e h = h v (empty_by_length v test e)
 
 -- no part of the rule is longer than the text
 pub parts_fit : (text field before after : List ℕ) (shape : Shape) → parts_at 32 text ≡ field ∷ before ∷ after ∷ [] → shape_of field ≡ Some shape

@@ -1,14 +1,12 @@
 -- After each line that is taken the kind of the last line among version 1's is still in step, and at most one row more is told.
-use Rattle.std.proofs.Common.{◌≡◌, ℕ, ◌+◌, ◌≤◌, Bool, true, Ok, List, [], ◌∷◌, ◌++◌, length, refl, sym, ◌∙◌, ap, subst, arith}
+use Rattle.std.proofs.Common.{◌≡◌, ℕ, ◌+◌, ◌≤◌, Bool, true, Ok, List, length, refl, ◌∙◌, ap, subst, arith}
 use Rattle.std.proofs.lemmas.List.{length_push}
-use Rattle.lexicon_definitions.specs.Tries.{Row}
 use Rattle.lexicon_text_definitions.specs.FileLines as lines
 use Rattle.lexicon_text_definitions.specs.FileLines.{Line}
 use Rattle.trie_text_definitions.specs.Versions.{Version}
-use Rattle.trie_text_definitions.specs.VersionSteps.{Kind, Head, Phase, Grammar, Plain, Rules, Node, Root, End, Told, may_follow, are_rooted, take_line}
-use Rattle.trie_text_definitions.proofs.LimitedRuleSteps.{with_limited, took_limited}
-use Rattle.trie_text_definitions.proofs.NodeSteps.{with_row, with_root}
-use Rattle.trie_text_definitions.proofs.VersionLines.{with_end, Took, a_name, a_grammar, a_pair, a_rule, a_limited, a_node, a_root, the_end, took_line}
+use Rattle.trie_text_definitions.specs.VersionSteps.{Kind, Grammar, Plain, Rules, Node, Root, End, Told, may_follow, are_rooted, take_line}
+use Rattle.trie_text_definitions.proofs.LimitedRuleSteps.{took_limited}
+use Rattle.trie_text_definitions.proofs.VersionLines.{Took, a_name, a_grammar, a_pair, a_rule, a_limited, a_node, a_root, the_end, took_line}
 use Rattle.trie_text_definitions.proofs.VersionsTold.{end_taken}
 use Rattle.lexicon_text_definitions.specs.FileLines.{fields_of}
 use Rattle.lexicon_file.specs.Told.{InStep}

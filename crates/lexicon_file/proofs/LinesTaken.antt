@@ -1,9 +1,8 @@
 -- What a line is taken as, by its tests one after another; and an answer to a line that is no grammar's.
 use Rattle.std.proofs.Common.{rules, ◌≡◌, ◌≢◌, ℕ, inl, Bool, true, false, not, Option, Some, None, Result, Ok, Err, List, [], ◌∷◌, ◌++◌, codes, true≢false, refl, sym, ◌∙◌, ap, subst, Bor}
 use Rattle.std.specs.Str.{is_utf8}
-use denote.Enum.Bare.{sameb, same_true}
-use Rattle.list_laws.proofs.Booleans.{if_passed, if_refused, when_true, when_false}
-use Rattle.lexicon_text_definitions.specs.FileLines as lines
+use denote.Enum.Bare.{sameb, differs_true, differs_false}
+use Rattle.list_laws.proofs.Booleans.{when_true, when_false}
 use Rattle.lexicon_text_definitions.specs.FileLines.{Line, Parts, parts_of, fields_of}
 use Rattle.lexicon_text_definitions.proofs.LineCuts as cuts
 use Rattle.lexicon_text_definitions.specs.FileSteps as steps
@@ -22,20 +21,12 @@ use Rattle.lexicon_file.specs.contracts.kind.Kind.{the_type}
 use Rattle.lexicon_file.specs.declared.kind.Kind as kinds
 use Rattle.lexicon_file.specs.declared.kind.Kind.TheVariants as named
 use Rattle.lexicon_file.specs.declared.error.FileWhy.{FileWhy}
+use Rattle.lexicon_file.specs.declared.error.FileWhy.TheVariants as named_whys
 use Rattle.lexicon_file.specs.declared.take_error.TakeError.{TakeError}
 use Rattle.lexicon_file.specs.declared.take_error.TakeError.TheVariants.{Why, Memory}
 use Rattle.lexicon_file.specs.Faults.{why_of}
 use Rattle.lexicon_file.specs.Kinds.{kind_of}
-use Rattle.lexicon_file.specs.Told.{IsAnswer, IsLineAnswer, kind_name, line_with}
-
--- ---- kinds
-
-not_true : (b : Bool) → false ≡ not b → b ≡ true
-not_true true h = refl
-not_true false h = absurd (true≢false (sym h))
-
-pub ended : (kind : kinds.Kind) → false ≡ not (sameb the_type kind named.End) → kind_of kind ≡ End
-ended kind h = ap kind_of (same_true the_type (search rules) kind named.End (not_true (sameb the_type kind named.End) h))
+use Rattle.lexicon_file.specs.Told.{IsAnswer, IsLineAnswer, IsNoEnd, kind_name, line_with}
 
 -- ---- answers
 
@@ -203,6 +194,16 @@ end_by named.Rule e = absurd (cc)
 end_by named.Node e = absurd (cc)
 end_by named.Root e = absurd (cc)
 end_by named.End e = refl
+
+pub ended : (kind : kinds.Kind) → false ≡ not (sameb the_type kind named.End) → kind_of kind ≡ End
+ended kind h = ap kind_of (differs_false the_type (search rules) kind named.End (sym h))
+
+pub not_ended : (kind : kinds.Kind) → true ≡ not (sameb the_type kind named.End) → kind_of kind ≢ End
+not_ended kind h e = differs_true the_type kind named.End (sym h) (end_by kind e)
+
+-- so the end is missing
+pub end_missing : (error : TakeError) (Ended : Type 0) → error ≡ Why named_whys.NoEnd → (Ended → ⊥) → IsNoEnd error Ended
+end_missing error Ended e n = subst (λ (err : TakeError). IsNoEnd err Ended) (sym e) (refl, n)
 
 module _ (kept told : Told) (kind : kinds.Kind) (view : kept ≡ told) (last : kept.last ≡ kind_of kind) where
   pub last_is : (other : kinds.Kind) → kind ≡ other → told.last ≡ kind_of other

@@ -1,12 +1,11 @@
 -- The answers to the line of a node, by its two fields; and a line that is told is that of its row.
-use Rattle.std.proofs.Common.{◌≡◌, ℕ, ◌≤◌, Bool, true, false, Option, Some, None, Ok, Err, List, [], ◌∷◌, ◌++◌, codes, length, map, refl, sym, ◌∙◌, ap, subst, arith}
+use Rattle.std.proofs.Common.{◌≡◌, ℕ, ◌≤◌, Option, Some, None, Err, List, [], ◌∷◌, ◌++◌, codes, length, map, refl, sym, ◌∙◌, ap, arith}
 use Rattle.std.specs.Prelude.{All, option_map}
 use Rattle.std.specs.List.{AllByRecursion}
 use Rattle.std.proofs.lemmas.List.{append_assoc, length-append}
 use Rattle.std.proofs.lemmas.List.Elements.{All-from_recursion}
 use Rattle.text_definitions.specs.Letters.{IsLetter}
 use Rattle.lexicon_definitions.specs.Deltas.{Delta}
-use Rattle.lexicon_definitions.specs.Tries.{Row}
 use Rattle.lexicon_text_definitions.specs.FileLines.{fields_of}
 use Rattle.lexicon_text_definitions.proofs.LineCuts.{two_parts}
 use Rattle.trie_text_definitions.specs.LimitedRules.{all_there}
@@ -17,7 +16,7 @@ use Rattle.trie_text_definitions.specs.VersionSteps.{Told, Taken, take_row, take
 use Rattle.trie_text_definitions.proofs.NodeTexts.{map_some, IsNodeChild}
 use Rattle.trie_text_definitions.proofs.NodeTexts as texts
 use Rattle.form_file.specs.Fields.{two_of}
-use Rattle.lexicon_file.specs.Fields.{IsTold, deltas_told, children_told, children_in}
+use Rattle.lexicon_file.specs.Fields.{IsTold, deltas_told, children_told}
 use Rattle.lexicon_file.specs.declared.error.FileWhy.{FileWhy}
 use Rattle.lexicon_file.specs.Faults.{why_of}
 use Rattle.lexicon_file.specs.declared.take_error.TakeError.{TakeError}

@@ -1,11 +1,11 @@
 -- The height of a node as the lines tell it is the length of the longest word that can be walked from it: so it is of its children, whose
 -- numbers are smaller. There is one such length.
 use Rattle.std.proofs.Common.{◌≡◌, ℕ, zero, suc, ◌+◌, ◌<◌, ◌≤◌, ◌⊎◌, inl, inr, List, [], ◌∷◌, ◌++◌, length, take, max, get_or, sym, ◌∙◌, ap, subst, arith}
-use Rattle.std.specs.Prelude.{All, Contains, IsSome, slice_index}
+use Rattle.std.specs.Prelude.{All, Contains, slice_index}
 use Rattle.std.specs.Ordering.{nat_cmp, ord_max}
 use Rattle.std.proofs.lemmas.Bool.{cases_lt}
 use Rattle.std.proofs.lemmas.List.{take_more}
-use Rattle.std.proofs.lemmas.List.Elements.{All-cons, All-weaker, All-contains, All-get_or}
+use Rattle.std.proofs.lemmas.List.Elements.{All-cons, All-weaker, All-get_or}
 use Rattle.lexicon_definitions.specs.Tries.{Row, AreRows, IsChild, IsHeight, row_of, walk}
 use Rattle.lexicon_definitions.proofs.TrieGrowth.{walk-within}
 use Rattle.trie_text_definitions.specs.NodeLines.{NodeLine, heights, node_line_over, node_lines}
@@ -15,7 +15,7 @@ use Rattle.trie_text_definitions.proofs.RootNodes.{reached_by}
 use Rattle.trie_text_definitions.proofs.ToldTries.{heights_at, line_at}
 use Rattle.shared_trie.specs.Heights.{IsHeightAbove}
 use Rattle.shared_trie.proofs.HeightLemmas.{IsHeightAbove-nil, IsHeight-above, ord_max-nat}
-use Rattle.list_laws.proofs.Sorted.{Contains-first, Contains-later, All-from_Contains}
+use Rattle.list_laws.proofs.Sorted.{Contains-first, Contains-later}
 
 -- the height over children is above theirs, and one of them has the greatest
 above_over : (hs : List ℕ) (children : List (ℕ × ℕ)) → IsHeightAbove hs children (height_over hs children)

@@ -1,11 +1,11 @@
 -- A text is a number where it has digits alone and no 0 before others: these are the digits of its value. The value of few bytes is
 -- small, whatever they are, so no other text is the digits of its value.
-use Rattle.std.proofs.Common.{mul_assoc, mul_comm, pow-suc, ◌≡◌, ℕ, zero, suc, ◌+◌, ◌-◌, ◌*◌, ◌^◌, ◌<◌, ◌≤◌, Bool, true, false, cond, not, ◌&&◌, Ok, Err, List, [], ◌∷◌, length, get_or, eqb, leb, Option, Some, None, refl, sym, ◌∙◌, ap, subst, arith}
+use Rattle.std.proofs.Common.{mul_assoc, mul_comm, pow-suc, ◌≡◌, ℕ, zero, suc, ◌+◌, ◌-◌, ◌*◌, ◌^◌, ◌<◌, ◌≤◌, Bool, true, false, cond, not, Ok, Err, List, [], ◌∷◌, length, get_or, eqb, leb, Some, None, refl, sym, ◌∙◌, ap, subst, arith}
 use Rattle.std.specs.Prelude.{option_and_then, nat_lt, decimal}
-use Rattle.std.specs.Char.{is_ascii_digit, digit_value}
+use Rattle.std.specs.Char.{digit_value}
 use Rattle.std.specs.Str.{IsUtf8, all_ascii_digits, bytes_eq}
 use Rattle.std.specs.Str.Parse.{digits_value, digits_value_after, ParsesUnsigned}
-use Rattle.std.proofs.lemmas.Bool.{and_parts, and_from, not_from_false, false_from_ne_true, ne_eqb, eq-eqb, eqb-true, leb-true, le-leb, lt-leb, ltb-true}
+use Rattle.std.proofs.lemmas.Bool.{and_parts, and_from, not_from_false, ne_eqb, eq-eqb, leb-true, ltb-true}
 use Rattle.std.proofs.lemmas.Nat.{mul-le}
 use Rattle.std.proofs.Math.Nat.{pow-le-pow_right}
 use Rattle.std.proofs.lemmas.Str.{IsUtf8-from_ascii}
@@ -14,7 +14,7 @@ use Rattle.std.proofs.lemmas.Fmt.{IsAscii-from_digits, decimal_digit, first_deci
 use Rattle.list_laws.proofs.Texts.{bytes_same, bytes_itself}
 use Rattle.text_definitions.proofs.DecimalDigits.{digits_tell}
 use Rattle.lexicon_definitions.specs.declared.limits.TheConstants.{MOST_FORM_LETTERS}
-use Rattle.trie_text_definitions.specs.NodeFields.{number_of, node_number, most_node_digits}
+use Rattle.trie_text_definitions.specs.NodeFields.{number_of, most_node_digits}
 use Rattle.lexicon_file.specs.Numbers.{is_number, if_cut, cut_of}
 
 -- ---- the value of few bytes

@@ -4,14 +4,14 @@ use Rattle.std.proofs.Common.{◌≡◌, ℕ, ◌+◌, ◌⊎◌, inl, inr, Ok, 
 use Rattle.lexicon_definitions.specs.GrammarFaults.{IsGrammarTextWithinLimits}
 use Rattle.lexicon_definitions.specs.Lexicons.{IsRuleSet}
 use Rattle.lexicon_definitions.specs.Limits.{IsRuleSetWithinLimits}
-use Rattle.lexicon_definitions.specs.Tries.{Trie, IsTrieOf}
+use Rattle.lexicon_definitions.specs.Tries.{IsTrieOf}
 use Rattle.lexicon_text_definitions.specs.FileContents.{rules_told}
 use Rattle.lexicon_text_definitions.specs.FileLines.{Line, lines_of_bytes}
 use Rattle.trie_text_definitions.specs.TrieForms.{phases_of}
 use Rattle.trie_text_definitions.specs.Versions.{Version}
 use Rattle.trie_text_definitions.specs.VersionFaults as faults
 use Rattle.trie_text_definitions.specs.VersionFaults.{NoEnd, FileResult, fault_at}
-use Rattle.trie_text_definitions.specs.VersionReadings.{Reading, Content, Fault, Asks, asking, read_on, read_lines, at_end, lexicon_told, IsResult}
+use Rattle.trie_text_definitions.specs.VersionReadings.{Reading, Content, asking, read_on, read_lines, at_end, lexicon_told, IsResult}
 use Rattle.trie_text_definitions.specs.VersionSteps.{Kind, Head, Phase, Grammar, Plain, Rules, Node, Root, End, Told, Taken, head_told, trie_told, take_line}
 use Rattle.trie_text_definitions.proofs.LexiconsTold.{lexicon_itself, limits}
 use Rattle.trie_text_definitions.proofs.TrieTextsRead.{ordered}

@@ -1,9 +1,8 @@
 -- The answers to the line of a root: its name and its number decide one after another.
-use Rattle.std.proofs.Common.{◌≡◌, ℕ, Bool, true, false, Option, Some, None, Ok, Err, List, [], ◌∷◌, ◌++◌, length, refl, sym, ◌∙◌, ap}
+use Rattle.std.proofs.Common.{◌≡◌, ℕ, Bool, true, false, Some, None, Ok, Err, List, [], ◌∷◌, ◌++◌, length, refl, sym, ◌∙◌, ap}
 use Rattle.std.specs.Prelude.{slice_index_or}
 use Rattle.std.specs.Str.{bytes_eq}
 use Rattle.list_laws.proofs.Booleans.{when_true, when_false}
-use Rattle.lexicon_definitions.specs.Tries.{Row}
 use Rattle.trie_text_definitions.specs.NodeFields.{node_number}
 use Rattle.trie_text_definitions.specs.VersionFaults as faults
 use Rattle.trie_text_definitions.specs.VersionSteps.{Told, Root, is_root, take_root_number, take_root}

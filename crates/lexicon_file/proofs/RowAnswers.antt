@@ -1,6 +1,6 @@
 -- The answers to the line of a node, once its fields are read: the tests of its children, its limits and its order, one after another; and
 -- what passed them may be added.
-use Rattle.std.proofs.Common.{◌≡◌, ℕ, ◌<◌, Bool, true, false, cond, not, ◌||◌, nat_lt, Ok, Err, List, [], ◌∷◌, ◌++◌, length, map, refl, sym, ◌∙◌, ap, subst}
+use Rattle.std.proofs.Common.{◌≡◌, ℕ, ◌<◌, Bool, true, false, not, ◌||◌, nat_lt, Ok, Err, List, [], ◌∷◌, ◌++◌, length, refl, sym, ◌∙◌, ap, subst}
 use Rattle.std.specs.Prelude.{All}
 use Rattle.std.specs.List.{AllByRecursion, list_all}
 use Rattle.std.specs.List.Sorted.{IsStrictlySortedBy}
@@ -10,18 +10,17 @@ use Rattle.std.specs.declared.cmp.Ordering.TheVariants.{Less, Equal, Greater}
 use Rattle.std.proofs.lemmas.Bool.{and_parts, ltb-true, not-true}
 use Rattle.std.proofs.lemmas.Cmp.{nat_cmp_total, on_total}
 use Rattle.std.proofs.lemmas.List.Elements.{All-from_recursion, recursion_from_All}
-use Rattle.list_laws.proofs.Booleans.{when_true, when_false}
+use Rattle.list_laws.proofs.Booleans.{when_false}
 use Rattle.text_definitions.specs.Letters.{IsLetter}
 use Rattle.lexicon_definitions.specs.declared.limits.TheConstants.{MOST_FORM_LETTERS}
 use Rattle.lexicon_definitions.specs.Deltas.{Delta, compare_deltas}
-use Rattle.lexicon_definitions.specs.Tries.{Row, IsChild, IsRow, row_of, empty_row}
+use Rattle.lexicon_definitions.specs.Tries.{Row, IsChild, IsRow, row_of}
 use Rattle.lexicon_definitions.proofs.TrieSuffixes.{compare_deltas-total}
 use Rattle.lexicon_text_definitions.specs.FileContents.{compare_last}
 use Rattle.lexicon_text_definitions.proofs.RisingLines.{sorted_with_last}
 use Rattle.trie_text_definitions.specs.LimitedRules.{rises}
 use Rattle.trie_text_definitions.specs.NodeLines.{NodeLine, compare_node_lines, heights, node_line, node_line_over, node_lines}
 use Rattle.trie_text_definitions.specs.NodeValues.{height_over}
-use Rattle.trie_text_definitions.specs.VersionFaults as faults
 use Rattle.trie_text_definitions.specs.VersionSteps.{Told, Node, Taken, is_empty_row, leads_before, are_children, passes_node_limits, if_above, take_row}
 use Rattle.trie_text_definitions.proofs.NodeSteps.{sorted_from_rises, node_lines_total}
 use Rattle.trie_text_definitions.proofs.NodeValueLaws.{values_push}

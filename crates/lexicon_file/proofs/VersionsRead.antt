@@ -1,5 +1,5 @@
 -- The first line tells the version of a file; and what a file of version 1 is read as counts among all versions.
-use Rattle.std.proofs.Common.{◌≡◌, ℕ, Bool, Option, Some, None, Result, Ok, Err, List, [], ◌∷◌, drop, refl, sym, ◌∙◌, ap, subst}
+use Rattle.std.proofs.Common.{◌≡◌, ℕ, Option, Some, None, Result, Ok, Err, List, [], ◌∷◌, drop, refl, sym, ap, subst}
 use Rattle.std.specs.Prelude.{IfOk, IfErr}
 use Rattle.lexicon_text_definitions.specs.FileLines.{Line, lines_of_bytes}
 use Rattle.lexicon_text_definitions.specs.FileReadings as first
@@ -14,7 +14,7 @@ use Rattle.form_file.specs.declared.error.FileError.TheVariants as form_error_ca
 use Rattle.lexicon_file.specs.declared.error.FileError.{FileError}
 use Rattle.lexicon_file.specs.declared.error.FileError.TheVariants as error_cases
 use Rattle.lexicon_file.specs.Contents.{fault_of, IfFault}
-use Rattle.lexicon_file.specs.Faults.{error_from, why_of, why_from}
+use Rattle.lexicon_file.specs.Faults.{error_from}
 use Rattle.lexicon_file.proofs.AnswerLemmas.{same_whys}
 
 -- ---- the first line

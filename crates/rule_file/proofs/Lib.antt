@@ -1,10 +1,12 @@
 pub mod Turns
 pub mod FaultLemmas
 pub mod DocumentLemmas
+pub mod FieldLemmas
 pub mod NotationLemmas
 pub mod ClassLemmas
 pub mod PhaseLemmas
 pub mod PlainLemmas
 pub mod TripleLemmas
+pub mod LimitLemmas
 pub mod EntryLemmas
 pub mod SetLemmas

@@ -1,5 +1,6 @@
 -- The rule set of the texts, part by part, and what its grammar's text decides.
-use Rattle.std.proofs.Common.{◌≡◌, ℕ, inl, inr, Some, None, Result, Ok, Err, List, length, refl, sym, ◌∙◌, ap, subst}
+use Rattle.std.proofs.Common.{◌≡◌, ℕ, inl, inr, Some, None, Result, Ok, Err, List, String, Global, refl, sym, ◌∙◌, ap, subst}
+use Rattle.std.specs.String.{string_bytes}
 use Rattle.toml.specs.Data.{Members}
 use Rattle.lexicon_definitions.specs.Rules.{Rule}
 use Rattle.lexicon_definitions.specs.Lexicons.{RuleSet}
@@ -11,13 +12,15 @@ use Rattle.rule_file_definitions.specs.PlainEntries.{read_plain}
 use Rattle.rule_file_definitions.specs.RuleEntries.{read_entries}
 use Rattle.rule_file_definitions.specs.RuleFileReadings.{FileResult, and_then, read_set, read_before_grammar, IsDecided}
 use Rattle.rule_file.specs.Faults.{IsGrammarFault}
+use Rattle.rule_file.specs.Held.{texts_of, texts_with_classes, set_of}
+use Rattle.rule_file.specs.declared.document.Texts.{Texts}
 
 module _ (texts : RuleTexts) where
-  abbrev set_of : List (List ℕ) → List (ℕ × ℕ) → List Rule → RuleSet
-  set_of names plain rules = record { names = names; grammar = texts.grammar; plain = plain; rules = rules }
+  abbrev set_read_of : List (List ℕ) → List (ℕ × ℕ) → List Rule → RuleSet
+  set_read_of names plain rules = record { names = names; grammar = texts.grammar; plain = plain; rules = rules }
 
   abbrev after_plain : List (List ℕ) → Members → List (ℕ × ℕ) → FileResult
-  after_plain names classes plain = and_then (read_entries (length names) classes texts.rules) (λ rules. Ok (set_of names plain rules))
+  after_plain names classes plain = and_then (read_entries names classes texts.rules) (λ rules. Ok (set_read_of names plain rules))
 
   abbrev after_classes : List (List ℕ) → Members → FileResult
   after_classes names classes = and_then (read_plain classes texts.plain) (λ plain. after_plain names classes plain)
@@ -47,15 +50,33 @@ module _ (texts : RuleTexts) where
       plain_refused fault e = by_plain (Err fault) e
 
       module _ (plain : List (ℕ × ℕ)) (c : read_plain classes texts.plain ≡ Ok plain) where
-        by_rules : (read : Result (List Rule) Fault) → read_entries (length names) classes texts.rules ≡ read
-            → read_set texts ≡ and_then read (λ rules. Ok (set_of names plain rules))
-        by_rules read e = by_plain (Ok plain) c ∙ ap (λ r. and_then r (λ rules. Ok (set_of names plain rules))) e
+        by_rules : (read : Result (List Rule) Fault) → read_entries names classes texts.rules ≡ read
+            → read_set texts ≡ and_then read (λ rules. Ok (set_read_of names plain rules))
+        by_rules read e = by_plain (Ok plain) c ∙ ap (λ r. and_then r (λ rules. Ok (set_read_of names plain rules))) e
 
-        pub rules_refused : (fault : Fault) → read_entries (length names) classes texts.rules ≡ Err fault → read_set texts ≡ Err fault
+        pub rules_refused : (fault : Fault) → read_entries names classes texts.rules ≡ Err fault → read_set texts ≡ Err fault
         rules_refused fault e = by_rules (Err fault) e
 
-        pub set_read : (rules : List Rule) → read_entries (length names) classes texts.rules ≡ Ok rules → read_set texts ≡ Ok (record { names = names; grammar = texts.grammar; plain = plain; rules = rules })
+        pub set_read : (rules : List Rule) → read_entries names classes texts.rules ≡ Ok rules → read_set texts ≡ Ok (record { names = names; grammar = texts.grammar; plain = plain; rules = rules })
         set_read rules e = by_rules (Ok rules) e
+
+-- ---- the texts and the set that slices hold
+
+pub same_texts : (texts : Texts) (classes : Members) (phases plain rules : List (String Global)) (grammar : List ℕ) → phases ≡ texts.phases.items
+    → plain ≡ texts.plain.items → rules ≡ texts.rules.items → grammar ≡ string_bytes texts.grammar
+    → texts_of phases grammar plain rules classes ≡ texts_with_classes texts classes
+same_texts texts classes phases plain rules grammar a b c d = λ i. texts_of (a i) (d i) (b i) (c i) classes
+
+-- the set of the parts, with a copy of the grammar's text
+pub set_made : (texts : Texts) (classes : Members) (phases plain rules : List (String Global)) (grammar copy : List ℕ) (pairs : List (ℕ × ℕ)) (made : List Rule)
+    → phases ≡ texts.phases.items → plain ≡ texts.plain.items → rules ≡ texts.rules.items → grammar ≡ string_bytes texts.grammar → copy ≡ string_bytes texts.grammar
+    → IsDecided (read_set (texts_of phases grammar plain rules classes)) (Ok (set_of phases grammar pairs made))
+    → IsDecided (read_set (texts_with_classes texts classes)) (Ok (set_of texts.phases.items copy pairs made))
+set_made texts classes phases plain rules grammar copy pairs made a b c d e h =
+    let same = same_texts texts classes phases plain rules grammar a b c d in
+    let sets : set_of phases grammar pairs made ≡ set_of texts.phases.items copy pairs made = λ i. set_of (a i) ((d ∙ sym e) i) pairs made in
+    subst (λ (set : RuleSet). IsDecided (read_set (texts_with_classes texts classes)) (Ok set)) sets
+    (subst (λ (all : RuleTexts). IsDecided (read_set all) (Ok (set_of phases grammar pairs made))) same h)
 
 -- ---- what is decided
 

@@ -19,6 +19,7 @@ abbrev pub why_of : RuleWhy → entries.Why
 why_of whys.Shape = entries.Shape
 why_of whys.Spelling = entries.Spelling
 why_of whys.Class = entries.Class
+why_of whys.Phase = entries.Phase
 why_of whys.Strict = entries.Strict
 why_of whys.Long = entries.Long
 why_of whys.Twice = entries.Twice

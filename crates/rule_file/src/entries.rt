@@ -1,21 +1,31 @@
-ghost use Rattle.std.specs.Prelude.{◌≡◌, ◌≤◌, ◌+◌, ◌∷◌, [], Some, None, Ok, Err, IfOk, OnOk, IfErr, map, string_bytes};
+ghost use Rattle.std.specs.Prelude.{◌≡◌, ◌≤◌, ◌+◌, Some, Ok, Err, IfOk, OnOk, IfErr, length, map, option_map, string_bytes};
+ghost use Rattle.std.specs.List.{list_any};
 ghost use Rattle.toml.specs.View.{table_view};
-ghost use Rattle.rule_file_definitions.specs.RuleEntries.{is_long as is_long_of, strict_and_short, rule_with, fillings_of, rules_filled as rules_filled_of, rules_of_entry as rules_of_entry_of, add_entry as add_entry_of, read_entries as read_entries_of};
-ghost use Rattle.rule_file.specs.Faults.{IfFault, IfWhy, IsFaultOf};
-ghost use Rattle.rule_file.specs.Written.{name_of};
+ghost use Rattle.rule_file_definitions.specs.RuleEntries.{is_not_strict as is_not_strict_of, is_long as is_long_of, strict_and_short, rule_with, fillings_of as fillings_of_class, rules_of_pattern as rules_of_pattern_of, rules_of_entry as rules_of_entry_of, add_entry as add_entry_of, read_entries as read_entries_of};
+ghost use Rattle.rule_file.specs.Faults.{IfFault, IfWhy, IsFaultOf, why_of};
+ghost use Rattle.rule_file.specs.Written.{name_of, limits_of};
 
 use crate::classes::letters_named;
 use crate::entry_error::EntryError;
 use crate::error::number_of;
+use crate::fields::fields_of;
+use crate::limits::{Phases, phases_of};
 use crate::notation::notation_of;
 use crate::pattern::{Pattern, pattern_of};
 use crate::rules_so_far::RulesSoFar;
 use crate::{RuleError, RuleFault, RuleWhy};
 use lexicon_definitions::{MOST_PHASES, MOST_RULE_LETTERS};
-use phoneme::Letter;
+use phoneme::{Letter, Memory};
 use sandhi_rules::Rule;
 use std::alloc::Global;
 use toml::Table;
+
+/// Whether u or w of the rule is empty.
+fn is_not_strict(rule: &Rule) -> bool
+    ensures { result ≡ is_not_strict_of rule.now }
+{
+    rule.u.is_empty() || rule.w.is_empty()
+}
 
 /// Whether a part of the rule is too long.
 fn is_long(rule: &Rule) -> bool
@@ -26,107 +36,148 @@ fn is_long(rule: &Rule) -> bool
         || rule.w.len() > MOST_RULE_LETTERS
 }
 
-/// Tests that the rule is strict, and no part of it is too long.
-fn check_rule(rule: &Rule) -> Result<(), EntryError>
-    ensures ok { OnOk result (strict_and_short (rule.now ∷ []) ≡ Ok (rule.now ∷ [])) }
-    ensures why { IfErr result (λ error. IfWhy error (λ why. strict_and_short (rule.now ∷ []) ≡ Err why)) }
+/// Whether one of the rules is not strict.
+fn has_not_strict(rules: &[Rule]) -> bool
+    ensures { result ≡ list_any is_not_strict_of rules.now }
 {
-    if !rule.is_strict() {
-        return Err(RuleWhy::Strict.into());
+    rules.iter().any(|rule| is_not_strict(rule))
+}
+
+/// Whether a part of one of the rules is too long.
+fn has_long(rules: &[Rule]) -> bool
+    ensures { result ≡ list_any is_long_of rules.now }
+{
+    rules.iter().any(|rule| is_long(rule))
+}
+
+/// Tests that each rule is strict, and no part of any is too long.
+fn check_rules(rules: &[Rule]) -> Result<(), RuleWhy>
+    ensures ok { OnOk result (strict_and_short rules.now ≡ Ok rules.now) }
+    ensures why { IfErr result (λ why. strict_and_short rules.now ≡ Err (why_of why)) }
+{
+    if has_not_strict(rules) {
+        return Err(RuleWhy::Strict);
     }
-    if is_long(rule) {
-        return Err(RuleWhy::Long.into());
+    if has_long(rules) {
+        return Err(RuleWhy::Long);
     }
     Ok(())
 }
 
-/// The rules of the pattern with each of the letters in place of the class.
-fn rules_filled(
-    alloc: Global,
-    count: usize,
-    pattern: &Pattern,
-    letters: &[Letter],
-) -> Result<Vec<Rule>, EntryError>
-    requires { count ≤ MOST_PHASES }
-    ensures ok { IfOk result (λ rules. strict_and_short (map (rule_with count pattern.now) (map Some letters.now)) ≡ Ok rules.items) }
-    ensures why { IfErr result (λ error. IfWhy error (λ why. strict_and_short (map (rule_with count pattern.now) (map Some letters.now)) ≡ Err why)) }
+/// Each of the letters, as what may be put in place of a class.
+fn each_letter(alloc: Global, letters: &[Letter]) -> Result<Vec<Option<Letter>>, Memory>
+    ensures { IfOk result (λ fillings. fillings.items ≡ map Some letters.now) }
 {
-    let mut rules = Vec::with_capacity(alloc, letters.len())?;
+    let mut fillings = Vec::with_capacity(alloc, letters.len())?;
     for letter in letters {
-        let rule = pattern.rule_with(alloc, count, &Some(*letter))?;
-        check_rule(&rule)?;
-        rules.push(rule)?;
+        fillings.push(Some(*letter))?;
     }
-    Ok(rules)
+    Ok(fillings)
 }
 
-/// The one rule of the pattern, which has no class.
-fn rule_alone(alloc: Global, count: usize, pattern: &Pattern) -> Result<Vec<Rule>, EntryError>
-    requires { count ≤ MOST_PHASES }
-    ensures ok { IfOk result (λ rules. strict_and_short (rule_with count pattern.now None ∷ []) ≡ Ok rules.items) }
-    ensures why { IfErr result (λ error. IfWhy error (λ why. strict_and_short (rule_with count pattern.now None ∷ []) ≡ Err why)) }
+/// What may be put in place of the class with this name: each of its letters, or nothing, where there is no class.
+/// `None` where no class has the name.
+fn fillings_of(
+    alloc: Global,
+    classes: &Table,
+    class: Option<&[u8]>,
+) -> Result<Option<Vec<Option<Letter>>>, Memory>
+    ensures { IfOk result (λ fillings. option_map (λ list. list.items) fillings ≡ fillings_of_class (table_view classes.now) (name_of class.entry)) }
 {
-    let rule = pattern.rule_with(alloc, count, &None)?;
-    check_rule(&rule)?;
-    let mut rules = Vec::new(alloc);
-    rules.push(rule)?;
+    let Some(name) = class else {
+        let mut fillings = Vec::new(alloc);
+        fillings.push(None)?;
+        return Ok(Some(fillings));
+    };
+    match letters_named(alloc, classes, name)? {
+        Some(letters) => Ok(Some(each_letter(alloc, letters.as_slice())?)),
+        None => Ok(None),
+    }
+}
+
+/// The rules of the pattern between these phases, one for each filling.
+fn rules_with(
+    alloc: Global,
+    phases: Phases,
+    pattern: &Pattern,
+    fillings: &[Option<Letter>],
+) -> Result<Vec<Rule>, Memory>
+    ensures { IfOk result (λ rules. rules.items ≡ map (rule_with phases pattern.now) fillings.now) }
+{
+    let mut rules = Vec::with_capacity(alloc, fillings.len())?;
+    for filling in fillings {
+        rules.push(pattern.rule_with(alloc, phases, filling)?)?;
+    }
     Ok(rules)
 }
 
 /// The rules of the pattern, with each letter of the class with this name in its place, or without a class.
 fn rules_of_pattern(
     alloc: Global,
-    count: usize,
+    names: &[String],
     classes: &Table,
-    name: Option<&[u8]>,
+    limits: Option<(&[u8], &[u8])>,
+    class: Option<&[u8]>,
     pattern: &Pattern,
 ) -> Result<Vec<Rule>, EntryError>
-    requires { count ≤ MOST_PHASES }
-    ensures ok { IfOk result (λ rules. rules_filled_of count pattern.now (fillings_of (table_view classes.now) (name_of name.entry)) ≡ Ok rules.items) }
-    ensures why { IfErr result (λ error. IfWhy error (λ why. rules_filled_of count pattern.now (fillings_of (table_view classes.now) (name_of name.entry)) ≡ Err why)) }
+    requires { length names.now ≤ MOST_PHASES }
+    ensures ok { IfOk result (λ rules. rules_of_pattern_of (map string_bytes names.now) (table_view classes.now) (limits_of limits.entry) (name_of class.entry) (Some pattern.now) ≡ Ok rules.items) }
+    ensures why { IfErr result (λ error. IfWhy error (λ why. rules_of_pattern_of (map string_bytes names.now) (table_view classes.now) (limits_of limits.entry) (name_of class.entry) (Some pattern.now) ≡ Err why)) }
 {
-    let Some(name) = name else {
-        return rule_alone(alloc, count, pattern);
-    };
-    let Some(letters) = letters_named(alloc, classes, name)? else {
+    let Some(fillings) = fillings_of(alloc, classes, class)? else {
         return Err(RuleWhy::Class.into());
     };
-    rules_filled(alloc, count, pattern, letters.as_slice())
+    let Some(phases) = phases_of(names, pattern.is_final(), limits) else {
+        return Err(RuleWhy::Phase.into());
+    };
+    let rules = rules_with(alloc, phases, pattern, fillings.as_slice())?;
+    check_rules(rules.as_slice())?;
+    Ok(rules)
 }
 
-/// The rules that an entry stands for.
+/// The rules that an entry stands for, over the phases with these names.
 fn rules_of_entry(
     alloc: Global,
-    count: usize,
+    names: &[String],
     classes: &Table,
     entry: &[u8],
 ) -> Result<Vec<Rule>, EntryError>
-    requires { count ≤ MOST_PHASES }
-    ensures ok { IfOk result (λ rules. rules_of_entry_of count (table_view classes.now) entry.now ≡ Ok rules.items) }
-    ensures why { IfErr result (λ error. IfWhy error (λ why. rules_of_entry_of count (table_view classes.now) entry.now ≡ Err why)) }
+    requires { length names.now ≤ MOST_PHASES }
+    ensures ok { IfOk result (λ rules. rules_of_entry_of (map string_bytes names.now) (table_view classes.now) entry.now ≡ Ok rules.items) }
+    ensures why { IfErr result (λ error. IfWhy error (λ why. rules_of_entry_of (map string_bytes names.now) (table_view classes.now) entry.now ≡ Err why)) }
 {
-    let Some(notation) = notation_of(entry) else {
+    let Some(fields) = fields_of(entry) else {
+        return Err(RuleWhy::Shape.into());
+    };
+    let Some(notation) = notation_of(fields.notation) else {
         return Err(RuleWhy::Shape.into());
     };
     let Some(pattern) = pattern_of(alloc, &notation)? else {
         return Err(RuleWhy::Spelling.into());
     };
-    rules_of_pattern(alloc, count, classes, notation.v.class, &pattern)
+    rules_of_pattern(
+        alloc,
+        names,
+        classes,
+        fields.limits,
+        notation.v.class,
+        &pattern,
+    )
 }
 
 /// The rules with those of the entry.
 fn add_entry(
     alloc: Global,
-    count: usize,
+    names: &[String],
     classes: &Table,
     rules: RulesSoFar,
     entry: &[u8],
 ) -> Result<RulesSoFar, EntryError>
-    requires { count ≤ MOST_PHASES }
-    ensures ok { IfOk result (λ more. add_entry_of count (table_view classes.now) rules entry.now ≡ Ok more) }
-    ensures why { IfErr result (λ error. IfWhy error (λ why. add_entry_of count (table_view classes.now) rules entry.now ≡ Err why)) }
+    requires { length names.now ≤ MOST_PHASES }
+    ensures ok { IfOk result (λ more. add_entry_of (map string_bytes names.now) (table_view classes.now) rules entry.now ≡ Ok more) }
+    ensures why { IfErr result (λ error. IfWhy error (λ why. add_entry_of (map string_bytes names.now) (table_view classes.now) rules entry.now ≡ Err why)) }
 {
-    let new = rules_of_entry(alloc, count, classes, entry)?;
+    let new = rules_of_entry(alloc, names, classes, entry)?;
     rules.with_rules(alloc, new)
 }
 
@@ -143,20 +194,20 @@ fn error_at(place: usize, error: EntryError) -> RuleError
     }
 }
 
-/// The rules of all entries, over so many phases.
+/// The rules of all entries, over the phases with these names.
 pub(crate) fn read_entries(
     alloc: Global,
-    count: usize,
+    names: &[String],
     classes: &Table,
     entries: &[String],
 ) -> Result<Vec<Rule>, RuleError>
-    requires { count ≤ MOST_PHASES }
-    ensures ok { IfOk result (λ rules. read_entries_of count (table_view classes.now) (map string_bytes entries.now) ≡ Ok rules.items) }
-    ensures fault { IfErr result (λ error. IfFault error (λ fault. read_entries_of count (table_view classes.now) (map string_bytes entries.now) ≡ Err fault)) }
+    requires { length names.now ≤ MOST_PHASES }
+    ensures ok { IfOk result (λ rules. read_entries_of (map string_bytes names.now) (table_view classes.now) (map string_bytes entries.now) ≡ Ok rules.items) }
+    ensures fault { IfErr result (λ error. IfFault error (λ fault. read_entries_of (map string_bytes names.now) (table_view classes.now) (map string_bytes entries.now) ≡ Err fault)) }
 {
     let mut rules = RulesSoFar::new(alloc);
     for (place, entry) in entries.iter().enumerate() {
-        rules = match add_entry(alloc, count, classes, rules, entry.as_bytes()) {
+        rules = match add_entry(alloc, names, classes, rules, entry.as_bytes()) {
             Ok(more) => more,
             Err(error) => return Err(error_at(place, error)),
         };

@@ -16,13 +16,15 @@ pub enum RuleWhy {
     Spelling,
     #[error("no class has this name")]
     Class,
+    #[error("not the phases before or after the rule")]
+    Phase,
     #[error("a rule that is not strict")]
     Strict,
     #[error("a part with too many letters")]
     Long,
     #[error("twice")]
     Twice,
-    #[error("too many rules, or too many different v")]
+    #[error("too many rules, or too many different v with phases after them")]
     Limit,
 }
 

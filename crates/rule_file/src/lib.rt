@@ -13,6 +13,8 @@ mod document;
 mod entries;
 mod entry_error;
 mod error;
+mod fields;
+mod limits;
 mod notation;
 mod pattern;
 mod phases;

@@ -1,11 +1,12 @@
-ghost use Rattle.std.specs.Prelude.{◌≡◌, ◌≤◌, ◌++◌, IfOk, OnOk};
+ghost use Rattle.std.specs.Prelude.{◌≡◌, ◌++◌, IfOk, OnOk};
 ghost use Rattle.rule_file_definitions.specs.RuleNotations.{gap_of as gap_of_part, pattern_of as pattern_of_notation};
+ghost use Rattle.rule_file_definitions.specs.EntryPhases.{is_final as is_final_of};
 ghost use Rattle.rule_file_definitions.specs.RuleEntries.{put_in, filled, rule_with as rule_with_of};
 ghost use Rattle.rule_file.specs.Written.{part_of, written};
 
 use crate::classes::spelled;
+use crate::limits::Phases;
 use crate::notation::{Notation, Part};
-use lexicon_definitions::MOST_PHASES;
 use phoneme::{Letter, Memory, Word};
 use sandhi_rules::Rule;
 use std::alloc::Global;
@@ -106,15 +107,21 @@ impl Gap {
 }
 
 impl Pattern {
-    /// The rule over so many phases with this letter in place of the class, or with nothing there.
+    /// Whether its rules are final: v has neither a letter nor a class.
+    pub(crate) fn is_final(&self) -> bool
+        ensures { result ≡ is_final_of self.now.v }
+    {
+        self.v.before.is_empty() && !self.v.has_class && self.v.after.is_empty()
+    }
+
+    /// The rule between these phases with this letter in place of the class, or with nothing there.
     pub(crate) fn rule_with(
         &self,
         alloc: Global,
-        count: usize,
+        phases: Phases,
         filling: &Option<Letter>,
     ) -> Result<Rule, Memory>
-        requires { count ≤ MOST_PHASES }
-        ensures { IfOk result (λ rule. rule ≡ rule_with_of count self.now filling.now) }
+        ensures { IfOk result (λ rule. rule ≡ rule_with_of phases self.now filling.now) }
     {
         let mut u = self.x.copy(alloc)?;
         u.extend_from_slice(self.u.as_slice())?;
@@ -122,6 +129,12 @@ impl Pattern {
         self.v.push_filled(&mut v, filling)?;
         let mut w = self.x.copy(alloc)?;
         self.w.push_filled(&mut w, filling)?;
-        Ok(Rule::unlimited(count, u, v, w))
+        Ok(Rule {
+            u,
+            v,
+            w,
+            before: phases.before,
+            after: phases.after,
+        })
     }
 }

@@ -6,7 +6,7 @@ ghost use Rattle.lexicon_definitions.specs.Lexicons.{tree_of};
 ghost use Rattle.phase_automaton.specs.Automata.{Recognizes};
 ghost use Rattle.rule_file_definitions.specs.RuleFileReadings.{read_set as read_set_of, IsDecided, IsReadAs};
 ghost use Rattle.rule_file.specs.Faults.{IfFault, IsGrammarFault};
-ghost use Rattle.rule_file.specs.Held.{texts_with_classes};
+ghost use Rattle.rule_file.specs.Held.{texts_of, texts_with_classes, set_of};
 
 use crate::classes::check_classes;
 use crate::document::{Texts, classes_in, read_document, texts_in};
@@ -17,7 +17,8 @@ use crate::{RuleError, RuleFault, RuleFile};
 use lexicon_definitions::MOST_PHASES;
 use lexicon_text_definitions::MOST_FILE_BYTES;
 use phase_automaton::{Automaton, GrammarError, read_grammar};
-use sandhi_rules::RuleSet;
+use phoneme::Letter;
+use sandhi_rules::{Rule, RuleSet};
 use std::alloc::Global;
 use toml::Table;
 
@@ -37,6 +38,42 @@ fn automaton_of(alloc: Global, text: &[u8], names: &[String]) -> Result<Automato
     }
 }
 
+/// The plain pairs and the rules of a file, and the automaton of its grammar.
+#[derive(Debug, Drop)]
+struct Parts {
+    plain: Vec<(Letter, Letter)>,
+    rules: Vec<Rule>,
+    automaton: Automaton,
+}
+
+/// What is read of these texts and the classes.
+fn read_parts(
+    alloc: Global,
+    phases: &[String],
+    grammar: &[u8],
+    plain: &[String],
+    rules: &[String],
+    classes: &Table,
+) -> Result<Parts, RuleError>
+    ensures ok { IfOk result (λ parts. IsDecided (read_set_of (texts_of phases.now grammar.now plain.now rules.now (table_view classes.now)))
+        (Ok (set_of phases.now grammar.now parts.plain.items parts.rules.items))) }
+    ensures automaton { IfOk result (λ parts. Recognizes parts.automaton (grammar_of (map string_bytes phases.now) grammar.now)) }
+    ensures phases { IfOk result (λ parts. parts.automaton.phases ≡ length phases.now) }
+    ensures fault { IfErr result (λ error. IfFault error (λ fault.
+        IsDecided (read_set_of (texts_of phases.now grammar.now plain.now rules.now (table_view classes.now))) (Err fault))) }
+{
+    check_phases(phases)?;
+    check_classes(alloc, classes)?;
+    let plain = read_plain(alloc, classes, plain)?;
+    let rules = read_entries(alloc, phases, classes, rules)?;
+    let automaton = automaton_of(alloc, grammar, phases)?;
+    Ok(Parts {
+        plain,
+        rules,
+        automaton,
+    })
+}
+
 /// What is read of the texts and the classes.
 fn read_set(alloc: Global, texts: Texts, classes: &Table) -> Result<RuleFile, RuleError>
     ensures ok { IfOk result (λ file. IsDecided (read_set_of (texts_with_classes texts (table_view classes.now))) (Ok file.rules)) }
@@ -50,16 +87,19 @@ fn read_set(alloc: Global, texts: Texts, classes: &Table) -> Result<RuleFile, Ru
         plain,
         rules,
     } = texts;
-    check_phases(phases.as_slice())?;
-    check_classes(alloc, classes)?;
-    let plain = read_plain(alloc, classes, plain.as_slice())?;
-    let rules = read_entries(alloc, phases.len(), classes, rules.as_slice())?;
-    let automaton = automaton_of(alloc, grammar.as_bytes(), phases.as_slice())?;
+    let parts = read_parts(
+        alloc,
+        phases.as_slice(),
+        grammar.as_bytes(),
+        plain.as_slice(),
+        rules.as_slice(),
+        classes,
+    )?;
     let grammar = Vec::from_slice(alloc, grammar.as_bytes())?;
-    let set = RuleSet::new(alloc, phases, grammar, plain, rules)?;
+    let set = RuleSet::new(alloc, phases, grammar, parts.plain, parts.rules)?;
     Ok(RuleFile {
         rules: set,
-        automaton,
+        automaton: parts.automaton,
     })
 }
 

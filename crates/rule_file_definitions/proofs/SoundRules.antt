@@ -25,7 +25,7 @@ use Rattle.rule_file_definitions.specs.SoundClasses.{letters_named}
 use Rattle.rule_file_definitions.specs.RuleNotations.{Part, Notation, Gap, Pattern, notation_of, is_some_class, gap_with, gap_of, pattern_with, pattern_of}
 use Rattle.list_laws.specs.EmptyLists.{is_empty}
 use Rattle.rule_file_definitions.specs.RuleEntries.{put_in, filled, rule_with, some_fillings, fillings_of, is_not_strict, is_long, rules_filled, rules_of_pattern, rules_of_notation, rules_of_fields, rules_of_entry, have_twins, pass_limits, add_rules, add_read, add_entry, add_entries, read_entries, then_entries}
-use Rattle.rule_file_definitions.specs.EntryPhases.{Fields, Phases, fields_of, is_final, unlimited_after, after_told, phases_with, phases_told}
+use Rattle.rule_file_definitions.specs.EntryPhases.{Fields, Phases, fields_of, is_final, unlimited, after_told, phases_with, phases_told}
 use Rattle.trie_text_definitions.specs.LimitedRules.{set_told}
 use Rattle.trie_text_definitions.proofs.PhaseSets.{IsSetWithin, set_field_told}
 use Rattle.rule_file_definitions.proofs.SmallTests.{IsOther, others_from_test}
@@ -94,7 +94,7 @@ module _ (names : List (List ℕ)) (n : 0 < length names) where
   ArePhasesTold final None = Unit {0}
   ArePhasesTold final (Some phases) = ArePhases (length names) final phases
 
-  unlimited_sound : (final : Bool) → ArePhases (length names) final (record { before = all_phases (length names); after = unlimited_after (length names) final })
+  unlimited_sound : (final : Bool) → ArePhases (length names) final (unlimited (length names) final)
   unlimited_sound true = record { before = all_within (length names) n; none = λ e. refl; some = λ e. absurd (cc) }
   unlimited_sound false = record { before = all_within (length names) n; none = λ e. absurd (cc); some = λ e. all_within (length names) n }
 

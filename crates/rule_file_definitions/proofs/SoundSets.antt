@@ -20,7 +20,7 @@ pub record IsFileSet (set : RuleSet) : Type 0 where
   pub limits : IsRuleSetWithinLimits set
 
 -- the parts of a rule set, each as it is read
-pub file_set : (entries : List (List ℕ)) (classes : Members) (pairs rules : List (List ℕ)) (set : RuleSet) → read_phases entries ≡ Ok set.names
+file_set : (entries : List (List ℕ)) (classes : Members) (pairs rules : List (List ℕ)) (set : RuleSet) → read_phases entries ≡ Ok set.names
     → read_plain classes pairs ≡ Ok set.plain → read_entries set.names classes rules ≡ Ok set.rules
     → IsGrammarTextWithinLimits set.names set.grammar → IsFileSet set
 file_set entries classes pairs rules set a b c g =
@@ -78,6 +78,10 @@ decided : (before : FileResult) (set : RuleSet) → ((made : RuleSet) → before
 decided (Err fault) set h e = absurd (cc)
 decided (Ok made) set h (inl (g, e)) = let same : made ≡ set = cc in subst IsFileSet same (h made refl g)
 decided (Ok made) set h (inr (fault, first, e)) = absurd (cc)
+
+-- what is read of the texts
+pub texts_sound : (texts : RuleTexts) (set : RuleSet) → IsDecided (read_set texts) (Ok set) → IsFileSet set
+texts_sound texts set h = decided (read_set texts) set (set_read texts) h
 
 pub read_sound : (bytes : List ℕ) (set : RuleSet) → IsReadAs bytes (Ok set) → IsFileSet set
 read_sound bytes set h = decided (read_before_grammar bytes) set (before_grammar bytes) h

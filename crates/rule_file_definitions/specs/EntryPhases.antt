@@ -30,10 +30,10 @@ pub record Phases : Type 0 where
 abbrev pub is_final : Gap → Bool
 is_final v = is_empty v.before && not v.has_class && is_empty v.after
 
--- the set of the phases after a rule that is not limited: none where it is final, and else all
-abbrev pub unlimited_after : ℕ → Bool → ℕ
-unlimited_after count true = 0
-unlimited_after count false = all_phases count
+-- the sets of a rule that is not limited: all phases, and none after it where it is final
+abbrev pub unlimited : ℕ → Bool → Phases
+unlimited count true = record { before = all_phases count; after = 0 }
+unlimited count false = record { before = all_phases count; after = all_phases count }
 
 -- the set that AFTER tells: of a final rule, whose v is empty, or of an inner one
 abbrev pub after_told : List (List ℕ) → Bool → List ℕ → Option ℕ
@@ -46,6 +46,5 @@ phases_with before after = None
 
 -- the sets of phases that BEFORE and AFTER tell, over the phases with these names; without them the rules are not limited
 abbrev pub phases_told : List (List ℕ) → Bool → Option (List ℕ × List ℕ) → Option Phases
-phases_told names is_final None =
-    Some (record { before = all_phases (length names); after = unlimited_after (length names) is_final })
+phases_told names is_final None = Some (unlimited (length names) is_final)
 phases_told names is_final (Some limits) = phases_with (set_told names limits.0) (after_told names is_final limits.1)

@@ -1,6 +1,7 @@
 pub mod OneCommand
 pub mod OneContent
 pub mod OneOverlapList
+pub mod SourcesSound
 pub mod OneSourceLexicon
 pub mod OneMigrateOutcome
 pub mod OneBuildOutcome

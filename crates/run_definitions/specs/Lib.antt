@@ -8,6 +8,7 @@ pub mod SegmentOutcomes
 pub mod Overlaps
 pub mod CheckOutcomes
 pub mod LongTexts
+pub mod SoundSources
 pub mod SourceLexicons
 pub mod BuildOutcomes
 pub mod DemoOutcomes

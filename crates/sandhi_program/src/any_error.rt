@@ -2,8 +2,8 @@ ghost use Rattle.std.specs.Prelude.{◌≡◌};
 
 use super::status::AnyFault;
 use annotation::ReadNoteError;
-use lexicon_file::FileError;
 use lexicon_builder::BuildError;
+use lexicon_file::FileError;
 use more_schemes::ConvertError;
 use paradigms::{StemError, StemFault, StemWhy, TableError};
 use phoneme::Memory;

@@ -21,8 +21,8 @@ use super::segment::read_contents;
 use super::status::Status;
 use answer_printing::rest_line;
 use command_words::PlacedWord;
-use lexicon_file::Contents;
 use latin_schemes::print_slp1;
+use lexicon_file::Contents;
 use outside::{Shelf, Sink};
 use phoneme::Memory;
 use run_definitions::CHECK_OVERLAPS;
@@ -40,11 +40,7 @@ struct FirstOverlaps {
 }
 
 /// The first overlaps of a lexicon. One more is asked for than may be printed, so that it is known whether one is left.
-fn first_overlaps(
-    alloc: Global,
-    rules: &RuleSet,
-    store: &Store,
-) -> Result<FirstOverlaps, Memory>
+fn first_overlaps(alloc: Global, rules: &RuleSet, store: &Store) -> Result<FirstOverlaps, Memory>
     requires { length store.now.roots ≡ length rules.now.names }
     ensures ok { IfOk result (λ found. AreFirstOverlaps (record { rules = rules.now; phases = phases_of store.now }) CHECK_OVERLAPS found.overlaps.items found.more) }
 {

@@ -3,8 +3,8 @@ ghost use Rattle.sandhi_program.specs.Headline.{exit_status};
 
 use annotation::NoteWhy;
 use derivation::Key;
-use lexicon_file::FileFault;
 use joiner::ChainFault;
+use lexicon_file::FileFault;
 use more_schemes::ConvertFault;
 use paradigms::{StemFault, TableFault};
 use rule_file::RuleFault;

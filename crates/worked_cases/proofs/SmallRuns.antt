@@ -1,20 +1,17 @@
 -- The file of `ca` and `iti` and that of their trie are read by computing, but for the grammar, which has three states at most: its one
 -- name has one position. What is read of the second is a trie in order, so that the second is the newest text of the first.
-use Rattle.std.proofs.Common.{◌≡◌, ℕ, zero, suc, ◌+◌, ◌<◌, ◌≤◌, inl, inr, List, [], ◌∷◌, ◌++◌, length, Option, Some, None, Ok, refl, sym, subst, arith}
-use Rattle.std.specs.Prelude.{drop, codes}
+use Rattle.std.proofs.Common.{◌≡◌, ℕ, ◌<◌, ◌≤◌, inl, inr, List, [], ◌∷◌, ◌++◌, length, Option, Some, None, Ok, refl, sym, subst, arith}
+use Rattle.std.specs.Prelude.{codes}
 use Rattle.std.specs.Fmt.{digits}
 use Rattle.std.specs.Str.{is_utf8, chars}
-use Rattle.std.specs.List.{All}
 use Rattle.std.specs.List.Sorted.{IsStrictlyIncreasing}
 use Rattle.std.proofs.lemmas.List.Elements.{All-contains, All-from_recursion}
-use Rattle.outside.specs.Files.{contents_of, no_files}
+use Rattle.outside.specs.Files.{no_files}
 use Rattle.outside.proofs.FilesLemmas.{contents_of-with_file_same}
 use Rattle.text_definitions.specs.Slp1.{slp1_table, word_of_slp1, slp1_of_word}
 use Rattle.lexicon_definitions.specs.Grammars.{Grammar, Name, OnceOrMore, State, Opening, After, IsPositionAfter}
 use Rattle.lexicon_definitions.specs.GrammarTexts.{grammar_of}
 use Rattle.lexicon_definitions.specs.GrammarFaults.{Long, Syntax, UnknownPhase, Places, States, IsGrammarTextWithinLimits, IsStateOf, HasMoreStates, fault_before_states}
-use Rattle.lexicon_definitions.specs.Lexicons.{Lexicon}
-use Rattle.lexicon_definitions.specs.Tries.{Trie}
 use Rattle.lexicon_definitions.proofs.GrammarPositions.{IsPositionOf, positions_within}
 use Rattle.lexicon_definitions.proofs.GrammarLists.{all_right}
 use Rattle.lexicon_text_definitions.specs.declared.limits.TheConstants.{MOST_FILE_BYTES}

@@ -46,11 +46,12 @@ const actions = {
   }),
   reject: (box) => guarded(async () => settle(await reader.reject(box.ways))),
   undo: () => guarded(async () => {
-    const { choices } = state.reading;
+    const choices = state.reading?.choices ?? [];
     if (choices.length > 0) await settle(await reader.takeBack([choices.length - 1]));
   }),
   takeBack: (numbers) => guarded(async () => settle(await reader.takeBack(numbers))),
   showAnswers: (begin, mark) => guarded(async () => {
+    if (!state.reading) return;
     const { refused } = await reader.showAnswers(begin, mark);
     if (refused) return drawFailure(refused);
     drawAnswers(actions);
@@ -166,6 +167,7 @@ function redraw() {
 
 /** Reads what the address says, as after a link, a reload, or going back. */
 async function followAddress() {
+  byId("which-way").close();
   const address = readAddress(location.hash);
   if (!address) return;
   const { server } = state;
@@ -224,7 +226,7 @@ const SHORTCUTS = {
   g: focusGrid,
   f: () => {
     const button = byId("finish");
-    if (!button.hidden) button.click();
+    if (button.checkVisibility()) button.click();
   },
   n: () => actions.goToLine(1),
   p: () => actions.goToLine(-1),

@@ -27,12 +27,14 @@ export function schemeOfText(lines, last) {
 
 /**
  * Asks for the states of entries: as they are typed, and where this has no answer, cleaned. Sets `lineText` (of the
- * bookmark), `answers` (0, 1, or 2 for several) or `refused`. `tell` is called after each question.
+ * bookmark), `answers` (0, 1, or 2 for several) or `refused`. `tell` is called with the entries of each question.
+ * Where `isWanted` is no longer so, no more is asked.
  */
-export async function askForStates(entries, scheme, lexicon, tell) {
-  await askInTurn(entries, (entry) => asTyped(entry, scheme), lexicon, tell);
+export async function askForStates(entries, scheme, lexicon, tell, isWanted) {
+  const askAll = (some, textOf) => askInTurn(some, textOf, lexicon, tell, isWanted);
+  await askAll(entries, (entry) => asTyped(entry, scheme));
   const unread = entries.filter((entry) => entry.cleaned !== null && !(entry.answers > 0));
-  await askInTurn(unread, (entry) => ["slp1", entry.cleaned], lexicon, tell);
+  await askAll(unread, (entry) => ["slp1", entry.cleaned]);
 }
 
 function asTyped({ typed, cleaned }, scheme) {
@@ -41,12 +43,12 @@ function asTyped({ typed, cleaned }, scheme) {
   return ["slp1", text ?? cleaned ?? ""];
 }
 
-async function askInTurn(entries, textOf, lexicon, tell) {
-  for (let begin = 0; begin < entries.length; begin += AT_ONCE) {
+async function askInTurn(entries, textOf, lexicon, tell, isWanted) {
+  for (let begin = 0; begin < entries.length && isWanted(); begin += AT_ONCE) {
     const some = entries.slice(begin, begin + AT_ONCE);
     const { states } = await ask("states", { lexicon, lines: some.map(textOf) });
     some.forEach((entry, number) => adoptState(entry, states[number]));
-    tell();
+    tell(some);
   }
 }
 

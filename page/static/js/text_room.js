@@ -8,7 +8,8 @@ import { setting } from "./settings.js";
 import { state } from "./state.js";
 import { askForStates, entriesOf, giveNotes, schemeOfText, stateInWords } from "./text_lines.js";
 
-const room = { name: null, scheme: null, entries: [] };
+const room = { name: null, scheme: null, entries: [], opening: null, drawn: null };
+const elements = new WeakMap(); // of the entries
 
 export function prepareTextRoom(actions) {
   const { texts, given } = state.server;
@@ -22,20 +23,24 @@ export function prepareTextRoom(actions) {
   return given;
 }
 
-/** Opens a text: its lines, their states, and its notes. */
+/** Opens a text: its lines, their states, and its notes. Where another one is opened meanwhile, this one is given up. */
 export async function openText(name) {
-  Object.assign(room, { name: null, entries: [] });
+  const opening = {};
+  Object.assign(room, { name: null, entries: [], opening });
+  const isWanted = () => room.opening === opening;
   state.place = null;
   byId("text-name").value = name;
   drawTextRoom();
   if (!name) return {};
   const answer = await ask("open", { lexicon: state.twin, text: name });
   if (answer.refused) return answer;
+  if (!isWanted()) return {};
   room.name = name;
   room.scheme = schemeOfText(answer.lines, setting("scheme"));
   room.entries = entriesOf(answer.lines, room.scheme);
   drawTextRoom();
-  await askForStates(room.entries, room.scheme, state.twin, drawTextRoom);
+  await askForStates(room.entries, room.scheme, state.twin, (some) => some.forEach(drawEntry), isWanted);
+  if (!isWanted()) return {};
   giveNotes(room.entries, answer.notes);
   drawTextRoom();
   return {};
@@ -88,10 +93,10 @@ export function goToEntry(entry) {
   return { typed: entry.typed, scheme: room.scheme, bookmark: entry.bookmark };
 }
 
-/** Keeps how far the reader came with the line of a text. */
+/** Keeps how far the reader came with the line of a text. What was typed in its place is not kept. */
 export function rememberReading() {
   const entry = hereEntry();
-  if (entry && state.reading) entry.bookmark = state.reading.bookmark;
+  if (entry && state.reading?.line === entry.lineText) entry.bookmark = state.reading.bookmark;
 }
 
 /** Writes the note of the line that is read. */
@@ -123,9 +128,16 @@ export function drawTextRoom() {
   const finished = room.entries.filter((entry) => entry.note?.isFinished).length;
   byId("text-note").textContent = room.name ? noteOfRoom(finished) : "";
   show(byId("export"), finished > 0);
-  const cut = new Set(room.entries.filter((entry) => entry.part > 1).map((entry) => entry.line));
-  fill(byId("text-lines"), room.entries.map((entry) => entryElement(entry, cut.has(entry.line))));
+  if (room.drawn !== room.entries) makeList();
+  room.entries.forEach(drawEntry);
   markLine();
+}
+
+/** Makes the list of the lines anew. Otherwise its elements stay, so that no click and no focus is lost while it is drawn. */
+function makeList() {
+  const cut = new Set(room.entries.filter((entry) => entry.part > 1).map((entry) => entry.line));
+  fill(byId("text-lines"), room.entries.map((entry) => make("li", {}, entryElement(entry, cut.has(entry.line)))));
+  room.drawn = room.entries;
 }
 
 /** Marks the line that is read, and draws the control that finishes it. */
@@ -153,14 +165,22 @@ function noteOfRoom(finished) {
 }
 
 function entryElement(entry, isCut) {
-  const told = stateInWords(entry);
-  const text = entry.lineText ? lineInOutput(entry.lineText) : entry.typed;
-  const attributes = {
-    type: "button", class: `text-line ${told.replaceAll(" ", "-")}`, on: { click: () => actionsOfLines.openEntry(entry) },
-  };
-  return make("li", {}, make("button", attributes,
-    make("span", { class: "number" }, isCut ? `${entry.line}.${entry.part}` : String(entry.line)),
-    make("span", { class: "text sanskrit" }, text), make("span", { class: "state" }, told)));
+  const parts = { text: make("span", { class: "text sanskrit" }), state: make("span", { class: "state" }) };
+  const button = make("button", { type: "button", on: { click: () => actionsOfLines.openEntry(entry) } },
+    make("span", { class: "number" }, isCut ? `${entry.line}.${entry.part}` : String(entry.line)), parts.text, parts.state);
+  elements.set(entry, { button, ...parts });
+  return button;
+}
+
+/** Shows what is known of an entry, in its element. */
+function drawEntry(entry) {
+  const { button, text, state: told } = elements.get(entry);
+  told.textContent = stateInWords(entry);
+  button.className = `text-line ${told.textContent.replaceAll(" ", "-")}`;
+  const shown = `${setting("output")} ${entry.lineText ?? ""}`;
+  if (text.dataset.shown === shown) return;
+  text.dataset.shown = shown;
+  text.textContent = entry.lineText ? lineInOutput(entry.lineText) : entry.typed;
 }
 
 /** The control that finishes the line, which is on where one answer is left. */
@@ -172,6 +192,7 @@ function drawFinish() {
   show(byId("reopen"), Boolean(entry?.note && reading));
   if (!entry || !reading) return;
   if (isFinished()) button.textContent = "Next line";
+  else if (reading.line !== entry.lineText) button.textContent = `Finish line ${entry.line} with this text`;
   else button.textContent = entry.note?.isFinished ? "Finish this line again" : "Finish this line";
   button.disabled = !isFinished() && (reading.count !== 1 || reading.hasMore);
 }

@@ -20,7 +20,7 @@ export function askWhichWay(box) {
       box.ways.map((way) => make("button", { type: "button", on: { click: () => answer(way) } }, wayInWords(way, output))),
       make("button", { type: "button", class: "quiet", on: { click: () => answer(null) } }, "Keep none")
     );
-    dialog.addEventListener("cancel", () => resolve(null), { once: true });
+    dialog.addEventListener("close", () => resolve(null), { once: true });
     dialog.showModal();
   });
 }

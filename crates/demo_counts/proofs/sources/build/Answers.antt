@@ -9,8 +9,9 @@ build_lexicon-requires-after_bounds g c κs within =
 
 pub returns-in-Ok : goal.returns-in-Ok
 returns-in-Ok g c = record {
-  ok = contents_made _ _ _ c.args.stem_bytes.now c.in_ok-rules.ensures.ok c.in_ok-tables.ensures.ok c.in_ok-stems.ensures.ok c.in-Ok.listed _
-      c.in_ok-rules.ensures.automaton c.in_ok-rules.ensures.phases c.in-Ok.ensures.automaton c.in-Ok.ensures.ok c.in-Ok.ensures.text;
+  ok = contents_made _ _ _ c.args.stem_bytes.now c.in_ok-rules.ensures.ok c.in_ok-tables.ensures.ok c.in_ok-stems.ensures.ok c.in-Ok.built.contents _
+      c.in_ok-rules.ensures.automaton c.in_ok-rules.ensures.phases c.in-Ok.ensures.automaton c.in-Ok.ensures.ok c.in-Ok.ensures.trie c.in-Ok.ensures.text;
+  lines = c.in-Ok.ensures.lines;
 }
 
 pub unreachable-requires : goal.unreachable-requires

@@ -1,5 +1,5 @@
 -- One text more, or one without its shape.
-use Rattle.std.proofs.Common.{Some, ◌∙◌, sym, ap, subst}
+use Rattle.std.proofs.Common.{Some, sym, ap, subst}
 use Rattle.trie_text_definitions.specs.NodeFields.{child_shape, child_spelled, texts_of}
 use Rattle.form_file.specs.Fields.{text_of_rest}
 use Rattle.lexicon_file.specs.Fields.{children_told, children_in}

@@ -1,5 +1,5 @@
 -- Line by line, what is read from the next line on is what is read in all; at the end what was told is a lexicon with a shared trie.
-use Rattle.std.proofs.Common.{sym, ap, subst, ◌∙◌, arith}
+use Rattle.std.proofs.Common.{sym, subst, arith}
 use Rattle.lexicon_definitions.specs.Tries.{Trie, IsTrieOf}
 use Rattle.lexicon_text_definitions.specs.FileLines.{lines_of_bytes}
 use Rattle.trie_text_definitions.specs.TrieForms.{phases_of}
@@ -7,7 +7,7 @@ use Rattle.trie_text_definitions.specs.VersionReadings.{read_lines as read_lines
 use Rattle.trie_text_definitions.specs.VersionSteps.{head_told}
 use Rattle.lexicon_file.specs.Kinds.{version_of}
 use Rattle.lexicon_file.proofs.LineSteps.{after_line}
-use Rattle.lexicon_file.proofs.ReadLemmas.{reads_on, tells_on, told_at_end, rule_set_told, limits_told, shared_trie_told}
+use Rattle.lexicon_file.proofs.ReadLemmas.{reads_on, tells_on, line_fault, told_at_end, rule_set_told, limits_told, shared_trie_told}
 use Rattle.lexicon_file.proofs.reading.read_lines.Goals as goal
 
 pub loop-line-preserved : goal.loop-line-preserved
@@ -49,3 +49,10 @@ returns-in-Ok-clause-trie c =
     subst (λ (trie : Trie). IsTrieOf trie (phases_of trie)) (sym ok.2)
     (shared_trie_told version c.args.lines.now c.loop-line.told
     (told_at_end version _ c.loop-line.told c.loop-line.number c.loop-line.rest.now c.in_default.ensures.line c.loop-line.invariant.tells ok.0))
+
+pub returns-in-Err-clause-fault : goal.returns-in-Err-clause-fault
+returns-in-Err-clause-fault c =
+    let version = version_of c.args.version in
+    let whole = read_lines_of version head_told 2 (lines_of_bytes c.args.lines.now) in
+    line_fault (Unit {0}) version whole c.loop-line.told c.take_line.new.self c.loop-line.number c.loop-line.rest.now c.in-Some.following.now _ c.in-Err.error c.error_at.result
+    c.in-Some.ensures.line c.loop-line.invariant.reads c.in-Err.ensures c.error_at.ensures

@@ -1,5 +1,5 @@
 -- What is left at the end rises.
-use Rattle.std.proofs.Common.{◌∙◌, length, map, sym, arith}
+use Rattle.std.proofs.Common.{◌∙◌, map, sym, arith}
 use Rattle.std.proofs.lemmas.List.{length-map}
 use Rattle.form_tags.specs.Analyses.{text_delta}
 use Rattle.lexicon_definitions.specs.Deltas.{compare_deltas}

@@ -9,4 +9,4 @@ use Rattle.rule_file.proofs.entries.read_entries.Goals as goal
 pub loop-place-init : goal.loop-place-init
 unfolding read_entries
 loop-place-init c =
-    ap (λ (rules : List Rule). add_entries c.args.count (table_view c.args.classes.now) rules 1 (map (string_bytes {Z = Global}) c.args.entries.now)) c.new-rules.ensures
+    ap (λ (rules : List Rule). add_entries (map (string_bytes {Z = Global}) c.args.names.now) (table_view c.args.classes.now) rules 1 (map (string_bytes {Z = Global}) c.args.entries.now)) c.new-rules.ensures

@@ -6,5 +6,5 @@ use Rattle.rule_file.proofs.entries.read_entries.Given as goal
 
 abbrev pub invariant-loop-place : goal.invariant-loop-place
 invariant-loop-place l =
-    add_entries l.count (table_view l.classes) l.rules (l.place + 1) (map (string_bytes {Z = Global}) (drop l.place l.entries))
-    ≡ read_entries l.count (table_view l.classes) (map (string_bytes {Z = Global}) l.entries)
+    add_entries (map (string_bytes {Z = Global}) l.names) (table_view l.classes) l.rules (l.place + 1) (map (string_bytes {Z = Global}) (drop l.place l.entries))
+    ≡ read_entries (map (string_bytes {Z = Global}) l.names) (table_view l.classes) (map (string_bytes {Z = Global}) l.entries)

@@ -1,5 +1,6 @@
--- The entry is a notation, and all of it is spelled, or it is refused; then the pattern decides.
-use Rattle.std.proofs.Common.{◌≡◌, Ok, Err, Result, List, sym, ◌∙◌, subst}
+-- The entry has its fields, its notation is one, and all of it is spelled, or it is refused; then the pattern decides.
+use Rattle.std.proofs.Common.{◌≡◌, Ok, Err, Result, List, Global, map, sym, ◌∙◌, subst}
+use Rattle.std.specs.String.{string_bytes}
 use Rattle.std.specs.Result.{IfOk, IfErr}
 use Rattle.toml.specs.View.{table_view}
 use Rattle.lexicon_definitions.specs.Rules.{Rule}
@@ -7,28 +8,33 @@ use Rattle.rule_file_definitions.specs.EntryWhys.{Why}
 use Rattle.rule_file_definitions.specs.RuleEntries.{rules_of_entry}
 use Rattle.rule_file.specs.declared.entry_error.EntryError.{EntryError}
 use Rattle.rule_file.specs.Faults.{IfWhy}
-use Rattle.rule_file.specs.Written.{written}
-use Rattle.rule_file.proofs.EntryLemmas.{no_notation, no_pattern, by_pattern}
+use Rattle.rule_file.specs.Written.{written, fields_written}
+use Rattle.rule_file.proofs.EntryLemmas.{no_fields, no_notation, by_notation}
 use Rattle.rule_file.proofs.entries.rules_of_entry.Goals as goal
 
 pub returns-in_default-clause-why : goal.returns-in_default-clause-why
 returns-in_default-clause-why c =
-    subst (λ (error : EntryError). IfWhy error (λ why. rules_of_entry c.args.count (table_view c.args.classes.now) c.args.entry.now ≡ Err why)) (sym c.into.ensures)
-    (no_notation c.args.count (table_view c.args.classes.now) c.args.entry.now c.in_default.ensures)
+    subst (λ (error : EntryError). IfWhy error (λ why. rules_of_entry (map (string_bytes {Z = Global}) c.args.names.now) (table_view c.args.classes.now) c.args.entry.now ≡ Err why)) (sym c.into.ensures)
+    (no_fields (map (string_bytes {Z = Global}) c.args.names.now) (table_view c.args.classes.now) c.args.entry.now c.in_default.ensures)
+
+pub returns-in_default-notation_of-clause-why : goal.returns-in_default-notation_of-clause-why
+returns-in_default-notation_of-clause-why c =
+    subst (λ (error : EntryError). IfWhy error (λ why. rules_of_entry (map (string_bytes {Z = Global}) c.args.names.now) (table_view c.args.classes.now) c.args.entry.now ≡ Err why)) (sym c.into-in_default-notation_of.ensures)
+    (no_notation (map (string_bytes {Z = Global}) c.args.names.now) (table_view c.args.classes.now) c.args.entry.now (fields_written c.in-Some.fields) c.in-Some.ensures c.in_default-notation_of.ensures)
 
 pub returns-in_default-2-clause-why : goal.returns-in_default-2-clause-why
 returns-in_default-2-clause-why c =
-    subst (λ (error : EntryError). IfWhy error (λ why. rules_of_entry c.args.count (table_view c.args.classes.now) c.args.entry.now ≡ Err why)) (sym c.into-in_default-2.ensures)
-    (no_pattern c.args.count (table_view c.args.classes.now) c.args.entry.now (written c.in-Some.notation) c.in-Some.ensures (sym c.in_default-2.is ∙ c.in_ok-pattern.ensures))
+    subst (λ (error : EntryError). IfWhy error (λ why. rules_of_entry (map (string_bytes {Z = Global}) c.args.names.now) (table_view c.args.classes.now) c.args.entry.now ≡ Err why)) (sym c.into-in_default-2.ensures)
+    (by_notation (map (string_bytes {Z = Global}) c.args.names.now) (table_view c.args.classes.now) c.args.entry.now (fields_written c.in-Some.fields) (written c.in-Some-notation_of.notation) _ c.in-Some.ensures c.in-Some-notation_of.ensures (sym c.in_default-2.is ∙ c.in_ok-pattern.ensures))
 
 pub returns-clause-ok : goal.returns-clause-ok
 returns-clause-ok c =
     subst (λ (made : Result (List Rule) Why). IfOk c.rules_of_pattern.result (λ rules. made ≡ Ok rules.items))
-    (sym (by_pattern c.args.count (table_view c.args.classes.now) c.args.entry.now (written c.in-Some.notation) _ c.in-Some.ensures (sym c.in-Some-2.is ∙ c.in_ok-pattern.ensures)))
+    (sym (by_notation (map (string_bytes {Z = Global}) c.args.names.now) (table_view c.args.classes.now) c.args.entry.now (fields_written c.in-Some.fields) (written c.in-Some-notation_of.notation) _ c.in-Some.ensures c.in-Some-notation_of.ensures (sym c.in-Some-2.is ∙ c.in_ok-pattern.ensures)))
     c.rules_of_pattern.ensures.ok
 
 pub returns-clause-why : goal.returns-clause-why
 returns-clause-why c =
     subst (λ (made : Result (List Rule) Why). IfErr c.rules_of_pattern.result (λ error. IfWhy error (λ why. made ≡ Err why)))
-    (sym (by_pattern c.args.count (table_view c.args.classes.now) c.args.entry.now (written c.in-Some.notation) _ c.in-Some.ensures (sym c.in-Some-2.is ∙ c.in_ok-pattern.ensures)))
+    (sym (by_notation (map (string_bytes {Z = Global}) c.args.names.now) (table_view c.args.classes.now) c.args.entry.now (fields_written c.in-Some.fields) (written c.in-Some-notation_of.notation) _ c.in-Some.ensures c.in-Some-notation_of.ensures (sym c.in-Some-2.is ∙ c.in_ok-pattern.ensures)))
     c.rules_of_pattern.ensures.why

@@ -1,5 +1,5 @@
 -- What is asked of the trie and of the rules decides one after another.
-use Rattle.std.proofs.Common.{◌≡◌, Some, None, ap, sym, ◌∙◌}
+use Rattle.std.proofs.Common.{ap, sym, ◌∙◌}
 use Rattle.trie_text_definitions.specs.NodeValues.{has_unused}
 use Rattle.trie_text_definitions.specs.TrieForms.{has_too_many_pairs, has_wrong_delta}
 use Rattle.trie_text_definitions.specs.VersionSteps.{Told, lacks_limited, take_end as take_end_of}

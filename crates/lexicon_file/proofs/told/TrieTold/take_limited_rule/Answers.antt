@@ -1,5 +1,5 @@
 -- The fields and their shapes, the words and then the rule decide one after another.
-use Rattle.std.proofs.Common.{◌≡◌, ℕ, Some, List, Global, map, ap, ◌∙◌, subst, arith}
+use Rattle.std.proofs.Common.{Some, Global, map, ap, ◌∙◌, subst, arith}
 use Rattle.std.proofs.lemmas.Result.{err_from_is_err_and}
 use Rattle.std.specs.String.{string_bytes}
 use Rattle.lexicon_text_definitions.specs.FileLines.{fields_of}
@@ -7,7 +7,7 @@ use Rattle.trie_text_definitions.specs.VersionSteps.{Told, Taken, take_limited_r
 use Rattle.lexicon_file.specs.declared.error.FileWhy.TheVariants.{Field}
 use Rattle.lexicon_file.specs.Told.{IsAnswer}
 use Rattle.lexicon_file.proofs.AnswerLemmas.{refused_for}
-use Rattle.lexicon_file.proofs.LimitedLemmas.{parts_fit, no_fields, no_shape, no_before, no_after, u_refused, v_refused, w_refused, rule_decides}
+use Rattle.lexicon_file.proofs.LimitedLemmas.{told_of, parts_fit, no_fields, no_shape, no_before, no_after, u_refused, v_refused, w_refused, rule_decides}
 use Rattle.lexicon_file.proofs.told.TrieTold.take_limited_rule.Goals as goal
 
 pub returns-in_default : goal.returns-in_default
@@ -26,7 +26,7 @@ returns-in_default-phases_told c =
     refused_for (Unit {0}) (take_limited_rule_of c.args.self.now (fields_of (Some c.args.text.now))) c.into-in_default-phases_told.result Field c.args.self.now c.into-in_default-phases_told.ensures
     (no_before c.args.self.now (fields_of (Some c.args.text.now)) c.in-Some.field.now c.in-Some.before.now c.in-Some.after.now c.in-Some.ensures
     (map (string_bytes {Z = Global}) c.names-names.result.now) c.in-Some-rule_parts.u.now c.in-Some-rule_parts.v.now c.in-Some-rule_parts.w.now named c.in-Some-rule_parts.ensures
-    c.in_default-phases_told.ensures)
+    c.in_default-phases_told.ensures.told)
 
 pub returns-in_default-phases_after_told : goal.returns-in_default-phases_after_told
 returns-in_default-phases_after_told c =
@@ -35,7 +35,7 @@ returns-in_default-phases_after_told c =
     c.into-in_default-phases_after_told.ensures
     (no_after c.args.self.now (fields_of (Some c.args.text.now)) c.in-Some.field.now c.in-Some.before.now c.in-Some.after.now c.in-Some.ensures
     (map (string_bytes {Z = Global}) c.names-names.result.now) c.in-Some-rule_parts.u.now c.in-Some-rule_parts.v.now c.in-Some-rule_parts.w.now named c.in-Some-rule_parts.ensures
-    c.in-Some-phases_told.before c.in-Some-phases_told.ensures c.in_default-phases_after_told.ensures)
+    c.in-Some-phases_told.before c.in-Some-phases_told.ensures.told (told_of c.in-Some-rule_parts.v.now _ _ _ c.in-Some.after.now c.is_empty.ensures c.in_default-phases_after_told.ensures.told))
 
 pub read_word-requires : goal.read_word-requires
 read_word-requires c =
@@ -59,7 +59,7 @@ returns-in_err-u c =
     rw (p.1, p.2)
     (u_refused c.args.self.now (fields_of (Some c.args.text.now)) c.in-Some.field.now c.in-Some.before.now c.in-Some.after.now c.in-Some.ensures
     (map (string_bytes {Z = Global}) c.names-names.result.now) c.in-Some-rule_parts.u.now c.in-Some-rule_parts.v.now c.in-Some-rule_parts.w.now named c.in-Some-rule_parts.ensures
-    c.in-Some-phases_told.before c.in-Some-phases_after_told.after c.in-Some-phases_told.ensures c.in-Some-phases_after_told.ensures (Unit {0}) c.in_err-u.field-0.0 c.args.self.now c.in_err-u.ensures)
+    c.in-Some-phases_told.before c.in-Some-phases_after_told.after c.in-Some-phases_told.ensures.told (told_of c.in-Some-rule_parts.v.now _ _ _ c.in-Some.after.now c.is_empty.ensures c.in-Some-phases_after_told.ensures.told) (Unit {0}) c.in_err-u.field-0.0 c.args.self.now c.in_err-u.ensures)
 
 pub returns-in_err-v : goal.returns-in_err-v
 returns-in_err-v c =
@@ -68,7 +68,7 @@ returns-in_err-v c =
     rw (p.1, p.2)
     (v_refused c.args.self.now (fields_of (Some c.args.text.now)) c.in-Some.field.now c.in-Some.before.now c.in-Some.after.now c.in-Some.ensures
     (map (string_bytes {Z = Global}) c.names-names.result.now) c.in-Some-rule_parts.u.now c.in-Some-rule_parts.v.now c.in-Some-rule_parts.w.now named c.in-Some-rule_parts.ensures
-    c.in-Some-phases_told.before c.in-Some-phases_after_told.after c.in-Some-phases_told.ensures c.in-Some-phases_after_told.ensures (Unit {0}) c.in_err-v.field-0.0 c.args.self.now c.in_err-v.ensures)
+    c.in-Some-phases_told.before c.in-Some-phases_after_told.after c.in-Some-phases_told.ensures.told (told_of c.in-Some-rule_parts.v.now _ _ _ c.in-Some.after.now c.is_empty.ensures c.in-Some-phases_after_told.ensures.told) (Unit {0}) c.in_err-v.field-0.0 c.args.self.now c.in_err-v.ensures)
 
 pub returns-in_err-w : goal.returns-in_err-w
 returns-in_err-w c =
@@ -77,7 +77,7 @@ returns-in_err-w c =
     rw (p.1, p.2)
     (w_refused c.args.self.now (fields_of (Some c.args.text.now)) c.in-Some.field.now c.in-Some.before.now c.in-Some.after.now c.in-Some.ensures
     (map (string_bytes {Z = Global}) c.names-names.result.now) c.in-Some-rule_parts.u.now c.in-Some-rule_parts.v.now c.in-Some-rule_parts.w.now named c.in-Some-rule_parts.ensures
-    c.in-Some-phases_told.before c.in-Some-phases_after_told.after c.in-Some-phases_told.ensures c.in-Some-phases_after_told.ensures (Unit {0}) c.in_err-w.field-0.0 c.args.self.now c.in_err-w.ensures)
+    c.in-Some-phases_told.before c.in-Some-phases_after_told.after c.in-Some-phases_told.ensures.told (told_of c.in-Some-rule_parts.v.now _ _ _ c.in-Some.after.now c.is_empty.ensures c.in-Some-phases_after_told.ensures.told) (Unit {0}) c.in_err-w.field-0.0 c.args.self.now c.in_err-w.ensures)
 
 pub returns : goal.returns
 returns c =
@@ -85,6 +85,6 @@ returns c =
     subst (λ (taken : Taken). IsAnswer taken c.take_limited.result c.take_limited.new.self)
     (rule_decides c.args.self.now (fields_of (Some c.args.text.now)) c.in-Some.field.now c.in-Some.before.now c.in-Some.after.now c.in-Some.ensures
     (map (string_bytes {Z = Global}) c.names-names.result.now) c.in-Some-rule_parts.u.now c.in-Some-rule_parts.v.now c.in-Some-rule_parts.w.now named c.in-Some-rule_parts.ensures
-    c.in-Some-phases_told.before c.in-Some-phases_after_told.after c.in-Some-phases_told.ensures c.in-Some-phases_after_told.ensures c.in_ok-u.u c.in_ok-v.v c.in_ok-w.w
+    c.in-Some-phases_told.before c.in-Some-phases_after_told.after c.in-Some-phases_told.ensures.told (told_of c.in-Some-rule_parts.v.now _ _ _ c.in-Some.after.now c.is_empty.ensures c.in-Some-phases_after_told.ensures.told) c.in_ok-u.u c.in_ok-v.v c.in_ok-w.w
     c.in_ok-u.ensures c.in_ok-v.ensures c.in_ok-w.ensures)
     c.take_limited.ensures

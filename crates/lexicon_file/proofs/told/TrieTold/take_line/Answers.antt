@@ -1,7 +1,5 @@
 -- The tests of a line one after another.
 use Rattle.std.proofs.Common.{rules, ◌≡◌, ◌≢◌, true, refl, sym, ◌∙◌}
-use Rattle.trie_text_definitions.specs.VersionSteps as lines
-use Rattle.trie_text_definitions.specs.VersionSteps.{Told}
 use Rattle.form_file.proofs.LinesTaken.{utf8_bad, utf8_good}
 use Rattle.lexicon_file.specs.Kinds.{version_of}
 use Rattle.lexicon_file.specs.declared.kind.Kind.TheVariants.{End}

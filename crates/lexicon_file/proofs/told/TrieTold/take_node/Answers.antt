@@ -1,5 +1,5 @@
 -- The fields, the letters in them and then the row decide one after another.
-use Rattle.std.proofs.Common.{◌≡◌, Bool, Option, Some, None, Ok, Err, Vec, Global, ap, sym, ◌∙◌, subst, arith}
+use Rattle.std.proofs.Common.{Bool, Option, Some, Ok, Err, Vec, Global, ap, sym, ◌∙◌, subst, arith}
 use Rattle.std.proofs.lemmas.Result.{err_from_is_err_and}
 use Rattle.form_tags.specs.declared.delta.Delta.{Delta}
 use Rattle.lexicon_text_definitions.specs.FileLines.{fields_of}

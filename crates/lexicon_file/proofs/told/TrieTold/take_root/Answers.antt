@@ -1,11 +1,10 @@
 -- The name whose turn it is, the number and the node decide one after another.
-use Rattle.std.proofs.Common.{◌≡◌, ℕ, List, Some, Ok, Err, [], ◌∷◌, ◌++◌, length, ap, sym, ◌∙◌}
+use Rattle.std.proofs.Common.{Some, Ok, [], ◌∷◌, ◌++◌, ap, sym, ◌∙◌}
 use Rattle.std.specs.Prelude.{slice_index_or}
 use Rattle.std.specs.Str.{bytes_eq}
 use Rattle.lexicon_text_definitions.specs.FileLines.{fields_of}
-use Rattle.lexicon_definitions.specs.Tries.{Row}
 use Rattle.trie_text_definitions.specs.NodeLines.{node_lines}
-use Rattle.trie_text_definitions.specs.VersionSteps.{Told, Root, is_root as is_root_of, take_root as take_root_of}
+use Rattle.trie_text_definitions.specs.VersionSteps.{Root, is_root as is_root_of, take_root as take_root_of}
 use Rattle.lexicon_file.specs.declared.error.FileWhy.TheVariants.{Field, Child}
 use Rattle.lexicon_file.proofs.AnswerLemmas.{refused_for}
 use Rattle.lexicon_file.proofs.RootAnswers.{no_fields, other_name, no_number, no_root, root_taken}

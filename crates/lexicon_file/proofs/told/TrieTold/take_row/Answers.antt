@@ -1,5 +1,5 @@
 -- The children, the limits and the order are tested one after another.
-use Rattle.std.proofs.Common.{◌≡◌, true, false, not, sym, ◌∙◌, ap, refl, subst, List, [], ◌∷◌, ◌++◌, length, map}
+use Rattle.std.proofs.Common.{sym, ◌∙◌, ap, refl, subst, List, [], ◌∷◌, ◌++◌, length, map}
 use Rattle.std.specs.List.Sorted.{IsStrictlySortedBy}
 use Rattle.std.proofs.lemmas.Result.{err_from_is_err_and}
 use Rattle.form_tags.specs.declared.delta.Delta.{Delta}
@@ -8,7 +8,7 @@ use Rattle.lexicon_definitions.specs.Tries.{Row, IsRow}
 use Rattle.lexicon_definitions.specs.Deltas.{compare_deltas}
 use Rattle.trie_text_definitions.specs.LimitedRules.{rises}
 use Rattle.trie_text_definitions.specs.NodeLines.{compare_node_lines, node_lines}
-use Rattle.trie_text_definitions.specs.VersionSteps.{Told, are_children as are_children_of}
+use Rattle.trie_text_definitions.specs.VersionSteps.{Told}
 use Rattle.lexicon_file.specs.Rows.{row_read}
 use Rattle.lexicon_file.proofs.RowAnswers.{children_known, row_is, above_by, lines_rise, not_above}
 use Rattle.lexicon_file.proofs.told.TrieTold.take_row.Goals as goal

@@ -24,6 +24,7 @@ use Rattle.lexicon_definitions.proofs.FormsPlaced.{some_length}
 use Rattle.lexicon_text_definitions.specs.FileContents.{is_tag_text}
 use Rattle.lexicon_text_definitions.specs.FileSteps.{some_word}
 use Rattle.lexicon_text_definitions.proofs.TagTests.{tag_from_test}
+use Rattle.trie_text_definitions.proofs.SuffixLaws.{Contains-flat_map_cases}
 use Rattle.morphology_definitions.specs.InternalSandhi.{TurnsFrom, IsJoined, IsTurningSibilant, IsTurningStop, IsTurningNasal, letter_z, letter_w, letter_W, letter_t, letter_R}
 use Rattle.morphology_definitions.specs.Inflection.{Row, Class, Stem, IsInflected, AreAllInflected, IsInflectable, IsInflectableStem, front_of, without_last, rows_of, rows_with}
 use Rattle.morphology_definitions.proofs.Inflections.{inflected-length}
@@ -33,13 +34,20 @@ use Rattle.paradigm_file_definitions.specs.TableFiles.{has_name, has_row, with_r
 use Rattle.paradigm_file_definitions.specs.StemFaults as stem
 use Rattle.paradigm_file_definitions.specs.declared.limits.TheConstants.{MOST_STEM_RECORDS, MOST_INFLECTIONS}
 use Rattle.paradigm_file_definitions.specs.StemFiles.{is_same_stem, is_too_short, is_too_long, count_inflections, passes_stem_limits, take_classed, take_class, take_letters, take_stem, stems_of}
-use Rattle.existence_laws.proofs.Decisions.{Decided, both, if_not_refuted, is_at_most}
-use Rattle.existence_laws.proofs.FiniteLists.{Contains-flat_map_cases}
+use Rattle.run_definitions.specs.SoundSources.{IsSoundRow, HasSoundRows, IsStemWord, HasStemWord, IsSoundEntry}
 
 -- ---- joined words
 
-is_letter : (n : ℕ) → Decided (IsLetter n)
-is_letter n = both (is_at_most 1 n) (is_at_most n 50)
+-- what is not refuted is a letter, since a number is one or is none
+letter_if_not_refuted : (n : ℕ) → ((IsLetter n → ⊥) → ⊥) → IsLetter n
+letter_if_not_refuted n h =
+    elim (cases_lt n 1) [
+      | inl low ↦ absurd (h (λ l. let some = l.0 in omega (arith, low, some)))
+      | inr some ↦ elim (cases_lt 50 n) [
+        | inl above ↦ absurd (h (λ l. let within = l.1 in omega (arith, above, within)))
+        | inr within ↦ (some, within)
+      ]
+    ]
 
 turned_word : (start : ℕ) (Turns : ℕ → Type 0) (turned : ℕ → ℕ) (old new : List ℕ) → TurnsFrom start Turns turned old new
     → ((n : ℕ) → IsLetter n → IsLetter (turned n)) → IsWord old → IsWord new
@@ -48,7 +56,7 @@ turned_word start Turns turned old new h keeps word k d below =
     let was : IsLetter (slice_index old k) = word k 0 within in
     let now : IsLetter (slice_index new k) = elim (cases_lt k start) [
       | inl in_front ↦ subst IsLetter (sym (h.front k in_front)) was
-      | inr later ↦ if_not_refuted (is_letter (slice_index new k)) (λ none.
+      | inr later ↦ letter_if_not_refuted (slice_index new k) (λ none.
           let stays : Turns k → ⊥ = λ t. none (subst IsLetter (sym (h.turns k later t)) (keeps (slice_index old k) was)) in
           none (subst IsLetter (sym (h.stays k stays)) was))
     ] in
@@ -70,34 +78,6 @@ joined_word front ending result h f e =
     turned_word start (IsTurningNasal start h.after_stops result) (λ n. letter_R) h.after_stops result h.nasals (λ n l. (omega arith, omega arith)) stops
 
 -- ---- entries
-
--- a row with one of so many phases, a tag, and words
-pub record IsSoundRow (count : ℕ) (row : Row) : Type 0 where
-  pub phase : row.phase < count
-  pub tag : IsTagText row.tag
-  pub prefix : IsWord row.prefix
-  pub ending : IsWord row.ending
-
-abbrev pub HasSoundRows : ℕ → Class → Type 0
-HasSoundRows count class = All (IsSoundRow count) class.rows
-
--- a word that may be a stem
-pub record IsStemWord (letters : List ℕ) : Type 0 where
-  pub word : IsWord letters
-  pub not_empty : 0 < length letters
-  pub short : length letters ≤ MOST_FORM_LETTERS
-
-abbrev pub HasStemWord : Stem → Type 0
-HasStemWord stem = IsStemWord stem.letters
-
--- an entry that may stand in a lexicon with a text
-pub record IsSoundEntry (count : ℕ) (entry : Entry) : Type 0 where
-  pub phase : entry.phase < count
-  pub word : IsWord entry.letters
-  pub not_empty : entry.letters ≢ []
-  pub short : length entry.letters ≤ MOST_FORM_LETTERS
-  pub analysis : IsAnalysis entry.analysis
-  pub stem : IsListedStem entry.analysis
 
 entry_sound : (count : ℕ) (row : Row) (stem : List ℕ) (entry : Entry) → IsSoundRow count row → IsStemWord stem → IsInflectable stem row
     → IsInflected row stem entry → IsSoundEntry count entry

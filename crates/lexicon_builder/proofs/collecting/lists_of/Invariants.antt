@@ -1,9 +1,0 @@
--- The lists have just the entries that are not left.
-use Rattle.std.proofs.Common.{map}
-use Rattle.form_lists.specs.Lists.{text_entry}
-use Rattle.lexicon_builder.proofs.CollectedLists.{AreCollected}
-use Rattle.lexicon_builder.proofs.collecting.lists_of.Given as goal
-
-abbrev pub invariant-loop-entry : goal.invariant-loop-entry
-invariant-loop-entry l =
-    AreCollected l.fn.phases (map text_entry l.fn.entries.items) l.lists (map text_entry l.entry-iterator.rest.items)
