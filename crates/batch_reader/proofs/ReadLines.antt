@@ -1,19 +1,17 @@
 -- Lines of a text are read one after another: by cases on those read before, one more is read after them.
-use Rattle.std.proofs.Common.{◌≡◌, ℕ, ◌+◌, ◌<◌, ◌≤◌, List, [], ◌∷◌, ◌++◌, length, Option, Some, None, Ok, Err, refl, sym, ◌∙◌, ap, subst, arith, append_assoc, length-append, suc}
+use Rattle.std.proofs.Common.{◌≡◌, ℕ, ◌+◌, ◌<◌, ◌≤◌, Bool, List, [], ◌∷◌, ◌++◌, length, Option, Some, None, Ok, Err, refl, sym, ◌∙◌, ap, subst, arith, append_assoc, length-append, suc}
 use Rattle.text_definitions.specs.Lines.{Line}
 use Rattle.text_definitions.specs.Schemes.{Scheme}
 use Rattle.text_definitions.specs.LineTexts.{line_of_text}
 use Rattle.lexicon_text_definitions.specs.FileLines as file
 use Rattle.lexicon_text_definitions.specs.FileLines.{lines_of_bytes}
-use Rattle.text_line.specs.Values.{text_fault, fault_of_error, IsLineFaultOf}
-use Rattle.text_line.specs.declared.line_error.LineError.{LineError}
+use Rattle.text_line.specs.Values.{text_fault}
 use Rattle.text_line.specs.declared.text_fault.TextFault.{TextFault}
-use Rattle.text_line.proofs.FaultsTold.{fault_told}
 use Rattle.batch_reader.specs.declared.block.Block.{Block}
-use Rattle.batch_reader.specs.Blocks.{AreRead, HasReadBlock}
+use Rattle.batch_reader.specs.Blocks.{AreRead, IsReadIn, HasReadBlock}
 
 -- a line with a fault more
-pub fault_more : (scheme : Scheme) (texts : List file.Line) (faults : List (Option TextFault)) (lines : List Line) (text : file.Line) (fault : TextFault)
+fault_more : (scheme : Scheme) (texts : List file.Line) (faults : List (Option TextFault)) (lines : List Line) (text : file.Line) (fault : TextFault)
     → line_of_text scheme text.bytes ≡ Err (text_fault fault) → AreRead scheme texts faults lines
     → AreRead scheme (texts ++ text ∷ []) (faults ++ Some fault ∷ []) lines
 fault_more scheme [] [] lines text fault e p = (e, p)
@@ -24,7 +22,7 @@ fault_more scheme (first ∷ texts) (None ∷ faults) [] text fault e p = absurd
 fault_more scheme (first ∷ texts) (None ∷ faults) (line ∷ lines) text fault e (q, p) = (q, fault_more scheme texts faults lines text fault e p)
 
 -- a line that is answered more
-pub line_more : (scheme : Scheme) (texts : List file.Line) (faults : List (Option TextFault)) (lines : List Line) (text : file.Line) (line : Line)
+line_more : (scheme : Scheme) (texts : List file.Line) (faults : List (Option TextFault)) (lines : List Line) (text : file.Line) (line : Line)
     → line_of_text scheme text.bytes ≡ Ok line → AreRead scheme texts faults lines
     → AreRead scheme (texts ++ text ∷ []) (faults ++ None ∷ []) (lines ++ line ∷ [])
 line_more scheme [] [] lines text line e p =
@@ -45,72 +43,73 @@ as_many scheme (first ∷ texts) (Some other ∷ faults) lines (q, p) = ap suc (
 as_many scheme (first ∷ texts) (None ∷ faults) [] p = absurd p
 as_many scheme (first ∷ texts) (None ∷ faults) (line ∷ lines) (q, p) = ap suc (as_many scheme texts faults lines p)
 
--- so many lines of the bytes are read, and these bytes come after them
-pub record HasReadSoFar (scheme : Scheme) (bytes : List ℕ) (block : Block) (rest : List ℕ) (count : ℕ) : Type 0 where
+-- some lines of the bytes are read, and these bytes come after them
+pub record HasReadSoFar (scheme : Scheme) (bytes : List ℕ) (block : Block) (rest : List ℕ) : Type 0 where
   pub lines : List file.Line
   pub cut : lines_of_bytes bytes ≡ lines ++ lines_of_bytes rest
   pub read : AreRead scheme lines block.faults.items block.lines.items
-  pub many : length lines ≡ count
-  pub fit : count + length rest ≤ length bytes
+  pub fit : length block.faults.items + length rest ≤ length bytes
 
 module _ (scheme : Scheme) (bytes : List ℕ) where
   -- one line more was cut off and read
-  pub read_on : (old new : Block) (rest line following : List ℕ) (ended : _) (count : ℕ) → HasReadSoFar scheme bytes old rest count
+  pub read_on : (old new : Block) (rest line following : List ℕ) (ended : Bool) → HasReadSoFar scheme bytes old rest
       → lines_of_bytes rest ≡ record { bytes = line; ended = ended } ∷ lines_of_bytes following → length following < length rest
       → ((texts : List file.Line) → AreRead scheme texts old.faults.items old.lines.items
       → AreRead scheme (texts ++ record { bytes = line; ended = ended } ∷ []) new.faults.items new.lines.items)
-      → HasReadSoFar scheme bytes new following (count + 1)
-  read_on old new rest line following ended count p is shorter reads =
-      let text : file.Line = record { bytes = line; ended = ended } in record {
+      → HasReadSoFar scheme bytes new following
+  read_on old new rest line following ended p is shorter reads =
+      let text : file.Line = record { bytes = line; ended = ended } in
+      let after = reads p.lines p.read in record {
         lines = p.lines ++ text ∷ [];
         cut = p.cut ∙ ap (λ (ls : List file.Line). p.lines ++ ls) is ∙ sym (append_assoc p.lines (text ∷ []) (lines_of_bytes following));
-        read = reads p.lines p.read;
-        many = omega (arith, p.many, length-append p.lines (text ∷ []));
-        fit = omega (arith, p.fit, shorter);
+        read = after;
+        fit = omega (
+          arith,
+          p.fit,
+          shorter,
+          length-append p.lines (text ∷ []),
+          as_many scheme p.lines old.faults.items old.lines.items p.read,
+          as_many scheme (p.lines ++ text ∷ []) new.faults.items new.lines.items after,
+        );
       }
 
-  -- there are no more bytes, or the block has all the lines that it may have
-  pub block_read : (block : Block) (rest : List ℕ) (count : ℕ) → HasReadSoFar scheme bytes block rest count
-      → (0 < length bytes → length rest < length bytes) → HasReadBlock scheme bytes block rest
-  block_read block rest count p shorter = record {
+  -- there are no more bytes, or the block has as many lines as it may have, which is at least one
+  pub block_read : (block : Block) (rest : List ℕ) → HasReadSoFar scheme bytes block rest
+      → (block.faults.items ≡ [] → rest ≡ []) → HasReadBlock scheme bytes block rest
+  block_read block rest p some = record {
     lines = p.lines;
     cut = p.cut;
     read = p.read;
-    fit = omega (arith, p.fit, p.many, as_many scheme p.lines block.faults.items block.lines.items p.read);
-    shorter = shorter;
+    fit = p.fit;
+    shorter = shorter block.faults.items refl;
   }
+    where
+      shorter : (faults : List (Option TextFault)) → block.faults.items ≡ faults → 0 < length bytes → length rest < length bytes
+      shorter [] none within = let left = ap length (some none) in omega (arith, within, left)
+      shorter (fault ∷ faults) is within = let count = ap length is in omega (arith, p.fit, count)
 
 -- the same of what was appended
-fault_read_after : (scheme : Scheme) (texts : List file.Line) (faults new_faults : List (Option TextFault)) (lines new_lines : List Line)
+pub fault_read_after : (scheme : Scheme) (texts : List file.Line) (faults new_faults : List (Option TextFault)) (lines new_lines : List Line)
     (text : file.Line) (fault : TextFault) → new_faults ≡ faults ++ Some fault ∷ [] → new_lines ≡ lines
-    → line_of_text scheme text.bytes ≡ Err (text_fault fault) → AreRead scheme texts faults lines
+    → IsReadIn scheme text.bytes (Err fault) → AreRead scheme texts faults lines
     → AreRead scheme (texts ++ text ∷ []) new_faults new_lines
 fault_read_after scheme texts faults new_faults lines new_lines text fault e f is p =
     subst (λ (fs : List (Option TextFault)). AreRead scheme (texts ++ text ∷ []) fs new_lines) (sym e)
     (subst (λ (ls : List Line). AreRead scheme (texts ++ text ∷ []) (faults ++ Some fault ∷ []) ls) (sym f) (fault_more scheme texts faults lines text fault is p))
 
-pub error_read_after : (scheme : Scheme) (texts : List file.Line) (faults new_faults : List (Option TextFault)) (lines new_lines : List Line)
-    (text : file.Line) (error : LineError) (fault : TextFault) → Ok fault ≡ fault_of_error error → new_faults ≡ faults ++ Some fault ∷ []
-    → new_lines ≡ lines → IsLineFaultOf error (line_of_text scheme text.bytes) → AreRead scheme texts faults lines
-    → AreRead scheme (texts ++ text ∷ []) new_faults new_lines
-error_read_after scheme texts faults new_faults lines new_lines text error fault carries e f is p =
-    fault_read_after scheme texts faults new_faults lines new_lines text fault e f
-    (fault_told error fault (line_of_text scheme text.bytes) carries is) p
-
 pub line_read_after : (scheme : Scheme) (texts : List file.Line) (faults new_faults : List (Option TextFault)) (lines new_lines : List Line)
     (text : file.Line) (line : Line) → new_faults ≡ faults ++ None ∷ [] → new_lines ≡ lines ++ line ∷ []
-    → line_of_text scheme text.bytes ≡ Ok line → AreRead scheme texts faults lines
+    → IsReadIn scheme text.bytes (Ok line) → AreRead scheme texts faults lines
     → AreRead scheme (texts ++ text ∷ []) new_faults new_lines
 line_read_after scheme texts faults new_faults lines new_lines text line e f is p =
     subst (λ (fs : List (Option TextFault)). AreRead scheme (texts ++ text ∷ []) fs new_lines) (sym e)
     (subst (λ (ls : List Line). AreRead scheme (texts ++ text ∷ []) (faults ++ None ∷ []) ls) (sym f) (line_more scheme texts faults lines text line is p))
 
 -- at first no line is read
-pub none_read : (scheme : Scheme) (bytes : List ℕ) (block : Block) → block.faults.items ≡ [] → block.lines.items ≡ [] → HasReadSoFar scheme bytes block bytes 0
-none_read scheme bytes block e f = record {
+pub none_read : (scheme : Scheme) (bytes : List ℕ) (block : Block) → block.faults.items ≡ [] → block.lines.items ≡ [] → HasReadSoFar scheme bytes block bytes
+none_read scheme bytes block e f = let none = ap length e in record {
   lines = [];
   cut = refl;
   read = subst (λ (fs : List (Option TextFault)). AreRead scheme [] fs block.lines.items) (sym e) f;
-  many = refl;
-  fit = omega arith;
+  fit = omega (arith, none);
 }

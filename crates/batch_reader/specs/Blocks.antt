@@ -1,5 +1,5 @@
 -- What is read of the lines of a text, and what is replied to them.
-use Rattle.std.specs.Prelude.{◌≡◌, ℕ, ◌+◌, ◌<◌, ◌≤◌, List, [], ◌∷◌, ◌++◌, length, Option, Some, None, Ok, Err}
+use Rattle.std.specs.Prelude.{◌≡◌, ℕ, ◌+◌, ◌<◌, ◌≤◌, List, [], ◌∷◌, ◌++◌, length, Option, Some, None, Result, Ok, Err}
 use Rattle.text_definitions.specs.Lines.{Line}
 use Rattle.text_definitions.specs.Schemes.{Scheme}
 use Rattle.text_definitions.specs.LineTexts.{line_of_text}
@@ -11,6 +11,11 @@ use Rattle.batch_reader.specs.Replies.{AreReplies}
 use Rattle.batch_reader.specs.declared.block.Block.{Block}
 use Rattle.text_line.specs.Values.{text_fault}
 use Rattle.text_line.specs.declared.text_fault.TextFault.{TextFault}
+
+-- what is read in the bytes: the line, or their fault
+abbrev pub IsReadIn : Scheme → List ℕ → Result Line TextFault → Type 0
+IsReadIn scheme bytes (Ok line) = line_of_text scheme bytes ≡ Ok line
+IsReadIn scheme bytes (Err fault) = line_of_text scheme bytes ≡ Err (text_fault fault)
 
 -- the lines of the text are read so, one after another: each has this fault, or is the next of the lines that are answered
 abbrev pub AreRead : Scheme → List file.Line → List (Option TextFault) → List Line → Type 0

@@ -2,7 +2,7 @@ ghost use Rattle.std.specs.Prelude.{◌≡◌, ◌<◌, ◌^◌, ℕ, List, leng
 ghost use denote.Param.Send.{IsSync};
 ghost use Rattle.text_definitions.specs.Lines.{Line as LineValue};
 ghost use Rattle.lexicon_definitions.specs.Lexicons.{Lexicon as LexiconValue};
-ghost use Rattle.batch_reader.specs.Replies.{AreFound, AreReplies};
+ghost use Rattle.batch_reader.specs.Replies.{IsReply, AreFound, AreReplies};
 
 use super::replier::Replier;
 use annotated_trie::Lexicon;
@@ -51,12 +51,13 @@ fn find_replies<G: Gate>(
     ensures ok { IfOk result (λ found. AreFound replier.now.lexicon.now.lexicon replier.now.count lines.now found.items) }
 {
     let mut found = no_replies(alloc, lines)?;
+    let mut room = Vec::new(alloc);
     for _ in 0..lines.len() {
         let place = next.fetch_add(1, Ordering::SeqCst);
         if place >= lines.len() {
             break;
         }
-        found[place] = Some(replier.reply(alloc, &lines[place], place as u64)?);
+        found[place] = Some(replier.reply(alloc, &lines[place], place as u64, &mut room)?);
     }
     Ok(found)
 }
@@ -105,6 +106,19 @@ fn find_by_workers<R: Threads + Sync, G: Gate + Sync>(
     Ok(found)
 }
 
+/// The reply to a line that no worker has answered.
+fn reply_late<G: Gate>(
+    alloc: Global,
+    replier: &Replier<'_, G>,
+    line: &Line,
+    place: u64,
+) -> Result<Vec<u8>, Memory>
+    ensures ok { IfOk result (λ text. IsReply replier.now.lexicon.now.lexicon replier.now.count line.now text.items) }
+{
+    let mut room = Vec::new(alloc);
+    replier.reply(alloc, line, place, &mut room)
+}
+
 /// The replies to all lines, of which these were found. A line that no worker has answered is answered here. That the count of the lines
 /// that were taken leaves no line out is not proved, and nothing rests on it.
 #[tactic(auto, using(crate::proofs::RepliesInOrder::replies_with_next, crate::proofs::FoundReplies::reply_found, crate::proofs::FoundReplies::taken_out, crate::proofs::FoundReplies::zip_length))]
@@ -121,7 +135,7 @@ fn complete<G: Gate>(
     for (place, line) in lines.iter().enumerate() {
         let reply = match found[place].take() {
             Some(reply) => reply,
-            None => replier.reply(alloc, line, place as u64)?,
+            None => reply_late(alloc, replier, line, place as u64)?,
         };
         replies.push(reply)?;
     }

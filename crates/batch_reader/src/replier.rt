@@ -1,4 +1,4 @@
-ghost use Rattle.std.specs.Prelude.{◌≡◌, IfOk};
+ghost use Rattle.std.specs.Prelude.{◌≡◌, IfOk, OnOk};
 ghost use Rattle.batch_reader.specs.Replies.{IsReply};
 
 use annotated_trie::Lexicon;
@@ -9,10 +9,6 @@ use reader_choices::Choices;
 use segmenter::Search;
 use std::alloc::Global;
 use summary_chart::Chart;
-
-/// The room that is reserved for a reply, in bytes. A text that grows from nothing is moved again and again while it is short; and what
-/// this wastes of a short reply is little beside the chart of its line.
-const ROOM: usize = 2_048;
 
 /// What all lines are answered by: the lexicon with the texts of its rules, which are made once, the most answers of a page, and
 /// the gate that each worker passes.
@@ -26,30 +22,37 @@ pub(crate) struct Replier<'a, G: Gate> {
 }
 
 impl<'a, G: Gate> Replier<'a, G> {
-    /// The page of the line's first answers, found under its chart and numbered from 1.
-    fn list_answers(&self, alloc: Global, line: &Line) -> Result<Vec<u8>, Memory>
-        ensures ok { IfOk result (λ text. IsReply self.now.lexicon.now.lexicon self.now.count line.now text.items) }
+    /// Prints the page of the line's first answers, found under its chart and numbered from 1, into the room.
+    fn print_page(&self, alloc: Global, line: &Line, room: &mut Vec<u8>) -> Result<(), Memory>
+        ensures ok { OnOk result (IsReply self.now.lexicon.now.lexicon self.now.count line.now room.new.items) }
     {
+        room.clear();
         let choices = Choices::new(alloc);
         let mut steps = Steps::<()>::new();
         let chart = Chart::build(alloc, self.lexicon, line, &choices, &mut steps)?;
         let mut search = Search::new(alloc, self.lexicon, line, &choices, &chart)?;
         let mut printer = AnswerPrinter::new(alloc, self.texts, line)?;
-        let mut text = Vec::with_capacity(alloc, ROOM)?;
         let asked = NextAnswers {
             number: 1,
             count: self.count,
         };
-        push_page(&mut text, &mut printer, &mut search, asked, &mut steps)?;
-        Ok(text)
+        push_page(room, &mut printer, &mut search, asked, &mut steps)
     }
 
-    /// The reply to the line with this number, by a worker that passes the gate before it begins.
-    pub fn reply(&self, alloc: Global, line: &Line, number: u64) -> Result<Vec<u8>, Memory>
+    /// The reply to the line with this number, by a worker that passes the gate before it begins. It is printed into the worker's room,
+    /// which is kept from line to line, and takes no more memory than it has bytes.
+    pub fn reply(
+        &self,
+        alloc: Global,
+        line: &Line,
+        number: u64,
+        room: &mut Vec<u8>,
+    ) -> Result<Vec<u8>, Memory>
         ensures ok { IfOk result (λ text. IsReply self.now.lexicon.now.lexicon self.now.count line.now text.items) }
     {
         self.gate.pass(number);
-        self.list_answers(alloc, line)
+        self.print_page(alloc, line, room)?;
+        Ok(Vec::from_slice(alloc, room.as_slice())?)
     }
 }
 
@@ -70,5 +73,7 @@ pub fn first_page(
         count,
         gate: &NoGate,
     };
-    replier.list_answers(alloc, line)
+    let mut page = Vec::new(alloc);
+    replier.print_page(alloc, line, &mut page)?;
+    Ok(page)
 }
