@@ -1,14 +1,15 @@
 #!/usr/bin/env python3
-"""Writes the text of a lexicon file in another version: in version 1 with its forms, a line each, or in the newest with its trie.
+"""Lists the forms of a lexicon file, or writes its text in another version.
 
-    recipes/lexicon_text.py first LEX >FORMS
-    recipes/lexicon_text.py newest LEX >TRIE
+    recipes/lexicon_text.py forms LEX
+    recipes/lexicon_text.py first LEX >FIRST
+    recipes/lexicon_text.py newest LEX >NEWEST
 
-LEX is a lexicon file of any version, which docs/FORMATS.md describes. `first` writes version 1, which has a line for each form with its
-stem and its tag, so that one may look for them; a lexicon with a limited rule has no such text. `newest` writes what `migrate` writes.
-The program is not asked: the file is read here, line by line, so that this script may be held against the program too. A file with a
-fault is refused as the program refuses it, on standard error: the status is then 1, as where a text is wanted that the lexicon has
-not. It is 2 where the words of the command line are others."""
+LEX is a lexicon file of any version, which docs/FORMATS.md describes. `forms` writes a line for each form with its stem and its tag, as
+they stand in version 1. `first` writes the whole text of version 1; a lexicon with a limited rule has none. `newest` writes what
+`migrate` writes. The program is not asked: the file is read here, line by line, so that this script may be held against the program too.
+A file with a fault is refused as the program refuses it, on standard error: the status is then 1, as where a text is wanted that the
+lexicon has not. It is 2 where the words of the command line are others."""
 
 import os
 import sys
@@ -43,13 +44,15 @@ def entries_of(lexicon):
     return entries
 
 
+def form_lines(lexicon):
+    """A line for each form and each of its analyses, as in version 1."""
+    for phase, form, stem, tag in entries_of(lexicon):
+        yield b"form %s %s %s %s" % (lexicon.phases[phase], spelled(form), spelled(stem), tag)
+
+
 def first_text(lexicon):
     """The text of version 1, for a lexicon without limited rules."""
-    lines = list(front_lines(lexicon, 1))
-    lines += [
-        b"form %s %s %s %s" % (lexicon.phases[phase], spelled(form), spelled(stem), tag) for phase, form, stem, tag in entries_of(lexicon)
-    ]
-    return text_of([*lines, b"end"])
+    return text_of([*front_lines(lexicon, 1), *form_lines(lexicon), b"end"])
 
 
 def newest_text(lexicon):
@@ -121,7 +124,8 @@ def ordered_trie(nodes, roots):
 
 
 def main(words):
-    if len(words) != 2 or words[0] not in ("first", "newest"):
+    writers = {"forms": lambda lexicon: text_of(form_lines(lexicon)), "first": first_text, "newest": newest_text}
+    if len(words) != 2 or words[0] not in writers:
         sys.stderr.write(__doc__ + "\n")
         return 2
     wanted, name = words
@@ -134,7 +138,7 @@ def main(words):
     if wanted == "first" and lexicon.is_limited():
         sys.stderr.write(f"lexicon_text: {name}: version 1 has no limited rules\n")
         return 1
-    sys.stdout.buffer.write(first_text(lexicon) if wanted == "first" else newest_text(lexicon))
+    sys.stdout.buffer.write(writers[wanted](lexicon))
     sys.stdout.flush()
     return 0
 

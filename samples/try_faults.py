@@ -189,7 +189,8 @@ def try_other_commands(trial, count):
         (("migrate", out.name, out.name), trial.bytes_of("first.lex")),
     ):
         try_command(trial, words, out, before, count)
-    trial.tell("the migrated lexicon is the one that was built", out.read_bytes() in (trial.bytes_of("first.lex"), trial.bytes_of("made.lex")))
+    whole = trial.bytes_of("first.lex"), trial.bytes_of("made.lex")
+    trial.tell("the migrated lexicon is the one that was built", out.read_bytes() in whole)
 
 
 def try_command(trial, words, out, before, count):
@@ -201,8 +202,8 @@ def try_command(trial, words, out, before, count):
     out.write_bytes(before)
     failed = trial.run(*words, preexec_fn=limited(signal.SIG_IGN))
     what = f"{words[0]} in its own place" if words[1] == out.name else words[0]
-    trial.tell(f"a file of {what} that may not grow",
-               (ended.returncode, failed.returncode, out.read_bytes()) == (0, WROTE_NOT, before) and len(texts[1]) > 4096 and not trial.leftovers())
+    stays = (ended.returncode, failed.returncode, out.read_bytes()) == (0, WROTE_NOT, before) and not trial.leftovers()
+    trial.tell(f"a file of {what} that may not grow", stays and len(texts[1]) > 4096)
     lost = 0
     for _ in range(count):
         out.write_bytes(before)

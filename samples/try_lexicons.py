@@ -5,8 +5,8 @@
 
 Four lexicons of `worked/files` are cut off after each of their bytes, and each of their bytes is replaced by each of REPLACING. Besides
 N files are made of these and of others by exchanging, leaving out and repeating lines, fields and bytes, which are the same in each run of
-this script. What `check` says of each file, its counts or its first fault, must be what `recipes/lexicon_file.py` reads in it, which asks no
-program and goes by docs/FORMATS.md. A file that is read is migrated too, and must become its newest text."""
+this script. What `check` says of each file, its counts or its first fault, must be what `recipes/lexicon_file.py` reads in it, which asks
+no program and goes by docs/FORMATS.md. A file that is read is migrated too, and must become its newest text."""
 import itertools
 import random
 import sys
@@ -142,13 +142,14 @@ def with_limits(texts):
     chance = random.Random(3)
     for lexicon in map(read, texts):
         if lexicon.rules and len(lexicon.phases) > 1:
-            lexicon.rules = [(u, v, w, drawn_set(chance, lexicon), drawn_set(chance, lexicon) if v else frozenset()) for u, v, w, *_ in lexicon.rules]
+            lexicon.rules = [(u, v, w, *drawn_sets(chance, len(lexicon.phases), v)) for u, v, w, *_ in lexicon.rules]
             yield newest_text(lexicon)
 
 
-def drawn_set(chance, lexicon):
-    count = chance.randrange(len(lexicon.phases)) + 1
-    return frozenset(chance.sample(range(len(lexicon.phases)), count))
+def drawn_sets(chance, count, v):
+    """The phases before a rule, and those after it, which a final one has not."""
+    before, after = (frozenset(chance.sample(range(count), chance.randrange(count) + 1)) for _ in range(2))
+    return before, after if v else frozenset()
 
 
 def draw(chance, least):

@@ -109,7 +109,7 @@ def try_largest(trial):
     forms = drawn_forms(34_380)
     left = MOST_BYTES - migrate_drawn(trial, forms, 0)[1]
     ended, size = migrate_drawn(trial, forms, left)
-    trial.tell("migrate to a text of 33,554,432 bytes", (ended.returncode, size) == (0, MOST_BYTES), f" {ended.returncode} {size}, {left} more")
+    trial.tell(f"migrate to a text of {MOST_BYTES:,} bytes", (ended.returncode, size) == (0, MOST_BYTES), f" {ended.returncode} {size}")
     ended, size = migrate_drawn(trial, forms, left + 1)
     refused = (ended.returncode, ended.stdout, size) == (5, b"bad file drawn.lex line 0: Limit\n", 0)
     trial.tell("migrate to a text of one byte more", refused, f" {ended.returncode} {ended.stdout[:60]} {size}")

@@ -116,7 +116,11 @@ def rows_of(trial):
         Row(("migrate", "old.lex", "old.lex"), 0, ()),
         Row(("migrate", "nowhere", "new.lex"), 3, (f"{cannot} read 'nowhere': {NO_FILE}",)),
         Row(("migrate", "first.lex", "no/new.lex"), 4, (f"{cannot} write 'no/new.lex': {NO_FILE}",)),
-        Row(("migrate", "first.lex", "new.lex"), 4, (f"{cannot} write 'new.lex': the file would be too large",), {"preexec_fn": limit_files}),
+        Row(
+            ("migrate", "first.lex", "new.lex"), 4,
+            (f"{cannot} write 'new.lex': the file would be too large",),
+            {"preexec_fn": limit_files},
+        ),
         Row(("migrate", "first.lex", "new.lex"), 4, (f"{cannot} write the output: the disk is full",), {"stdout": full}),
         Row(("migrate", "bad.lex", "new.lex"), 5, ()),
         Row(("read", "made.lex"), 7, (f"sandhi: the input has more than {MOST_INPUT} bytes",), {"input": b"\n" * (MOST_INPUT + 1)}),
