@@ -274,6 +274,18 @@ class Links(WithPage):
         self.page.open(chosen["address"])
         self.assertEqual(self.page.seen()["boxes"], chosen["boxes"])
 
+    def test_going_back_takes_the_question_which_way_away(self):
+        self.page.open().type("rAmo rAjA baBUva ha")
+        seen = self.page.type(self.LINE)
+        several = "return document.querySelector(\"#grid .keep[aria-label*='ways']\").parentNode.dataset.number"
+        self.browser.click(self.browser.find(f"{self.page.box(self.browser.run(several))} .keep"))
+        self.browser.wait("return document.querySelector('#which-way[open]')")
+        self.browser.run("history.back()")
+        self.browser.wait("return !document.querySelector('#which-way[open]')")
+        self.assertEqual(count_of(self.page.seen()["count"]), 1)
+        self.assertEqual(self.page.seen()["choices"], [])
+        self.assertNotEqual(self.page.seen()["boxes"], seen["boxes"])
+
     def test_two_tabs_share_one_program(self):
         first = self.page.type(self.LINE)
         before = self.browser.new_tab()
@@ -511,6 +523,12 @@ class Keys(WithPage):
         self.browser.wait(
             "return document.querySelectorAll('#choices li').length === 1 || document.querySelector('dialog[open]')"
         )
+
+    def test_keys_do_nothing_where_nothing_is_read(self):
+        self.page.open().type("rAmo €")
+        self.browser.run("document.activeElement.blur()")
+        self.browser.press("f", "n", "p", "g", "u", "r", "a")
+        self.assertIn("no letter", self.page.seen()["notice"])
 
     def test_a_slash_goes_to_the_line_and_g_to_the_grid(self):
         self.page.open()
