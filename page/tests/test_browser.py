@@ -481,6 +481,18 @@ class Answers(WithPage):
         self.page.click("#answers .all-analyses")
         self.browser.wait("return document.querySelectorAll('#answers .analyses tbody').length === 3")
 
+    def test_analyses_of_a_box_by_a_right_click_and_by_a_key(self):
+        self.page.type("rAmo vanaM gacCati")
+        told = "return document.querySelector('#segment-analyses tbody')?.textContent"
+        self.browser.run(
+            "document.querySelector(\"#grid .box[data-form='rAmaH'] .form\")"
+            ".dispatchEvent(new MouseEvent('contextmenu', { bubbles: true, cancelable: true }))"
+        )
+        self.assertIn("masculine, singular, nominative", self.browser.wait(told))
+        self.browser.run("document.querySelector(\"#grid .box[data-form='gacCati'] .keep\").focus()")
+        self.browser.press("a")
+        self.browser.wait(f"{told}.includes('present')")
+
     def test_letters_of_the_answers_are_remembered(self):
         self.page.type("rAmo vanaM gacCati")
         forms = "return document.querySelector('#answers .form').textContent"
