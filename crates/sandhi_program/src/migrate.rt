@@ -22,7 +22,7 @@ use lexicon_file::{Contents, FileFault, FileWhy, write_within};
 use lexicon_text_definitions::MOST_FILE_BYTES;
 use outside::{Shelf, Sink, WriteError};
 use phoneme::Memory;
-use shared_trie::Store;
+use shared_trie::{Node, Store};
 use std::alloc::Global;
 
 /// The newest text of a lexicon, and what is printed of it.
@@ -42,14 +42,22 @@ fn long_text() -> AnyFault
     })
 }
 
+/// How many nodes these are, as a line.
+fn print_count(alloc: Global, nodes: &[Node]) -> Result<String, Memory>
+    ensures ok { IfOk result (λ text. string_bytes text ≡ printed_nodes (length nodes.now)) }
+{
+    let count = nodes.len();
+    Ok(format!(in alloc; "nodes {count}\n")?)
+}
+
 /// How many nodes the newest text tells of the trie, as a line.
 fn print_nodes(alloc: Global, store: &Store) -> Result<String, Memory>
     requires { IsTrieOf store.now (phases_of store.now) }
     ensures ok { IfOk result (λ text. (trie : Trie) → IsOrderedTrieOf trie (phases_of store.now) → string_bytes text ≡ printed_nodes (length trie.rows)) }
 {
     let nodes = store.canonical(alloc)?;
-    let count = nodes.len();
-    Ok(format!(in alloc; "nodes {count}\n")?)
+    let line = print_count(alloc, nodes.as_slice())?;
+    Ok(line)
 }
 
 /// The newest text of the lexicon, or `None` where it is too long for a file.
