@@ -105,8 +105,8 @@ class Sandhi:
         return [one + other for one in self.letters(first) for other in self.letters(second)]
 
     def rules(self, entry):
-        """The rules u|v>w of an entry of `rules`."""
-        parts = re.fullmatch(r"(?:\[(\w*)\])?([^|]*)\|((?:[^<>]|<\w+>)*)>(.*)", entry)
+        """The rules u|v>w of an entry of `rules`, whatever phases limit them."""
+        parts = re.fullmatch(r"(?:\[(\w*)\])?([^|]*)\|((?:[^<>]|<\w+>)*)>(.*)", entry.split(" ")[0])
         before, end, lead, written = parts[1] or "", parts[2], parts[3], parts[4]
         name = re.search(r"<\w+>", lead)
         for letter in self.letters(name[0]) if name else [""]:

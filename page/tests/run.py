@@ -5,7 +5,7 @@
 
 PROGRAM is the program; without it, `sandhi` at the top. LEX is a built starter lexicon; without it, it is made where
 `sandhi-page` makes its own. TEST is a name as `test_modules` or `test_browser.Clicks`. Where chromium and its driver are
-not there, a line says so, and the rest is tested; with `--must-have-browser` this is a failure.
+not there, or only the server is tested, a line says that the page was not tried; with `--must-have-browser` this is a failure.
 """
 
 import argparse
@@ -33,11 +33,13 @@ def main():
     os.environ["SANDHI_LEXICON"] = words.lexicon if words.lexicon == "-" else str(Path(words.lexicon).resolve())
     from browser import find_browser
 
-    names = words.tests or WITHOUT_BROWSER + (WITH_BROWSER if find_browser() else [])
+    is_there = bool(find_browser())
+    names = words.tests or WITHOUT_BROWSER + (WITH_BROWSER if is_there else [])
     result = unittest.TextTestRunner(verbosity=1).run(unittest.defaultTestLoader.loadTestsFromNames(names))
-    is_tried = bool(find_browser())
+    is_tried = is_there and any(name.split(".")[0] in WITH_BROWSER for name in names)
     if not is_tried:
-        print("The page was not tried in a browser: chromium and chromedriver are not there.")
+        why = "." if is_there else ": chromium and chromedriver are not there."
+        print(f"The page was not tried in a browser{why}")
     return 0 if result.wasSuccessful() and (is_tried or not words.must_have_browser) else 1
 
 

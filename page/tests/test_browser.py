@@ -274,6 +274,18 @@ class Links(WithPage):
         self.page.open(chosen["address"])
         self.assertEqual(self.page.seen()["boxes"], chosen["boxes"])
 
+    def test_going_back_takes_the_question_which_way_away(self):
+        self.page.open().type("rAmo rAjA baBUva ha")
+        seen = self.page.type(self.LINE)
+        several = "return document.querySelector(\"#grid .keep[aria-label*='ways']\").parentNode.dataset.number"
+        self.browser.click(self.browser.find(f"{self.page.box(self.browser.run(several))} .keep"))
+        self.browser.wait("return document.querySelector('#which-way[open]')")
+        self.browser.run("history.back()")
+        self.browser.wait("return !document.querySelector('#which-way[open]')")
+        self.assertEqual(count_of(self.page.seen()["count"]), 1)
+        self.assertEqual(self.page.seen()["choices"], [])
+        self.assertNotEqual(self.page.seen()["boxes"], seen["boxes"])
+
     def test_two_tabs_share_one_program(self):
         first = self.page.type(self.LINE)
         before = self.browser.new_tab()
@@ -469,6 +481,18 @@ class Answers(WithPage):
         self.page.click("#answers .all-analyses")
         self.browser.wait("return document.querySelectorAll('#answers .analyses tbody').length === 3")
 
+    def test_analyses_of_a_box_by_a_right_click_and_by_a_key(self):
+        self.page.type("rAmo vanaM gacCati")
+        told = "return document.querySelector('#segment-analyses tbody')?.textContent"
+        self.browser.run(
+            "document.querySelector(\"#grid .box[data-form='rAmaH'] .form\")"
+            ".dispatchEvent(new MouseEvent('contextmenu', { bubbles: true, cancelable: true }))"
+        )
+        self.assertIn("masculine, singular, nominative", self.browser.wait(told))
+        self.browser.run("document.querySelector(\"#grid .box[data-form='gacCati'] .keep\").focus()")
+        self.browser.press("a")
+        self.browser.wait(f"{told}.includes('present')")
+
     def test_letters_of_the_answers_are_remembered(self):
         self.page.type("rAmo vanaM gacCati")
         forms = "return document.querySelector('#answers .form').textContent"
@@ -511,6 +535,12 @@ class Keys(WithPage):
         self.browser.wait(
             "return document.querySelectorAll('#choices li').length === 1 || document.querySelector('dialog[open]')"
         )
+
+    def test_keys_do_nothing_where_nothing_is_read(self):
+        self.page.open().type("rAmo €")
+        self.browser.run("document.activeElement.blur()")
+        self.browser.press("f", "n", "p", "g", "u", "r", "a")
+        self.assertIn("no letter", self.page.seen()["notice"])
 
     def test_a_slash_goes_to_the_line_and_g_to_the_grid(self):
         self.page.open()

@@ -204,6 +204,19 @@ class Finishing(WithText):
             self.assertGreater(check_controls(self), 20)
             self.assertEqual(self.browser.run(FAINT), [], theme)
 
+    def test_what_is_typed_in_between_is_no_reading_of_the_line(self):
+        seen = self.open_line(2)
+        self.page.type("रामो राजा बभूव ह")
+        finish = "return document.getElementById('finish').textContent"
+        self.assertEqual(self.browser.run(finish), "Finish line 1 with this text")
+        self.open_line(3)
+        self.assertEqual(self.open_line(2)["boxes"], seen["boxes"])
+        self.assertEqual(self.browser.run(finish), "Finish this line")
+        self.page.type("रामो राजा बभूव ह")
+        self.finish()
+        self.assertEqual(self.lines()[1][2], "finished with another text")
+        self.assertEqual(self.page.click("#reopen")["boxes"], self.page.seen()["boxes"])
+
     def test_lines_by_keys_alone(self):
         def number():
             return self.browser.run("return document.querySelector('.text-line[aria-current] .number')?.textContent")

@@ -1,5 +1,5 @@
--- Phases with one entry more have what they had and the new entry, and nothing else; and they have one line more at most. By
--- induction on the list in which an element is placed, along the three cases of a step.
+-- Phases with one entry more have what they had and the new entry, and nothing else. By induction on the list in which an element is
+-- placed, along the three cases of a step.
 use Rattle.std.proofs.Common.{◌≡◌, ℕ, ◌+◌, ◌<◌, ◌≤◌, ◌⊎◌, inl, inr, List, [], ◌∷◌, length, get_or, set, refl, sym, ◌∙◌, ap, subst, arith, Ordering}
 use Rattle.std.specs.Prelude.{Contains, sum_by}
 use Rattle.std.specs.declared.cmp.Ordering.TheVariants.{Less, Equal, Greater}
@@ -59,17 +59,6 @@ module _ (new : Analysis) where
         | Greater ↦ λ e. Contains-first new (analysis ∷ analyses)
       ] in
       go (compare_analyses analysis new) refl
-
-  -- they are one more at most
-  analyses_longer : (analyses : List Analysis) → length (with_analysis new analyses) ≤ length analyses + 1
-  analyses_longer [] = omega arith
-  analyses_longer (analysis ∷ analyses) =
-      let go : (order : Ordering) → length (placed_at order new analysis analysis analyses (with_analysis new analyses)) ≤ length (analysis ∷ analyses) + 1 = elim [
-        | Less ↦ (let rest = analyses_longer analyses in omega arith)
-        | Equal ↦ omega arith
-        | Greater ↦ omega arith
-      ] in
-      go (compare_analyses analysis new)
 
 -- ---- forms
 
@@ -158,29 +147,6 @@ module _ (letters : List ℕ) (new : Analysis) where
       ] in
       go (compare_words form.letters letters) refl
 
-  -- there is one line more at most
-  abbrev count : List Form → ℕ
-  count forms = sum_by (λ (form : Form). length form.analyses) forms
-
-  form_lines : (forms : List Form) → count (with_form letters new forms) ≤ count forms + 1
-  form_lines [] = omega arith
-  form_lines (form ∷ forms) =
-      let was : count (form ∷ forms) ≡ length form.analyses + count forms = sum_by-cons (λ (form : Form). length form.analyses) form forms in
-      let go : (order : Ordering) → count (placed_at order alone (more form) form forms (with_form letters new forms)) ≤ count (form ∷ forms) + 1 = elim [
-        | Less ↦ (
-            let is = sum_by-cons (λ (form : Form). length form.analyses) form (with_form letters new forms) in
-            let rest = form_lines forms in
-            omega (arith, was, is, rest))
-        | Equal ↦ (
-            let is = sum_by-cons (λ (form : Form). length form.analyses) (more form) forms in
-            let longer = analyses_longer new form.analyses in
-            omega (arith, was, is, longer))
-        | Greater ↦ (
-            let is = sum_by-cons (λ (form : Form). length form.analyses) alone (form ∷ forms) in
-            omega (arith, is))
-      ] in
-      go (compare_words form.letters letters)
-
 -- ---- phases
 
 module _ (phases : List (List Form)) (new : Entry) (within : new.phase < length phases) where
@@ -220,14 +186,6 @@ module _ (phases : List (List Form)) (new : Entry) (within : new.phase < length 
   entry_comes =
       subst (λ (forms : List Form). HasAnalysis forms new.letters new.analysis) (sym (get_or-set_same phases new.phase after [] within))
       (form_comes new.letters new.analysis before)
-
-  -- there is one line more at most
-  pub entry_lines : count_lines (with_entry phases new) ≤ count_lines phases + 1
-  entry_lines =
-      let lines : List Form → ℕ = λ forms. sum_by (λ (form : Form). length form.analyses) forms in
-      let sums = sum_by-set lines phases new.phase after [] within in
-      let longer = form_lines new.letters new.analysis before in
-      omega (arith, sums, longer)
 
   -- there are as many phases
   pub entry_phases : length (with_entry phases new) ≡ length phases

@@ -1,7 +1,7 @@
 -- The outcome of a command is that of the run whose words are the command's.
 use Rattle.std.proofs.Common.{◌≡◌, ℕ, List, Option, Some, None, refl, ap, ◌∙◌}
 use Rattle.outside.specs.Files.{Files}
-use Rattle.lexicon_text_definitions.proofs.OneReading.{one_reading}
+use Rattle.trie_text_definitions.proofs.OneVersionReading.{one_version_reading}
 use Rattle.run_definitions.specs.Commands.{Command, Segment, Check, Build, Read, Batch, Demo, Convert, Join, Split, Annotate, Reread, Migrate, FileWord, AreWordsOf, AreOfNoCommand, DoWrite, WriteNoFile, files_of, out_of}
 use Rattle.run_definitions.specs.Outcomes.{Outcome, IsOutcome, IsOutcomeOf, OfNoCommand, OfCommand}
 use Rattle.run_definitions.specs.Refusals.{usage_outcome}
@@ -45,7 +45,7 @@ writes_none (Migrate lex out) none = absurd (none out refl)
 -- a run has one outcome
 pub one_run_outcome : (words : List (List ℕ)) (input : Option (List ℕ)) (files : Files) (a b : Outcome) → IsOutcome words files input a
     → IsOutcome words files input b → a ≡ b
-one_run_outcome words input files a b p q = one_outcome one_reading words files input a b p q
+one_run_outcome words input files a b p q = one_outcome one_version_reading words files input a b p q
 
 -- words of no command have their outcome
 pub no_command : (words : List (List ℕ)) (files : Files) (input : Option (List ℕ)) → AreOfNoCommand words

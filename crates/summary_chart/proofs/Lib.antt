@@ -23,6 +23,9 @@ mod ChartTurns
 mod ChartAnswers
 mod ChartGuides
 mod RisingItems
+mod SameU
+mod Walks
+mod FrontKeys
 mod CollectedItems
 mod AnswerItems
 mod TableItems

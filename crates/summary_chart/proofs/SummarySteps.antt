@@ -1,13 +1,38 @@
 -- A summary takes a frame for each set of the table at most, which is within the bound, since two such passes are.
-use Rattle.std.proofs.Common.{ℕ, ◌+◌, ◌*◌, ◌≤◌, length, arith}
-use Rattle.std.proofs.Math.Nat.{mul-le-mul_right}
+use Rattle.std.proofs.Common.{◌≡◌, ℕ, ◌+◌, ◌*◌, ◌≤◌, length, ap, sym, subst, arith}
+use Rattle.std.proofs.Math.Nat.{mul-le-mul_left, mul-le-mul_right}
 use Rattle.text_definitions.specs.Lines.{Line}
-use Rattle.segmentation_definitions.specs.StepBounds.{chart_bound}
+use Rattle.segmentation_definitions.specs.StepBounds.{chart_bound, configuration_count}
 use Rattle.annotated_trie.specs.Searched.{SearchedLexicon, IsSearchedLexicon}
+use Rattle.search_frames.specs.Configurations.{rules_in}
 use Rattle.search_frames.specs.Costs.{steps_of_frame}
 use Rattle.summary_chart.specs.Spreading.{leads_in}
 use Rattle.summary_chart.specs.Charts.{set_count, steps_of_pass}
-use Rattle.summary_chart.proofs.PassCosts.{chart_within}
+use Rattle.summary_chart.specs.Summaries.{steps_of_items, steps_of_summary}
+use Rattle.summary_chart.proofs.PassCosts.{chart_within, frame_and_skip, one_frame_more}
+
+-- the items of a place take at most 96 steps for each look
+place_within : (phases most : ℕ) → phases * (1 + (8 + 65 + 65 * (3 * most + 4))) ≤ 96 * (phases * 65 * (most + 1))
+place_within phases most =
+    let each : 1 + (8 + 65 + 65 * (3 * most + 4)) ≤ 96 * (65 * (most + 1)) = omega arith in
+    let all = mul-le-mul_left phases each in
+    let looks : phases * (96 * (65 * (most + 1))) ≡ 96 * (phases * 65 * (most + 1)) = omega arith in
+    omega (arith, all, looks)
+
+all_within : (sets place looks : ℕ) → place ≤ 96 * looks → sets * place ≤ 3 * looks * (sets * 32)
+all_within sets place looks few =
+    let all = mul-le-mul_left sets few in
+    let same : sets * (96 * looks) ≡ 96 * (looks * sets) = omega arith in
+    let bound : 3 * looks * (sets * 32) ≡ 96 * (looks * sets) = omega arith in
+    omega (arith, all, same, bound)
+
+-- one front more, and one phase more
+pub one_more_within : (start count each now then : ℕ) → now ≤ start + count * each → then ≤ now + each → then ≤ start + (count + 1) * each
+one_more_within start count each now then spent more = one_frame_more start count each now then spent more
+
+-- fewer fronts, or phases, than there are take no more
+pub fewer_within : (count all each : ℕ) → count ≤ all → count * each ≤ all * each
+fewer_within count all each few = mul-le-mul_right each few
 
 module _ (searched : SearchedLexicon) (line : Line) (most : ℕ) where
   -- as many frames as there are sets at most
@@ -20,3 +45,34 @@ module _ (searched : SearchedLexicon) (line : Line) (most : ℕ) where
   pub bound_within : (start now : ℕ) → IsSearchedLexicon searched → now ≤ start + steps_of_pass searched line most
       → now ≤ start + chart_bound searched.lexicon most (length line.letters) (length (leads_in searched))
   bound_within start now is spent = let twice = chart_within searched line most is in omega (arith, spent, twice)
+
+  -- ---- a summary
+
+  -- one place more
+  pub place_and_skip : (index next start now then : ℕ) → index + 1 ≤ next → now ≤ start + index * steps_of_items searched most
+      → then ≤ now + steps_of_items searched most → then ≤ start + next * steps_of_items searched most
+  place_and_skip index next start now then rises spent more = frame_and_skip start index next (steps_of_items searched most) now then rises spent more
+
+  -- as many places as there are sets at most
+  pub places_within : (index start now : ℕ) → index ≤ set_count searched line → now ≤ start + index * steps_of_items searched most
+      → now ≤ start + steps_of_summary searched line most
+  places_within index start now low spent =
+      let all : index * steps_of_items searched most ≤ set_count searched line * steps_of_items searched most = mul-le-mul_right (steps_of_items searched most) low in
+      omega (arith, spent, all)
+
+  -- a place takes less than all looks there
+  pub summary_within : (start now : ℕ) → IsSearchedLexicon searched → now ≤ start + steps_of_summary searched line most
+      → now ≤ start + chart_bound searched.lexicon most (length line.letters) (length (leads_in searched))
+  summary_within start now is spent =
+      let phases = length (rules_in searched).names in
+      let leads = length (leads_in searched) in
+      let looks = phases * 65 * (most + 1) in
+      let place = place_within phases most in
+      let all = all_within ((length line.letters + 1) * (leads + 51)) (steps_of_items searched most) looks place in
+      let count : length searched.lexicon.phases ≡ phases = is.lexicon.count in
+      let same_looks = ap (λ (n : ℕ). n * 65 * (most + 1)) count in
+      let width : leads + 51 ≡ 51 + leads = omega arith in
+      let bound : steps_of_summary searched line most ≤ chart_bound searched.lexicon most (length line.letters) leads =
+      subst (λ (n : ℕ). steps_of_summary searched line most ≤ 3 * n * configuration_count (length line.letters) leads) (sym same_looks)
+      (subst (λ (n : ℕ). steps_of_summary searched line most ≤ 3 * looks * ((length line.letters + 1) * n * 32)) width all) in
+      omega (arith, spent, bound)

@@ -1,12 +1,12 @@
 -- A pass over a chart's table has after each index the items of the places before it: what stands at one index is at one number
 -- of letters and one entrance. At the end these are the items of the living places, and so of the answers.
-use Rattle.std.proofs.Common.{◌≡◌, ◌⊎◌, inl, inr, ℕ, ◌+◌, ◌<◌, ◌≤◌, List, [], length, get_or, sym, ap, subst, ◌∙◌, arith}
+use Rattle.std.proofs.Common.{◌≡◌, ◌⊎◌, inl, inr, ℕ, ◌+◌, ◌<◌, ◌≤◌, ◌↔◌, List, [], length, Contains, get_or, refl, sym, ap, subst, ◌∙◌, arith}
 use Rattle.std.specs.List.Sorted.{IsStrictlySortedBy}
 use Rattle.std.proofs.lemmas.Bool.{cases_lt}
 use Rattle.std.proofs.lemmas.List.{get_or_default}
 use Rattle.text_definitions.specs.Lines.{Line, IsLine}
 use Rattle.segmentation_definitions.specs.Items.{Item, Choice}
-use Rattle.segmentation_definitions.specs.Listings.{Key, IsSummary}
+use Rattle.segmentation_definitions.specs.Listings.{Key, IsSummary, compare_items}
 use Rattle.derivation.specs.declared.entrance.Entrance.{Entrance}
 use Rattle.annotated_trie.specs.Searched.{SearchedLexicon, IsSearchedLexicon}
 use Rattle.search_frames.specs.declared.configuration.Configuration.{Configuration}
@@ -14,11 +14,11 @@ use Rattle.search_frames.specs.Configurations.{NumberedConfiguration}
 use Rattle.search_frames.specs.Frames.{IsConfigurationIn, numbered_of}
 use Rattle.summary_chart.specs.declared.state_set.StateSet.{StateSet}
 use Rattle.summary_chart.specs.declared.table.Table.{Table}
-use Rattle.summary_chart.specs.Tables.{IsTable, IsIn, IsIndexed, set_of}
+use Rattle.summary_chart.specs.Tables.{IsTable, IsIn, IsIndexed, AreEmptyBetween, set_of}
 use Rattle.summary_chart.specs.Spreading.{GoesFurtherBy, leads_in, place_with}
 use Rattle.summary_chart.specs.Charts.{IsChartTable, index_of_place}
 use Rattle.summary_chart.specs.Summaries.{IsItemFrom, AddsItems, IsItemAt, IsItemBefore, HasItemsBefore, item_with}
-use Rattle.summary_chart.proofs.TableStates.{at_index, stands_in, with_within, index_within}
+use Rattle.summary_chart.proofs.TableStates.{numbered_at, at_index, stands_in, with_within, index_within}
 use Rattle.summary_chart.proofs.AnswerItems.{GoesOnAlive, item_of_living, item_of_answer}
 
 -- ---- one index
@@ -79,7 +79,6 @@ module _ (searched : SearchedLexicon) (line : Line) (choices : List Choice) (tab
       → AddsItems (IsItemFrom searched line choices table at entrance (set_of table index)) items more
       → HasItemsBefore searched line choices table (index + 1) more
   items_more index at entrance items more indexed so_far added = record {
-    rising = added.rising;
     has = λ item (place, before, here). elim (before_or_at index place before) [
       | inl low ↦ added.keeps item (so_far.has item (place, low, here))
       | inr same ↦ added.adds item (item_of_states index at entrance indexed place item same here)
@@ -90,12 +89,18 @@ module _ (searched : SearchedLexicon) (line : Line) (choices : List Choice) (tab
     ];
   }
 
+  -- no place stands where the sets are empty
+  pub none_in_empty : (low high : ℕ) → AreEmptyBetween table.sets.items low high → (place : Configuration) → IsConfigurationIn searched line place → IsIn table place
+      → low ≤ index_of_place searched place → index_of_place searched place < high → ⊥
+  none_in_empty low high empty place within inside above below =
+      let there = numbered_at searched line (index_of_place searched place) table place is inside refl in
+      empty.empty (index_of_place searched place) there.number above below there.has
+
   -- where no place stands between two indices, nothing is to be added
   pub items_on : (low high : ℕ) (items : List Item) → low ≤ high
       → ((place : Configuration) → IsConfigurationIn searched line place → IsIn table place → low ≤ index_of_place searched place → index_of_place searched place < high → ⊥)
       → HasItemsBefore searched line choices table low items → HasItemsBefore searched line choices table high items
   items_on low high items more none so_far = record {
-    rising = so_far.rising;
     has = λ item (place, before, here). elim (cases_lt (index_of_place searched place) low) [
       | inl earlier ↦ so_far.has item (place, earlier, here)
       | inr between ↦ absurd (none place here.within here.there between before)
@@ -108,9 +113,7 @@ module _ (searched : SearchedLexicon) (line : Line) (choices : List Choice) (tab
 module _ (searched : SearchedLexicon) (line : Line) (choices : List Choice) (table : Table) (chart : IsChartTable searched line choices table) where
   -- before the first index stands nothing
   pub no_items : (items : List Item) → items ≡ [] → HasItemsBefore searched line choices table 0 items
-  unfolding IsStrictlySortedBy
   no_items items none = subst (HasItemsBefore searched line choices table 0) (sym none) (record {
-    rising = tt;
     has = λ item (place, before, here). absurd (omega (arith, before));
     only = λ item (k, low, same). absurd (omega (arith, low));
   })
@@ -132,13 +135,14 @@ module _ (searched : SearchedLexicon) (line : Line) (choices : List Choice) (tab
       omega (arith, low, count)
 
   -- the items of all places are those of the answers
-  pub summary_of_table : (items : List Item) → IsSearchedLexicon searched → IsLine line
-      → HasItemsBefore searched line choices table (length table.sets.items) items → IsSummary searched.lexicon line choices items
-  summary_of_table items is line_is all = record {
-    rising = all.rising;
+  pub summary_of_table : (items sorted : List Item) → IsSearchedLexicon searched → IsLine line
+      → HasItemsBefore searched line choices table (length table.sets.items) items → IsStrictlySortedBy compare_items sorted
+      → ((item : Item) → Contains sorted item ↔ Contains items item) → IsSummary searched.lexicon line choices sorted
+  summary_of_table items sorted is line_is all rising same = record {
+    rising = rising;
     members = λ item. (
       λ there.
-          let (place, before, here) = all.only item there in
+          let (place, before, here) = all.only item ((same item).0 there) in
           item_of_answer searched line choices is line_is item (record {
             place = place;
             within = here.within;
@@ -150,7 +154,7 @@ module _ (searched : SearchedLexicon) (line : Line) (choices : List Choice) (tab
       λ answer.
           let living = item_of_living searched line choices is line_is item answer in
           let there = (chart.exact living.place living.within).1 living.alive in
-          all.has item (
+          (same item).1 (all.has item (
             living.place,
             before_end living.place living.within there,
             record {
@@ -160,6 +164,6 @@ module _ (searched : SearchedLexicon) (line : Line) (choices : List Choice) (tab
               further = further_if_alive (numbered_of searched living.place) living.key living.further;
               is = living.is;
             },
-          ),
+          )),
     );
   }

@@ -1,6 +1,7 @@
 pub mod StateSets
 pub mod Tables
 pub mod Spreading
+pub mod Fronts
 pub mod Charts
 pub mod PlaceWays
 pub mod Summaries

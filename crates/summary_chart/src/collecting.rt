@@ -1,83 +1,244 @@
-ghost use Rattle.std.specs.Prelude.{length, OnOk};
-ghost use Rattle.std.specs.List.Sorted.{IsStrictlySortedBy};
-ghost use Rattle.segmentation_definitions.specs.Listings.{compare_items};
+ghost use Rattle.std.specs.Prelude.{◌≡◌, ◌+◌, ◌*◌, ◌<◌, ◌≤◌, ℕ, length, All, OnOk};
+ghost use Rattle.text_definitions.specs.Lines.{IsLine};
+ghost use Rattle.derivation.specs.Steps.{key_meant};
 ghost use Rattle.annotated_trie.specs.Searched.{IsSearchedLexicon};
 ghost use Rattle.search_frames.specs.Frames.{IsConfigurationIn, numbered_of};
-ghost use Rattle.search_frames.specs.WaysFrom.{AreWaysFrom, IsWayFrom, key_of_way};
+ghost use Rattle.search_frames.specs.Configurations.{IsPossible};
+ghost use Rattle.search_frames.specs.Costs.{HasAtMostRules};
+ghost use Rattle.summary_chart.specs.Fronts.{IsFrontAt};
 ghost use Rattle.summary_chart.specs.Tables.{IsTable};
 ghost use Rattle.summary_chart.specs.Spreading.{leads_in};
-ghost use Rattle.summary_chart.specs.Summaries.{AddsItems, IsItemBy, IsItemFrom};
+ghost use Rattle.summary_chart.specs.Summaries.{AddsItems, HasSeen, IsCollected, IsItemBy, IsItemByRule, IsItemAtFront, IsItemInPhase, IsItemFrom, steps_of_front, steps_of_fronts, steps_of_items};
 
-use super::gathering::states_going_further;
-use super::items::{item_of_step, put_item};
+use super::collected::Collected;
+use super::gathering::states_by_key;
+use super::items::item_of_step;
 use super::state_set::StateSet;
+use super::state_steps::states_after;
 use super::table::Table;
+use super::walking::walk_fronts;
 use annotated_trie::Lexicon;
-use derivation::{Item, Step};
+use derivation::{Key, Step};
+use outside::Steps;
 use phoneme::{Line, Memory};
 use reader_choices::Choices;
-use search_frames::{Configuration, Way, supplied_letters};
+use search_frames::{Configuration, supplied_letters};
+use shared_trie::Node;
 use std::alloc::Global;
 
-/// Puts the item of the way into the list where some state of the set goes further by it: then its step stands in an answer. The
-/// place's own state is not looked at. Refused only for want of memory.
-fn collect_way(
+/// Puts in the item of the key, which is possible at the place, where some state of the set goes further by it: then its step stands
+/// in an answer. The place's own state is not looked at. An item takes two steps: it is made, and put in order later. Refused only
+/// for want of memory.
+fn collect_key<L>(
     alloc: Global,
     lexicon: &Lexicon,
     line: &Line,
     choices: &Choices,
     place: &Configuration,
     states: StateSet,
-    way: &Way,
+    key: Key,
     table: &Table,
-    items: &mut Vec<Item>,
+    collected: &mut Collected,
+    steps: &mut Steps<L>,
 ) -> Result<(), Memory>
     requires searched { IsSearchedLexicon lexicon.now }
+    requires line { IsLine line.now }
     requires place { IsConfigurationIn lexicon.now line.now place.now }
-    requires way { IsWayFrom lexicon.now line.now choices.now (numbered_of lexicon.now place.now) way.now }
+    requires possible { IsPossible lexicon.now line.now (numbered_of lexicon.now place.now) (key_meant key) }
     requires table { IsTable (leads_in lexicon.now) (length line.now.letters) table.now }
-    requires rising { IsStrictlySortedBy compare_items items.old.items }
-    ensures ok { OnOk result (AddsItems (IsItemBy lexicon.now line.now choices.now table.now place.now.at place.now.entrance states (key_of_way way.now)) items.old.items items.new.items) }
+    requires collected { IsCollected lexicon.now.lexicon.rules collected.old }
+    ensures collected { OnOk result (IsCollected lexicon.now.lexicon.rules collected.new) }
+    ensures adds { OnOk result (AddsItems (IsItemBy lexicon.now line.now choices.now table.now place.now.at place.now.entrance states (key_meant key)) collected.old.items.items collected.new.items.items) }
+    ensures seen { OnOk result ((since : ℕ) → HasSeen lexicon.now line.now place.now.at place.now.entrance key.phase key.taken since collected.old
+        → HasSeen lexicon.now line.now place.now.at place.now.entrance key.phase key.taken since collected.new) }
+    ensures steps { steps.new ≤ steps.old + 2 }
 {
-    let further = states_going_further(lexicon, line, choices, place, states, way, table);
-    if further.is_empty() {
-        return Ok(());
-    }
     let rules = lexicon.rules();
     let step = Step {
-        phase: way.key.phase,
-        rule: way.key.rule,
+        phase: key.phase,
+        rule: key.rule,
         at: place.at,
         lead: supplied_letters(rules, place.entrance).len() as u32,
-        taken: way.key.taken,
+        taken: key.taken,
     };
+    if states_by_key(lexicon, line, choices, place, states, &step, table).is_empty() {
+        return Ok(());
+    }
+    steps.tick();
+    steps.tick();
     let item = item_of_step(alloc, rules, line, place.entrance, &step)?;
-    put_item(items, item)
+    collected.put(rules, key.rule, item)
 }
 
-/// Puts the items of those of the ways, which are all from the place, by which some state of the set goes further into the list. The
-/// place's own state is not looked at. Refused only for want of memory.
-pub(crate) fn collect(
+/// Puts in the items of the rules, each of which is possible after this front, by which some state of the set goes further; where there are
+/// more than a few, one for all rules with the same `u`. The place's own state is not looked at. Refused only for want of memory.
+fn collect_rules<L>(
     alloc: Global,
     lexicon: &Lexicon,
     line: &Line,
     choices: &Choices,
-    place: Configuration,
+    place: &Configuration,
     states: StateSet,
-    ways: &[Way],
+    phase: u32,
+    taken: u32,
+    rules: &[u32],
     table: &Table,
-    items: &mut Vec<Item>,
+    collected: &mut Collected,
+    steps: &mut Steps<L>,
 ) -> Result<(), Memory>
     requires searched { IsSearchedLexicon lexicon.now }
-    requires place { IsConfigurationIn lexicon.now line.now place }
-    requires ways { AreWaysFrom lexicon.now line.now choices.now (numbered_of lexicon.now place) ways.now }
+    requires line { IsLine line.now }
+    requires place { IsConfigurationIn lexicon.now line.now place.now }
+    requires possible { All (λ rule. IsPossible lexicon.now line.now (numbered_of lexicon.now place.now) (record { phase = phase; taken = taken; rule = rule })) rules.now }
     requires table { IsTable (leads_in lexicon.now) (length line.now.letters) table.now }
-    requires rising { IsStrictlySortedBy compare_items items.old.items }
-    ensures ok { OnOk result (AddsItems (IsItemFrom lexicon.now line.now choices.now table.now place.at place.entrance states) items.old.items items.new.items) }
+    requires collected { IsCollected lexicon.now.lexicon.rules collected.old }
+    ensures collected { OnOk result (IsCollected lexicon.now.lexicon.rules collected.new) }
+    ensures adds { OnOk result (AddsItems (IsItemByRule lexicon.now line.now choices.now table.now place.now.at place.now.entrance states phase taken rules.now) collected.old.items.items collected.new.items.items) }
+    ensures steps { steps.new ≤ steps.old + 3 * length rules.now }
 {
-    for way in ways {
-        collect_way(
-            alloc, lexicon, line, choices, &place, states, way, table, items,
+    collected.expect(alloc, lexicon.rules(), rules.len())?;
+    let since = collected.items.len();
+    for rule in rules {
+        steps.tick();
+        if collected.has(lexicon.rules(), *rule, since) {
+            continue;
+        }
+        let key = Key {
+            phase,
+            taken,
+            rule: *rule,
+        };
+        collect_key(
+            alloc, lexicon, line, choices, place, states, key, table, collected, steps,
+        )?;
+    }
+    Ok(())
+}
+
+/// Puts in the items of the keys with this front by which some state of the set goes further. The place's own state is not looked at.
+/// Refused only for want of memory.
+fn collect_front<L>(
+    alloc: Global,
+    lexicon: &Lexicon,
+    line: &Line,
+    choices: &Choices,
+    place: &Configuration,
+    states: StateSet,
+    phase: u32,
+    taken: u32,
+    node: Node,
+    table: &Table,
+    collected: &mut Collected,
+    steps: &mut Steps<L>,
+) -> Result<(), Memory>
+    requires searched { IsSearchedLexicon lexicon.now }
+    requires line { IsLine line.now }
+    requires place { IsConfigurationIn lexicon.now line.now place.now }
+    requires front { IsFrontAt lexicon.now line.now (numbered_of lexicon.now place.now) phase taken node }
+    requires table { IsTable (leads_in lexicon.now) (length line.now.letters) table.now }
+    requires collected { IsCollected lexicon.now.lexicon.rules collected.old }
+    ensures collected { OnOk result (IsCollected lexicon.now.lexicon.rules collected.new) }
+    ensures adds { OnOk result (AddsItems (IsItemAtFront lexicon.now line.now choices.now table.now place.now.at place.now.entrance states phase taken) collected.old.items.items collected.new.items.items) }
+    ensures steps { (most : ℕ) → HasAtMostRules lexicon.now.tries most → steps.new ≤ steps.old + steps_of_front most }
+{
+    let tries = lexicon.tries();
+    steps.tick();
+    if tries.store().accepts(node) {
+        let key = Key {
+            phase,
+            taken,
+            rule: 0,
+        };
+        collect_key(
+            alloc, lexicon, line, choices, place, states, key, table, collected, steps,
+        )?;
+    }
+    let end = place.at as usize + taken as usize;
+    let Some(letter) = line.letters.as_slice().get(end) else {
+        return Ok(());
+    };
+    let rules = tries.choices_with(node, *letter, steps);
+    collect_rules(
+        alloc, lexicon, line, choices, place, states, phase, taken, rules, table, collected, steps,
+    )
+}
+
+/// Puts in the items of the keys of the phase by which some state of the set goes further. The place's own state is not looked at.
+/// Refused only for want of memory.
+fn collect_phase<L>(
+    alloc: Global,
+    lexicon: &Lexicon,
+    line: &Line,
+    choices: &Choices,
+    place: &Configuration,
+    states: StateSet,
+    phase: u32,
+    nodes: &mut Vec<Node>,
+    table: &Table,
+    collected: &mut Collected,
+    steps: &mut Steps<L>,
+) -> Result<(), Memory>
+    requires searched { IsSearchedLexicon lexicon.now }
+    requires line { IsLine line.now }
+    requires place { IsConfigurationIn lexicon.now line.now place.now }
+    requires phase { phase < length lexicon.now.lexicon.rules.names }
+    requires table { IsTable (leads_in lexicon.now) (length line.now.letters) table.now }
+    requires collected { IsCollected lexicon.now.lexicon.rules collected.old }
+    ensures collected { OnOk result (IsCollected lexicon.now.lexicon.rules collected.new) }
+    ensures adds { OnOk result (AddsItems (IsItemInPhase lexicon.now line.now choices.now table.now place.now.at place.now.entrance states phase) collected.old.items.items collected.new.items.items) }
+    ensures steps { (most : ℕ) → HasAtMostRules lexicon.now.tries most → steps.new ≤ steps.old + steps_of_fronts most }
+{
+    walk_fronts(lexicon, line, place, phase, nodes, steps)?;
+    for taken in 0..nodes.len() {
+        collect_front(
+            alloc,
+            lexicon,
+            line,
+            choices,
+            place,
+            states,
+            phase,
+            taken as u32,
+            nodes[taken],
+            table,
+            collected,
+            steps,
+        )?;
+    }
+    Ok(())
+}
+
+/// Puts in the items of the keys by which some state of the set goes further from the place. Phases to which no state of the set leads
+/// are passed over. The place's own state is not looked at. Refused only for want of memory.
+pub(crate) fn collect<L>(
+    alloc: Global,
+    lexicon: &Lexicon,
+    line: &Line,
+    choices: &Choices,
+    place: &Configuration,
+    states: StateSet,
+    nodes: &mut Vec<Node>,
+    table: &Table,
+    collected: &mut Collected,
+    steps: &mut Steps<L>,
+) -> Result<(), Memory>
+    requires searched { IsSearchedLexicon lexicon.now }
+    requires line { IsLine line.now }
+    requires place { IsConfigurationIn lexicon.now line.now place.now }
+    requires table { IsTable (leads_in lexicon.now) (length line.now.letters) table.now }
+    requires collected { IsCollected lexicon.now.lexicon.rules collected.old }
+    ensures collected { OnOk result (IsCollected lexicon.now.lexicon.rules collected.new) }
+    ensures adds { OnOk result (AddsItems (IsItemFrom lexicon.now line.now choices.now table.now place.now.at place.now.entrance states) collected.old.items.items collected.new.items.items) }
+    ensures steps { (most : ℕ) → HasAtMostRules lexicon.now.tries most → steps.new ≤ steps.old + steps_of_items lexicon.now most }
+{
+    let phases = lexicon.rules().phases().len();
+    for phase in 0..phases as u32 {
+        steps.tick();
+        if states_after(lexicon.automaton(), states, phase).is_empty() {
+            continue;
+        }
+        collect_phase(
+            alloc, lexicon, line, choices, place, states, phase, nodes, table, collected, steps,
         )?;
     }
     Ok(())

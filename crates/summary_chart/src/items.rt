@@ -1,13 +1,12 @@
-ghost use Rattle.std.specs.Prelude.{◌≡◌, ◌+◌, ◌≤◌, length, OnOk, IfOk};
+ghost use Rattle.std.specs.Prelude.{◌≡◌, ◌+◌, ◌≤◌, ◌↔◌, length, Contains, IfOk};
 ghost use Rattle.std.specs.List.Sorted.{IsStrictlySortedBy};
 ghost use Rattle.lexicon_definitions.specs.Leads.{leads_of};
-ghost use Rattle.segmentation_definitions.specs.Items.{item_of, after_lead as defined_after_lead};
+ghost use Rattle.segmentation_definitions.specs.Items.{Item as ItemValue, item_of, after_lead as defined_after_lead};
 ghost use Rattle.segmentation_definitions.specs.Listings.{compare_items};
 ghost use Rattle.derivation.specs.Guides.{IsEntranceOver, entrance_of};
 ghost use Rattle.derivation.specs.Steps.{key_of};
 ghost use Rattle.answer_paths.specs.Fronts.{supplied};
 ghost use Rattle.answer_paths.specs.Following.{placed_at};
-ghost use Rattle.list_laws.specs.RisingSets.{with_element};
 
 use derivation::{Entrance, Item, Step};
 use phoneme::{Line, Memory, Word};
@@ -66,13 +65,11 @@ pub(crate) fn item_of_step(
     })
 }
 
-/// Puts the item in its place in a rising list, unless it is there. Refused only for want of memory.
-pub(crate) fn put_item(items: &mut Vec<Item>, item: Item) -> Result<(), Memory>
-    requires rising { IsStrictlySortedBy compare_items items.old.items }
-    ensures ok { OnOk result (items.new.items ≡ with_element compare_items items.old.items item) }
+/// Puts the items in order, and leaves each of them once.
+pub(crate) fn sort_items(items: &mut Vec<Item>)
+    ensures rising { IsStrictlySortedBy compare_items items.new.items }
+    ensures same { (item : ItemValue) → Contains items.new.items item ↔ Contains items.old.items item }
 {
-    if let Err(place) = items.binary_search_by(|other| compare(other, &item)) {
-        items.insert(place, item)?;
-    }
-    Ok(())
+    items.sort_unstable_by(|left, right| compare(left, right));
+    items.dedup_by(|left, right| compare(left, right).is_eq());
 }

@@ -5,16 +5,19 @@
 //! Proved: a chart is a guide of a search that never says false of what stands in an answer (`guide` of `Chart::build`), and says
 //! true of nothing else (`exact`), made within the stated number of steps (`steps`). As a `SearchGuide` it brings a frame to its next
 //! key that goes further (the clauses of `SearchGuide::turn`), and what is known of it there makes it exact (`charts_are_exact`). Its summary has the item of each step of some answer, once and in order,
-//! and nothing else (`ok` of `Chart::summary`), and takes no step (`steps`). Threads may share a chart (`charts_are_shared`).
+//! and nothing else (`ok` of `Chart::summary`), in a stated number of steps, of which each item takes two (`steps`, and `bound`, which is that of
+//! the chart). Threads may share a chart (`charts_are_shared`).
 #![tactic(auto)]
 
 mod chart;
+mod collected;
 mod collecting;
 mod gathering;
 mod items;
 mod laws;
 mod passes;
 mod place_ways;
+mod same_u;
 mod sharing;
 mod spreading;
 mod state_set;
@@ -22,6 +25,7 @@ mod state_steps;
 mod summary;
 mod table;
 mod turning;
+mod walking;
 
 pub use chart::Chart;
 pub use laws::charts_are_exact;

@@ -131,6 +131,16 @@ function prepareKeys(grid, actions, isFocused) {
   if (isFocused) here.querySelector(".keep").focus({ preventScroll: true });
   grid.onkeydown = (event) => onKey(event, elements, actions);
   grid.onfocusin = (event) => goTo(event.target.closest(".box"), elements);
+  grid.oncontextmenu = (event) => {
+    const element = event.target.closest(".box");
+    if (!element) return;
+    event.preventDefault();
+    actions.showAnalyses(boxOf(element));
+  };
+}
+
+function boxOf(element) {
+  return state.reading.boxes[Number(element.dataset.number)];
 }
 
 function goTo(element, elements) {
@@ -144,7 +154,7 @@ function goTo(element, elements) {
 function onKey(event, elements, actions) {
   const element = event.target.closest(".box");
   if (!element || event.ctrlKey || event.metaKey || event.altKey) return;
-  const box = state.reading.boxes[Number(element.dataset.number)];
+  const box = boxOf(element);
   const act = {
     ArrowLeft: () => step(element, elements, -1),
     ArrowRight: () => step(element, elements, 1),

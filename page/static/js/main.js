@@ -117,6 +117,7 @@ async function guarded(act) {
 
 /** Draws what came of an action, and puts it into the address. */
 async function settle(outcome, { isNew = true } = {}) {
+  byId("which-way").close(); // which asked of the reading before
   if (outcome.refused) return drawFailure(outcome.refused);
   draw();
   if (outcome.fault) return drawFault(outcome);
@@ -167,7 +168,6 @@ function redraw() {
 
 /** Reads what the address says, as after a link, a reload, or going back. */
 async function followAddress() {
-  byId("which-way").close();
   const address = readAddress(location.hash);
   if (!address) return;
   const { server } = state;

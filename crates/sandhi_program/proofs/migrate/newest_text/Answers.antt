@@ -5,6 +5,8 @@ use Rattle.sandhi_program.proofs.MigrateRuns.{migrated}
 use Rattle.sandhi_program.proofs.migrate.newest_text.Goals as goal
 
 pub returns : goal.returns
-returns c = record {
-  ok = refl;
-}
+returns c =
+    let written = rw c.in-Some.is at c.in_ok-text.ensures.ok in record {
+      ok = migrated (lexicon_of c.args.contents.now) (record { text = c.in-Some.text; output = c.in_ok-output.output }) c.in-Some.text.items
+          written.0 refl written.1 c.in_ok-output.ensures.ok;
+    }

@@ -1,5 +1,5 @@
 -- The nodes that are counted are those of an ordered trie of the phases.
-use Rattle.std.proofs.Common.{refl}
+use Rattle.std.proofs.Common.{sym, ◌∙◌}
 use Rattle.std.proofs.lemmas.List.{length-map}
 use Rattle.trie_text_definitions.specs.TrieForms.{phases_of}
 use Rattle.shared_trie.specs.CanonicalNodes.{trie_of_nodes}
@@ -9,5 +9,5 @@ use Rattle.sandhi_program.proofs.migrate.print_nodes.Goals as goal
 pub returns : goal.returns
 returns c = record {
   ok = nodes_counted (phases_of c.args.store.now) (trie_of_nodes c.args.store.now c.in_ok-nodes.nodes.items) _ _
-      (c.in_ok-nodes.ensures.ordered (phases_of c.args.store.now) c.requires) (length-map _ _) refl;
+      (c.in_ok-nodes.ensures.ordered (phases_of c.args.store.now) c.requires) (length-map _ _ ∙ sym c.len-count.ensures) c.in_ok-format.ensures.ok;
 }

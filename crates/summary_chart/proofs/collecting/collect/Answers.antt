@@ -1,20 +1,61 @@
--- Each way adds its item; at the end those of all ways are there, and no state goes further by another key (`CollectedItems`).
-use Rattle.summary_chart.proofs.CollectedItems.{items_at_first, items_more, items_at_last}
+-- One phase more adds its items; one to which no state leads has none.
+use Rattle.std.proofs.Common.{◌≡◌, ℕ, ◌+◌, ◌*◌, ◌≤◌, length, sym, subst, arith}
+use Rattle.phase_automaton.specs.Automata.{StateMachine}
+use Rattle.search_frames.specs.Configurations.{rules_in}
+use Rattle.summary_chart.specs.StateSets.{IsLedTo}
+use Rattle.summary_chart.specs.Summaries.{steps_of_fronts}
+use Rattle.summary_chart.proofs.CollectedItems.{phase_more, phase_without_state, phases_at_last}
+use Rattle.summary_chart.proofs.SummarySteps.{one_more_within, fewer_within}
 use Rattle.summary_chart.proofs.collecting.collect.Goals as goal
 
-pub loop-way-init : goal.loop-way-init
-loop-way-init c =
-    items_at_first c.args.lexicon.now c.args.line.now c.args.choices.now c.args.table.now c.args.place c.args.states c.args.ways.now
-    c.args.items.now.items c.requires.rising
+pub loop-phase-preserved-then-is_empty : goal.loop-phase-preserved-then-is_empty
+loop-phase-preserved-then-is_empty g c =
+    let inv = c.loop-phase.invariant in
+    let searched = c.args.lexicon.now in
+    record {
+      end = inv.end;
+      low = omega (arith, c.loop-phase-test.true, inv.end);
+      collected = inv.collected;
+      adds = phase_without_state searched c.args.line.now c.args.choices.now c.args.table.now c.args.place.now c.args.states c.loop-phase.phase c.states_after.result
+          c.if-is_empty.ensures
+          (λ number led. (c.states_after.ensures number).1
+          (subst (λ (machine : StateMachine). IsLedTo machine c.args.states c.loop-phase.phase number) (sym c.automaton.ensures.value) led))
+          c.args.collected.now.items.items c.loop-phase.collected.items.items inv.adds;
+      spent = λ most few. one_more_within c.args.steps.now c.loop-phase.phase (1 + steps_of_fronts most) c.loop-phase.steps c.tick.new.self
+          (inv.spent most few) (omega (arith, c.tick.ensures));
+    }
 
-pub loop-way-preserved : goal.loop-way-preserved
-loop-way-preserved c =
-    items_more c.args.lexicon.now c.args.line.now c.args.choices.now c.args.table.now c.args.place c.args.states c.args.ways.now c.loop-way.way-index
-    c.way-item.result (record { below = c.loop-way-test.true; is = c.way-item.is })
-    c.args.items.now.items c.loop-way.items.items c.collect_way.new.items.items c.loop-way.invariant c.in_ok-collect_way.ensures.ok
+pub loop-phase-preserved : goal.loop-phase-preserved
+loop-phase-preserved g c =
+    let inv = c.loop-phase.invariant in
+    record {
+      end = inv.end;
+      low = omega (arith, c.loop-phase-test.true, inv.end);
+      collected = c.in_ok-collect_phase.ensures.collected;
+      adds = phase_more c.args.lexicon.now c.args.line.now c.args.choices.now c.args.table.now c.args.place.now c.args.states c.loop-phase.phase
+          c.args.collected.now.items.items c.loop-phase.collected.items.items c.collect_phase.new.collected.items.items inv.adds c.in_ok-collect_phase.ensures.adds;
+      spent = λ most few. one_more_within c.args.steps.now c.loop-phase.phase (1 + steps_of_fronts most) c.loop-phase.steps c.collect_phase.new.steps
+          (inv.spent most few) (let spent = c.collect_phase.ensures.steps most few in omega (arith, spent, c.tick.ensures));
+    }
 
-pub returns : goal.returns
-returns c = record {
-  ok = items_at_last c.args.lexicon.now c.args.line.now c.args.choices.now c.args.table.now c.args.place c.args.states c.args.ways.now c.loop-way.way-index
-      c.loop-way-test.false c.requires.ways c.args.items.now.items c.loop-way.items.items c.loop-way.invariant;
-}
+pub returns-in_err-collect_phase-clause-steps : goal.returns-in_err-collect_phase-clause-steps
+returns-in_err-collect_phase-clause-steps g c most few =
+    let inv = c.loop-phase.invariant in
+    let spent = c.collect_phase.ensures.steps most few in
+    let one = one_more_within c.args.steps.now c.loop-phase.phase (1 + steps_of_fronts most) c.loop-phase.steps c.collect_phase.new.steps
+    (inv.spent most few) (omega (arith, spent, c.tick.ensures)) in
+    let all = fewer_within (c.loop-phase.phase + 1) (length (rules_in c.args.lexicon.now).names) (1 + steps_of_fronts most) (omega (arith, c.loop-phase-test.true, inv.end)) in
+    omega (arith, one, all)
+
+pub returns-clause-adds : goal.returns-clause-adds
+returns-clause-adds g c =
+    let inv = c.loop-phase.invariant in
+    phases_at_last c.args.lexicon.now c.args.line.now c.args.choices.now c.args.table.now c.args.place.now c.args.states c.loop-phase.phase c.requires.searched
+    (omega (arith, c.loop-phase-test.false, inv.end)) c.args.collected.now.items.items c.loop-phase.collected.items.items inv.adds
+
+pub returns-clause-steps : goal.returns-clause-steps
+returns-clause-steps g c most few =
+    let inv = c.loop-phase.invariant in
+    let spent = inv.spent most few in
+    let all = fewer_within c.loop-phase.phase (length (rules_in c.args.lexicon.now).names) (1 + steps_of_fronts most) inv.low in
+    omega (arith, spent, all)

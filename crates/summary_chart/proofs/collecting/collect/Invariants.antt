@@ -1,8 +1,16 @@
--- The items so far are those of the ways so far.
-use Rattle.summary_chart.specs.Summaries.{AddsItems}
-use Rattle.summary_chart.proofs.CollectedItems.{IsItemAmongFirst}
+-- The items of the phases so far are there, and each phase took its steps.
+use Rattle.std.proofs.Common.{◌≡◌, ◌+◌, ◌*◌, ◌≤◌, ℕ, length}
+use Rattle.search_frames.specs.Costs.{HasAtMostRules}
+use Rattle.search_frames.specs.Configurations.{rules_in}
+use Rattle.summary_chart.specs.Summaries.{AddsItems, IsCollected, steps_of_fronts}
+use Rattle.summary_chart.proofs.CollectedItems.{IsItemEarlier}
 use Rattle.summary_chart.proofs.collecting.collect.Given as goal
 
-abbrev pub invariant-loop-way : goal.invariant-loop-way
-invariant-loop-way l =
-    AddsItems (IsItemAmongFirst l.lexicon l.line l.choices l.table l.place l.states l.ways l.way-index) l.fn.items.items l.items.items
+abbrev pub invariant-loop-phase : goal.invariant-loop-phase
+invariant-loop-phase g l = record {
+  end : l.phase-end ≡ length (rules_in l.lexicon).names;
+  low : l.phase ≤ length (rules_in l.lexicon).names;
+  collected : IsCollected l.lexicon.lexicon.rules l.collected;
+  adds : AddsItems (IsItemEarlier l.lexicon l.line l.choices l.table l.place l.states l.phase) l.fn.collected.items.items l.collected.items.items;
+  spent : (most : ℕ) → HasAtMostRules l.lexicon.tries most → l.steps ≤ l.fn.steps + l.phase * (1 + steps_of_fronts most);
+}

@@ -1,12 +1,16 @@
--- The items so far are those of the places before the next stop.
-use Rattle.std.proofs.Common.{◌≡◌, length}
-use Rattle.summary_chart.specs.Summaries.{HasItemsBefore}
-use Rattle.summary_chart.proofs.StopOrder.{limit_at}
+-- The items so far are those of the places before the index, and each index took its steps.
+use Rattle.std.proofs.Common.{◌<◌, ◌+◌, ◌*◌, ◌≤◌, ◌-◌, ℕ, length}
+use Rattle.search_frames.specs.Costs.{HasAtMostRules}
+use Rattle.summary_chart.specs.Summaries.{HasItemsBefore, IsCollected, steps_of_items}
 use Rattle.summary_chart.proofs.summary.items_of_table.Given as goal
 
-abbrev pub invariant-loop-number : goal.invariant-loop-number
-invariant-loop-number l =
-    record {
-      items : HasItemsBefore l.lexicon l.line l.choices l.table (limit_at l.ways.stops.items (length l.table.sets.items) l.number) l.items.items;
-      end : l.number-end ≡ length l.ways.stops.items;
-    }
+abbrev pub invariant-loop-index : goal.invariant-loop-index
+invariant-loop-index g l = record {
+  items : HasItemsBefore l.lexicon l.line l.choices l.table l.index l.collected.items.items;
+  collected : IsCollected l.lexicon.lexicon.rules l.collected;
+  within : l.index ≤ length l.table.sets.items;
+  spent : (most : ℕ) → HasAtMostRules l.lexicon.tries most → l.steps ≤ l.fn.steps + l.index * steps_of_items l.lexicon most;
+}
+
+abbrev pub decreases-loop-index : goal.decreases-loop-index
+decreases-loop-index g l = length l.table.sets.items - l.index

@@ -1,0 +1,74 @@
+-- The nodes of fronts: each number of letters more leads from where the letters so far lead; where they lead nowhere, more of them
+-- lead nowhere, so no possible key takes as many.
+use Rattle.std.proofs.Common.{◌≡◌, ℕ, ◌+◌, ◌<◌, ◌≤◌, inl, inr, Option, Some, None, List, [], ◌∷◌, ◌++◌, length, take, drop, get_or, sym, ap, subst, ◌∙◌, refl, arith, length-append, length-drop}
+use Rattle.std.specs.Prelude.{IsSome, is_some}
+use Rattle.std.proofs.lemmas.Bool.{cases_lt}
+use Rattle.std.proofs.lemmas.List.{get_or_append_left, get_or_at}
+use Rattle.text_definitions.specs.Lines.{Line}
+use Rattle.lexicon_definitions.specs.Tries.{Row, walk}
+use Rattle.lexicon_definitions.proofs.TrieWalks.{walk-two}
+use Rattle.segmentation_definitions.specs.Listings.{Key}
+use Rattle.answer_paths.specs.Fronts.{supplied}
+use Rattle.annotated_trie.specs.Searched.{SearchedLexicon, IsSearchedLexicon}
+use Rattle.search_frames.specs.Configurations.{NumberedConfiguration, IsPossible, rules_in}
+use Rattle.search_frames.proofs.PossibleKeys.{root_in, possible_walks}
+use Rattle.search_frames.proofs.WalkLemmas.{nowhere_after}
+use Rattle.summary_chart.specs.Fronts.{AreWalkedFrom, AreFronts, IsFrontAt, front_after}
+
+-- each number of first letters below that of the nodes leads from the node to the one there
+pub record AreWalkedBelow (rows : List Row) (node : ℕ) (letters nodes : List ℕ) : Type 0 where
+  pub each : (taken : ℕ) → taken < length nodes → walk rows node (take taken letters) ≡ Some (get_or nodes taken 0)
+
+pub one_walked : (rows : List Row) (node : ℕ) (letters nodes : List ℕ) → nodes ≡ node ∷ [] → AreWalkedBelow rows node letters nodes
+one_walked rows node letters nodes is = subst (AreWalkedBelow rows node letters) (sym is) (record {
+  each = λ taken low.
+      let none : taken ≡ 0 = omega (arith, low) in
+      subst (λ (t : ℕ). walk rows node (take t letters) ≡ Some (get_or (node ∷ []) t 0)) (sym none) refl;
+})
+
+pub more_walked : (rows : List Row) (node child : ℕ) (letters nodes more : List ℕ) → AreWalkedBelow rows node letters nodes
+    → walk rows node (take (length nodes) letters) ≡ Some child → more ≡ nodes ++ child ∷ [] → AreWalkedBelow rows node letters more
+more_walked rows node child letters nodes more are walked is = subst (AreWalkedBelow rows node letters) (sym is) (record {
+  each = λ taken low. elim (cases_lt taken (length nodes)) [
+    | inl less ↦ are.each taken less ∙ ap Some (sym (get_or_append_left nodes (child ∷ []) 0 taken less))
+    | inr from ↦
+        let count = length-append nodes (child ∷ []) in
+        let last : length nodes ≡ taken = omega (arith, low, from, count) in
+        ap (λ (t : ℕ). walk rows node (take t letters)) (sym last) ∙ walked ∙ ap Some (sym (get_or_at nodes child [] 0 taken last))
+  ];
+})
+
+module _ (searched : SearchedLexicon) (is : IsSearchedLexicon searched) (line : Line) (here : NumberedConfiguration) (phase : ℕ) where
+  -- what is walked from where the lead leads
+  pub fronts_from : (entered : ℕ) (nodes : List ℕ) → phase < length (rules_in searched).names → here.at ≤ length line.letters
+      → walk searched.tries.trie.rows (root_in searched phase) (supplied here.entrance) ≡ Some entered
+      → AreWalkedFrom searched.tries.trie.rows entered (drop here.at line.letters) nodes → AreFronts searched line here phase nodes
+  fronts_from entered nodes low within walked from = record {
+    few = from.few;
+    each = λ taken l. record {
+      named = low;
+      within = (let long = length-drop here.at line.letters in let few = from.within in omega (arith, long, few, l, within));
+      walked = walk-two searched.tries.trie.rows (supplied here.entrance) (take taken (drop here.at line.letters)) (root_in searched phase) entered walked
+          ∙ from.walked taken l;
+    };
+    all = λ key possible same.
+        let (node, reached) = possible_walks searched is line here key possible in
+        let there : walk searched.tries.trie.rows (root_in searched phase) (front_after line here key.taken) ≡ Some node =
+        subst (λ (p : ℕ). walk searched.tries.trie.rows (root_in searched p) (front_after line here key.taken) ≡ Some node) same reached in
+        let rest = sym (walk-two searched.tries.trie.rows (supplied here.entrance) (take key.taken (drop here.at line.letters)) (root_in searched phase) entered walked) ∙ there in
+        let long = length-drop here.at line.letters in
+        from.all key.taken (omega (arith, long, possible.within)) (ap is_some rest);
+  }
+
+  -- where the lead leads nowhere, there is no front
+  pub no_fronts : (nodes : List ℕ) → nodes ≡ [] → walk searched.tries.trie.rows (root_in searched phase) (supplied here.entrance) ≡ None
+      → AreFronts searched line here phase nodes
+  no_fronts nodes none nowhere = subst (AreFronts searched line here phase) (sym none) (record {
+    few = omega arith;
+    each = λ taken low. absurd (omega (arith, low));
+    all = λ key possible same.
+        let (node, reached) = possible_walks searched is line here key possible in
+        let there : walk searched.tries.trie.rows (root_in searched phase) (front_after line here key.taken) ≡ Some node =
+        subst (λ (p : ℕ). walk searched.tries.trie.rows (root_in searched p) (front_after line here key.taken) ≡ Some node) same reached in
+        absurd (nowhere_after searched.tries.trie.rows (supplied here.entrance) (take key.taken (drop here.at line.letters)) (root_in searched phase) nowhere (ap is_some there));
+  })

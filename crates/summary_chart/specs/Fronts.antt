@@ -1,0 +1,33 @@
+-- The fronts of forms of a phase at a place: what the rule before supplies and so many letters of the line, each with the node to
+-- which it leads (own).
+use Rattle.std.specs.Prelude.{◌≡◌, ℕ, ◌+◌, ◌<◌, ◌≤◌, IsSome, Some, List, ◌++◌, length, take, drop, slice_index_or}
+use Rattle.text_definitions.specs.Lines.{Line}
+use Rattle.lexicon_definitions.specs.Tries.{Row, walk}
+use Rattle.segmentation_definitions.specs.Listings.{Key}
+use Rattle.answer_paths.specs.Fronts.{supplied}
+use Rattle.annotated_trie.specs.Searched.{SearchedLexicon}
+use Rattle.search_frames.specs.declared.frame.TheConstants.{NODES_OF_FRAME}
+use Rattle.search_frames.specs.Configurations.{NumberedConfiguration, IsPossible, rules_in}
+
+-- each number of first letters below that of the nodes leads from the node to the one there, and no greater number leads anywhere
+pub record AreWalkedFrom (rows : List Row) (node : ℕ) (letters nodes : List ℕ) : Type 0 where
+  pub few : length nodes ≤ NODES_OF_FRAME
+  pub within : length nodes ≤ length letters + 1
+  pub walked : (taken : ℕ) → taken < length nodes → walk rows node (take taken letters) ≡ Some (slice_index_or nodes taken 0)
+  pub all : (taken : ℕ) → taken ≤ length letters → IsSome (walk rows node (take taken letters)) → taken < length nodes
+
+-- the letters by which a search that stands here comes to the u of a form that takes so many letters
+abbrev pub front_after : Line → NumberedConfiguration → ℕ → List ℕ
+front_after line here taken = supplied here.entrance ++ take taken (drop here.at line.letters)
+
+-- the front of a form of the phase that takes so many letters leads to the node
+pub record IsFrontAt (searched : SearchedLexicon) (line : Line) (here : NumberedConfiguration) (phase taken node : ℕ) : Type 0 where
+  pub named : phase < length (rules_in searched).names
+  pub within : here.at + taken ≤ length line.letters
+  pub walked : walk searched.tries.trie.rows (slice_index_or searched.tries.trie.roots phase 0) (front_after line here taken) ≡ Some node
+
+-- for each number of letters below that of the nodes the front leads to the one there, and no possible key takes more
+pub record AreFronts (searched : SearchedLexicon) (line : Line) (here : NumberedConfiguration) (phase : ℕ) (nodes : List ℕ) : Type 0 where
+  pub few : length nodes ≤ NODES_OF_FRAME
+  pub each : (taken : ℕ) → taken < length nodes → IsFrontAt searched line here phase taken (slice_index_or nodes taken 0)
+  pub all : (key : Key) → IsPossible searched line here key → key.phase ≡ phase → key.taken < length nodes

@@ -1,0 +1,81 @@
+ghost use Rattle.std.specs.Prelude.{◌≡◌, ◌+◌, ◌<◌, ◌≤◌, ℕ, List, length, take, drop, MatchOption, IfSome, IsSome, OnOk, [], Some, None};
+ghost use Rattle.lexicon_definitions.specs.Tries.{walk};
+ghost use Rattle.lexicon_definitions.specs.declared.limits.TheConstants.{MOST_RULE_LETTERS};
+ghost use Rattle.annotated_trie.specs.Searched.{IsSearchedLexicon};
+ghost use Rattle.search_frames.specs.Frames.{IsConfigurationIn, numbered_of};
+ghost use Rattle.search_frames.specs.declared.frame.TheConstants.{NODES_OF_FRAME};
+ghost use Rattle.summary_chart.specs.Fronts.{AreFronts, AreWalkedFrom};
+
+use annotated_trie::Lexicon;
+use outside::Steps;
+use phoneme::{Letter, Line, Memory};
+use search_frames::{Configuration, supplied_letters};
+use shared_trie::{Node, Store};
+
+/// Where the word leads from the node. Takes at most a step for each letter.
+fn walk_word<L>(store: &Store, node: Node, word: &[Letter], steps: &mut Steps<L>) -> Option<Node>
+    requires there { node < length store.now.rows }
+    ensures value { result ≡ walk store.now.rows node word.now }
+    ensures there { IfSome result (λ reached. reached < length store.now.rows) }
+    ensures steps { steps.new ≤ steps.old + length word.now }
+{
+    let mut reached = node;
+    for letter in word {
+        reached = store.child(reached, *letter, steps)?;
+    }
+    Some(reached)
+}
+
+/// Walks from the node along the letters as far as they lead, and puts the node itself and those after one letter, two letters and so
+/// on into the list, which is empty. Refused only for want of memory.
+fn walk_letters<L>(
+    store: &Store,
+    node: Node,
+    letters: &[Letter],
+    nodes: &mut Vec<Node>,
+    steps: &mut Steps<L>,
+) -> Result<(), Memory>
+    requires there { node < length store.now.rows }
+    requires empty { nodes.old.items ≡ [] }
+    requires short { (word : List ℕ) → IsSome (walk store.now.rows node word) → length word < NODES_OF_FRAME }
+    ensures walked { OnOk result (AreWalkedFrom store.now.rows node letters.now nodes.new.items) }
+    ensures steps { steps.new ≤ steps.old + NODES_OF_FRAME }
+{
+    nodes.push(node)?;
+    let mut reached = node;
+    for letter in letters {
+        let Some(child) = store.child(reached, *letter, steps) else {
+            break;
+        };
+        nodes.push(child)?;
+        reached = child;
+    }
+    Ok(())
+}
+
+/// Walks from the root of the phase, counted from 0, along the letters that the rule before supplies at the place, and then along
+/// those of the line as far as they lead: the list has then the node after each number of letters of the line, from none on.
+/// Refused only for want of memory.
+pub(crate) fn walk_fronts<L>(
+    lexicon: &Lexicon,
+    line: &Line,
+    place: &Configuration,
+    phase: u32,
+    nodes: &mut Vec<Node>,
+    steps: &mut Steps<L>,
+) -> Result<(), Memory>
+    requires searched { IsSearchedLexicon lexicon.now }
+    requires place { IsConfigurationIn lexicon.now line.now place.now }
+    requires phase { phase < length lexicon.now.lexicon.rules.names }
+    ensures fronts { OnOk result (AreFronts lexicon.now line.now (numbered_of lexicon.now place.now) phase nodes.new.items) }
+    ensures steps { steps.new ≤ steps.old + MOST_RULE_LETTERS + NODES_OF_FRAME }
+{
+    nodes.clear();
+    let store = lexicon.tries().store();
+    let lead = supplied_letters(lexicon.rules(), place.entrance);
+    let Some(entered) = walk_word(store, store.root(phase), lead, steps) else {
+        return Ok(());
+    };
+    let letters = &line.letters.as_slice()[place.at as usize..];
+    walk_letters(store, entered, letters, nodes, steps)
+}

@@ -1,0 +1,112 @@
+#!/usr/bin/env python3
+"""Lawful lexicons and lines that cost much, and what they cost.
+
+usage: hard_lines.py PROGRAM [FAMILY ..]
+
+Makes the lexicons and lines in a folder of its own, runs the program on them, and prints for each family wall seconds, seconds of
+the processors, and the peak of memory. A run is ended after a minute of a processor, and at 12 GB. A peak below that of this script, some 20 MiB, is not
+told. All lexicons are within the limits; the letters of a line are all `a`.
+"""
+import os, resource, subprocess, sys, tempfile, time
+
+MOST_SECONDS = 60
+MOST_BYTES = 12 << 30
+
+
+def phases_of(count):
+    return ["p%d" % k for k in range(count)]
+
+
+def every_length(count, most=64):
+    """The forms a to a^most, each in every phase."""
+    return [(name, "a" * n) for name in phases_of(count) for n in range(1, most + 1)]
+
+
+def powers(us, vs, ws):
+    """Rules over powers of one letter."""
+    return [("a" * u, "a" * v, "a" * w) for u in us for v in vs for w in ws]
+
+
+def lexicon(count, rules, forms):
+    """The text of a lexicon file of version 1."""
+    names = phases_of(count)
+    lines = ["slx 1", *["phase " + name for name in names], "grammar (%s)+" % "|".join(names)]
+    lines += ["rule %s|%s>%s" % rule for rule in rules]
+    lines += ["form %s %s %s ind" % (name, form, form) for name, form in sorted(forms, key=lambda form: (names.index(form[0]), form[1]))]
+    return "\n".join(lines + ["end"]) + "\n"
+
+
+UPTO8 = range(1, 9)
+MANY = powers(UPTO8, UPTO8, UPTO8)
+
+
+def family_rules():
+    return lexicon(1, MANY, every_length(1)), "a" * 1000
+
+
+def family_rules_summary():
+    return lexicon(1, MANY, every_length(1)), "a" * 300
+
+
+def family_phases():
+    return lexicon(16, MANY, every_length(16)), "a" * 1000
+
+
+def family_dead():
+    """Forms that end in b stand in no line of a's: no answer, and every place is reached."""
+    forms = [(name, "a" * n + "b") for name in phases_of(16) for n in range(8, 60)]
+    rules = [(u + "b", v, w) for u, v, w in powers(range(0, 8), UPTO8, UPTO8)]
+    return lexicon(16, rules, forms), "a" * 41
+
+
+def family_dead_long():
+    return family_dead()[0], "a" * 1000
+
+
+FAMILIES = {
+    "rules: first answers of 1,000 letters": (family_rules, "segment"),
+    "rules: summary of 300 letters": (family_rules_summary, "summary"),
+    "phases: first answers of 1,000 letters": (family_phases, "segment"),
+    "dead: 41 letters without an answer": (family_dead, "segment"),
+    "dead: 1,000 letters without an answer": (family_dead_long, "segment"),
+}
+
+
+def limit():
+    resource.setrlimit(resource.RLIMIT_AS, (MOST_BYTES, MOST_BYTES))
+    resource.setrlimit(resource.RLIMIT_CPU, (MOST_SECONDS, MOST_SECONDS))
+
+
+def run(program, words, stdin):
+    """Wall seconds, seconds of the processors, the peak in KiB, the exit status (of a run that was ended, less than 0), and how many bytes it wrote."""
+    began = time.perf_counter()
+    with open(stdin or os.devnull) as source, tempfile.TemporaryFile() as out:
+        child = subprocess.Popen([program, *words], stdin=source, stdout=out, stderr=subprocess.DEVNULL, preexec_fn=limit)
+        _, status, usage = os.wait4(child.pid, 0)
+        ended = os.waitstatus_to_exitcode(status)
+        size = out.seek(0, 2)
+    return time.perf_counter() - began, usage.ru_utime + usage.ru_stime, usage.ru_maxrss, ended, size
+
+
+def main():
+    program = os.path.abspath(sys.argv[1])
+    wanted = sys.argv[2:]
+    with tempfile.TemporaryDirectory() as folder:
+        for name, (make, task) in FAMILIES.items():
+            if wanted and not any(word in name for word in wanted):
+                continue
+            text, line = make()
+            path = os.path.join(folder, "lexicon")
+            open(path, "w").write(text)
+            if task == "summary":
+                session = os.path.join(folder, "session")
+                open(session, "w").write("text slp1 %s\nsummary\n" % line)
+                result = run(program, ["read", path], session)
+            else:
+                result = run(program, ["segment", path, line], None)
+            wall, used, peak, ended, size = result
+            print("%-42s %7.2f s  %7.2f s of the processors  %9.1f MiB  exit %s, %d bytes" % (name, wall, used, peak / 1024, ended, size), flush=True)
+
+
+if __name__ == "__main__":
+    main()
