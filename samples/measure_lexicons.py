@@ -3,8 +3,9 @@
 
     samples/measure_lexicons.py PROGRAM [OLD] [--runs N]
 
-A line is cut over the starter lexicon as `build` writes it and over its text of version 1; over parts of its forms in both versions; and
-the files of `worst_lexicons.py` are read. OLD is another program, which reads the files of version 1 too. Each row has the bytes of the
+The starter lexicon is built, and its rules are made unlimited, so that it has a text of version 1. A line is cut over this text and over
+its newest; over parts of its forms in both; and the files of `worst_lexicons.py` are read. OLD is another program, which reads the files
+of version 1 too. Each row has the bytes of the
 file, and the least of N runs: the time that passed, that of the processors, and the most memory. docs/PERFORMANCE.md has such figures."""
 import subprocess
 import sys
@@ -12,7 +13,11 @@ import tempfile
 from pathlib import Path
 
 import worst_lexicons
-from trial import LEXICON_TEXT, SAMPLES, arguments_of
+from trial import SAMPLES, arguments_of
+
+sys.path.insert(0, str(SAMPLES.parent / "recipes"))
+from lexicon_file import read
+from lexicon_text import first_text
 
 STARTER = SAMPLES.parent / "lexicons" / "starter"
 PARTS = (10_000, 30_000, 100_000, 300_000)
@@ -59,6 +64,12 @@ class Measuring:
             self.row(f"{what}, version 1, the other program", self.given.old, "segment", first, "na")
 
 
+def with_unlimited_rules(lexicon):
+    every = lexicon.every_phase()
+    lexicon.rules = [(u, v, w, every, every if v else frozenset()) for u, v, w, *_ in lexicon.rules]
+    return lexicon
+
+
 def part_of(lines, count):
     """The lines of a text of version 1 with so many of its form lines, at equal steps."""
     forms = [line for line in lines if line.startswith(b"form ")]
@@ -77,8 +88,7 @@ def main():
         sources = [STARTER / source for source in ("rules.toml", "tables.csv", "stems.csv")]
         print("| What was run | File | Time | Time of the processors | Memory |\n|---|---|---|---|---|")
         measuring.row("`build` of the starter lexicon", given.program, "build", *sources, built)
-        with open(first, "wb") as file:
-            subprocess.run([sys.executable, LEXICON_TEXT, "first", built], stdout=file, check=True)
+        first.write_bytes(first_text(with_unlimited_rules(read(built.read_bytes()))))
         measuring.rows("starter lexicon", first)
         measuring.row("`migrate` of the starter lexicon", given.program, "migrate", first, Path(name, "migrated.lex"))
         lines = first.read_bytes().splitlines(keepends=True)
