@@ -208,8 +208,12 @@ module _ (searched : SearchedLexicon) (is : IsSearchedLexicon searched) (line : 
           ⊎ IsItemByRule searched line choices table place.at place.entrance set phase taken (choices_with searched.tries node letter) item
       either item zero by = inl (ends_if_unchanged searched is line (numbered_of searched place) phase taken node front (possible_by item 0 by), by)
       either item (suc rule) by =
-          inr (suc rule, among_written searched is line (numbered_of searched place) phase taken node front choices (suc rule) (omega arith) (stands_by item (suc rule) by)
-          letter next (possible_by item (suc rule) by), by)
+          inr (
+            suc rule,
+            among_written searched is line (numbered_of searched place) phase taken node front choices (suc rule) (omega arith) (stands_by item (suc rule) by)
+                letter next (possible_by item (suc rule) by),
+            by,
+          )
 
   -- no change, where a form ends or not
   pub unchanged_added : (old new : List Item) → (row_of searched.tries.trie.rows node).deltas ≢ []
@@ -268,8 +272,8 @@ module _ (searched : SearchedLexicon) (line : Line) (choices : List Choice) (tab
     fronts_at_last count nodes enough fronts old items so_far =
         adds_same (IsItemBelow searched line choices table place set phase count) (IsItemInPhase searched line choices table place.at place.entrance set phase) old items
         (λ item (key, same, by).
-            let low = fronts.all key (possible_if_further searched line choices table place set key by.number by.further) same in
-            (key, same, omega (arith, low, enough), by))
+        let low = fronts.all key (possible_if_further searched line choices table place set key by.number by.further) same in
+        (key, same, omega (arith, low, enough), by))
         (λ item (key, same, low, by). (key, same, by))
         so_far
 
@@ -307,11 +311,11 @@ module _ (searched : SearchedLexicon) (line : Line) (choices : List Choice) (tab
   phase_without_state phase after none led old items so_far =
       phase_more phase old items items so_far
       (adds_none (IsItemInPhase searched line choices table place.at place.entrance set phase) items (λ item (key, same, by).
-          let somewhere : (to : ℕ) × IsLedTo searched.machine set key.phase to = elim by.further [
-            | inl ends ↦ leads_somewhere key.phase by.number (next_state searched.machine (Some by.number) key.phase) refl by.state (inl ends.accepted)
-            | inr (next, leads, there) ↦ leads_somewhere key.phase by.number (next_state searched.machine (Some by.number) key.phase) refl by.state (inr leads.leads_on.live)
-          ] in
-          absurd (none somewhere.0 (led somewhere.0 (subst (λ (p : ℕ). IsLedTo searched.machine set p somewhere.0) same somewhere.1)))))
+      let somewhere : (to : ℕ) × IsLedTo searched.machine set key.phase to = elim by.further [
+        | inl ends ↦ leads_somewhere key.phase by.number (next_state searched.machine (Some by.number) key.phase) refl by.state (inl ends.accepted)
+        | inr (next, leads, there) ↦ leads_somewhere key.phase by.number (next_state searched.machine (Some by.number) key.phase) refl by.state (inr leads.leads_on.live)
+      ] in
+      absurd (none somewhere.0 (led somewhere.0 (subst (λ (p : ℕ). IsLedTo searched.machine set p somewhere.0) same somewhere.1)))))
 
   pub phases_at_last : (count : ℕ) → IsSearchedLexicon searched → length (rules_in searched).names ≤ count → (old items : List Item)
       → AddsItems (IsItemEarlier searched line choices table place set count) old items
@@ -319,7 +323,7 @@ module _ (searched : SearchedLexicon) (line : Line) (choices : List Choice) (tab
   phases_at_last count is enough old items so_far =
       adds_same (IsItemEarlier searched line choices table place set count) (IsItemFrom searched line choices table place.at place.entrance set) old items
       (λ item (key, by).
-          let low = possible_phase searched is line (numbered_of searched place) key (possible_if_further searched line choices table place set key by.number by.further) in
-          (key, omega (arith, low, enough), by))
+      let low = possible_phase searched is line (numbered_of searched place) key (possible_if_further searched line choices table place set key by.number by.further) in
+      (key, omega (arith, low, enough), by))
       (λ item (key, low, by). (key, by))
       so_far

@@ -4,9 +4,10 @@
 //!
 //! Proved: a chart is a guide of a search that never says false of what stands in an answer (`guide` of `Chart::build`), and says
 //! true of nothing else (`exact`), made within the stated number of steps (`steps`). As a `SearchGuide` it brings a frame to its next
-//! key that goes further (the clauses of `SearchGuide::turn`), and what is known of it there makes it exact (`charts_are_exact`). Its summary has the item of each step of some answer, once and in order,
-//! and nothing else (`ok` of `Chart::summary`), in a stated number of steps, of which each item takes two (`steps`, and `bound`, which is that of
-//! the chart). Threads may share a chart (`charts_are_shared`).
+//! key that goes further (the clauses of `SearchGuide::turn`), and what is known of it there makes it exact (`charts_are_exact`). Its
+//! summary has the item of each step of some answer, once and in order, and nothing else (`ok` of `Chart::summary`), in a stated number
+//! of steps, of which each item takes two (`steps`, and `bound`, which is that of the chart). Threads may share a chart
+//! (`charts_are_shared`).
 #![tactic(auto)]
 
 mod chart;

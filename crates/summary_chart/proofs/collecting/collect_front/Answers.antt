@@ -39,7 +39,7 @@ returns-in_default-clause-adds g c =
     let trie : c.store.result.now ≡ searched.tries.trie = c.store.ensures ∙ ap (λ (t : AnnotatedTrie). t.trie) c.tries-tries.ensures.value in
     let before = c.args.collected.now.items.items in
     let unchanged : AddsItems (λ item. ((row_of searched.tries.trie.rows node).deltas ≢ []) × IsItemBy searched line choices table place.at place.entrance c.args.states (key_with c.args.phase c.args.taken 0) item)
-        before c.if-accepts.collected.items.items =
+    before c.if-accepts.collected.items.items =
     elim c.if-accepts.branch [
       | then-accepts+in_ok-collect_key w ↦
           subst (λ (collected : Collected). AddsItems (λ item. ((row_of searched.tries.trie.rows node).deltas ≢ []) × IsItemBy searched line choices table place.at place.entrance c.args.states (key_with c.args.phase c.args.taken 0) item) before collected.items.items)
@@ -91,7 +91,7 @@ returns-clause-adds g c =
     let before = c.args.collected.now.items.items in
     let mid = c.if-accepts.collected.items.items in
     let unchanged : AddsItems (λ item. ((row_of searched.tries.trie.rows node).deltas ≢ []) × IsItemBy searched line choices table place.at place.entrance c.args.states (key_with c.args.phase c.args.taken 0) item)
-        before mid =
+    before mid =
     elim c.if-accepts.branch [
       | then-accepts+in_ok-collect_key w ↦
           subst (λ (collected : Collected). AddsItems (λ item. ((row_of searched.tries.trie.rows node).deltas ≢ []) × IsItemBy searched line choices table place.at place.entrance c.args.states (key_with c.args.phase c.args.taken 0) item) before collected.items.items)
