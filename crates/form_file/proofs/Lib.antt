@@ -12,6 +12,5 @@ pub mod FormLemmas
 pub mod LinesTaken
 pub mod EntryLemmas
 pub mod FaultsRead
-pub mod WriteLemmas
 pub mod FormFields
 pub mod TripleLemmas

@@ -4,7 +4,6 @@ use Rattle.lexicon_definitions.specs.Lexicons.{Lexicon}
 use Rattle.lexicon_text_definitions.specs.FileFaults as files
 use Rattle.trie_text_definitions.specs.TrieForms.{phases_of}
 use Rattle.form_file.specs.declared.contents.Contents.{Contents}
-use Rattle.form_file.specs.declared.listed_lexicon.ListedLexicon.{ListedLexicon}
 use Rattle.form_file.specs.declared.error.FileFault.{FileFault}
 use Rattle.form_file.specs.declared.error.FileError.{FileError}
 use Rattle.form_file.specs.declared.error.FileError.TheVariants.{Fault, Memory}
@@ -15,10 +14,6 @@ use Rattle.form_file.specs.Faults.{why_of}
 -- the rule set, and the forms of each phase that the trie tells
 abbrev pub lexicon_of : Contents → Lexicon
 lexicon_of contents = record { rules = contents.rules; phases = phases_of contents.store }
-
--- the rule set, and the listed forms of each phase
-abbrev pub lexicon_listed : ListedLexicon → Lexicon
-lexicon_listed listed = record { rules = listed.rules; phases = listed.lists }
 
 -- the fault that this one names
 abbrev pub fault_of : FileFault → files.FileFault

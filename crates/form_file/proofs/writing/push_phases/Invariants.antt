@@ -1,9 +1,0 @@
--- What is written and what is left to write are together all that is to be written.
-use Rattle.std.proofs.Common.{◌≡◌, ◌++◌, string_bytes, map, drop}
-use Rattle.lexicon_text_definitions.specs.LexiconTexts.{text_of_lines, forms_lines}
-use Rattle.form_file.proofs.writing.push_phases.Given as goal
-
-abbrev pub invariant-loop-phase : goal.invariant-loop-phase
-invariant-loop-phase l =
-    l.out.items ++ text_of_lines (forms_lines (map string_bytes (drop l.phase l.names)) (drop l.phase l.lists))
-    ≡ l.fn.out.items ++ text_of_lines (forms_lines (map string_bytes l.names) l.lists)
