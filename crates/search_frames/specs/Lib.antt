@@ -12,3 +12,4 @@ pub mod Skips
 pub mod Turns
 pub mod WaysFrom
 pub mod Arrivals
+pub mod Lengths

@@ -1,14 +1,17 @@
-ghost use Rattle.std.specs.Prelude.{ℕ};
+ghost use Rattle.std.specs.Prelude.{◌≡◌, ◌+◌, ◌<◌, ℕ, length};
 ghost use Rattle.text_definitions.specs.Lines.{IsLine};
 ghost use Rattle.annotated_trie.specs.Searched.{IsSearchedLexicon};
-ghost use Rattle.search_frames.specs.Frames.{IsFrame, ChangesFrom, here_of};
+ghost use Rattle.segmentation_definitions.specs.Listings.{Key};
+ghost use Rattle.search_frames.specs.Frames.{IsFrame, IsConfigurationIn, ChangesFrom, here_of, numbered_of};
+ghost use Rattle.search_frames.specs.Lengths.{HasLength};
 ghost use Rattle.search_frames.specs.Reached.{IsReached};
 ghost use Rattle.search_frames.specs.Costs.{HasAtMostRules};
-ghost use Rattle.search_frames.specs.Turns.{HasToTry, IsTurn, HasFallen, HasPaid};
+ghost use Rattle.search_frames.specs.Turns.{BeginsPath, HasToTry, IsTurn, HasFallen, HasPaid};
 
 use super::Resumption;
 use super::configuration::Configuration;
 use super::going_on::go_on;
+use super::lengths::LengthSet;
 use super::skipping::skip_unwritten;
 use super::testing::{Test, test_key};
 use annotated_trie::Lexicon;
@@ -41,6 +44,27 @@ pub trait SearchGuide: Guide {
 
     /// What is known of it, where a search goes over this lexicon, this line and these choices.
     ghost known: { Self → SearchedLexicon → Line → List Choice → Type 0 };
+
+    /// After how many letters of the line forms of the phase, counted from 0, end that are worth a try at the place: every number of
+    /// letters that is not told is one with which no path to an answer begins. Numbers may be told after which no form ends. Counts one
+    /// step.
+    fn lengths<L>(
+        &self,
+        lexicon: &Lexicon,
+        line: &Line,
+        choices: &Choices,
+        place: &Configuration,
+        phase: u32,
+        steps: &mut Steps<L>,
+    ) -> LengthSet
+        requires known { known self.now lexicon.now line.now choices.now }
+        requires searched { IsSearchedLexicon lexicon.now }
+        requires line { IsLine line.now }
+        requires place { IsConfigurationIn lexicon.now line.now place.now }
+        requires reached { IsReached lexicon.now line.now choices.now (numbered_of lexicon.now place.now) }
+        requires phase { phase < length lexicon.now.lexicon.rules.names }
+        ensures all { (key : Key) → key.phase ≡ phase → BeginsPath lexicon.now line.now choices.now (numbered_of lexicon.now place.now) key → HasLength result key.taken }
+        ensures steps { steps.new ≡ steps.old + 1 };
 
     /// Brings the frame at the level, counted from 0, which has still to try what is said, to its next key that leads on or ends the
     /// line, and tells which. It may leave out keys with which no path to an answer begins.
@@ -88,5 +112,18 @@ impl SearchGuide for OpenGuide {
             }
         }
         Turn::Nothing
+    }
+
+    fn lengths<L>(
+        &self,
+        _lexicon: &Lexicon,
+        _line: &Line,
+        _choices: &Choices,
+        _place: &Configuration,
+        _phase: u32,
+        steps: &mut Steps<L>,
+    ) -> LengthSet {
+        steps.tick();
+        LengthSet::full()
     }
 }
