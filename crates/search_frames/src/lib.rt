@@ -14,38 +14,42 @@
 //! (`steps` of `open_frame`, `steps_on` and `steps_end` of `go_on`, `steps` of `go_to`, `skip_unwritten`, `turn` and `push_ways`).
 #![tactic(auto)]
 
-mod arriving;
 mod configuration;
 mod cursor;
 mod entering;
 mod frame;
+mod frame_turns;
 mod going_on;
 mod guiding;
+mod judging;
 mod lengths;
 mod letter_testing;
 mod line_tests;
 mod opening;
 mod resumption;
 mod rooms;
+mod search_space;
 mod seeking;
 mod sharing;
 mod skipping;
 mod stepping;
 mod testing;
+mod turning;
 mod walking;
 mod ways;
 
-pub use arriving::go_to;
 pub use configuration::Configuration;
 pub use cursor::Cursor;
 pub use frame::{Frame, NODES_OF_FRAME};
+pub use frame_turns::turn;
 pub use going_on::go_on;
 pub use guiding::{SearchGuide, ToTry, Turn};
 pub use lengths::{LengthSet, MOST_LENGTH};
 pub use letter_testing::{LetterTest, test_letters};
-pub use opening::open_frame;
+pub use opening::{begin_walk, open_frame};
 pub use resumption::Resumption;
 pub use rooms::new_stack;
+pub use search_space::SearchSpace;
 pub use seeking::seek;
 pub use sharing::resumptions_are_shared;
 pub use skipping::skip_unwritten;
