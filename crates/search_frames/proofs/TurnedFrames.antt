@@ -9,6 +9,7 @@ use Rattle.segmentation_definitions.specs.Items.{Choice}
 use Rattle.segmentation_definitions.specs.Listings.{Key, compare_keys}
 use Rattle.derivation.specs.Steps.{key_of, key_meant}
 use Rattle.derivation.specs.declared.entrance.Entrance.{Entrance}
+use Rattle.derivation.specs.declared.entrance.Entrance.TheVariants as program
 use Rattle.derivation.specs.declared.step.Key.{Key as ProgramKey}
 use Rattle.derivation.specs.declared.step.Step.{Step}
 use Rattle.answer_paths.specs.Fronts.{supplied}
@@ -130,7 +131,7 @@ module _ (searched : SearchedLexicon) (line : Line) (is : IsSearchedLexicon sear
           ∙ ap (λ (items : List Step). record (get_or items level (record { phase = 0; rule = 0; at = 0; lead = 0; taken = 0 })) { phase = key.phase; taken = key.taken; rule = key.rule }) steps
 
       frame_is : frame_of new level ≡ frame_of old level
-      frame_is = set.is_frame ∙ ap (λ (items : List Frame). get_or items level _) frames
+      frame_is = set.is_frame ∙ ap (λ (items : List Frame). get_or items level (record { entrance = program.Start; state = Some 0; walked = 0; next = 0 })) frames
 
       pub place_is : configuration_at new level ≡ configuration_at old level
       place_is = let step = step_is in let frame = frame_is in λ i. record { at = (step i).at; entrance = (frame i).entrance; state = (frame i).state }
@@ -210,7 +211,4 @@ module _ (searched : SearchedLexicon) (line : Line) (is : IsSearchedLexicon sear
 
 -- a stack has room for the nodes along a form where it has a frame
 pub room_for_nodes : (stack : Resumption) (level : ℕ) → IsStack stack → level < length stack.frames.items → NODES_OF_FRAME ≤ length stack.nodes.items
-room_for_nodes stack level is there =
-    let one : 1 * NODES_OF_FRAME ≤ length stack.frames.items * NODES_OF_FRAME = mul-le-mul_right NODES_OF_FRAME (omega (arith, there)) in
-    let nodes = is.nodes in
-    omega (arith, one, nodes)
+room_for_nodes stack level is there = let nodes = is.nodes in omega (arith, nodes, there)

@@ -61,6 +61,8 @@ pub fn begin_walk<L>(
     ensures changes { ChangesFrom level stack.old stack.new }
     ensures steps { (most : ℕ) → HasAtMostRules lexicon.now.tries most → steps.new + steps_left lexicon.now most stack.new level ≤ steps.old + steps_of_frame lexicon.now most }
 {
+    // Its contract says that there is a phase.
+    lexicon.rules();
     open_frame(lexicon, line, stack, level, place);
     walk_phase(lexicon, line, stack, level, 0, steps);
 }

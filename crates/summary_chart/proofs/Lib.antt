@@ -17,9 +17,6 @@ mod EmptySets
 mod LivingPlaces
 mod PassCosts
 mod OpenTables
-mod WayTests
-mod LivingWays
-mod ChartTurns
 mod ChartAnswers
 mod ChartGuides
 mod RisingItems

@@ -4,4 +4,3 @@ pub mod Spreading
 pub mod Charts
 pub mod PlaceWays
 pub mod Summaries
-pub mod Turning

@@ -1,11 +1,10 @@
-ghost use Rattle.std.specs.Prelude.{◌≡◌, ◌+◌, ◌*◌, ◌≤◌, ℕ, length, IfOk, MatchOption};
+ghost use Rattle.std.specs.Prelude.{◌≡◌, ◌+◌, ◌*◌, ◌≤◌, ℕ, length, IfOk};
 ghost use Rattle.text_definitions.specs.Lines.{IsLine};
 ghost use Rattle.segmentation_definitions.specs.StepBounds.{chart_bound};
 ghost use Rattle.search_frames.specs.Costs.{HasAtMostRules};
 ghost use Rattle.search_frames.specs.Guided.{IsGuideOf, IsExactOf};
 ghost use Rattle.summary_chart.specs.Charts.{IsOpenTable, CoversPlace, says_of, steps_of_pass};
-ghost use Rattle.summary_chart.specs.PlaceWays.{IsChartOf, AreStops, AreWaysAt, HasStopAt};
-ghost use Rattle.summary_chart.specs.Tables.{IsIn, index_in};
+ghost use Rattle.summary_chart.specs.PlaceWays.{IsChartOf};
 ghost use Rattle.summary_chart.specs.Spreading.{leads_in};
 
 use super::passes::{keep_living, reach};
@@ -18,7 +17,7 @@ use outside::Steps;
 use phase_automaton::State;
 use phoneme::{Line, Memory};
 use reader_choices::Choices;
-use search_frames::{Configuration, Way, new_stack};
+use search_frames::new_stack;
 use std::alloc::Global;
 use std::marker::Model;
 
@@ -90,21 +89,6 @@ impl Chart {
         let ways = PlaceWays { stops, ways };
         keep_living(lexicon, line, choices, &ways, &mut table);
         Ok(Chart { table, ways })
-    }
-}
-
-impl Chart {
-    /// The ways from the place. `None` where the chart does not have it, so that no answer goes on from there.
-    pub(crate) fn ways_from(&self, place: &Configuration) -> Option<&[Way]>
-        requires stops { AreStops self.now.stops (length self.now.ways) }
-        requires covers { CoversPlace self.now.table place.now.at place.now.entrance place.now.state }
-        ensures found { MatchOption result (IsIn self.now.table place.now → HasStopAt self.now.stops (index_in self.now.table place.now.at place.now.entrance) → ⊥)
-            (λ ways. IsIn self.now.table place.now × AreWaysAt self.now.stops self.now.ways (index_in self.now.table place.now.at place.now.entrance) ways.now) }
-    {
-        if !self.table.has(place.at, place.entrance, place.state) {
-            return None;
-        }
-        self.ways.at(self.table.index(place.at, place.entrance))
     }
 }
 

@@ -3,8 +3,8 @@
 //! walk along the trie at a number of letters and an entrance serves all states there.
 //!
 //! Proved: a chart is a guide of a search that never says false of what stands in an answer (`guide` of `Chart::build`), and says
-//! true of nothing else (`exact`), made within the stated number of steps (`steps`). As a `SearchGuide` it brings a frame to its next
-//! key that goes further (the clauses of `SearchGuide::turn`), and what is known of it there makes it exact (`charts_are_exact`). Its summary has the item of each step of some answer, once and in order,
+//! true of nothing else (`exact`), made within the stated number of steps (`steps`). What is known of it as a `SearchGuide` makes it exact
+//! (`charts_are_exact`); it has the search try forms of every length, and says of each place to which they lead whether to go on. Its summary has the item of each step of some answer, once and in order,
 //! and nothing else (`ok` of `Chart::summary`), and takes no step (`steps`). Threads may share a chart (`charts_are_shared`).
 #![tactic(auto)]
 
@@ -13,6 +13,7 @@ mod collecting;
 mod gathering;
 mod items;
 mod laws;
+mod lengths;
 mod passes;
 mod place_ways;
 mod sharing;
@@ -21,7 +22,6 @@ mod state_set;
 mod state_steps;
 mod summary;
 mod table;
-mod turning;
 
 pub use chart::Chart;
 pub use laws::charts_are_exact;

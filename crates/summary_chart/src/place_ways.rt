@@ -1,5 +1,5 @@
-ghost use Rattle.std.specs.Prelude.{◌≡◌, length, MatchOption};
-ghost use Rattle.summary_chart.specs.PlaceWays.{AreStops, AreWaysAt, HasStopAt, IsStopWithin, ways_of};
+ghost use Rattle.std.specs.Prelude.{◌≡◌, length};
+ghost use Rattle.summary_chart.specs.PlaceWays.{IsStopWithin, ways_of};
 
 use search_frames::Way;
 
@@ -25,16 +25,5 @@ impl PlaceWays {
         ensures { result.now ≡ ways_of self.now.ways.items stop }
     {
         &self.ways.as_slice()[stop.first..stop.end]
-    }
-
-    /// The ways from the places at the index of the table. `None` where there is no stop.
-    pub fn at(&self, index: usize) -> Option<&[Way]>
-        requires stops { AreStops self.now.stops.items (length self.now.ways.items) }
-        ensures found { MatchOption result (HasStopAt self.now.stops.items index → ⊥) (λ ways. AreWaysAt self.now.stops.items self.now.ways.items index ways.now) }
-    {
-        match self.stops.binary_search_by(|stop| stop.index.cmp(&index)) {
-            Ok(number) => Some(self.of(self.stops[number])),
-            Err(_) => None,
-        }
     }
 }

@@ -7,8 +7,8 @@ use Rattle.answer_paths.specs.Fronts.{supplied}
 use Rattle.search_frames.proofs.WalkLeads.{short_supplied}
 use Rattle.search_frames.proofs.opening.open_frame.Goals as goal
 
-pub overflow_cast-supplied_letters : goal.overflow_cast-result
-overflow_cast-supplied_letters g c =
+pub overflow_cast-supplied_letters : goal.overflow_cast-supplied_letters
+overflow_cast-supplied_letters c =
     let rules = c.args.lexicon.now.lexicon.rules in
     let entrance = c.args.place.entrance in
     let short = short_supplied rules entrance c.rules.ensures.searched.limits c.requires.place.over in

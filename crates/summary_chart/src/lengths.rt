@@ -1,5 +1,3 @@
-ghost use Rattle.std.specs.Prelude.{ℕ};
-
 use super::Chart;
 use annotated_trie::Lexicon;
 use outside::Steps;
