@@ -29,8 +29,8 @@ either_way true f g p q = f p
 either_way false f g p q = g q
 
 pub found_only : {P : Type 0} (b : Bool) → b ≡ true → OnTrue b P → P
-found_only true yes p = p
-found_only false yes p = absurd (cc)
+found_only true is_true p = p
+found_only false is_true p = absurd (cc)
 
 -- ---- levels
 

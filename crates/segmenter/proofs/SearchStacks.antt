@@ -8,6 +8,7 @@ use Rattle.listing_laws.specs.Ways.{IsPath}
 use Rattle.derivation.specs.Steps.{steps_of}
 use Rattle.annotated_trie.specs.Searched.{SearchedLexicon}
 use Rattle.search_frames.specs.Copies.{IsCopyOf}
+use Rattle.search_frames.specs.declared.frame.TheConstants.{NODES_OF_FRAME}
 use Rattle.search_frames.specs.declared.cursor.Cursor.{Cursor as StackCursor}
 use Rattle.search_frames.specs.declared.cursor.Cursor.TheVariants as cursor
 use Rattle.search_frames.specs.declared.resumption.Resumption.{Resumption}
@@ -59,7 +60,7 @@ copy_keeps level old new is copy = record {
   room = ap length copy.frames;
   is_stack = record {
     steps = ap length copy.steps ∙ is.steps ∙ sym (ap length copy.frames);
-    nodes = ap length copy.nodes ∙ is.nodes;
+    nodes = ap length copy.nodes ∙ is.nodes ∙ ap (λ n. n * NODES_OF_FRAME) (sym (ap length copy.frames));
   };
   steps = ap (take level) copy.steps;
   frames = ap (take level) copy.frames;
@@ -128,9 +129,9 @@ module _ (searched : SearchedLexicon) (line : Line) (choices : List Choice) wher
   frames_within : (stack : Resumption) (keys : List Key) (level : ℕ) (here : NumberedConfiguration) → AreFrames searched line stack level here keys
       → level ≤ length stack.steps.items → stack.depth ≤ length stack.steps.items
   frames_within stack [] level here frames le = let e : level ≡ stack.depth = frames in omega (arith, e)
-  frames_within stack (key ∷ keys) level here (frame, here_is, later, key_is, frames) le =
-      let there = frame.placed.there in
-      let count = frame.placed.is_stack.steps in
+  frames_within stack (key ∷ keys) level here (frame, here_is, possible, key_is, frames) le =
+      let there = frame.there in
+      let count = frame.is_stack.steps in
       frames_within stack keys (level + 1) (after searched line here key) frames (omega (arith, there, count))
 
   some_keys : (keys : List Key) → IsPath (ways_in searched line choices) opening keys → 0 < length keys
