@@ -35,7 +35,7 @@ const TABLES: &str = "a,m.sg.ins,noun,,1,ena\nu,ind,ind,,0,\n";
 const STEMS: &str = "nara,a\niti,u\n";
 
 const LEXICON: &str =
-    "slx 1\nphase noun\nphase ind\ngrammar (ind | noun)+\nplain a k\nplain a c\nrule a|i>e\nform noun nareRa nara m.sg.ins\nform ind iti iti ind\nend\n";
+    "slx 2\nphase noun\nphase ind\ngrammar (ind | noun)+\nplain a k\nplain a c\nrule a|i>e\nnode 0::ind -\nnode 3:a:m.sg.ins -\nnode - a=1\nnode - i=0\nnode - R=2\nnode - t=3\nnode - e=4\nnode - i=5\nnode - r=6\nnode - a=8\nnode - n=9\nroot noun 10\nroot ind 7\nend\n";
 
 const NOTE: &str =
     "{\"choices\":[\"+2.1.0.Asti\"],\"segments\":[{\"at\":0,\"form\":\"na\",\"lead\":0,\"phase\":\"word\",\"rule\":2,\"tags\":[\"na ind\"],\"taken\":1},{\"at\":2,\"form\":\"Asti\",\"lead\":1,\"phase\":\"word\",\"rule\":0,\"tags\":[\"Asti ind\"],\"taken\":3}],\"text\":\"nAsti\",\"version\":1}\n";
