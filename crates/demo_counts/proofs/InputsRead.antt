@@ -5,7 +5,7 @@ use Rattle.std.proofs.lemmas.List.{length-map}
 use Rattle.text_definitions.specs.Lines.{Line}
 use Rattle.text_definitions.specs.Schemes.{Slp1}
 use Rattle.text_definitions.specs.LineTexts.{LineFault, line_of_text}
-use Rattle.lexicon_definitions.specs.declared.limits.TheConstants.{MOST_FORM_LINES, MOST_PHASES}
+use Rattle.lexicon_definitions.specs.declared.limits.TheConstants.{MOST_PHASES}
 use Rattle.lexicon_text_definitions.specs.declared.limits.TheConstants.{MOST_FILE_BYTES}
 use Rattle.lexicon_definitions.specs.Lexicons.{RuleSet, Lexicon, tree_of}
 use Rattle.lexicon_definitions.specs.Limits.{count_lines}

@@ -1,12 +1,10 @@
 -- What a run of `migrate` leaves: its text is written, or its lexicon file is refused; and the nodes that are counted are those of the
 -- only trie that the text tells.
-use Rattle.std.proofs.Common.{◌≡◌, ℕ, ◌≤◌, ◌++◌, List, [], length, Option, Some, None, codes, string_bytes, refl, sym, ◌∙◌, ap, subst}
-use Rattle.std.specs.Fmt.{decimal}
+use Rattle.std.proofs.Common.{◌≡◌, ℕ, ◌≤◌, List, [], length, Option, Some, None, string_bytes, refl, sym, ◌∙◌, ap, subst}
 use Rattle.outside.specs.Files.{Files, contents_of, with_file}
 use Rattle.lexicon_definitions.specs.Lexicons.{Lexicon, Form}
 use Rattle.lexicon_definitions.specs.Tries.{Trie}
 use Rattle.lexicon_text_definitions.specs.declared.limits.TheConstants.{MOST_FILE_BYTES}
-use Rattle.segmentation_definitions.specs.PrintedAnswers.{output_line}
 use Rattle.trie_text_definitions.specs.VersionTexts.{IsNewestText, IsOrderedTrieOf}
 use Rattle.trie_text_definitions.proofs.OneTrie.{one_trie}
 use Rattle.run_definitions.specs.Commands.{FileWord}

@@ -20,7 +20,7 @@ fn kind_of(fault: Option<io::Error>) -> Option<ErrorKind> {
 // A fault loses nothing: what comes after it is what would have come without it. What a signal interrupted is tried again at
 // once, and what would have blocked after a millisecond; neither is a fault.
 #[test]
-fn streams_that_fail_in_between(rt: HostRuntime) -> Result<(), Fail> {
+fn an_input_that_fails_in_between(rt: HostRuntime) {
     let input = ScriptedInput {
         reads: &[
             Ok(b"deva"),
@@ -44,7 +44,11 @@ fn streams_that_fail_in_between(rt: HostRuntime) -> Result<(), Fail> {
     }
     assert_eq!(rt; clock.slept(), 2);
     assert_eq!(rt; kind_of(source.last_fault()), Some(ErrorKind::Other));
+}
 
+// So it is with what is written.
+#[test]
+fn an_output_that_fails_in_between(rt: HostRuntime) -> Result<(), Fail> {
     let printer = ScriptedPrinter::new(
         rt.alloc(),
         &[

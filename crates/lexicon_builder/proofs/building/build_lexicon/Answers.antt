@@ -1,7 +1,7 @@
 -- The entries in order are those that were inflected, so phases with just these are the lexicon of the sources, which the trie tells.
 use Rattle.std.proofs.Common.{◌∙◌, length, string_bytes}
 use Rattle.std.proofs.lemmas.Result.{err_from_is_err_and}
-use Rattle.lexicon_builder.proofs.BuiltLexicons.{as_many, few_phases, sorted_sound, too_many_lines, built_store, store_text, store_lines, store_itself}
+use Rattle.lexicon_builder.proofs.BuiltLexicons.{as_many, sorted_sound, too_many_lines, built_store, store_text, store_lines, store_itself}
 use Rattle.lexicon_builder.proofs.Limits.{limit_follows}
 use Rattle.lexicon_builder.proofs.building.build_lexicon.Goals as goal
 

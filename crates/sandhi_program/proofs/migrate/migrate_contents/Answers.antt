@@ -1,6 +1,6 @@
 -- The text is written, or the file is refused since the text would be too long.
 use Rattle.std.proofs.Common.{refl, subst}
-use Rattle.std.specs.Prelude.{Some, Option, MatchOption}
+use Rattle.std.specs.Prelude.{Option, MatchOption}
 use Rattle.form_file.specs.Contents.{lexicon_of}
 use Rattle.command_words.specs.Meant.{word_meant}
 use Rattle.run_definitions.specs.LongTexts.{HasLongText}
