@@ -21,6 +21,11 @@ pub mod LeadingTo
 pub mod FrameCosts
 pub mod TriedKeys
 pub mod TriedWays
-pub mod PassedKeys
-pub mod ArrivedKeys
-pub mod TurnedKeys
+pub mod BegunPaths
+pub mod FirstOfKeys
+pub mod GroupedRules
+pub mod LengthBits
+pub mod TriedRules
+pub mod TurnedPhases
+pub mod WalkedPlaces
+pub mod TurnedFrames

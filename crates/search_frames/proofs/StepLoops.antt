@@ -26,7 +26,6 @@ changes_twice level old mid new first second = record {
   is_stack = second.is_stack;
   steps = second.steps ∙ first.steps;
   frames = second.frames ∙ first.frames;
-  nodes = second.nodes ∙ first.nodes;
 }
 
 module _ (searched : SearchedLexicon) (line : Line) (level : ℕ) where
@@ -37,7 +36,7 @@ module _ (searched : SearchedLexicon) (line : Line) (level : ℕ) where
     same_configuration = refl;
     same = λ key possible. (λ untried. untried, λ untried. untried);
     no_more = omega arith;
-    changes = record { cursor = refl; depth = refl; room = refl; is_stack = frame.placed.is_stack; steps = refl; frames = refl; nodes = refl };
+    changes = record { cursor = refl; depth = refl; room = refl; is_stack = frame.placed.is_stack; steps = refl; frames = refl };
   }
 
   -- a possible key is possible where the frame stands now

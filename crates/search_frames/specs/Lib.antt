@@ -11,4 +11,6 @@ pub mod LetterTests
 pub mod Skips
 pub mod Turns
 pub mod WaysFrom
-pub mod Arrivals
+pub mod Lengths
+pub mod Walks
+pub mod FirstKeys

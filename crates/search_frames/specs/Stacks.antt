@@ -41,4 +41,3 @@ pub record KeepsBefore (level : ℕ) (old new : Resumption) : Type 0 where
   pub is_stack : IsStack new
   pub steps : take level new.steps.items ≡ take level old.steps.items
   pub frames : take level new.frames.items ≡ take level old.frames.items
-  pub nodes : take (level * NODES_OF_FRAME) new.nodes.items ≡ take (level * NODES_OF_FRAME) old.nodes.items

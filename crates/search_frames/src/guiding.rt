@@ -1,16 +1,14 @@
-ghost use Rattle.std.specs.Prelude.{ℕ};
+ghost use Rattle.std.specs.Prelude.{◌≡◌, ◌+◌, ◌<◌, ℕ, length};
 ghost use Rattle.text_definitions.specs.Lines.{IsLine};
 ghost use Rattle.annotated_trie.specs.Searched.{IsSearchedLexicon};
-ghost use Rattle.search_frames.specs.Frames.{IsFrame, ChangesFrom, here_of};
+ghost use Rattle.segmentation_definitions.specs.Listings.{Key};
+ghost use Rattle.search_frames.specs.Frames.{IsConfigurationIn, numbered_of};
+ghost use Rattle.search_frames.specs.Lengths.{HasLength};
 ghost use Rattle.search_frames.specs.Reached.{IsReached};
-ghost use Rattle.search_frames.specs.Costs.{HasAtMostRules};
-ghost use Rattle.search_frames.specs.Turns.{HasToTry, IsTurn, HasFallen, HasPaid};
+ghost use Rattle.search_frames.specs.Turns.{BeginsPath};
 
-use super::Resumption;
 use super::configuration::Configuration;
-use super::going_on::go_on;
-use super::skipping::skip_unwritten;
-use super::testing::{Test, test_key};
+use super::lengths::LengthSet;
 use annotated_trie::Lexicon;
 use derivation::{Guide, OpenGuide};
 use outside::Steps;
@@ -32,7 +30,7 @@ pub enum ToTry {
     Later,
 }
 
-/// A guide that brings the frames of a search from key to key, and leaves out keys that lead to no answer (own).
+/// A guide that tells besides which forms are worth a try at a configuration (own).
 pub trait SearchGuide: Guide {
     ghost use Rattle.std.specs.Prelude.{List};
     ghost use Rattle.text_definitions.specs.Lines.{Line};
@@ -42,51 +40,41 @@ pub trait SearchGuide: Guide {
     /// What is known of it, where a search goes over this lexicon, this line and these choices.
     ghost known: { Self → SearchedLexicon → Line → List Choice → Type 0 };
 
-    /// Brings the frame at the level, counted from 0, which has still to try what is said, to its next key that leads on or ends the
-    /// line, and tells which. It may leave out keys with which no path to an answer begins.
-    fn turn<L>(
+    /// After how many letters of the line forms of the phase, counted from 0, end that are worth a try at the place: every number of
+    /// letters that is not told is one with which no path to an answer begins. Numbers may be told after which no form ends. Counts one
+    /// step.
+    fn lengths<L>(
         &self,
         lexicon: &Lexicon,
         line: &Line,
         choices: &Choices,
-        stack: &mut Resumption,
-        level: usize,
-        to_try: ToTry,
+        place: &Configuration,
+        phase: u32,
         steps: &mut Steps<L>,
-    ) -> Turn
+    ) -> LengthSet
         requires known { known self.now lexicon.now line.now choices.now }
         requires searched { IsSearchedLexicon lexicon.now }
         requires line { IsLine line.now }
-        requires frame { IsFrame lexicon.now line.now stack.old level }
-        requires to_try { HasToTry lexicon.now line.now stack.old level to_try }
-        requires reached { IsReached lexicon.now line.now choices.now (here_of lexicon.now stack.old level) }
-        ensures turn { IsTurn lexicon.now line.now choices.now level stack.old stack.new result }
-        ensures falls { HasFallen lexicon.now level stack.old stack.new result }
-        ensures changes { ChangesFrom level stack.old stack.new }
-        ensures steps { (most : ℕ) → HasAtMostRules lexicon.now.tries most → HasPaid lexicon.now most level stack.old stack.new steps.old steps.new result };
+        requires place { IsConfigurationIn lexicon.now line.now place.now }
+        requires reached { IsReached lexicon.now line.now choices.now (numbered_of lexicon.now place.now) }
+        requires phase { phase < length lexicon.now.lexicon.rules.names }
+        ensures all { (key : Key) → key.phase ≡ phase → BeginsPath lexicon.now line.now choices.now (numbered_of lexicon.now place.now) key → HasLength result key.taken }
+        ensures steps { steps.new ≡ steps.old + 1 };
 }
 
 impl SearchGuide for OpenGuide {
     ghost known = { λ _ searched line choices. Unit {0} };
 
-    fn turn<L>(
+    fn lengths<L>(
         &self,
-        lexicon: &Lexicon,
-        line: &Line,
-        choices: &Choices,
-        stack: &mut Resumption,
-        level: usize,
-        to_try: ToTry,
+        _lexicon: &Lexicon,
+        _line: &Line,
+        _choices: &Choices,
+        _place: &Configuration,
+        _phase: u32,
         steps: &mut Steps<L>,
-    ) -> Turn {
-        while go_on(lexicon, line, stack, level, steps) {
-            let place = Configuration::of_frame(stack, level);
-            match test_key(lexicon, line, choices, &place, &stack.steps[level]) {
-                Test::Refused => skip_unwritten(lexicon, line, stack, level, steps),
-                Test::Ends => return Turn::Ends,
-                Test::LeadsOn(next) => return Turn::LeadsOn(next),
-            }
-        }
-        Turn::Nothing
+    ) -> LengthSet {
+        steps.tick();
+        LengthSet::full()
     }
 }

@@ -1,12 +1,13 @@
-ghost use Rattle.std.specs.Prelude.{◌≡◌, ◌+◌, ◌++◌, ◌<◌, ◌≤◌, ℕ, List, length, take, slice_index_or, Some, IfSome, IsSome, MatchOption};
+ghost use Rattle.std.specs.Prelude.{◌≡◌, ◌+◌, ◌*◌, ◌++◌, ◌<◌, ◌≤◌, ℕ, List, length, take, slice_index_or, Some, IfSome, IsSome, MatchOption};
 ghost use Rattle.lexicon_definitions.specs.Leads.{leads_of};
 ghost use Rattle.lexicon_definitions.specs.Tries.{walk};
 ghost use Rattle.derivation.specs.Guides.{IsEntranceOver, entrance_of};
 ghost use Rattle.answer_paths.specs.Fronts.{supplied};
 ghost use Rattle.search_frames.specs.declared.frame.TheConstants.{NODES_OF_FRAME};
-ghost use Rattle.search_frames.specs.Frames.{IsPlaced, IsFrame, HasPhasesFrom, ChangesFrom, configuration_at, step_of};
+ghost use Rattle.search_frames.specs.Frames.{IsConfigurationIn, IsPlaced, IsFrame, HasPhasesFrom, ChangesFrom, configuration_at, numbered_of, step_of};
+ghost use Rattle.search_frames.specs.Walks.{IsNodeAt, IsNodeAmong};
 
-use super::{NODES_OF_FRAME, Resumption};
+use super::{Configuration, NODES_OF_FRAME, Resumption};
 use annotated_trie::Lexicon;
 use derivation::Entrance;
 use outside::Steps;
@@ -65,6 +66,7 @@ fn walk_letters<L>(
     ensures all { (taken : ℕ) → taken ≤ length letters.now → IsSome (walk store.now.rows node (take taken letters.now)) → taken < result }
     ensures some { 0 < result }
     ensures steps { steps.new ≤ steps.old + result }
+    ensures few_steps { steps.new ≤ steps.old + length letters.now }
 {
     nodes[base] = node;
     let mut walked = 1;
@@ -101,6 +103,7 @@ fn walk_fronts<L>(
     ensures walked { (taken : ℕ) → taken < result → walk store.now.rows root (lead.now ++ take taken letters.now) ≡ Some (slice_index_or nodes.new.items (base + taken) 0) }
     ensures all { (taken : ℕ) → taken ≤ length letters.now → IsSome (walk store.now.rows root (lead.now ++ take taken letters.now)) → taken < result }
     ensures steps { steps.new ≤ steps.old + NODES_OF_FRAME }
+    ensures both { steps.new + result ≤ steps.old + NODES_OF_FRAME + length letters.now }
 {
     match walk_word(store, root, lead, steps) {
         None => 0,
@@ -143,4 +146,42 @@ pub(crate) fn walk_phase<L>(
     let frame = &mut stack.frames[level];
     frame.walked = walked;
     frame.next = 0;
+}
+
+/// Walks in the trie of the phase, counted from 0, along the letters that the rule before supplies to a form at the place and then along
+/// at most so many letters of the line. Puts the nodes after no letter of the line, one, two and so on at the first places of `nodes`,
+/// and answers how many these are.
+pub(crate) fn walk_place<L>(
+    lexicon: &Lexicon,
+    line: &Line,
+    place: &Configuration,
+    phase: u32,
+    most: u32,
+    nodes: &mut Vec<Node>,
+    steps: &mut Steps<L>,
+) -> u32
+    requires place { IsConfigurationIn lexicon.now line.now place.now }
+    requires phase { phase < length lexicon.now.lexicon.rules.names }
+    requires most { most < NODES_OF_FRAME }
+    requires room { NODES_OF_FRAME ≤ length nodes.old.items }
+    ensures room { length nodes.new.items ≡ length nodes.old.items }
+    ensures few { result ≤ NODES_OF_FRAME }
+    ensures walked { (taken : ℕ) → taken < result → IsNodeAmong lexicon.now line.now (numbered_of lexicon.now place.now) phase (take result nodes.new.items) taken }
+    ensures all { (taken node : ℕ) → taken ≤ most → place.now.at + taken ≤ length line.now.letters → IsNodeAt lexicon.now line.now (numbered_of lexicon.now place.now) phase taken node → taken < result }
+    ensures steps { steps.new + result + 1 ≤ steps.old + 2 * NODES_OF_FRAME }
+{
+    let store = lexicon.tries().store();
+    let lead = supplied_letters(lexicon.rules(), place.entrance);
+    let letters = line.letters.as_slice();
+    let at = place.at as usize;
+    let end = letters.len().min(at + most as usize);
+    walk_fronts(
+        store,
+        store.root(phase),
+        lead,
+        &letters[at..end],
+        nodes,
+        0,
+        steps,
+    )
 }

@@ -10,7 +10,7 @@ use super::Resumption;
 use super::configuration::Configuration;
 use super::going_on::go_on;
 use super::letter_testing::{LetterTest, test_letters};
-use super::opening::open_frame;
+use super::opening::begin_walk;
 use super::skipping::skip_unwritten;
 use annotated_trie::Lexicon;
 use derivation::Key;
@@ -46,7 +46,7 @@ pub fn push_ways<L>(
     ensures room { OnOk result (room_of walker.new ≡ room_of walker.old) }
     ensures steps { (most : ℕ) → HasAtMostRules lexicon.now.tries most → steps.new ≤ steps.old + steps_of_frame lexicon.now most }
 {
-    open_frame(lexicon, line, walker, 0, place, steps);
+    begin_walk(lexicon, line, walker, 0, place, steps);
     while go_on(lexicon, line, walker, 0, steps) {
         let step = walker.steps[0];
         match test_letters(lexicon, line, choices, &place, &step) {

@@ -1,17 +1,19 @@
 -- What was found among the frames after one is found among those from this one on: by the cases of the keys along which they
 -- stand.
-use Rattle.std.proofs.Common.{◌≡◌, ℕ, ◌+◌, ◌*◌, ◌<◌, ◌≤◌, Bool, true, false, List, [], ◌∷◌, length, refl, sym, subst, arith}
+use Rattle.std.proofs.Common.{◌≡◌, ℕ, ◌+◌, ◌*◌, ◌<◌, ◌≤◌, Bool, true, false, List, [], ◌∷◌, length, refl, sym, ◌∙◌, subst, arith}
 use Rattle.std.specs.Bool.{OnTrue, OnFalse}
 use Rattle.text_definitions.specs.Lines.{Line}
 use Rattle.segmentation_definitions.specs.Items.{Choice}
 use Rattle.segmentation_definitions.specs.Listings.{Key}
 use Rattle.annotated_trie.specs.Searched.{SearchedLexicon, IsSearchedLexicon}
 use Rattle.search_frames.specs.declared.resumption.Resumption.{Resumption}
-use Rattle.search_frames.specs.Configurations.{NumberedConfiguration, after}
-use Rattle.search_frames.specs.Frames.{IsFrame, HasLaterToTry, here_of}
+use Rattle.search_frames.specs.Configurations.{NumberedConfiguration, IsPossible, after}
+use Rattle.search_frames.specs.Frames.{IsPlaced, here_of, key_at}
+use Rattle.search_frames.specs.declared.guiding.ToTry.TheVariants.{Later}
+use Rattle.segmenter.proofs.KeptFrames.{frame_kept, here_kept, key_kept}
 use Rattle.search_frames.specs.Reached.{IsReached, rank}
 use Rattle.search_frames.specs.Stacks.{KeepsBefore}
-use Rattle.segmenter.specs.Chains.{AreFrames, LeadAlong, HasFound, HasNone, HasNoneBelow, BeginsUntried, ComesAfter, HasRoom}
+use Rattle.segmenter.specs.Chains.{AreFrames, LeadAlong, HasFound, HasNone, HasNoneBelow, BeginsToTry, ComesAfter, HasRoom}
 use Rattle.search_frames.proofs.ConfigurationRanks.{rank_rises, rank_within}
 use Rattle.search_frames.proofs.ReachedConfigurations.{reached_after}
 use Rattle.segmenter.proofs.PathsFound.{on_true, on_false, none_below_last, none_below_deeper, found_after_deeper, found_after_here, none_after_here}
@@ -32,15 +34,18 @@ module _ (searched : SearchedLexicon) (line : Line) where
 
   -- there is a first frame in use
   pub first_frame : (stack : Resumption) (keys : List Key) (level : ℕ) (here : NumberedConfiguration) → AreFrames searched line stack level here keys
-      → level < stack.depth → IsFrame searched line stack level
+      → level < stack.depth → IsPlaced searched line stack level
   first_frame stack [] level here frames below = absurd (omega (arith, frames, below))
   first_frame stack (key ∷ keys) level here frames below = frames.0
 
-  -- it has just its later keys to try
-  pub first_later : (stack : Resumption) (keys : List Key) (level : ℕ) (here : NumberedConfiguration) → AreFrames searched line stack level here keys
-      → level < stack.depth → HasLaterToTry searched line stack level
-  first_later stack [] level here frames below = absurd (omega (arith, frames, below))
-  first_later stack (key ∷ keys) level here frames below = frames.2
+  -- it stands at a possible key, also where later frames have changed
+  pub first_stands : (stack mid : Resumption) (keys : List Key) (level : ℕ) (here : NumberedConfiguration) → AreFrames searched line stack level here keys
+      → level < stack.depth → KeepsBefore (level + 1) stack mid → IsPossible searched line (here_of searched mid level) (key_at mid level)
+  first_stands stack mid [] level here frames below keeps = absurd (omega (arith, frames, below))
+  first_stands stack mid (key ∷ keys) level here frames below keeps =
+      let kept = frame_kept level stack mid keeps in
+      subst (λ h. IsPossible searched line h (key_at mid level)) (sym (here_kept searched line level stack mid kept ∙ frames.1))
+      (subst (IsPossible searched line here) (sym (key_kept level stack mid kept ∙ frames.3)) frames.2)
 
 -- the frames after the first one
 pub record Deeper (searched : SearchedLexicon) (line : Line) (choices : List Choice) (stack : Resumption) (level : ℕ) : Type 0 where
@@ -123,14 +128,14 @@ module _ (searched : SearchedLexicon) (line : Line) (choices : List Choice) (sta
       (none : (key : Key) (rest : List Key) → AreFrames searched line stack level here (key ∷ rest) → LeadAlong searched line choices here (key ∷ rest)
       → HasNoneBelow searched line choices here key rest) where
     pub later_found : (keys : List Key) → AreFrames searched line stack level here keys → LeadAlong searched line choices here keys
-        → OnTrue result (HasFound searched line choices (BeginsUntried searched mid level) new level (here_of searched mid level))
+        → OnTrue result (HasFound searched line choices (BeginsToTry (key_at mid level) Later) new level (here_of searched mid level))
         → OnTrue result (HasFound searched line choices (ComesAfter keys) new level here)
     later_found [] frames along found = absurd along
     later_found (key ∷ rest) frames along found =
         on_true result (found_after_here searched line choices level stack here key rest frames mid keeps (none key rest frames along) new) found
 
     pub later_none : (keys : List Key) → AreFrames searched line stack level here keys → LeadAlong searched line choices here keys
-        → OnFalse result (HasNone searched line choices (BeginsUntried searched mid level) (here_of searched mid level))
+        → OnFalse result (HasNone searched line choices (BeginsToTry (key_at mid level) Later) (here_of searched mid level))
         → OnFalse result (HasNone searched line choices (ComesAfter keys) here)
     later_none [] frames along found = absurd along
     later_none (key ∷ rest) frames along found =

@@ -19,7 +19,7 @@ use Rattle.search_frames.specs.Stacks.{KeepsBefore, with_depth}
 use Rattle.segmenter.specs.Chains.{AreFrames}
 use Rattle.segmenter.specs.GivenKeys.{StandsAtKey}
 use Rattle.derivation.specs.Steps.{key_meant, keys_meant}
-use Rattle.segmenter.proofs.KeptFrames.{frame_kept, key_kept, here_kept, is_frame_kept, later_kept, other_depth}
+use Rattle.segmenter.proofs.KeptFrames.{frame_kept, key_kept, here_kept, placed_kept, other_depth}
 use Rattle.segmenter.proofs.PathsFound.{path_with}
 
 -- the frames from the level on stand along the keys, which are a path
@@ -49,9 +49,9 @@ stand_along searched line choices level here mid deep given some next count stan
     let there = subst (λ h. StandAlong searched line choices deep (level + 1) h keys) leads.is later in
     subst (λ keys. StandAlong searched line choices deep level here keys) (sym (given_first given some count)) (
       (
-        is_frame_kept searched line level mid deep keeps stands.frame,
+        placed_kept searched line level mid deep keeps stands.placed,
         here_kept searched line level mid deep kept ∙ stands.place,
-        later_kept searched line level mid deep keeps stands.frame stands.later,
+        stands.possible,
         key_kept level mid deep kept ∙ stands.is_at,
         there.0,
       ),
@@ -72,7 +72,7 @@ pub stand_at_end : (searched : SearchedLexicon) (line : Line) (choices : List Ch
 stand_at_end searched line choices level here mid [] some is_last count last stands ends = absurd (omega (arith, count))
 stand_at_end searched line choices level here mid (key ∷ []) some is_last count last stands ends =
     if_true is_last (λ is. (
-      (other_depth searched line mid level (level + 1) stands.frame, stands.place, stands.later, stands.is_at, refl),
+      (other_depth searched line mid level (level + 1) stands.placed, stands.place, stands.possible, stands.is_at, refl),
       ends,
     ))
 stand_at_end searched line choices level here mid (key ∷ next ∷ rest) some is_last count last stands ends =

@@ -1,6 +1,6 @@
 -- What a move spends, level by level: under an exact guide nothing is found only where the guide says so, so each frame that a
 -- move leaves stood when it began, and each that it enters stands when it ends; there are at most twice as many of either as
--- letters, and each pays for its own keys.
+-- letters, and each takes one turn.
 use Rattle.std.proofs.Common.{◌≡◌, ℕ, ◌+◌, ◌-◌, ◌*◌, ◌<◌, ◌≤◌, Bool, true, false, Option, List, [], ◌∷◌, length, ap, sym, ◌∙◌, subst, arith, add-one}
 use Rattle.std.specs.Bool.{OnTrue, OnFalse}
 use Rattle.std.proofs.Math.Nat.{add-mul, suc-mul, mul_assoc, mul-le-mul_left, mul-le-mul_right}
@@ -10,19 +10,16 @@ use Rattle.segmentation_definitions.specs.Listings.{Key}
 use Rattle.segmentation_definitions.specs.StepBounds.{looks_at_one, advance_bound}
 use Rattle.derivation.specs.declared.entrance.Entrance.{Entrance}
 use Rattle.annotated_trie.specs.Searched.{SearchedLexicon, IsSearchedLexicon}
-use Rattle.lexicon_definitions.specs.declared.limits.TheConstants.{MOST_RULES}
-use Rattle.search_frames.specs.declared.frame.TheConstants.{NODES_OF_FRAME}
 use Rattle.search_frames.specs.declared.resumption.Resumption.{Resumption}
 use Rattle.search_frames.specs.Configurations.{NumberedConfiguration, after, opening, rules_in}
-use Rattle.search_frames.specs.Frames.{here_of, still_to_try}
+use Rattle.search_frames.specs.Frames.{here_of}
 use Rattle.search_frames.specs.Reached.{rank}
-use Rattle.search_frames.specs.Costs.{HasAtMostRules, steps_of_phase, steps_left_in_phase, steps_left, steps_of_frame}
+use Rattle.search_frames.specs.Costs.{HasAtMostRules, steps_of_frame}
 use Rattle.search_frames.proofs.FrameCosts.{some_steps, steps_within}
 use Rattle.search_frames.proofs.ConfigurationRanks.{rank_rises, rank_within}
 use Rattle.segmenter.specs.Chains.{AreFrames, LeadAlong}
 use Rattle.segmenter.specs.Searches.{SearchValue, StandsAtAnswer}
 use Rattle.segmenter.specs.MoveCosts.{AreKnownExact, steps_of_levels, levels_from, levels_after}
-use Rattle.segmenter.proofs.KeptFrames.{FrameKept}
 use Rattle.segmenter.proofs.FramesAlong.{frames_count}
 use Rattle.segmenter.proofs.SearchStacks.{path_leads_along}
 
@@ -30,6 +27,10 @@ use Rattle.segmenter.proofs.SearchStacks.{path_leads_along}
 pub either_way : {P Q R : Type 0} (b : Bool) → (P → R) → (Q → R) → OnTrue b P → OnFalse b Q → R
 either_way true f g p q = f p
 either_way false f g p q = g q
+
+pub found_only : {P : Type 0} (b : Bool) → b ≡ true → OnTrue b P → P
+found_only true is_true p = p
+found_only false is_true p = absurd (cc)
 
 -- ---- levels
 
@@ -40,50 +41,32 @@ one_level : (cost m n : ℕ) → n ≡ m + 1 → n * cost ≡ m * cost + cost
 one_level cost m n is = ap (λ (k : ℕ). k * cost) (is ∙ add-one m) ∙ suc-mul m cost
 
 -- a frame is opened and a path is found from it: its levels are one more than those after it
-pub found_opened : (cost bound here start live opened left now : ℕ) → here ≤ bound → live ≡ start + 1 → opened + left ≤ live + cost
-    → now ≤ opened + left + (bound - here) * cost → now ≤ start + 1 + (bound + 1 - here) * cost
-found_opened cost bound here start live opened left now within live_is whole found =
+pub found_opened : (cost bound here start now : ℕ) → here ≤ bound → now ≤ start + cost + (bound - here) * cost → now ≤ start + (bound + 1 - here) * cost
+found_opened cost bound here start now within found =
     let one = one_level cost (bound - here) (bound + 1 - here) (omega (arith, within)) in
-    omega (arith, live_is, whole, found, one)
+    omega (arith, found, one)
 
 -- a path is found below a key of the frame: its levels are fewer than those after this one
-pub found_below : (cost bound here next start before key now left_start left_before left_key : ℕ) → here < next
-    → before + left_before ≤ start + left_start → key + 1 + left_key ≤ before + left_before → now ≤ key + 1 + (bound + 1 - next) * cost
-    → now ≤ start + left_start + (bound - here) * cost
-found_below cost bound here next start before key now left_start left_before left_key rises so_far went found =
+pub found_below : (cost bound here next start key now : ℕ) → here < next → key ≤ start + cost → now ≤ key + (bound + 1 - next) * cost
+    → now ≤ start + cost + (bound - here) * cost
+found_below cost bound here next start key now rises went found =
     let fewer = more_levels cost (bound + 1 - next) (bound - here) (omega (arith, rises)) in
-    omega (arith, so_far, went, found, fewer)
+    omega (arith, went, found, fewer)
 
--- nothing was found deeper, and the frame has no more left than a whole one
-module _ (cost depth level start mid left now : ℕ) (below : level < depth) (spent : mid ≤ start + (depth - (level + 1)) * cost) (whole : left ≤ cost) where
-  pub later_found_costs : (levels : ℕ) → now ≤ mid + left + levels * cost → now ≤ start + (depth - level + levels) * cost
+-- nothing was found deeper, and the frame takes one turn
+module _ (cost depth level start mid now : ℕ) (below : level < depth) (spent : mid ≤ start + (depth - (level + 1)) * cost) where
+  pub later_found_costs : (levels : ℕ) → now ≤ mid + cost + levels * cost → now ≤ start + (depth - level + levels) * cost
   later_found_costs levels found =
       let one = one_level cost (depth - (level + 1)) (depth - level) (omega (arith, below)) in
       let all = add-mul (depth - level) levels cost in
-      omega (arith, spent, whole, found, one, all)
+      omega (arith, spent, found, one, all)
 
-  pub later_none_costs : now ≤ mid + left → now ≤ start + (depth - level) * cost
+  pub later_none_costs : now ≤ mid + cost → now ≤ start + (depth - level) * cost
   later_none_costs found =
       let one = one_level cost (depth - (level + 1)) (depth - level) (omega (arith, below)) in
-      omega (arith, spent, whole, found, one)
+      omega (arith, spent, found, one)
 
 -- ---- frames
-
--- a frame that stays has as much left
-pub left_kept : (searched : SearchedLexicon) (most level : ℕ) (old new : Resumption) → FrameKept level old new
-    → steps_left searched most new level ≡ steps_left searched most old level
-left_kept searched most level old new kept =
-    let step = kept.step in
-    let frame = kept.frame in
-    λ i. (length (rules_in searched).names - ((step i).phase + 1)) * steps_of_phase most + steps_left_in_phase most (frame i).walked (frame i).next
-
--- a frame that is the same has as much still to try
-pub tries_kept : (searched : SearchedLexicon) (level : ℕ) (old new : Resumption) → FrameKept level old new
-    → still_to_try searched new level ≡ still_to_try searched old level
-tries_kept searched level old new kept =
-    let step = kept.step in
-    let frame = kept.frame in
-    λ i. ((length (rules_in searched).names - (step i).phase) * (NODES_OF_FRAME + 1) + (frame i).walked) * (MOST_RULES + 3) + (MOST_RULES + 2 - (frame i).next)
 
 module _ (searched : SearchedLexicon) (line : Line) (choices : List Choice) (is : IsSearchedLexicon searched) where
   -- the frame after the first stands at a higher rank

@@ -1,6 +1,6 @@
 -- What a search finds at a level, from its next key and what it found at the level after it: paths with a smaller first key come
 -- first, and those with one first key are in the order of their rests.
-use Rattle.std.proofs.Common.{◌≡◌, ◌≢◌, ℕ, ◌+◌, ◌⊎◌, inl, inr, Bool, true, false, List, [], ◌∷◌, refl, sym, ap, ◌∙◌, subst}
+use Rattle.std.proofs.Common.{◌≡◌, ◌≢◌, ℕ, ◌+◌, ◌⊎◌, inl, inr, Bool, true, false, List, [], ◌∷◌, ◌<◌, refl, sym, ap, ◌∙◌, subst, arith}
 use Rattle.std.specs.Bool.{OnTrue, OnFalse}
 use Rattle.std.specs.declared.cmp.Ordering.{Ordering}
 use Rattle.std.specs.declared.cmp.Ordering.TheVariants.{Less, Greater}
@@ -16,13 +16,16 @@ use Rattle.annotated_trie.specs.Searched.{SearchedLexicon, IsSearchedLexicon}
 use Rattle.search_frames.specs.declared.resumption.Resumption.{Resumption}
 use Rattle.search_frames.specs.declared.configuration.Configuration.{Configuration}
 use Rattle.search_frames.specs.Configurations.{NumberedConfiguration, IsPossible, LeadsOn, Ends, after, ways_in}
-use Rattle.search_frames.specs.Frames.{IsFrame, IsUntried, HasAllToTry, HasLaterToTry, ChangesFrom, here_of, configuration_at, key_at, numbered_of}
+use Rattle.search_frames.specs.declared.guiding.ToTry.{ToTry}
+use Rattle.search_frames.specs.declared.guiding.ToTry.TheVariants.{All, Later}
+use Rattle.search_frames.specs.Frames.{IsPlaced, ChangesFrom, here_of, configuration_at, key_at, numbered_of}
 use Rattle.search_frames.specs.Reached.{IsReached}
 use Rattle.search_frames.specs.Tests.{LeadsTo}
-use Rattle.search_frames.specs.Turns.{BeginsPath, HasTurned, HasNoTurn}
+use Rattle.search_frames.specs.Turns.{BeginsPath, HasTurned, HasNoTurn, IsToTry, StandsToTry}
+use Rattle.search_frames.proofs.StepKeys.{IsBefore, before_from_less, less_from_before}
 use Rattle.search_frames.specs.Stacks.{KeepsBefore}
-use Rattle.segmenter.specs.Chains.{AreFrames, HasFound, HasNone, Every, BeginsUntried, ComesAfter, HasNoneBelow}
-use Rattle.segmenter.proofs.KeptFrames.{keeps_itself, keeps_if_changes, keeps_then, keeps_less, frame_kept, place_kept, key_kept, here_kept, FrameKept, is_frame_kept, later_kept, untried_kept, kept_back}
+use Rattle.segmenter.specs.Chains.{AreFrames, HasFound, HasNone, Every, BeginsToTry, ComesAfter, HasNoneBelow}
+use Rattle.segmenter.proofs.KeptFrames.{keeps_itself, keeps_if_changes, keeps_then, keeps_less, frame_kept, place_kept, key_kept, here_kept, FrameKept, placed_kept}
 use Rattle.search_frames.proofs.LeadingTo.{LedTo, leads_from}
 use Rattle.search_frames.proofs.ConfigurationRanks.{not_both, possible_if_leads, possible_if_ends}
 
@@ -63,99 +66,96 @@ module _ (searched : SearchedLexicon) (line : Line) (choices : List Choice) wher
     | inr goes ↦ possible_if_leads searched line choices here key goes.leads
   ]
 
+-- ---- keys one after another
+
+before_twice : (a b c : Key) → IsBefore a b → IsBefore b c → IsBefore a c
+before_twice a b c (inl x) (inl y) = inl (omega (arith, x, y))
+before_twice a b c (inl x) (inr (p, rest)) = inl (omega (arith, x, p))
+before_twice a b c (inr (p, rest)) (inl y) = inl (omega (arith, p, y))
+before_twice a b c (inr (p, inl t)) (inr (q, inl u)) = inr (p ∙ q, inl (omega (arith, t, u)))
+before_twice a b c (inr (p, inl t)) (inr (q, inr (s, r))) = inr (p ∙ q, inl (omega (arith, t, s)))
+before_twice a b c (inr (p, inr (s, r))) (inr (q, inl u)) = inr (p ∙ q, inl (omega (arith, s, u)))
+before_twice a b c (inr (p, inr (s, r))) (inr (q, inr (t, u))) = inr (p ∙ q, inr (t ∙ s, omega (arith, r, u)))
+
+-- what comes after a key that is to try is to try
+to_try_after : (last key later : Key) (what : ToTry) → IsToTry last what key → compare_keys key later ≡ Less → IsToTry last what later
+to_try_after last key later All to_try less = tt
+to_try_after last key later Later to_try less = less_from_before last later (before_twice last key later (before_from_less last key to_try) (before_from_less key later less))
+
 -- ---- the loop at a level
 
 -- the frame stays in its place, nothing before it changes, and a path begins with a key that is still to try just where it began
 -- with one to try at first, but for those that were passed and are no paths
-pub record IsUnderWay (searched : SearchedLexicon) (line : Line) (choices : List Choice) (level : ℕ) (first stack : Resumption) : Type 0 where
-  pub frame : IsFrame searched line stack level
+pub record IsUnderWay (searched : SearchedLexicon) (line : Line) (choices : List Choice) (level : ℕ) (first : Resumption) (what : ToTry) (stack : Resumption) (now : ToTry) : Type 0 where
+  pub placed : IsPlaced searched line stack level
   pub same_configuration : configuration_at stack level ≡ configuration_at first level
   pub keeps : KeepsBefore level first stack
+  pub stands : StandsToTry searched line stack level now
   pub left : (keys : List Key) → IsPath (ways_in searched line choices) (here_of searched first level) keys
-      → BeginsUntried searched first level keys → BeginsUntried searched stack level keys
-  pub only : (key : Key) → IsPossible searched line (here_of searched first level) key
-      → IsUntried searched stack level key → IsUntried searched first level key
+      → BeginsToTry (key_at first level) what keys → BeginsToTry (key_at stack level) now keys
+  pub only : (key : Key) → IsToTry (key_at stack level) now key → IsToTry (key_at first level) what key
 
-module _ (searched : SearchedLexicon) (line : Line) (choices : List Choice) (level : ℕ) (first : Resumption) where
-  pub under_way_at_first : IsFrame searched line first level → IsUnderWay searched line choices level first first
-  under_way_at_first frame = record {
-    frame = frame;
+module _ (searched : SearchedLexicon) (line : Line) (choices : List Choice) (level : ℕ) (first : Resumption) (what : ToTry) where
+  pub under_way_at_first : IsPlaced searched line first level → StandsToTry searched line first level what
+      → IsUnderWay searched line choices level first what first what
+  under_way_at_first placed stands = record {
+    placed = placed;
     same_configuration = refl;
-    keeps = keeps_itself level first frame.placed.is_stack;
+    keeps = keeps_itself level first placed.is_stack;
+    stands = stands;
     left = λ keys path wanted. wanted;
-    only = λ key possible untried. untried;
+    only = λ key to_try. to_try;
   }
 
-  still_here : (stack : Resumption) → IsUnderWay searched line choices level first stack → here_of searched stack level ≡ here_of searched first level
-  still_here stack under_way = ap (numbered_of searched) under_way.same_configuration
+  still_here : (stack : Resumption) (now : ToTry) → IsUnderWay searched line choices level first what stack now → here_of searched stack level ≡ here_of searched first level
+  still_here stack now under_way = ap (numbered_of searched) under_way.same_configuration
 
-  pub still_reached : (stack : Resumption) → IsUnderWay searched line choices level first stack → IsReached searched line choices (here_of searched first level)
-      → IsReached searched line choices (here_of searched stack level)
-  still_reached stack under_way reached = subst (IsReached searched line choices) (sym (still_here stack under_way)) reached
+  pub still_reached : (stack : Resumption) (now : ToTry) → IsUnderWay searched line choices level first what stack now
+      → IsReached searched line choices (here_of searched first level) → IsReached searched line choices (here_of searched stack level)
+  still_reached stack now under_way reached = subst (IsReached searched line choices) (sym (still_here stack now under_way)) reached
 
   -- the loop has come to a key of the frame
-  module _ (old mid : Resumption) (under_way : IsUnderWay searched line choices level first old) (went : HasTurned searched line choices level old mid)
+  module _ (old mid : Resumption) (now : ToTry) (under_way : IsUnderWay searched line choices level first what old now) (went : HasTurned searched line choices level now old mid)
       (changes : ChangesFrom level old mid) where
     here_old : here_of searched old level ≡ here_of searched first level
-    here_old = still_here old under_way
+    here_old = still_here old now under_way
 
     here_mid : here_of searched mid level ≡ here_of searched first level
     here_mid = ap (numbered_of searched) went.same_configuration ∙ here_old
 
     -- a path that is wanted begins with this key or a later one
     wanted_next : (x : Key) (xs : List Key) → IsPath (ways_in searched line choices) (here_of searched first level) (x ∷ xs)
-        → IsUntried searched first level x → (key_at mid level ≡ x) ⊎ (compare_keys (key_at mid level) x ≡ Less)
+        → IsToTry (key_at first level) what x → (key_at mid level ≡ x) ⊎ (compare_keys (key_at mid level) x ≡ Less)
     wanted_next x xs path wanted =
         went.first x (subst (λ here. BeginsPath searched line choices here x) (sym here_old) (xs, path)) (under_way.left (x ∷ xs) path wanted)
 
-    key_wanted : IsUntried searched first level (key_at mid level)
-    key_wanted = under_way.only (key_at mid level) (subst (λ here. IsPossible searched line here (key_at mid level)) here_old went.possible) went.untried
+    key_wanted : IsToTry (key_at first level) what (key_at mid level)
+    key_wanted = under_way.only (key_at mid level) went.to_try
 
-    later_left : (x : Key) → IsPossible searched line (here_of searched first level) x → compare_keys (key_at mid level) x ≡ Less
-        → IsUntried searched mid level x
-    later_left x possible less = (went.later x (subst (λ here. IsPossible searched line here x) (sym here_mid) possible)).1 less
+    key_possible : IsPossible searched line (here_of searched first level) (key_at mid level)
+    key_possible = subst (λ here. IsPossible searched line here (key_at mid level)) here_old went.possible
 
-    only_mid : (x : Key) → IsPossible searched line (here_of searched first level) x → IsUntried searched mid level x → IsUntried searched first level x
-    only_mid x possible untried =
-        under_way.only x possible (went.left x (subst (λ here. IsPossible searched line here x) (sym here_old) possible) untried)
+    only_mid : (x : Key) → compare_keys (key_at mid level) x ≡ Less → IsToTry (key_at first level) what x
+    only_mid x less = under_way.only x (to_try_after (key_at old level) (key_at mid level) x now went.to_try less)
 
     pub keeps_mid : KeepsBefore level first mid
     keeps_mid = keeps_then level first old mid under_way.keeps (keeps_if_changes level old mid changes)
 
-    -- no path begins with this key, so it is passed
-    pub under_way_passed : ((keys : List Key) → IsPath (ways_in searched line choices) (here_of searched first level) (key_at mid level ∷ keys) → ⊥)
-        → IsUnderWay searched line choices level first mid
-    under_way_passed none = record {
-      frame = went.frame;
-      same_configuration = went.same_configuration ∙ under_way.same_configuration;
-      keeps = keeps_mid;
-      left = passed;
-      only = only_mid;
-    }
-      where
-        passed : (keys : List Key) → IsPath (ways_in searched line choices) (here_of searched first level) keys
-            → BeginsUntried searched first level keys → BeginsUntried searched mid level keys
-        passed [] path wanted = absurd wanted
-        passed (x ∷ xs) path wanted = elim (wanted_next x xs path wanted) [
-          | inl same ↦ absurd (none xs (subst (λ k. IsPath (ways_in searched line choices) (here_of searched first level) (k ∷ xs)) (sym same) path))
-          | inr less ↦ later_left x (first_possible searched line choices (here_of searched first level) x xs path) less
-        ]
-
     -- the key ends the line: it alone is the first path
-    pub found_end : (last : Resumption) → IsFrame searched line last level → HasLaterToTry searched line last level
+    pub found_end : (last : Resumption) → IsPlaced searched line last level
         → here_of searched last level ≡ here_of searched mid level → key_at last level ≡ key_at mid level → level + 1 ≡ last.depth
         → Ends searched line choices (here_of searched old level) (key_at mid level)
-        → HasFound searched line choices (BeginsUntried searched first level) last level (here_of searched first level)
-    found_end last frame later here_same key_same depth ends_old =
+        → HasFound searched line choices (BeginsToTry (key_at first level) what) last level (here_of searched first level)
+    found_end last placed here_same key_same depth ends_old =
         let ends = subst (λ here. Ends searched line choices here (key_at mid level)) here_old ends_old in
         record {
           keys = key_at mid level ∷ [];
-          frames = (frame, here_same ∙ here_mid, later, key_same, depth);
+          frames = (placed, here_same ∙ here_mid, key_possible, key_same, depth);
           first = record { path = ends; wanted = key_wanted; least = least ends };
         }
       where
         least : Ends searched line choices (here_of searched first level) (key_at mid level) → (other : List Key)
-            → IsPath (ways_in searched line choices) (here_of searched first level) other → BeginsUntried searched first level other
+            → IsPath (ways_in searched line choices) (here_of searched first level) other → BeginsToTry (key_at first level) what other
             → slice_cmp compare_keys (key_at mid level ∷ []) other ≢ Greater
         least ends [] path wanted = absurd wanted
         least ends (x ∷ xs) path wanted = elim (wanted_next x xs path wanted) [
@@ -180,7 +180,7 @@ module _ (searched : SearchedLexicon) (line : Line) (choices : List Choice) (lev
     pub found_deeper : (deep : Resumption) → KeepsBefore (level + 1) mid deep
         → LeadsOn searched line choices (here_of searched old level) (key_at mid level)
         → HasFound searched line choices Every deep (level + 1) (after searched line (here_of searched old level) (key_at mid level))
-        → HasFound searched line choices (BeginsUntried searched first level) deep level (here_of searched first level)
+        → HasFound searched line choices (BeginsToTry (key_at first level) what) deep level (here_of searched first level)
     found_deeper deep keeps leads_old found_old =
         let here = here_of searched first level in
         let key = key_at mid level in
@@ -190,9 +190,9 @@ module _ (searched : SearchedLexicon) (line : Line) (choices : List Choice) (lev
         record {
           keys = key ∷ found.keys;
           frames = (
-            is_frame_kept searched line level mid deep keeps went.frame,
+            placed_kept searched line level mid deep keeps went.placed,
             here_kept searched line level mid deep kept ∙ here_mid,
-            later_kept searched line level mid deep keeps went.frame went.later,
+            key_possible,
             key_kept level mid deep kept,
             found.frames,
           );
@@ -206,7 +206,7 @@ module _ (searched : SearchedLexicon) (line : Line) (choices : List Choice) (lev
         least : LeadsOn searched line choices (here_of searched first level) (key_at mid level) → (keys : List Key)
             → ((other : List Key) → IsPath (ways_in searched line choices) (after searched line (here_of searched first level) (key_at mid level)) other
             → Every other → slice_cmp compare_keys keys other ≢ Greater)
-            → (other : List Key) → IsPath (ways_in searched line choices) (here_of searched first level) other → BeginsUntried searched first level other
+            → (other : List Key) → IsPath (ways_in searched line choices) (here_of searched first level) other → BeginsToTry (key_at first level) what other
             → slice_cmp compare_keys (key_at mid level ∷ keys) other ≢ Greater
         least leads keys below [] path wanted = absurd wanted
         least leads keys below (x ∷ xs) path wanted = elim (wanted_next x xs path wanted) [
@@ -224,56 +224,63 @@ module _ (searched : SearchedLexicon) (line : Line) (choices : List Choice) (lev
     pub under_way_deeper : (deep : Resumption) → KeepsBefore (level + 1) mid deep
         → LeadsOn searched line choices (here_of searched old level) (key_at mid level)
         → HasNone searched line choices Every (after searched line (here_of searched old level) (key_at mid level))
-        → IsUnderWay searched line choices level first deep
+        → IsUnderWay searched line choices level first what deep Later
     under_way_deeper deep keeps leads none =
-        let passed = under_way_passed (λ keys path.
-        elim (first_of_path searched line choices (here_of searched first level) (key_at mid level) keys path) [
-          | inl ends ↦ not_both searched line choices (here_of searched first level) (key_at mid level) ends.0
-              (subst (λ here. LeadsOn searched line choices here (key_at mid level)) here_old leads)
-          | inr goes ↦ none keys
-              (subst (λ here. IsPath (ways_in searched line choices) (after searched line here (key_at mid level)) keys) (sym here_old) goes.path) tt
-        ]) in
         let kept = frame_kept level mid deep keeps in
-        let few = (is_frame_kept searched line level mid deep keeps went.frame).few in
+        let key_same = key_kept level mid deep kept in
+        let here_same = here_kept searched line level mid deep kept in
         record {
-          frame = is_frame_kept searched line level mid deep keeps went.frame;
-          same_configuration = place_kept level mid deep kept ∙ passed.same_configuration;
-          keeps = keeps_then level first mid deep passed.keeps (keeps_less level mid deep keeps);
-          left = λ keys path wanted. begins_kept deep kept keys (passed.left keys path wanted);
-          only = λ key possible untried. passed.only key possible (untried_kept searched line level deep mid key (kept_back level mid deep kept) few untried);
+          placed = placed_kept searched line level mid deep keeps went.placed;
+          same_configuration = place_kept level mid deep kept ∙ went.same_configuration ∙ under_way.same_configuration;
+          keeps = keeps_then level first mid deep keeps_mid (keeps_less level mid deep keeps);
+          stands = subst (λ here. IsPossible searched line here (key_at deep level)) (sym (here_same ∙ here_mid))
+              (subst (IsPossible searched line (here_of searched first level)) (sym key_same) key_possible);
+          left = λ keys path wanted. subst (λ k. BeginsToTry k Later keys) (sym key_same) (passed keys path wanted);
+          only = λ x less. only_mid x (subst (λ k. compare_keys k x ≡ Less) key_same less);
         }
       where
-        begins_kept : (deep : Resumption) → FrameKept level mid deep → (keys : List Key) → BeginsUntried searched mid level keys
-            → BeginsUntried searched deep level keys
-        begins_kept deep kept [] wanted = absurd wanted
-        begins_kept deep kept (x ∷ xs) wanted = untried_kept searched line level mid deep x kept went.frame.few wanted
+        no_path : (keys : List Key) → IsPath (ways_in searched line choices) (here_of searched first level) (key_at mid level ∷ keys) → ⊥
+        no_path keys path =
+            elim (first_of_path searched line choices (here_of searched first level) (key_at mid level) keys path) [
+              | inl ends ↦ not_both searched line choices (here_of searched first level) (key_at mid level) ends.0
+                  (subst (λ here. LeadsOn searched line choices here (key_at mid level)) here_old leads)
+              | inr goes ↦ none keys
+                  (subst (λ here. IsPath (ways_in searched line choices) (after searched line here (key_at mid level)) keys) (sym here_old) goes.path) tt
+            ]
+
+        passed : (keys : List Key) → IsPath (ways_in searched line choices) (here_of searched first level) keys
+            → BeginsToTry (key_at first level) what keys → BeginsToTry (key_at mid level) Later keys
+        passed [] path wanted = absurd wanted
+        passed (x ∷ xs) path wanted = elim (wanted_next x xs path wanted) [
+          | inl same ↦ absurd (no_path xs (subst (λ k. IsPath (ways_in searched line choices) (here_of searched first level) (k ∷ xs)) (sym same) path))
+          | inr less ↦ less
+        ]
 
   -- no path begins with a key that the frame has still to try: no path is wanted
-  pub none_left : (old : Resumption) → IsUnderWay searched line choices level first old → HasNoTurn searched line choices level old
-      → HasNone searched line choices (BeginsUntried searched first level) (here_of searched first level)
-  none_left old under_way nothing [] path wanted = absurd wanted
-  none_left old under_way nothing (x ∷ xs) path wanted =
+  pub none_left : (old : Resumption) (now : ToTry) → IsUnderWay searched line choices level first what old now → HasNoTurn searched line choices level now old
+      → HasNone searched line choices (BeginsToTry (key_at first level) what) (here_of searched first level)
+  none_left old now under_way nothing [] path wanted = absurd wanted
+  none_left old now under_way nothing (x ∷ xs) path wanted =
       nothing x
-      (subst (λ here. BeginsPath searched line choices here x) (sym (still_here old under_way)) (xs, path))
+      (subst (λ here. BeginsPath searched line choices here x) (sym (still_here old now under_way)) (xs, path))
       (under_way.left (x ∷ xs) path wanted)
 
 -- ---- a frame that has everything to try
 
-module _ (searched : SearchedLexicon) (line : Line) (choices : List Choice) (level : ℕ) (opened : Resumption) (all : HasAllToTry searched line opened level) where
-  begins_path : (keys : List Key) → IsPath (ways_in searched line choices) (here_of searched opened level) keys → BeginsUntried searched opened level keys
+module _ (searched : SearchedLexicon) (line : Line) (choices : List Choice) (level : ℕ) (last : Key) (here : NumberedConfiguration) where
+  begins_path : (keys : List Key) → IsPath (ways_in searched line choices) here keys → BeginsToTry last All keys
   begins_path [] path = absurd path
-  begins_path (x ∷ xs) path = all x (first_possible searched line choices (here_of searched opened level) x xs path)
+  begins_path (x ∷ xs) path = tt
 
-  pub found_first : (new : Resumption) → HasFound searched line choices (BeginsUntried searched opened level) new level (here_of searched opened level)
-      → HasFound searched line choices Every new level (here_of searched opened level)
+  pub found_first : (new : Resumption) → HasFound searched line choices (BeginsToTry last All) new level here
+      → HasFound searched line choices Every new level here
   found_first new found = record {
     keys = found.keys;
     frames = found.frames;
     first = record { path = found.first.path; wanted = tt; least = λ other path wanted. found.first.least other path (begins_path other path) };
   }
 
-  pub none_at_all : HasNone searched line choices (BeginsUntried searched opened level) (here_of searched opened level)
-      → HasNone searched line choices Every (here_of searched opened level)
+  pub none_at_all : HasNone searched line choices (BeginsToTry last All) here → HasNone searched line choices Every here
   none_at_all none keys path wanted = none keys path (begins_path keys path)
 
 -- ---- what comes after the keys along which frames stand
@@ -303,9 +310,9 @@ module _ (searched : SearchedLexicon) (line : Line) (choices : List Choice) (lev
       record {
         keys = key ∷ found.keys;
         frames = (
-          is_frame_kept searched line level old deep keeps frames.0,
+          placed_kept searched line level old deep keeps frames.0,
           here_kept searched line level old deep kept ∙ frames.1,
-          later_kept searched line level old deep keeps frames.0 frames.2,
+          frames.2,
           key_kept level old deep kept ∙ frames.3,
           found.frames,
         );
@@ -338,35 +345,33 @@ module _ (searched : SearchedLexicon) (line : Line) (choices : List Choice) (lev
     pub here_after : here_of searched mid level ≡ here
     here_after = here_kept searched line level old mid kept ∙ frames.1
 
-    pub frame_after : IsFrame searched line mid level
-    frame_after = is_frame_kept searched line level old mid keeps frames.0
+    key_after : key_at mid level ≡ key
+    key_after = key_kept level old mid kept ∙ frames.3
 
-    untried_if_later : (x : Key) → IsPossible searched line here x → compare_keys key x ≡ Less → IsUntried searched mid level x
-    untried_if_later x possible less =
-        (later_kept searched line level old mid keeps frames.0 frames.2 x (subst (λ h. IsPossible searched line h x) (sym here_after) possible)).1
-        (subst (λ k. compare_keys k x ≡ Less) (sym (key_kept level old mid kept ∙ frames.3)) less)
+    -- the frame stands at its key, which is possible
+    pub placed_after : IsPlaced searched line mid level
+    placed_after = placed_kept searched line level old mid keeps frames.0
 
-    later_if_untried : (x : Key) → IsPossible searched line here x → IsUntried searched mid level x → compare_keys key x ≡ Less
-    later_if_untried x possible untried =
-        subst (λ k. compare_keys k x ≡ Less) (key_kept level old mid kept ∙ frames.3)
-        ((later_kept searched line level old mid keeps frames.0 frames.2 x (subst (λ h. IsPossible searched line h x) (sym here_after) possible)).0 untried)
+    pub stands_after : IsPossible searched line (here_of searched mid level) (key_at mid level)
+    stands_after =
+        subst (λ h. IsPossible searched line h (key_at mid level)) (sym here_after) (subst (IsPossible searched line here) (sym key_after) frames.2)
 
     begins_later : (keys : List Key) → IsPath (ways_in searched line choices) here keys → ComesAfter (key ∷ rest) keys
-        → BeginsUntried searched mid level keys
+        → BeginsToTry (key_at mid level) Later keys
     begins_later [] path wanted = absurd wanted
-    begins_later (x ∷ xs) path (inl less) = untried_if_later x (first_possible searched line choices here x xs path) less
+    begins_later (x ∷ xs) path (inl less) = subst (λ k. compare_keys k x ≡ Less) (sym key_after) less
     begins_later (x ∷ xs) path (inr (same, later)) =
         absurd (none xs (subst (λ k. IsPath (ways_in searched line choices) here (k ∷ xs)) (sym same) path) later)
 
-    comes_after : (keys : List Key) → IsPath (ways_in searched line choices) here keys → BeginsUntried searched mid level keys
+    comes_after : (keys : List Key) → IsPath (ways_in searched line choices) here keys → BeginsToTry (key_at mid level) Later keys
         → ComesAfter (key ∷ rest) keys
     comes_after [] path wanted = absurd wanted
-    comes_after (x ∷ xs) path wanted = inl (later_if_untried x (first_possible searched line choices here x xs path) wanted)
+    comes_after (x ∷ xs) path wanted = inl (subst (λ k. compare_keys k x ≡ Less) key_after wanted)
 
-    pub found_after_here : (new : Resumption) → HasFound searched line choices (BeginsUntried searched mid level) new level (here_of searched mid level)
+    pub found_after_here : (new : Resumption) → HasFound searched line choices (BeginsToTry (key_at mid level) Later) new level (here_of searched mid level)
         → HasFound searched line choices (ComesAfter (key ∷ rest)) new level here
     found_after_here new found_mid =
-        let found = subst (λ h. HasFound searched line choices (BeginsUntried searched mid level) new level h) here_after found_mid in
+        let found = subst (λ h. HasFound searched line choices (BeginsToTry (key_at mid level) Later) new level h) here_after found_mid in
         record {
           keys = found.keys;
           frames = found.frames;
@@ -377,7 +382,7 @@ module _ (searched : SearchedLexicon) (line : Line) (choices : List Choice) (lev
           };
         }
 
-    pub none_after_here : HasNone searched line choices (BeginsUntried searched mid level) (here_of searched mid level)
+    pub none_after_here : HasNone searched line choices (BeginsToTry (key_at mid level) Later) (here_of searched mid level)
         → HasNone searched line choices (ComesAfter (key ∷ rest)) here
     none_after_here none_mid keys path wanted =
         none_mid keys (subst (λ h. IsPath (ways_in searched line choices) h keys) (sym here_after) path) (begins_later keys path wanted)
@@ -391,3 +396,8 @@ on_true false f p = p
 pub on_false : {P Q : Type 0} (b : Bool) → (P → Q) → OnFalse b P → OnFalse b Q
 on_false true f p = p
 on_false false f p = f p
+
+-- what is not false is true
+pub true_unless : (b : Bool) → OnFalse b ⊥ → b ≡ true
+true_unless true none = refl
+true_unless false none = absurd none

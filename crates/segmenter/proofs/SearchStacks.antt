@@ -1,5 +1,5 @@
--- What the stack of a search knows does not change where only its stand is set, nor in a copy: a frame is told by the steps, the
--- frames and the nodes. The frames of an answer stand from the opening on along a path.
+-- What the stack of a search knows does not change where only its stand is set, nor in a copy: a frame is told by the steps and
+-- the frames. The frames of an answer stand from the opening on along a path.
 use Rattle.std.proofs.Common.{◌≡◌, ℕ, ◌+◌, ◌*◌, ◌<◌, ◌≤◌, List, [], ◌∷◌, length, take, refl, sym, ap, ◌∙◌, subst, arith}
 use Rattle.text_definitions.specs.Lines.{Line}
 use Rattle.segmentation_definitions.specs.Items.{Choice}
@@ -14,36 +14,30 @@ use Rattle.search_frames.specs.declared.cursor.Cursor.TheVariants as cursor
 use Rattle.search_frames.specs.declared.resumption.Resumption.{Resumption}
 use Rattle.search_frames.specs.Configurations.{NumberedConfiguration, after, opening, rules_in, ways_in}
 use Rattle.search_frames.specs.Stacks.{IsStack, KeepsBefore, steps_in, with_cursor}
-use Rattle.search_frames.specs.Frames.{IsFrame, here_of}
+use Rattle.search_frames.specs.Frames.{IsPlaced, here_of}
 use Rattle.search_frames.specs.Reached.{IsReached}
 use Rattle.segmenter.specs.Chains.{AreFrames, LeadAlong, HasRoom}
 use Rattle.segmenter.specs.Searches.{IsStackOf, StandsAtAnswer, StandsWhere, cursor_of, cursor_at}
-use Rattle.segmenter.proofs.KeptFrames.{frame_kept, is_frame_kept, later_kept, here_kept, key_kept}
+use Rattle.segmenter.proofs.KeptFrames.{frame_kept, placed_kept, here_kept, key_kept}
 use Rattle.search_frames.proofs.ReachedConfigurations.{opening_reached}
 use Rattle.segmenter.proofs.StandingAnswers.{frames_count}
 
 -- ---- a stack that stands otherwise
 
 module _ (searched : SearchedLexicon) (line : Line) (stack : Resumption) (to : StackCursor) where
-  frame_restood : (level : ℕ) → IsFrame searched line stack level → IsFrame searched line (with_cursor stack to) level
+  frame_restood : (level : ℕ) → IsPlaced searched line stack level → IsPlaced searched line (with_cursor stack to) level
   frame_restood level is = record {
-    placed = record {
-      is_stack = record { steps = is.placed.is_stack.steps; nodes = is.placed.is_stack.nodes };
-      there = is.placed.there;
-      within = is.placed.within;
-      lead = is.placed.lead;
-    };
-    phase = is.phase;
-    few = is.few;
-    letters = is.letters;
-    walked = is.walked;
+    is_stack = record { steps = is.is_stack.steps; nodes = is.is_stack.nodes };
+    there = is.there;
+    within = is.within;
+    lead = is.lead;
   }
 
   pub frames_restood : (keys : List Key) (level : ℕ) (here : NumberedConfiguration) → AreFrames searched line stack level here keys
       → AreFrames searched line (with_cursor stack to) level here keys
   frames_restood [] level here frames = frames
-  frames_restood (key ∷ keys) level here (frame, here_is, later, key_is, frames) =
-      (frame_restood level frame, here_is, later, key_is, frames_restood keys (level + 1) (after searched line here key) frames)
+  frames_restood (key ∷ keys) level here (frame, here_is, possible, key_is, frames) =
+      (frame_restood level frame, here_is, possible, key_is, frames_restood keys (level + 1) (after searched line here key) frames)
 
 module _ (searched : SearchedLexicon) (line : Line) (choices : List Choice) where
   -- the stack of a search after its frames changed and its stand was set
@@ -70,19 +64,18 @@ copy_keeps level old new is copy = record {
   };
   steps = ap (take level) copy.steps;
   frames = ap (take level) copy.frames;
-  nodes = ap (take (level * NODES_OF_FRAME)) copy.nodes;
 }
 
 module _ (searched : SearchedLexicon) (line : Line) (old new : Resumption) (copy : IsCopyOf old new) where
   frames_copied : (keys : List Key) (level : ℕ) (here : NumberedConfiguration) → AreFrames searched line old level here keys
       → AreFrames searched line new level here keys
   frames_copied [] level here frames = frames ∙ sym copy.depth
-  frames_copied (key ∷ keys) level here (frame, here_is, later, key_is, frames) =
-      let keeps = copy_keeps (level + 1) old new frame.placed.is_stack copy in
+  frames_copied (key ∷ keys) level here (frame, here_is, possible, key_is, frames) =
+      let keeps = copy_keeps (level + 1) old new frame.is_stack copy in
       let kept = frame_kept level old new keeps in (
-        is_frame_kept searched line level old new keeps frame,
+        placed_kept searched line level old new keeps frame,
         here_kept searched line level old new kept ∙ here_is,
-        later_kept searched line level old new keeps frame later,
+        possible,
         key_kept level old new kept ∙ key_is,
         frames_copied keys (level + 1) (after searched line here key) frames,
       )
@@ -136,9 +129,9 @@ module _ (searched : SearchedLexicon) (line : Line) (choices : List Choice) wher
   frames_within : (stack : Resumption) (keys : List Key) (level : ℕ) (here : NumberedConfiguration) → AreFrames searched line stack level here keys
       → level ≤ length stack.steps.items → stack.depth ≤ length stack.steps.items
   frames_within stack [] level here frames le = let e : level ≡ stack.depth = frames in omega (arith, e)
-  frames_within stack (key ∷ keys) level here (frame, here_is, later, key_is, frames) le =
-      let there = frame.placed.there in
-      let count = frame.placed.is_stack.steps in
+  frames_within stack (key ∷ keys) level here (frame, here_is, possible, key_is, frames) le =
+      let there = frame.there in
+      let count = frame.is_stack.steps in
       frames_within stack keys (level + 1) (after searched line here key) frames (omega (arith, there, count))
 
   some_keys : (keys : List Key) → IsPath (ways_in searched line choices) opening keys → 0 < length keys

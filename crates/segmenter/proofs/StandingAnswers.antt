@@ -27,7 +27,8 @@ use Rattle.derivation.proofs.PlacedSteps.{same_keys}
 use Rattle.annotated_trie.specs.Searched.{SearchedLexicon, IsSearchedLexicon}
 use Rattle.search_frames.specs.declared.resumption.Resumption.{Resumption}
 use Rattle.search_frames.specs.Configurations.{NumberedConfiguration, rules_in, Ends, after, opening, ways_in}
-use Rattle.search_frames.specs.Frames.{IsFrame, here_of, key_at, step_of}
+use Rattle.search_frames.specs.Frames.{IsPlaced, here_of, key_at, step_of}
+use Rattle.search_frames.proofs.PossibleKeys.{possible_phase}
 use Rattle.segmenter.specs.Chains.{AreFrames, HasNone, Every, ComesAfter, LeadAlong}
 use Rattle.search_frames.specs.Stacks.{steps_in}
 use Rattle.search_frames.proofs.ConfigurationPaths.{path_from_opening}
@@ -71,25 +72,31 @@ module _ (rules : RuleSet) (letters : List ℕ) where
 -- ---- the steps of frames
 
 module _ (searched : SearchedLexicon) (line : Line) (choices : List Choice) (stack : Resumption) where
+  -- the phase of a key that may stand is one
+  stands_phase : IsSearchedLexicon searched → (here : NumberedConfiguration) (key : Key) → MayStand searched.lexicon line choices here.at here.entrance key
+      → key.phase < length (rules_in searched).names
+  stands_phase is here key stands =
+      possible_phase searched is line here key (record { number = stands.number; within = stands.within; form = stands.form })
+
   -- the step of a frame whose key may stand there stands there
-  frame_stands : (level : ℕ) → IsFrame searched line stack level
+  frame_stands : IsSearchedLexicon searched → (level : ℕ) → IsPlaced searched line stack level
       → MayStand searched.lexicon line choices (here_of searched stack level).at (here_of searched stack level).entrance (key_at stack level)
       → StandsAt (rules_in searched) line.letters (here_of searched stack level).at (supplied (here_of searched stack level).entrance) (step_of stack level)
-  frame_stands level frame stands = record {
-    phase = frame.phase;
+  frame_stands is level frame stands = record {
+    phase = stands_phase is (here_of searched stack level) (key_at stack level) stands;
     rule = stands.number;
     at = refl;
-    lead_length = frame.placed.lead;
+    lead_length = frame.lead;
     taken = stands.within;
     following = stands.written;
   }
 
   -- the steps in use from a level on begin with that of the level
-  steps_from_level : (level : ℕ) → level < stack.depth → IsFrame searched line stack level
+  steps_from_level : (level : ℕ) → level < stack.depth → IsPlaced searched line stack level
       → drop level (steps_in stack) ≡ step_of stack level ∷ drop (level + 1) (steps_in stack)
   steps_from_level level below frame =
-      let there = frame.placed.there in
-      let count = frame.placed.is_stack.steps in
+      let there = frame.there in
+      let count = frame.is_stack.steps in
       let d : ProgramStep = record { phase = 0; rule = 0; at = 0; lead = 0; taken = 0 } in
       let inside : level < length (steps_in stack) = omega (arith, length-take stack.depth stack.steps.items) in
       drop_more (steps_in stack) level d inside
@@ -105,12 +112,12 @@ module _ (searched : SearchedLexicon) (line : Line) (choices : List Choice) (sta
   supplied_v : (here : NumberedConfiguration) (key : Key) → supplied (after searched line here key).entrance ≡ (rule_of (rules_in searched) key.rule).v
   supplied_v here key = sym (supplied_after (rules_in searched) (step_at (rules_in searched) line here.at here.entrance key ∷ []))
 
-  stands_here : (level : ℕ) (here : NumberedConfiguration) (key : Key) → IsFrame searched line stack level → here_of searched stack level ≡ here → key_at stack level ≡ key
+  stands_here : IsSearchedLexicon searched → (level : ℕ) (here : NumberedConfiguration) (key : Key) → IsPlaced searched line stack level → here_of searched stack level ≡ here → key_at stack level ≡ key
       → MayStand searched.lexicon line choices here.at here.entrance key
       → StandsAt (rules_in searched) line.letters here.at (supplied here.entrance) (step_of stack level)
-  stands_here level here key frame here_is key_is stands =
+  stands_here is level here key frame here_is key_is stands =
       subst (λ (h : NumberedConfiguration). StandsAt (rules_in searched) line.letters h.at (supplied h.entrance) (step_of stack level)) here_is
-      (frame_stands level frame
+      (frame_stands is level frame
       (subst (λ (h : NumberedConfiguration). MayStand searched.lexicon line choices h.at h.entrance (key_at stack level)) (sym here_is)
       (subst (λ key. MayStand searched.lexicon line choices here.at here.entrance key) (sym key_is) stands)))
 
@@ -141,21 +148,21 @@ module _ (searched : SearchedLexicon) (line : Line) (choices : List Choice) (sta
   )
 
   -- frames along a path stand to the end of the line
-  frames_to_end : (keys : List Key) (level : ℕ) (here : NumberedConfiguration) → AreFrames searched line stack level here keys
+  frames_to_end : IsSearchedLexicon searched → (keys : List Key) (level : ℕ) (here : NumberedConfiguration) → AreFrames searched line stack level here keys
       → IsPath (ways_in searched line choices) here keys
       → StandToEnd (rules_in searched) line.letters here.at (supplied here.entrance) keys (drop level (steps_in stack))
-  frames_to_end [] level here frames path = absurd path
-  frames_to_end (key ∷ keys) level here frames path =
+  frames_to_end is [] level here frames path = absurd path
+  frames_to_end is (key ∷ keys) level here frames path =
       let count = frames_count (key ∷ keys) level here frames in
       let key_is = frames.3 in
-      let both = after_first keys level here key frames (λ path. frames_to_end keys (level + 1) (after searched line here key) frames.4 path)
+      let both = after_first keys level here key frames (λ path. frames_to_end is keys (level + 1) (after searched line here key) frames.4 path)
       (first_of_path searched line choices here key keys path) in
       subst (λ steps. StandToEnd (rules_in searched) line.letters here.at (supplied here.entrance) (key ∷ keys) steps)
       (sym (steps_from_level level (omega (arith, count)) frames.0))
       (subst (λ key. StandToEnd (rules_in searched) line.letters here.at (supplied here.entrance) (key ∷ keys)
       (step_of stack level ∷ drop (level + 1) (steps_in stack))) key_is
       (first_to_end (rules_in searched) line.letters here.at (supplied here.entrance) (step_of stack level) keys (drop (level + 1) (steps_in stack))
-      (stands_here level here key frames.0 frames.1 key_is both.0)
+      (stands_here is level here key frames.0 frames.1 key_is both.0)
       (subst (λ (key : Key). StandToEnd (rules_in searched) line.letters (here.at + key.taken + length (rule_of (rules_in searched) key.rule).w)
       (rule_of (rules_in searched) key.rule).v keys (drop (level + 1) (steps_in stack))) (sym key_is) both.1)))
 
@@ -170,7 +177,7 @@ pub frames_stand : (searched : SearchedLexicon) (line : Line) (choices : List Ch
     → IsSearchedLexicon searched → IsLine line → AreFrames searched line stack 0 opening keys → IsPath (ways_in searched line choices) opening keys
     → StandAsAnswer searched line choices stack keys
 frames_stand searched line choices stack keys is line_is frames path =
-    let all = frames_to_end searched line choices stack keys 0 opening frames path in
+    let all = frames_to_end searched line choices stack is keys 0 opening frames path in
     let stands : StandIn (rules_in searched) line.letters (steps_in stack) = all.stand in
     let same = sym (same_keys (rules_in searched) line.letters (steps_in stack) stands) ∙ all.same in
     record {
@@ -329,16 +336,10 @@ frames_front searched line stack depth zero keys level here frames most is = ome
 frames_front searched line stack depth (suc n) [] level here frames most is = absurd (omega (arith, most))
 frames_front searched line stack depth (suc n) (key ∷ keys) level here frames most is = (
   record {
-    placed = record {
-      is_stack = record { steps = frames.0.placed.is_stack.steps; nodes = frames.0.placed.is_stack.nodes };
-      there = frames.0.placed.there;
-      within = frames.0.placed.within;
-      lead = frames.0.placed.lead;
-    };
-    phase = frames.0.phase;
-    few = frames.0.few;
-    letters = frames.0.letters;
-    walked = frames.0.walked;
+    is_stack = record { steps = frames.0.is_stack.steps; nodes = frames.0.is_stack.nodes };
+    there = frames.0.there;
+    within = frames.0.within;
+    lead = frames.0.lead;
   },
   frames.1,
   frames.2,

@@ -8,17 +8,18 @@ use Rattle.listing_laws.specs.Ways.{IsPath}
 use Rattle.listing_laws.specs.Cursors.{IsFirst}
 use Rattle.annotated_trie.specs.Searched.{SearchedLexicon}
 use Rattle.search_frames.specs.declared.resumption.Resumption.{Resumption}
-use Rattle.search_frames.specs.Configurations.{NumberedConfiguration, LeadsOn, after, ways_in}
+use Rattle.search_frames.specs.declared.guiding.ToTry.{ToTry}
+use Rattle.search_frames.specs.Configurations.{NumberedConfiguration, IsPossible, LeadsOn, after, ways_in}
 use Rattle.search_frames.specs.Stacks.{depth_of, room_of}
-use Rattle.search_frames.specs.Frames.{IsFrame, IsUntried, HasLaterToTry, here_of, key_at}
+use Rattle.search_frames.specs.Frames.{IsPlaced, here_of, key_at}
+use Rattle.search_frames.specs.Turns.{IsToTry}
 use Rattle.search_frames.specs.Reached.{rank}
 
--- the frames from the level on up to the last in use stand one after another along the keys, each at its key, and have just
--- the later keys still to try
+-- the frames from the level on up to the last in use stand one after another along the keys, each at its key, which is possible there
 abbrev pub AreFrames : SearchedLexicon → Line → Resumption → ℕ → NumberedConfiguration → List Key → Type 0
 AreFrames searched line stack level here [] = level ≡ depth_of stack
 AreFrames searched line stack level here (key ∷ keys) =
-    IsFrame searched line stack level × (here_of searched stack level ≡ here) × HasLaterToTry searched line stack level
+    IsPlaced searched line stack level × (here_of searched stack level ≡ here) × IsPossible searched line here key
     × (key_at stack level ≡ key) × AreFrames searched line stack (level + 1) (after searched line here key) keys
 
 -- the frames from the level on stand along the first path from here that is wanted
@@ -37,10 +38,10 @@ HasNone searched line choices IsWanted here =
 abbrev pub Every : List Key → Type 0
 Every keys = Unit {0}
 
--- the path begins with a key that the frame at the level has still to try
-abbrev pub BeginsUntried : SearchedLexicon → Resumption → ℕ → List Key → Type 0
-BeginsUntried searched stack level [] = ⊥
-BeginsUntried searched stack level (key ∷ keys) = IsUntried searched stack level key
+-- the path begins with a key that is still to try where a frame stands at its last key
+abbrev pub BeginsToTry : Key → ToTry → List Key → Type 0
+BeginsToTry last what [] = ⊥
+BeginsToTry last what (key ∷ keys) = IsToTry last what key
 
 -- each key but the last leads on from where those before it lead, so that each frame stands where a search may come to
 abbrev pub LeadAlong : SearchedLexicon → Line → List Choice → NumberedConfiguration → List Key → Type 0

@@ -6,14 +6,14 @@ use Rattle.annotated_trie.specs.Searched.{SearchedLexicon}
 use Rattle.search_frames.specs.declared.resumption.Resumption.{Resumption}
 use Rattle.search_frames.specs.declared.testing.Test.{Test}
 use Rattle.search_frames.specs.declared.testing.Test.TheVariants as test
-use Rattle.search_frames.specs.Configurations.{NumberedConfiguration}
-use Rattle.search_frames.specs.Frames.{IsFrame, HasLaterToTry, here_of, key_at}
+use Rattle.search_frames.specs.Configurations.{NumberedConfiguration, IsPossible}
+use Rattle.search_frames.specs.Frames.{IsPlaced, here_of, key_at}
 
--- the frame at the level stands here at the key, and has just the later keys still to try
+-- the frame at the level stands here at the key, which is possible
 pub record StandsAtKey (searched : SearchedLexicon) (line : Line) (stack : Resumption) (level : ℕ) (here : NumberedConfiguration) (key : Key) : Type 0 where
-  pub frame : IsFrame searched line stack level
+  pub placed : IsPlaced searched line stack level
   pub place : here_of searched stack level ≡ here
-  pub later : HasLaterToTry searched line stack level
+  pub possible : IsPossible searched line here key
   pub is_at : key_at stack level ≡ key
 
 -- so it does where the test of the key does not refuse it

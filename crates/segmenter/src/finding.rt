@@ -1,20 +1,21 @@
-ghost use Rattle.std.specs.Prelude.{◌<◌, ◌≤◌, ◌+◌, ◌-◌, ◌∷◌, ℕ, List};
+ghost use Rattle.std.specs.Prelude.{◌≡◌, ◌<◌, ◌≤◌, true, ◌+◌, ◌-◌, ◌∷◌, ℕ, List};
 ghost use Rattle.std.specs.Bool.{OnTrue, OnFalse};
 ghost use Rattle.text_definitions.specs.Lines.{IsLine};
 ghost use Rattle.segmentation_definitions.specs.Listings.{Key};
 ghost use Rattle.annotated_trie.specs.Searched.{IsSearchedLexicon};
 ghost use Rattle.search_frames.specs.Stacks.{IsStack, KeepsBefore, depth_of};
-ghost use Rattle.search_frames.specs.Frames.{IsFrame, IsConfigurationIn, numbered_of, here_of};
+ghost use Rattle.search_frames.specs.Frames.{IsPlaced, IsConfigurationIn, numbered_of, here_of, key_at};
 ghost use Rattle.search_frames.specs.Guided.{IsGuideOf, IsExactOf};
-ghost use Rattle.search_frames.specs.Costs.{HasAtMostRules, steps_left};
+ghost use Rattle.search_frames.specs.Costs.{HasAtMostRules, steps_of_frame};
 ghost use Rattle.search_frames.specs.Reached.{IsReached};
-ghost use Rattle.search_frames.specs.Turns.{HasToTry};
+ghost use Rattle.search_frames.specs.Turns.{StandsToTry};
 ghost use Rattle.segmenter.specs.MoveCosts.{steps_of_levels, levels_from, levels_after};
-ghost use Rattle.segmenter.specs.Chains.{AreFrames, HasFound, HasNone, Every, BeginsUntried, ComesAfter, LeadAlong, HasNoneBelow, HasRoom};
+ghost use Rattle.segmenter.specs.Chains.{AreFrames, HasFound, HasNone, Every, BeginsToTry, ComesAfter, LeadAlong, HasNoneBelow, HasRoom};
 
-use super::search_space::SearchSpace;
 use outside::Steps;
-use search_frames::{Configuration, Resumption, SearchGuide, ToTry, Turn, open_frame};
+use search_frames::{
+    Configuration, Resumption, SearchGuide, SearchSpace, ToTry, Turn, open_frame, turn,
+};
 
 /// Finds the first path from the configuration, with the frames from the level on. False where there is no path.
 #[cycle(find)]
@@ -36,23 +37,16 @@ pub(crate) fn find_first<D: SearchGuide, L>(
     ensures found { OnTrue result (HasFound space.now.lexicon.now space.now.line.now space.now.choices.now Every stack.new level (numbered_of space.now.lexicon.now place)) }
     ensures none { OnFalse result (HasNone space.now.lexicon.now space.now.line.now space.now.choices.now Every (numbered_of space.now.lexicon.now place)) }
     ensures changes { KeepsBefore level stack.old stack.new }
+    ensures exact { IsExactOf space.now.lexicon.now space.now.line.now space.now.choices.now (D.says space.now.guide.now) → D.says space.now.guide.now place.at place.entrance place.state ≡ true → result ≡ true }
     ensures steps_on { IsExactOf space.now.lexicon.now space.now.line.now space.now.choices.now (D.says space.now.guide.now) → (most : ℕ) → HasAtMostRules space.now.lexicon.now.tries most
-        → OnTrue result (steps.new ≤ steps.old + 1 + steps_of_levels space.now.lexicon.now most (levels_from space.now.line.now (numbered_of space.now.lexicon.now place))) }
-    ensures steps_end { IsExactOf space.now.lexicon.now space.now.line.now space.now.choices.now (D.says space.now.guide.now) → (most : ℕ) → HasAtMostRules space.now.lexicon.now.tries most
-        → OnFalse result (steps.new ≤ steps.old + 1) }
+        → OnTrue result (steps.new ≤ steps.old + steps_of_levels space.now.lexicon.now most (levels_from space.now.line.now (numbered_of space.now.lexicon.now place))) }
 {
-    if !space
-        .guide
-        .live(place.at, place.entrance, place.state, steps)
-    {
-        return false;
-    }
-    open_frame(space.lexicon, space.line, stack, level, place, steps);
+    open_frame(space.lexicon, space.line, stack, level, place);
     find_next(space, stack, level, ToTry::All, steps)
 }
 
 /// Finds the first path from where the frame at the level stands that begins with a key that the frame has still to try. False
-/// where there is no such path. The caller says which keys these are, so that the guide need not find it out.
+/// where there is no such path. The caller says which keys these are.
 #[cycle(find)]
 pub(crate) fn find_next<D: SearchGuide, L>(
     space: &SearchSpace<'_, D>,
@@ -65,29 +59,21 @@ pub(crate) fn find_next<D: SearchGuide, L>(
     requires line { IsLine space.now.line.now }
     requires guide { IsGuideOf space.now.lexicon.now space.now.line.now space.now.choices.now (D.covers space.now.guide.now) (D.says space.now.guide.now) }
     requires known { D.known space.now.guide.now space.now.lexicon.now space.now.line.now space.now.choices.now }
-    requires frame { IsFrame space.now.lexicon.now space.now.line.now stack.old level }
-    requires to_try { HasToTry space.now.lexicon.now space.now.line.now stack.old level to_try }
+    requires placed { IsPlaced space.now.lexicon.now space.now.line.now stack.old level }
+    requires stands { StandsToTry space.now.lexicon.now space.now.line.now stack.old level to_try }
     requires reached { IsReached space.now.lexicon.now space.now.line.now space.now.choices.now (here_of space.now.lexicon.now stack.old level) }
     requires room { HasRoom space.now.line.now stack.old level (here_of space.now.lexicon.now stack.old level) }
-    ensures found { OnTrue result (HasFound space.now.lexicon.now space.now.line.now space.now.choices.now (BeginsUntried space.now.lexicon.now stack.old level) stack.new level (here_of space.now.lexicon.now stack.old level)) }
-    ensures none { OnFalse result (HasNone space.now.lexicon.now space.now.line.now space.now.choices.now (BeginsUntried space.now.lexicon.now stack.old level) (here_of space.now.lexicon.now stack.old level)) }
+    ensures found { OnTrue result (HasFound space.now.lexicon.now space.now.line.now space.now.choices.now (BeginsToTry (key_at stack.old level) to_try) stack.new level (here_of space.now.lexicon.now stack.old level)) }
+    ensures none { OnFalse result (HasNone space.now.lexicon.now space.now.line.now space.now.choices.now (BeginsToTry (key_at stack.old level) to_try) (here_of space.now.lexicon.now stack.old level)) }
     ensures changes { KeepsBefore level stack.old stack.new }
     ensures steps_on { IsExactOf space.now.lexicon.now space.now.line.now space.now.choices.now (D.says space.now.guide.now) → (most : ℕ) → HasAtMostRules space.now.lexicon.now.tries most
-        → OnTrue result (steps.new ≤ steps.old + steps_left space.now.lexicon.now most stack.old level + steps_of_levels space.now.lexicon.now most (levels_after space.now.line.now (here_of space.now.lexicon.now stack.old level))) }
+        → OnTrue result (steps.new ≤ steps.old + steps_of_frame space.now.lexicon.now most + steps_of_levels space.now.lexicon.now most (levels_after space.now.line.now (here_of space.now.lexicon.now stack.old level))) }
     ensures steps_end { IsExactOf space.now.lexicon.now space.now.line.now space.now.choices.now (D.says space.now.guide.now) → (most : ℕ) → HasAtMostRules space.now.lexicon.now.tries most
-        → OnFalse result (steps.new ≤ steps.old + steps_left space.now.lexicon.now most stack.old level) }
+        → OnFalse result (steps.new ≤ steps.old + steps_of_frame space.now.lexicon.now most) }
 {
     let mut to_try = to_try;
     loop {
-        match space.guide.turn(
-            space.lexicon,
-            space.line,
-            space.choices,
-            stack,
-            level,
-            to_try,
-            steps,
-        ) {
+        match turn(space, stack, level, to_try, steps) {
             Turn::Nothing => return false,
             Turn::Ends => {
                 stack.use_frames(level as u32 + 1);

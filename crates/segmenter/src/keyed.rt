@@ -12,10 +12,11 @@ ghost use Rattle.segmenter.specs.Chains.{AreFrames, HasRoom};
 ghost use Rattle.derivation.specs.Steps.{key_meant, keys_meant};
 ghost use Rattle.segmenter.specs.GivenKeys.{StandsUnlessRefused};
 
-use super::search_space::SearchSpace;
 use derivation::Key;
 use outside::Steps;
-use search_frames::{Configuration, Resumption, SearchGuide, Test, open_frame, seek, test_key};
+use search_frames::{
+    Configuration, Resumption, SearchGuide, SearchSpace, Test, begin_walk, seek, test_key,
+};
 
 /// Makes the frame at the level, counted from 0, one that stands at the configuration and at the key, and tells what the key does
 /// there.
@@ -36,7 +37,7 @@ fn stand_at_key<D: SearchGuide>(
     ensures changes { KeepsBefore level stack.old stack.new }
 {
     let mut steps = Steps::<()>::new();
-    open_frame(space.lexicon, space.line, stack, level, place, &mut steps);
+    begin_walk(space.lexicon, space.line, stack, level, place, &mut steps);
     if !seek(space.lexicon, space.line, stack, level, key) {
         return Test::Refused;
     }

@@ -17,7 +17,7 @@ mod finding;
 mod keyed;
 mod resuming;
 mod search;
-mod search_space;
+mod shown_lexicon;
 
 pub use resuming::ResumeError;
 pub use search::Search;

@@ -17,13 +17,13 @@ ghost use Rattle.segmenter.specs.Skips.{HasNonePast, StandsPast, HasSkipped, Has
 use super::finding::find_later;
 use super::keyed::find_keys;
 use super::search::{Search, empty_stack, opening};
-use super::search_space::{SearchSpace, show_lexicon};
+use super::shown_lexicon::show_lexicon;
 use annotated_trie::Lexicon;
 use derivation::Key;
 use outside::Steps;
 use phoneme::{Line, Memory};
 use reader_choices::Choices;
-use search_frames::{Cursor, Resumption, SearchGuide};
+use search_frames::{Cursor, Resumption, SearchGuide, SearchSpace};
 use std::alloc::Global;
 use thiserror::Error;
 

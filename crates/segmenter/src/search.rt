@@ -16,13 +16,13 @@ ghost use Rattle.segmenter.specs.Moves.{StandsAtNext, HasNoNext, HasMoved, HasRu
 ghost use Rattle.segmenter.specs.Searches.{IsStackOf, cursor_of, MovedOn, HasEnded, IsCurrent, StandsWhere};
 
 use super::finding::{find_first, find_later};
-use super::search_space::{SearchSpace, show_lexicon};
+use super::shown_lexicon::show_lexicon;
 use annotated_trie::Lexicon;
 use derivation::{Entrance, Step};
 use outside::Steps;
 use phoneme::{Line, Memory};
 use reader_choices::Choices;
-use search_frames::{Configuration, Cursor, Resumption, SearchGuide, new_stack};
+use search_frames::{Configuration, Cursor, Resumption, SearchGuide, SearchSpace, new_stack};
 use std::alloc::Global;
 use std::marker::Model;
 
@@ -126,6 +126,32 @@ impl<'a, D: SearchGuide> Search<'a, D> {
     }
 }
 
+/// Finds the first answer, and brings the frames of the stack there. False where there is no answer.
+fn find_from_start<D: SearchGuide, L>(
+    space: &SearchSpace<'_, D>,
+    stack: &mut Resumption,
+    steps: &mut Steps<L>,
+) -> bool
+    requires searched { IsSearchedLexicon space.now.lexicon.now }
+    requires guide { IsGuideOf space.now.lexicon.now space.now.line.now space.now.choices.now (D.covers space.now.guide.now) (D.says space.now.guide.now) }
+    requires known { D.known space.now.guide.now space.now.lexicon.now space.now.line.now space.now.choices.now }
+    requires stack { IsStackOf space.now.lexicon.now space.now.line.now space.now.choices.now stack.old }
+    requires before { cursor_in stack.old ≡ cursor.Before }
+    ensures found { OnTrue result (StandsAtNext space.now.lexicon.now space.now.line.now space.now.choices.now stack.old stack.new) }
+    ensures none { OnFalse result (HasNoNext space.now.lexicon.now space.now.line.now space.now.choices.now stack.old) }
+    ensures changes { KeepsBefore 0 stack.old stack.new }
+    ensures steps { IsExactOf space.now.lexicon.now space.now.line.now space.now.choices.now (D.says space.now.guide.now) → (most : ℕ) → HasAtMostRules space.now.lexicon.now.tries most → steps.new ≤ steps.old + steps_of_levels space.now.lexicon.now most (4 * length space.now.line.now.letters) }
+{
+    let start = opening(space.lexicon);
+    if !space
+        .guide
+        .live(start.at, start.entrance, start.state, steps)
+    {
+        return false;
+    }
+    find_first(space, stack, 0, start, steps)
+}
+
 /// Finds the next answer after where the stack stands, and brings its frames there. False where no answer is left.
 fn find_next_answer<D: SearchGuide, L>(
     space: &SearchSpace<'_, D>,
@@ -142,7 +168,7 @@ fn find_next_answer<D: SearchGuide, L>(
     ensures steps { IsExactOf space.now.lexicon.now space.now.line.now space.now.choices.now (D.says space.now.guide.now) → (most : ℕ) → HasAtMostRules space.now.lexicon.now.tries most → steps.new ≤ steps.old + steps_of_levels space.now.lexicon.now most (4 * length space.now.line.now.letters) }
 {
     match stack.cursor() {
-        Cursor::Before => find_first(space, stack, 0, opening(space.lexicon), steps),
+        Cursor::Before => find_from_start(space, stack, steps),
         Cursor::At => find_later(space, stack, 0, steps),
         Cursor::Past => false,
     }

@@ -7,7 +7,7 @@ use Rattle.summary_chart.specs.StateSets.{HasState}
 use Rattle.summary_chart.specs.Tables.{AreEmptyBetween}
 
 module _ (sets : List StateSet) where
-  abbrev set_at : ℕ → StateSet
+  abbrev pub set_at : ℕ → StateSet
   set_at index = slice_index_or sets index (record { bits = 0 })
 
   pub none_yet : (from : ℕ) → from ≤ length sets → AreEmptyBetween sets from from
@@ -51,4 +51,17 @@ module _ (sets : List StateSet) where
         ∙ get_or-drop until sets (index - until) (record { bits = 0 })
         ∙ ap set_at there in
         λ has. empty.empty (index - until) number (omega arith) (omega (arith, place, long)) (subst (λ (set : StateSet). HasState set number) (sym read) has);
+  }
+
+  -- one set more before those that are empty
+  pub one_before : (from until : ℕ) → AreEmptyBetween sets (from + 1) until → ((number : ℕ) → HasState (set_at from) number → ⊥) → AreEmptyBetween sets from until
+  one_before from until so_far none = record {
+    rises = (let rises = so_far.rises in omega (arith, rises));
+    within = so_far.within;
+    empty = λ index number above below. elim (cases_lt from index) [
+      | inl later ↦ so_far.empty index number (omega (arith, later)) below
+      | inr here ↦
+          let same : from ≡ index = omega (arith, here, above) in
+          subst (λ (n : ℕ). HasState (set_at n) number → ⊥) same (none number)
+    ];
   }

@@ -1,30 +1,31 @@
--- A summary takes a frame for each set of the table at most, which is within the bound, since two such passes are.
+-- A pass takes as many steps for each set of the table at most, which is within the bound, since two such passes are.
 use Rattle.std.proofs.Common.{◌≡◌, ℕ, ◌+◌, ◌*◌, ◌≤◌, length, ap, sym, subst, arith}
 use Rattle.std.proofs.Math.Nat.{mul-le-mul_left, mul-le-mul_right}
 use Rattle.text_definitions.specs.Lines.{Line}
 use Rattle.segmentation_definitions.specs.StepBounds.{chart_bound, configuration_count}
 use Rattle.annotated_trie.specs.Searched.{SearchedLexicon, IsSearchedLexicon}
 use Rattle.search_frames.specs.Configurations.{rules_in}
-use Rattle.search_frames.specs.Costs.{steps_of_frame}
 use Rattle.summary_chart.specs.Spreading.{leads_in}
-use Rattle.summary_chart.specs.Charts.{set_count, steps_of_pass}
+use Rattle.summary_chart.specs.Charts.{set_count}
 use Rattle.summary_chart.specs.Summaries.{steps_of_items, steps_of_summary}
-use Rattle.summary_chart.proofs.PassCosts.{chart_within, frame_and_skip, one_frame_more}
+use Rattle.summary_chart.proofs.PassCosts.{frame_and_skip, one_frame_more}
 
--- the items of a place take at most 96 steps for each look
-place_within : (phases most : ℕ) → phases * (1 + (8 + 65 + 65 * (3 * most + 4))) ≤ 96 * (phases * 65 * (most + 1))
+-- twice what a place takes is at most 96 steps for each look
+place_within : (phases most : ℕ) → 2 * (phases * (1 + (8 + 65 + 65 * (3 * most + 4)))) ≤ 96 * (phases * 65 * (most + 1))
 place_within phases most =
-    let each : 1 + (8 + 65 + 65 * (3 * most + 4)) ≤ 96 * (65 * (most + 1)) = omega arith in
+    let each : 2 * (1 + (8 + 65 + 65 * (3 * most + 4))) ≤ 96 * (65 * (most + 1)) = omega arith in
     let all = mul-le-mul_left phases each in
+    let twice : phases * (2 * (1 + (8 + 65 + 65 * (3 * most + 4)))) ≡ 2 * (phases * (1 + (8 + 65 + 65 * (3 * most + 4)))) = omega arith in
     let looks : phases * (96 * (65 * (most + 1))) ≡ 96 * (phases * 65 * (most + 1)) = omega arith in
-    omega (arith, all, looks)
+    omega (arith, all, twice, looks)
 
-all_within : (sets place looks : ℕ) → place ≤ 96 * looks → sets * place ≤ 3 * looks * (sets * 32)
+all_within : (sets place looks : ℕ) → 2 * place ≤ 96 * looks → 2 * (sets * place) ≤ 3 * looks * (sets * 32)
 all_within sets place looks few =
     let all = mul-le-mul_left sets few in
+    let twice : sets * (2 * place) ≡ 2 * (sets * place) = omega arith in
     let same : sets * (96 * looks) ≡ 96 * (looks * sets) = omega arith in
     let bound : 3 * looks * (sets * 32) ≡ 96 * (looks * sets) = omega arith in
-    omega (arith, all, same, bound)
+    omega (arith, all, twice, same, bound)
 
 -- one front more, and one phase more
 pub one_more_within : (start count each now then : ℕ) → now ≤ start + count * each → then ≤ now + each → then ≤ start + (count + 1) * each
@@ -35,19 +36,6 @@ pub fewer_within : (count all each : ℕ) → count ≤ all → count * each ≤
 fewer_within count all each few = mul-le-mul_right each few
 
 module _ (searched : SearchedLexicon) (line : Line) (most : ℕ) where
-  -- as many frames as there are sets at most
-  pub frames_within : (index start now : ℕ) → index ≤ set_count searched line → now ≤ start + index * steps_of_frame searched most
-      → now ≤ start + steps_of_pass searched line most
-  frames_within index start now low spent =
-      let all : index * steps_of_frame searched most ≤ set_count searched line * steps_of_frame searched most = mul-le-mul_right (steps_of_frame searched most) low in
-      omega (arith, spent, all)
-
-  pub bound_within : (start now : ℕ) → IsSearchedLexicon searched → now ≤ start + steps_of_pass searched line most
-      → now ≤ start + chart_bound searched.lexicon most (length line.letters) (length (leads_in searched))
-  bound_within start now is spent = let twice = chart_within searched line most is in omega (arith, spent, twice)
-
-  -- ---- a summary
-
   -- one place more
   pub place_and_skip : (index next start now then : ℕ) → index + 1 ≤ next → now ≤ start + index * steps_of_items searched most
       → then ≤ now + steps_of_items searched most → then ≤ start + next * steps_of_items searched most
@@ -60,10 +48,10 @@ module _ (searched : SearchedLexicon) (line : Line) (most : ℕ) where
       let all : index * steps_of_items searched most ≤ set_count searched line * steps_of_items searched most = mul-le-mul_right (steps_of_items searched most) low in
       omega (arith, spent, all)
 
-  -- a place takes less than all looks there
-  pub summary_within : (start now : ℕ) → IsSearchedLexicon searched → now ≤ start + steps_of_summary searched line most
-      → now ≤ start + chart_bound searched.lexicon most (length line.letters) (length (leads_in searched))
-  summary_within start now is spent =
+  -- two passes take less than all looks
+  twice_within : IsSearchedLexicon searched
+      → 2 * steps_of_summary searched line most ≤ chart_bound searched.lexicon most (length line.letters) (length (leads_in searched))
+  twice_within is =
       let phases = length (rules_in searched).names in
       let leads = length (leads_in searched) in
       let looks = phases * 65 * (most + 1) in
@@ -72,7 +60,13 @@ module _ (searched : SearchedLexicon) (line : Line) (most : ℕ) where
       let count : length searched.lexicon.phases ≡ phases = is.lexicon.count in
       let same_looks = ap (λ (n : ℕ). n * 65 * (most + 1)) count in
       let width : leads + 51 ≡ 51 + leads = omega arith in
-      let bound : steps_of_summary searched line most ≤ chart_bound searched.lexicon most (length line.letters) leads =
-      subst (λ (n : ℕ). steps_of_summary searched line most ≤ 3 * n * configuration_count (length line.letters) leads) (sym same_looks)
-      (subst (λ (n : ℕ). steps_of_summary searched line most ≤ 3 * looks * ((length line.letters + 1) * n * 32)) width all) in
-      omega (arith, spent, bound)
+      subst (λ (n : ℕ). 2 * steps_of_summary searched line most ≤ 3 * n * configuration_count (length line.letters) leads) (sym same_looks)
+      (subst (λ (n : ℕ). 2 * steps_of_summary searched line most ≤ 3 * looks * ((length line.letters + 1) * n * 32)) width all)
+
+  pub passes_within : (start now : ℕ) → IsSearchedLexicon searched → now ≤ start + 2 * steps_of_summary searched line most
+      → now ≤ start + chart_bound searched.lexicon most (length line.letters) (length (leads_in searched))
+  passes_within start now is spent = (let bound = twice_within is in omega (arith, spent, bound))
+
+  pub summary_within : (start now : ℕ) → IsSearchedLexicon searched → now ≤ start + steps_of_summary searched line most
+      → now ≤ start + chart_bound searched.lexicon most (length line.letters) (length (leads_in searched))
+  summary_within start now is spent = (let bound = twice_within is in omega (arith, spent, bound))

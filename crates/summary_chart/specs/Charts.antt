@@ -11,7 +11,6 @@ use Rattle.search_frames.specs.declared.configuration.Configuration.{Configurati
 use Rattle.search_frames.specs.Configurations.{ways_in, opening}
 use Rattle.search_frames.specs.Frames.{IsConfigurationIn, numbered_of}
 use Rattle.search_frames.specs.Tests.{LeadsTo}
-use Rattle.search_frames.specs.Costs.{steps_of_frame}
 use Rattle.search_frames.specs.Reached.{IsReached}
 use Rattle.summary_chart.specs.declared.state_set.StateSet.{StateSet}
 use Rattle.summary_chart.specs.declared.table.Table.{Table}
@@ -64,10 +63,6 @@ pub record IsAliveFrom (searched : SearchedLexicon) (line : Line) (choices : Lis
 abbrev pub set_count : SearchedLexicon → Line → ℕ
 set_count searched line = (length line.letters + 1) * width_over (length (leads_in searched))
 
--- the most steps that going once over the table takes: those of a frame for each set
-abbrev pub steps_of_pass : SearchedLexicon → Line → ℕ → ℕ
-steps_of_pass searched line most = set_count searched line * steps_of_frame searched most
-
 -- the table has the opening alone
 pub record IsOpenTable (searched : SearchedLexicon) (line : Line) (table : Table) : Type 0 where
   pub lawful : IsTable (leads_in searched) (length line.letters) table
@@ -86,3 +81,11 @@ is_entrance (Plain letter) = nat_lt 0 letter && nat_lt letter 51
 -- what it says of the place
 abbrev pub says_of : Table → ℕ → Entrance → Option ℕ → Bool
 says_of table at entrance state = if is_entrance entrance then has_state (set_at table at entrance) state else false
+
+-- what contracts see of a chart
+pub record ChartValue : Type 0 where
+  pub table : Table
+
+-- the chart is that of the lexicon, the line and the choices: its table has just the living places
+pub record IsChartOf (searched : SearchedLexicon) (line : Line) (choices : List Choice) (chart : ChartValue) : Type 0 where
+  pub table : IsChartTable searched line choices chart.table

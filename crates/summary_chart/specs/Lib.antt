@@ -3,6 +3,4 @@ pub mod Tables
 pub mod Spreading
 pub mod Fronts
 pub mod Charts
-pub mod PlaceWays
 pub mod Summaries
-pub mod Turning

@@ -1,5 +1,5 @@
 -- Where keys lead on to from a place of the line with a set of states, and which of the states go further (own).
-use Rattle.std.specs.Prelude.{◌≡◌, ℕ, ◌⊎◌, ◌↔◌, Some, List}
+use Rattle.std.specs.Prelude.{◌≡◌, ℕ, ◌⊎◌, ◌↔◌, Some, List, Contains}
 use Rattle.text_definitions.specs.Lines.{Line}
 use Rattle.lexicon_definitions.specs.Leads.{Lead, leads_of}
 use Rattle.segmentation_definitions.specs.Items.{Choice}
@@ -64,3 +64,20 @@ EveryKey key = Unit {0}
 -- only this one is
 abbrev pub OnlyKey : Key → Key → Type 0
 OnlyKey key other = other ≡ key
+
+-- one of this phase; of those, one with this number of letters; and of those, one with one of these rules
+abbrev pub IsInPhase : ℕ → Key → Type 0
+IsInPhase phase key = key.phase ≡ phase
+
+abbrev pub IsAtFront : ℕ → ℕ → Key → Type 0
+IsAtFront phase taken key = (key.phase ≡ phase) × (key.taken ≡ taken)
+
+abbrev pub IsByRule : ℕ → ℕ → List ℕ → Key → Type 0
+IsByRule phase taken rules key = (key.phase ≡ phase) × (key.taken ≡ taken) × Contains rules key.rule
+
+-- the states of the set from which such a key goes further were put to those before
+abbrev pub GathersMore : SearchedLexicon → Line → List Choice → Table → ℕ → Entrance → StateSet → (Key → Type 0) → StateSet → StateSet → Type 0
+GathersMore searched line choices table at entrance set IsTold old new =
+    (number : ℕ) → HasState new number
+    ↔ (HasState old number
+    ⊎ (IsStateOf searched.machine set number × GoesFurther searched line choices table (standing_with searched at entrance number) IsTold))

@@ -1,15 +1,13 @@
-ghost use Rattle.std.specs.Prelude.{◌≡◌, ◌+◌, ◌*◌, ◌≤◌, ℕ, length, IfOk, MatchOption};
+ghost use Rattle.std.specs.Prelude.{◌≡◌, ◌+◌, ◌*◌, ◌≤◌, ℕ, length, IfOk};
 ghost use Rattle.text_definitions.specs.Lines.{IsLine};
 ghost use Rattle.segmentation_definitions.specs.StepBounds.{chart_bound};
 ghost use Rattle.search_frames.specs.Costs.{HasAtMostRules};
 ghost use Rattle.search_frames.specs.Guided.{IsGuideOf, IsExactOf};
-ghost use Rattle.summary_chart.specs.Charts.{IsOpenTable, CoversPlace, says_of, steps_of_pass};
-ghost use Rattle.summary_chart.specs.PlaceWays.{IsChartOf, AreStops, AreWaysAt, HasStopAt};
-ghost use Rattle.summary_chart.specs.Tables.{IsIn, index_in};
+ghost use Rattle.summary_chart.specs.Charts.{IsChartOf, IsOpenTable, CoversPlace, says_of, set_count};
+ghost use Rattle.summary_chart.specs.Summaries.{steps_of_summary};
 ghost use Rattle.summary_chart.specs.Spreading.{leads_in};
 
 use super::passes::{keep_living, reach};
-use super::place_ways::PlaceWays;
 use super::state_set::StateSet;
 use super::table::Table;
 use annotated_trie::Lexicon;
@@ -18,7 +16,7 @@ use outside::Steps;
 use phase_automaton::State;
 use phoneme::{Line, Memory};
 use reader_choices::Choices;
-use search_frames::{Configuration, Way, new_stack};
+use search_frames::NODES_OF_FRAME;
 use std::alloc::Global;
 use std::marker::Model;
 
@@ -27,15 +25,14 @@ use std::marker::Model;
 #[derive(Debug, Drop)]
 pub struct Chart {
     pub(crate) table: Table,
-    pub(crate) ways: PlaceWays,
 }
 
 impl Model for Chart {
-    ghost use Rattle.summary_chart.specs.PlaceWays.{ChartValue};
+    ghost use Rattle.summary_chart.specs.Charts.{ChartValue};
 
     ghost Value = { ChartValue };
 
-    ghost view = { λ c. record { table = c.table; stops = c.ways.stops.items; ways = c.ways.ways.items } };
+    ghost view = { λ c. record { table = c.table } };
 }
 
 /// A table that has the opening alone.
@@ -51,9 +48,9 @@ fn open_table(alloc: Global, lexicon: &Lexicon, line: &Line) -> Result<Table, Me
 }
 
 impl Chart {
-    /// The chart of the line with these choices, over the lexicon. `steps` counts each letter that is walked and each look at a choice,
-    /// at most what a frame takes for each number of letters and each entrance. Going over the ways that were found is not counted.
-    /// Refused only for want of memory.
+    /// The chart of the line with these choices, over the lexicon: a set of states, of four bytes, for each number of letters and each
+    /// entrance. `steps` counts each phase, node and rule that is looked at, in two passes. Looking for sets that are not empty is not
+    /// counted. Refused only for want of memory.
     pub fn build<L>(
         alloc: Global,
         lexicon: &Lexicon,
@@ -64,47 +61,19 @@ impl Chart {
         ensures guide { IfOk result (λ chart. IsGuideOf lexicon.now line.now choices.now (CoversPlace chart.table) (says_of chart.table)) }
         ensures exact { IfOk result (λ chart. IsExactOf lexicon.now line.now choices.now (says_of chart.table)) }
         ensures chart { IfOk result (λ chart. IsChartOf lexicon.now line.now choices.now chart) }
-        ensures steps { (most : ℕ) → HasAtMostRules lexicon.now.tries most → steps.new ≤ steps.old + steps_of_pass lexicon.now line.now most }
+        ensures stored { IfOk result (λ chart. length chart.table.sets.items ≡ set_count lexicon.now line.now) }
+        ensures steps { (most : ℕ) → HasAtMostRules lexicon.now.tries most → steps.new ≤ steps.old + 2 * steps_of_summary lexicon.now line.now most }
         ensures bound { (most : ℕ) → HasAtMostRules lexicon.now.tries most → steps.new ≤ steps.old + chart_bound lexicon.now.lexicon most (length line.now.letters) (length (leads_in lexicon.now)) }
     {
         // The proof knows what holds of a line, a lexicon and an automaton only of those that are read.
         let _letters = &line.letters;
         let _rules = lexicon.rules();
         let _states = lexicon.automaton().states();
-        let mut walker = new_stack(alloc, lexicon, 1)?;
+        let mut nodes = Vec::with_capacity(alloc, NODES_OF_FRAME)?;
         let mut table = open_table(alloc, lexicon, line)?;
-        // Most lines have fewer of each than letters.
-        let letters = line.letters.as_slice().len();
-        let mut stops = Vec::with_capacity(alloc, letters)?;
-        let mut ways = Vec::with_capacity(alloc, letters)?;
-        reach(
-            lexicon,
-            line,
-            choices,
-            &mut walker,
-            &mut table,
-            &mut stops,
-            &mut ways,
-            steps,
-        )?;
-        let ways = PlaceWays { stops, ways };
-        keep_living(lexicon, line, choices, &ways, &mut table);
-        Ok(Chart { table, ways })
-    }
-}
-
-impl Chart {
-    /// The ways from the place. `None` where the chart does not have it, so that no answer goes on from there.
-    pub(crate) fn ways_from(&self, place: &Configuration) -> Option<&[Way]>
-        requires stops { AreStops self.now.stops (length self.now.ways) }
-        requires covers { CoversPlace self.now.table place.now.at place.now.entrance place.now.state }
-        ensures found { MatchOption result (IsIn self.now.table place.now → HasStopAt self.now.stops (index_in self.now.table place.now.at place.now.entrance) → ⊥)
-            (λ ways. IsIn self.now.table place.now × AreWaysAt self.now.stops self.now.ways (index_in self.now.table place.now.at place.now.entrance) ways.now) }
-    {
-        if !self.table.has(place.at, place.entrance, place.state) {
-            return None;
-        }
-        self.ways.at(self.table.index(place.at, place.entrance))
+        reach(lexicon, line, choices, &mut nodes, &mut table, steps)?;
+        keep_living(lexicon, line, choices, &mut nodes, &mut table, steps)?;
+        Ok(Chart { table })
     }
 }
 

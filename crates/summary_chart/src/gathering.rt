@@ -1,49 +1,27 @@
-ghost use Rattle.std.specs.Prelude.{◌≡◌, length};
+ghost use Rattle.std.specs.Prelude.{◌≡◌, ◌+◌, ◌*◌, ◌<◌, ◌≤◌, ℕ, length, All, IfOk};
 ghost use Rattle.text_definitions.specs.Lines.{IsLine};
-ghost use Rattle.derivation.specs.Steps.{key_of};
+ghost use Rattle.derivation.specs.Steps.{key_meant, key_of};
 ghost use Rattle.answer_paths.specs.Fronts.{supplied};
 ghost use Rattle.annotated_trie.specs.Searched.{IsSearchedLexicon};
 ghost use Rattle.search_frames.specs.Frames.{IsConfigurationIn, numbered_of};
 ghost use Rattle.search_frames.specs.Configurations.{IsPossible};
-ghost use Rattle.search_frames.specs.WaysFrom.{AreWaysFrom, IsWayFrom, key_of_way};
+ghost use Rattle.search_frames.specs.Costs.{HasAtMostRules};
+ghost use Rattle.summary_chart.specs.Fronts.{IsFrontAt};
 ghost use Rattle.summary_chart.specs.Tables.{IsTable};
-ghost use Rattle.summary_chart.specs.Spreading.{AreGoingFurther, EveryKey, OnlyKey, leads_in};
+ghost use Rattle.summary_chart.specs.Spreading.{AreGoingFurther, GathersMore, EveryKey, OnlyKey, IsByRule, IsAtFront, IsInPhase, leads_in};
+ghost use Rattle.summary_chart.specs.Summaries.{steps_of_front, steps_of_fronts, steps_of_items};
 
 use super::state_set::StateSet;
-use super::state_steps::{accepted_states, states_into};
+use super::state_steps::{accepted_states, states_after, states_into};
 use super::table::Table;
+use super::walking::walk_fronts;
 use annotated_trie::Lexicon;
-use derivation::Step;
-use phoneme::Line;
+use derivation::{Key, Step};
+use outside::Steps;
+use phoneme::{Line, Memory};
 use reader_choices::Choices;
-use search_frames::{Configuration, LetterTest, Way, test_letters};
-
-/// The states of the set from which the way ends the line or leads on to a place of the table. The place's own state is not looked
-/// at.
-pub(crate) fn states_going_further(
-    lexicon: &Lexicon,
-    line: &Line,
-    choices: &Choices,
-    place: &Configuration,
-    states: StateSet,
-    way: &Way,
-    table: &Table,
-) -> StateSet
-    requires searched { IsSearchedLexicon lexicon.now }
-    requires place { IsConfigurationIn lexicon.now line.now place.now }
-    requires way { IsWayFrom lexicon.now line.now choices.now (numbered_of lexicon.now place.now) way.now }
-    requires table { IsTable (leads_in lexicon.now) (length line.now.letters) table.now }
-    ensures { AreGoingFurther lexicon.now line.now choices.now table.now place.now.at place.now.entrance states (OnlyKey (key_of_way way.now)) result }
-{
-    let automaton = lexicon.automaton();
-    match way.test {
-        LetterTest::Refused => StateSet::empty(),
-        LetterTest::Ends => accepted_states(automaton, states, way.key.phase),
-        LetterTest::LeadsOn { at, entrance } => {
-            states_into(automaton, states, way.key.phase, table.get(at, entrance))
-        }
-    }
-}
+use search_frames::{Configuration, LetterTest, supplied_letters, test_letters};
+use shared_trie::Node;
 
 /// The states of the set from which the step, whose key is possible at the place, ends the line or leads on to a place of the table.
 /// The place's own state is not looked at.
@@ -75,28 +53,209 @@ pub(crate) fn states_by_key(
     }
 }
 
-/// The states of the set from which one of the ways, which are all from the place, ends the line or leads on to a place of the table.
-/// The place's own state is not looked at.
-pub(crate) fn gather(
+/// The states that are given, and those of the set from which the key, which is possible at the place, ends the line or leads on to a
+/// place of the table. The place's own state is not looked at.
+fn gather_key(
     lexicon: &Lexicon,
     line: &Line,
     choices: &Choices,
-    place: Configuration,
+    place: &Configuration,
     states: StateSet,
-    ways: &[Way],
+    key: Key,
     table: &Table,
+    further: StateSet,
 ) -> StateSet
     requires searched { IsSearchedLexicon lexicon.now }
-    requires place { IsConfigurationIn lexicon.now line.now place }
-    requires ways { AreWaysFrom lexicon.now line.now choices.now (numbered_of lexicon.now place) ways.now }
+    requires line { IsLine line.now }
+    requires place { IsConfigurationIn lexicon.now line.now place.now }
+    requires possible { IsPossible lexicon.now line.now (numbered_of lexicon.now place.now) (key_meant key) }
     requires table { IsTable (leads_in lexicon.now) (length line.now.letters) table.now }
-    ensures gathers { AreGoingFurther lexicon.now line.now choices.now table.now place.at place.entrance states EveryKey result }
+    ensures { GathersMore lexicon.now line.now choices.now table.now place.now.at place.now.entrance states (OnlyKey (key_meant key)) further result }
 {
-    let mut further = StateSet::empty();
-    for way in ways {
-        further = further.union(states_going_further(
-            lexicon, line, choices, &place, states, way, table,
-        ));
+    let step = Step {
+        phase: key.phase,
+        rule: key.rule,
+        at: place.at,
+        lead: supplied_letters(lexicon.rules(), place.entrance).len() as u32,
+        taken: key.taken,
+    };
+    further.union(states_by_key(lexicon, line, choices, place, states, &step, table))
+}
+
+/// The same for the keys with these rules, each of which is possible after this front.
+fn gather_rules<L>(
+    lexicon: &Lexicon,
+    line: &Line,
+    choices: &Choices,
+    place: &Configuration,
+    states: StateSet,
+    phase: u32,
+    taken: u32,
+    rules: &[u32],
+    table: &Table,
+    further: StateSet,
+    steps: &mut Steps<L>,
+) -> StateSet
+    requires searched { IsSearchedLexicon lexicon.now }
+    requires line { IsLine line.now }
+    requires place { IsConfigurationIn lexicon.now line.now place.now }
+    requires possible { All (λ rule. IsPossible lexicon.now line.now (numbered_of lexicon.now place.now) (record { phase = phase; taken = taken; rule = rule })) rules.now }
+    requires table { IsTable (leads_in lexicon.now) (length line.now.letters) table.now }
+    ensures gathers { GathersMore lexicon.now line.now choices.now table.now place.now.at place.now.entrance states (IsByRule phase taken rules.now) further result }
+    ensures steps { steps.new ≤ steps.old + length rules.now }
+{
+    let mut gathered = further;
+    for rule in rules {
+        steps.tick();
+        let key = Key {
+            phase,
+            taken,
+            rule: *rule,
+        };
+        gathered = gather_key(lexicon, line, choices, place, states, key, table, gathered);
     }
-    further
+    gathered
+}
+
+/// The same for the key with this front that has no change, if a form ends at its node.
+fn gather_unchanged(
+    lexicon: &Lexicon,
+    line: &Line,
+    choices: &Choices,
+    place: &Configuration,
+    states: StateSet,
+    phase: u32,
+    taken: u32,
+    node: Node,
+    table: &Table,
+    further: StateSet,
+) -> StateSet
+    requires searched { IsSearchedLexicon lexicon.now }
+    requires line { IsLine line.now }
+    requires place { IsConfigurationIn lexicon.now line.now place.now }
+    requires front { IsFrontAt lexicon.now line.now (numbered_of lexicon.now place.now) phase taken node }
+    requires table { IsTable (leads_in lexicon.now) (length line.now.letters) table.now }
+    ensures { GathersMore lexicon.now line.now choices.now table.now place.now.at place.now.entrance states (OnlyKey (record { phase = phase; taken = taken; rule = 0 })) further result }
+{
+    if !lexicon.tries().store().accepts(node) {
+        return further;
+    }
+    let key = Key {
+        phase,
+        taken,
+        rule: 0,
+    };
+    gather_key(lexicon, line, choices, place, states, key, table, further)
+}
+
+/// The same for the keys with this front.
+fn gather_front<L>(
+    lexicon: &Lexicon,
+    line: &Line,
+    choices: &Choices,
+    place: &Configuration,
+    states: StateSet,
+    phase: u32,
+    taken: u32,
+    node: Node,
+    table: &Table,
+    further: StateSet,
+    steps: &mut Steps<L>,
+) -> StateSet
+    requires searched { IsSearchedLexicon lexicon.now }
+    requires line { IsLine line.now }
+    requires place { IsConfigurationIn lexicon.now line.now place.now }
+    requires front { IsFrontAt lexicon.now line.now (numbered_of lexicon.now place.now) phase taken node }
+    requires table { IsTable (leads_in lexicon.now) (length line.now.letters) table.now }
+    ensures gathers { GathersMore lexicon.now line.now choices.now table.now place.now.at place.now.entrance states (IsAtFront phase taken) further result }
+    ensures steps { (most : ℕ) → HasAtMostRules lexicon.now.tries most → steps.new ≤ steps.old + steps_of_front most }
+{
+    steps.tick();
+    let gathered = gather_unchanged(
+        lexicon, line, choices, place, states, phase, taken, node, table, further,
+    );
+    let end = place.at as usize + taken as usize;
+    match line.letters.as_slice().get(end) {
+        None => gathered,
+        Some(letter) => {
+            let rules = lexicon.tries().choices_with(node, *letter, steps);
+            gather_rules(
+                lexicon, line, choices, place, states, phase, taken, rules, table, gathered, steps,
+            )
+        }
+    }
+}
+
+/// The same for the keys of the phase. Refused only for want of memory.
+fn gather_phase<L>(
+    lexicon: &Lexicon,
+    line: &Line,
+    choices: &Choices,
+    place: &Configuration,
+    states: StateSet,
+    phase: u32,
+    nodes: &mut Vec<Node>,
+    table: &Table,
+    further: StateSet,
+    steps: &mut Steps<L>,
+) -> Result<StateSet, Memory>
+    requires searched { IsSearchedLexicon lexicon.now }
+    requires line { IsLine line.now }
+    requires place { IsConfigurationIn lexicon.now line.now place.now }
+    requires phase { phase < length lexicon.now.lexicon.rules.names }
+    requires table { IsTable (leads_in lexicon.now) (length line.now.letters) table.now }
+    ensures gathers { IfOk result (λ gathered. GathersMore lexicon.now line.now choices.now table.now place.now.at place.now.entrance states (IsInPhase phase) further gathered) }
+    ensures steps { (most : ℕ) → HasAtMostRules lexicon.now.tries most → steps.new ≤ steps.old + steps_of_fronts most }
+{
+    walk_fronts(lexicon, line, place, phase, nodes, steps)?;
+    let mut gathered = further;
+    for taken in 0..nodes.len() {
+        gathered = gather_front(
+            lexicon,
+            line,
+            choices,
+            place,
+            states,
+            phase,
+            taken as u32,
+            nodes[taken],
+            table,
+            gathered,
+            steps,
+        );
+    }
+    Ok(gathered)
+}
+
+/// The states of the set from which some key ends the line, or leads on from the place to a place of the table. Phases to which no state
+/// of the set leads are passed over. The place's own state is not looked at. Refused only for want of memory.
+pub(crate) fn gather<L>(
+    lexicon: &Lexicon,
+    line: &Line,
+    choices: &Choices,
+    place: &Configuration,
+    states: StateSet,
+    nodes: &mut Vec<Node>,
+    table: &Table,
+    steps: &mut Steps<L>,
+) -> Result<StateSet, Memory>
+    requires searched { IsSearchedLexicon lexicon.now }
+    requires line { IsLine line.now }
+    requires place { IsConfigurationIn lexicon.now line.now place.now }
+    requires table { IsTable (leads_in lexicon.now) (length line.now.letters) table.now }
+    ensures gathers { IfOk result (λ gathered. AreGoingFurther lexicon.now line.now choices.now table.now place.now.at place.now.entrance states EveryKey gathered) }
+    ensures steps { (most : ℕ) → HasAtMostRules lexicon.now.tries most → steps.new ≤ steps.old + steps_of_items lexicon.now most }
+{
+    let phases = lexicon.rules().phases().len();
+    let mut gathered = StateSet::empty();
+    for phase in 0..phases as u32 {
+        steps.tick();
+        if states_after(lexicon.automaton(), states, phase).is_empty() {
+            continue;
+        }
+        gathered = gather_phase(
+            lexicon, line, choices, place, states, phase, nodes, table, gathered, steps,
+        )?;
+    }
+    Ok(gathered)
 }

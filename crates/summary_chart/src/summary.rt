@@ -5,7 +5,7 @@ ghost use Rattle.segmentation_definitions.specs.StepBounds.{chart_bound};
 ghost use Rattle.annotated_trie.specs.Searched.{IsSearchedLexicon};
 ghost use Rattle.search_frames.specs.Costs.{HasAtMostRules};
 ghost use Rattle.summary_chart.specs.Charts.{IsChartTable};
-ghost use Rattle.summary_chart.specs.PlaceWays.{IsChartOf};
+ghost use Rattle.summary_chart.specs.Charts.{IsChartOf};
 ghost use Rattle.summary_chart.specs.Spreading.{leads_in};
 ghost use Rattle.summary_chart.specs.Summaries.{HasItemsBefore, steps_of_summary};
 

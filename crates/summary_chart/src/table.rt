@@ -85,6 +85,36 @@ fn skip_empty(sets: &[StateSet], from: usize) -> usize
     sets.len()
 }
 
+/// An index up to which all sets from there to before this one are empty, and before which too few are left to be looked at together, or
+/// one of the last is not empty.
+fn skip_many_back(sets: &[StateSet], until: usize) -> usize
+    requires { until ≤ length sets.now }
+    ensures { AreEmptyBetween sets.now result until }
+{
+    let mut end = until;
+    while end >= SETS_AT_ONCE {
+        let start = end - SETS_AT_ONCE;
+        if !are_empty(&sets[start..end]) {
+            return end;
+        }
+        end = start;
+    }
+    end
+}
+
+/// The index after the last one before this one whose set is not empty, or 0.
+fn skip_empty_back(sets: &[StateSet], until: usize) -> usize
+    requires { until ≤ length sets.now }
+    ensures { AreEmptyBetween sets.now result until }
+{
+    for end in (0..until).rev() {
+        if !sets[end].is_empty() {
+            return end + 1;
+        }
+    }
+    0
+}
+
 impl Table {
     /// A table for the rules and the line whose sets are empty. Refused only for want of memory.
     pub fn new(alloc: Global, rules: &RuleSet, line: &Line) -> Result<Table, Memory>
@@ -167,6 +197,15 @@ impl Table {
     {
         let sets = self.sets.as_slice();
         skip_empty(sets, skip_many(sets, from))
+    }
+
+    /// The index after the last one before this one whose set is not empty, or 0.
+    pub fn filled_until(&self, until: usize) -> usize
+        requires { until ≤ length self.now.sets.items }
+        ensures { AreEmptyBetween self.now.sets.items result until }
+    {
+        let sets = self.sets.as_slice();
+        skip_empty_back(sets, skip_many_back(sets, until))
     }
 
     /// After how many letters and at which entrance the set at the index stands.

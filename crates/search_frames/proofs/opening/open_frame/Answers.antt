@@ -1,15 +1,14 @@
--- The frame is placed, and its first phase is begun, after which no phase comes.
+-- Few letters are supplied.
 use Rattle.std.proofs.Common.{◌≡◌, length, ap, ◌∙◌, arith}
 use Rattle.lexicon_definitions.specs.Leads.{leads_of}
 use Rattle.lexicon_definitions.specs.Lexicons.{RuleSet}
 use Rattle.derivation.specs.Guides.{entrance_of}
 use Rattle.answer_paths.specs.Fronts.{supplied}
 use Rattle.search_frames.proofs.WalkLeads.{short_supplied}
-use Rattle.search_frames.proofs.FrameCosts.{begun_costs, opened_costs}
 use Rattle.search_frames.proofs.opening.open_frame.Goals as goal
 
 pub overflow_cast-supplied_letters : goal.overflow_cast-supplied_letters
-overflow_cast-supplied_letters g c =
+overflow_cast-supplied_letters c =
     let rules = c.args.lexicon.now.lexicon.rules in
     let entrance = c.args.place.entrance in
     let short = short_supplied rules entrance c.rules.ensures.searched.limits c.requires.place.over in
@@ -17,9 +16,3 @@ overflow_cast-supplied_letters g c =
     c.supplied_letters.ensures ∙ ap (λ (r : RuleSet). supplied (entrance_of (leads_of r.rules) entrance)) c.rules.ensures.value in
     let same = ap length is in
     omega (arith, short, same)
-
-pub returns-clause-steps : goal.returns-clause-steps
-returns-clause-steps g c most few =
-    opened_costs c.args.lexicon.now c.args.line.now c.args.level most c.walk_phase.new.stack c.args.steps.now c.walk_phase.new.steps
-    (begun_costs c.args.lexicon.now c.args.line.now c.args.level most c.walk_phase.new.stack 0 c.args.steps.now c.walk_phase.new.steps
-    c.walk_phase.ensures.frame c.walk_phase.ensures.begun c.walk_phase.ensures.steps)

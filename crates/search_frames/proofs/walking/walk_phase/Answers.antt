@@ -78,7 +78,6 @@ returns g c =
         is_stack = begins.placed.is_stack;
         steps = take-set old.steps.items level step;
         frames = take-set old.frames.items level frame;
-        nodes = walked.before;
       };
       steps = walked.steps;
     }

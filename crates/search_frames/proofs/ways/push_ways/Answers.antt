@@ -14,12 +14,12 @@ use Rattle.search_frames.proofs.ways.push_ways.Goals as goal
 
 pub loop-place-init : goal.loop-place-init
 loop-place-init g c = record {
-  frame = c.open_frame.ensures.frame;
-  here = c.open_frame.ensures.place;
-  room = c.open_frame.ensures.changes.room;
-  appends = none_at_first c.args.lexicon.now c.args.line.now c.args.choices.now c.args.place c.open_frame.new.stack c.args.ways.now.items
-      c.open_frame.ensures.place c.open_frame.ensures.all;
-  spent = c.open_frame.ensures.steps;
+  frame = c.begin_walk.ensures.frame;
+  here = c.begin_walk.ensures.place;
+  room = c.begin_walk.ensures.changes.room;
+  appends = none_at_first c.args.lexicon.now c.args.line.now c.args.choices.now c.args.place c.begin_walk.new.stack c.args.ways.now.items
+      c.begin_walk.ensures.place c.begin_walk.ensures.all;
+  spent = c.begin_walk.ensures.steps;
 }
 
 pub loop-place-preserved-in-Refused : goal.loop-place-preserved-in-Refused

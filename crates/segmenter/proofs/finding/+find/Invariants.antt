@@ -1,11 +1,9 @@
--- A search goes deeper to places of higher rank, and at one place from key to key, and spends no more than what a frame has no
--- longer left.
-use Rattle.std.proofs.Common.{ℕ, ◌+◌, ◌-◌, ◌*◌, ◌≤◌, length}
-use Rattle.search_frames.specs.Frames.{numbered_of, here_of, still_to_try}
+-- A search goes deeper to places of higher rank, and at one place from key to key; under an exact guide it turns once at each place.
+use Rattle.std.proofs.Common.{◌≡◌, ◌+◌, ◌-◌, ◌*◌, length}
+use Rattle.search_frames.specs.Frames.{numbered_of, here_of, key_at}
 use Rattle.search_frames.specs.Guided.{IsExactOf}
-use Rattle.search_frames.specs.Costs.{HasAtMostRules, steps_left}
 use Rattle.search_frames.specs.Reached.{rank}
-use Rattle.search_frames.specs.Turns.{HasToTry}
+use Rattle.search_frames.specs.Turns.{keys_left}
 use Rattle.segmenter.proofs.PathsFound.{IsUnderWay}
 use Rattle.segmenter.proofs.finding.+find.Given as goal
 
@@ -17,11 +15,9 @@ decreases-find_next g l = 2 * (2 * length l.space.now.line.now.letters + 2 - ran
 
 abbrev pub invariant-find_next-loop-stack : goal.invariant-find_next-loop-stack
 invariant-find_next-loop-stack g l = record {
-  under : IsUnderWay l.space.lexicon.now l.space.line.now l.space.choices.now l.level l.initial.stack l.stack;
-  to_try : HasToTry l.space.lexicon.now l.space.line.now l.stack l.level l.to_try;
-  spent : IsExactOf l.space.lexicon.now l.space.line.now l.space.choices.now (g.D.Guide.says l.space.guide.now) → (most : ℕ) → HasAtMostRules l.space.lexicon.now.tries most
-      → l.steps + steps_left l.space.lexicon.now most l.stack l.level ≤ l.initial.steps + steps_left l.space.lexicon.now most l.initial.stack l.level;
+  under : IsUnderWay l.space.lexicon.now l.space.line.now l.space.choices.now l.level l.initial.stack l.initial.to_try l.stack l.to_try;
+  spent : IsExactOf l.space.lexicon.now l.space.line.now l.space.choices.now (g.D.Guide.says l.space.guide.now) → l.steps ≡ l.initial.steps;
 }
 
 abbrev pub decreases-find_next-loop-stack : goal.decreases-find_next-loop-stack
-decreases-find_next-loop-stack g l = still_to_try l.space.lexicon.now l.stack l.level
+decreases-find_next-loop-stack g l = keys_left l.space.lexicon.now (key_at l.stack l.level) l.to_try

@@ -1,10 +1,9 @@
 -- What comes after the keys of the frames in use shares their first key, or begins with a later one.
 use Rattle.std.proofs.Common.{◌+◌, ◌-◌, ◌<◌, ◌≤◌, arith, subst}
 use Rattle.search_frames.specs.Frames.{here_of}
-use Rattle.segmenter.proofs.KeptFrames.{frame_kept, here_kept, is_frame_kept, later_kept, keeps_less}
-use Rattle.segmenter.proofs.FramesAlong.{on_false_too, first_frame, first_later, deeper, deeper_found, deeper_none, last_none, later_found, later_none}
-use Rattle.search_frames.specs.Costs.{steps_left, steps_of_frame}
-use Rattle.search_frames.proofs.FrameCosts.{left_of_frame}
+use Rattle.segmenter.proofs.KeptFrames.{frame_kept, here_kept, placed_kept, keeps_less}
+use Rattle.segmenter.proofs.FramesAlong.{on_false_too, first_frame, first_stands, deeper, deeper_found, deeper_none, last_none, later_found, later_none}
+use Rattle.search_frames.specs.Costs.{steps_of_frame}
 use Rattle.segmenter.specs.MoveCosts.{steps_of_levels, levels_after}
 use Rattle.segmenter.proofs.PathsFound.{on_true, on_false}
 use Rattle.segmenter.proofs.LevelCosts.{more_levels, deeper_rises, later_found_costs, later_none_costs}
@@ -65,22 +64,16 @@ find_deeper-returns-else-level-depth-clause-none g t c key rest frames along =
     on_false_too _ (last_none c.args.space.now.lexicon.now c.args.space.now.line.now c.args.space.now.choices.now c.args.stack.now c.args.level
     (here_of c.args.space.now.lexicon.now c.args.stack.now c.args.level) key rest frames (λ more. let less = c.if-level-depth.false in let in_use = c.depth.ensures in omega (arith, less, in_use, more)))
 
-pub find_later-find_next-requires-clause-frame : goal.find_later-find_next-requires-clause-frame
-find_later-find_next-requires-clause-frame g t c =
-    is_frame_kept c.args.space.now.lexicon.now c.args.space.now.line.now c.args.level c.args.stack.now c.find_deeper.new.stack c.if-find_deeper.ensures.kept
+pub find_later-find_next-requires-clause-placed : goal.find_later-find_next-requires-clause-placed
+find_later-find_next-requires-clause-placed g t c =
+    placed_kept c.args.space.now.lexicon.now c.args.space.now.line.now c.args.level c.args.stack.now c.find_deeper.new.stack c.if-find_deeper.ensures.kept
     (first_frame c.args.space.now.lexicon.now c.args.space.now.line.now c.args.stack.now c.requires.frames.0 c.args.level
     (here_of c.args.space.now.lexicon.now c.args.stack.now c.args.level) c.requires.frames.1 c.requires.below)
 
-pub find_later-find_next-requires-clause-to_try : goal.find_later-find_next-requires-clause-to_try
-find_later-find_next-requires-clause-to_try g t c =
-    let stack = c.args.stack.now in
-    let level = c.args.level in
-    let here = here_of c.args.space.now.lexicon.now stack level in
-    let keys = c.requires.frames.0 in
-    let frames = c.requires.frames.1 in
-    later_kept c.args.space.now.lexicon.now c.args.space.now.line.now level stack c.find_deeper.new.stack c.if-find_deeper.ensures.kept
-    (first_frame c.args.space.now.lexicon.now c.args.space.now.line.now stack keys level here frames c.requires.below)
-    (first_later c.args.space.now.lexicon.now c.args.space.now.line.now stack keys level here frames c.requires.below)
+pub find_later-find_next-requires-clause-stands : goal.find_later-find_next-requires-clause-stands
+find_later-find_next-requires-clause-stands g t c =
+    first_stands c.args.space.now.lexicon.now c.args.space.now.line.now c.args.stack.now c.find_deeper.new.stack c.requires.frames.0 c.args.level
+    (here_of c.args.space.now.lexicon.now c.args.stack.now c.args.level) c.requires.frames.1 c.requires.below c.if-find_deeper.ensures.kept
 
 pub find_later-returns-clause-found : goal.find_later-returns-clause-found
 find_later-returns-clause-found g t c keys frames along =
@@ -114,25 +107,16 @@ find_later-returns-clause-steps_on g t c exact most few =
     let stack = c.args.stack.now in
     let mid = c.find_deeper.new.stack in
     let level = c.args.level in
-    let frame = is_frame_kept searched line level stack mid c.if-find_deeper.ensures.kept
-    (first_frame searched line stack c.requires.frames.0 level (here_of searched stack level) c.requires.frames.1 c.requires.below) in
     let here = here_kept searched line level stack mid (frame_kept level stack mid c.if-find_deeper.ensures.kept) in
     on_true c.find_next.result
-    (λ found. later_found_costs (steps_of_frame searched most) stack.depth level c.args.steps.now c.find_deeper.new.steps (steps_left searched most mid level) c.find_next.new.steps
-    c.requires.below (c.if-find_deeper.ensures.steps_end exact most few) (left_of_frame searched line level most mid frame) (levels_after line (here_of searched stack level))
-    (subst (λ h. c.find_next.new.steps ≤ c.find_deeper.new.steps + steps_left searched most mid level + steps_of_levels searched most (levels_after line h)) here found))
+    (λ found. later_found_costs (steps_of_frame searched most) stack.depth level c.args.steps.now c.find_deeper.new.steps c.find_next.new.steps
+    c.requires.below (c.if-find_deeper.ensures.steps_end exact most few) (levels_after line (here_of searched stack level))
+    (subst (λ h. c.find_next.new.steps ≤ c.find_deeper.new.steps + steps_of_frame searched most + steps_of_levels searched most (levels_after line h)) here found))
     (c.find_next.ensures.steps_on exact most few)
 
 pub find_later-returns-clause-steps_end : goal.find_later-returns-clause-steps_end
 find_later-returns-clause-steps_end g t c exact most few =
-    let searched = c.args.space.now.lexicon.now in
-    let line = c.args.space.now.line.now in
-    let stack = c.args.stack.now in
-    let mid = c.find_deeper.new.stack in
-    let level = c.args.level in
-    let frame = is_frame_kept searched line level stack mid c.if-find_deeper.ensures.kept
-    (first_frame searched line stack c.requires.frames.0 level (here_of searched stack level) c.requires.frames.1 c.requires.below) in
     on_false c.find_next.result
-    (later_none_costs (steps_of_frame searched most) stack.depth level c.args.steps.now c.find_deeper.new.steps (steps_left searched most mid level) c.find_next.new.steps
-    c.requires.below (c.if-find_deeper.ensures.steps_end exact most few) (left_of_frame searched line level most mid frame))
+    (later_none_costs (steps_of_frame c.args.space.now.lexicon.now most) c.args.stack.now.depth c.args.level c.args.steps.now c.find_deeper.new.steps c.find_next.new.steps
+    c.requires.below (c.if-find_deeper.ensures.steps_end exact most few))
     (c.find_next.ensures.steps_end exact most few)

@@ -1,11 +1,11 @@
 -- The answer at which the stack stands has frames from the opening on; what is found there is the next answer.
 use Rattle.std.proofs.Common.{sym, ◌∙◌, subst}
-use Rattle.segmenter.specs.Chains.{HasFound, HasNone, Every, ComesAfter}
+use Rattle.segmenter.specs.Chains.{HasFound, HasNone, ComesAfter}
 use Rattle.segmenter.proofs.PathsFound.{on_true, on_false}
-use Rattle.segmenter.proofs.SearchMoves.{next_before, none_before, next_at, none_at}
+use Rattle.segmenter.proofs.SearchMoves.{next_at, none_at}
 use Rattle.segmenter.proofs.SearchStacks.{some_depth, first_reached, first_room, frames_from_first, keys_lead_along, at_opening}
-use Rattle.search_frames.specs.Frames.{numbered_of, here_of}
-use Rattle.segmenter.proofs.LevelCosts.{either_way, few_frames, first_move, no_first_move, later_move, no_later_move}
+use Rattle.search_frames.specs.Frames.{here_of}
+use Rattle.segmenter.proofs.LevelCosts.{either_way, few_frames, later_move, no_later_move}
 use Rattle.segmenter.proofs.search.find_next_answer.Goals as goal
 
 pub find_later-requires-clause-below : goal.find_later-requires-clause-below
@@ -27,21 +27,6 @@ find_later-requires-clause-frames g c =
       frames_from_first c.args.space.now.lexicon.now c.args.space.now.line.now c.args.space.now.choices.now c.args.stack.now stands,
       keys_lead_along c.args.space.now.lexicon.now c.args.space.now.line.now c.args.space.now.choices.now c.args.stack.now stands,
     )
-
-pub returns-in-Before-clause-found : goal.returns-in-Before-clause-found
-returns-in-Before-clause-found g c =
-    on_true c.find_first.result
-    (λ found. next_before c.args.space.now.lexicon.now c.args.space.now.line.now c.args.space.now.choices.now c.args.stack.now c.requires.searched c.requires.stack c.find_first.new.stack
-    (sym c.cursor.ensures ∙ c.in-Before.is)
-    (subst (HasFound c.args.space.now.lexicon.now c.args.space.now.line.now c.args.space.now.choices.now Every c.find_first.new.stack 0) c.opening.ensures.standing found))
-    c.find_first.ensures.found
-
-pub returns-in-Before-clause-none : goal.returns-in-Before-clause-none
-returns-in-Before-clause-none g c =
-    on_false c.find_first.result
-    (λ none. none_before c.args.space.now.lexicon.now c.args.space.now.line.now c.args.space.now.choices.now c.args.stack.now c.requires.searched c.requires.stack (sym c.cursor.ensures ∙ c.in-Before.is)
-    (subst (HasNone c.args.space.now.lexicon.now c.args.space.now.line.now c.args.space.now.choices.now Every) c.opening.ensures.standing none))
-    c.find_first.ensures.none
 
 pub returns-in-At-clause-found : goal.returns-in-At-clause-found
 returns-in-At-clause-found g c =
@@ -65,15 +50,6 @@ returns-in-At-clause-none g c =
     (c.find_later.ensures.none stands.keys
     (frames_from_first c.args.space.now.lexicon.now c.args.space.now.line.now c.args.space.now.choices.now c.args.stack.now stands)
     (keys_lead_along c.args.space.now.lexicon.now c.args.space.now.line.now c.args.space.now.choices.now c.args.stack.now stands))
-
-pub returns-in-Before-clause-steps : goal.returns-in-Before-clause-steps
-returns-in-Before-clause-steps g c exact most few =
-    let searched = c.args.space.now.lexicon.now in
-    let line = c.args.space.now.line.now in
-    let first = first_move searched line c.args.space.now.choices.now c.requires.searched most c.args.steps.now c.find_first.new.steps c.requires.stack.is_line
-    (numbered_of searched c.opening.result) c.opening.ensures.standing in
-    let none = no_first_move searched line c.args.space.now.choices.now c.requires.searched most c.args.steps.now c.find_first.new.steps c.requires.stack.is_line in
-    either_way c.find_first.result first none (c.find_first.ensures.steps_on exact most few) (c.find_first.ensures.steps_end exact most few)
 
 pub returns-in-At-clause-steps : goal.returns-in-At-clause-steps
 returns-in-At-clause-steps g c exact most few =

@@ -1,22 +1,84 @@
--- Each way tells which states go further by its key; at the end the keys of all ways have, and none goes further by another key.
-use Rattle.summary_chart.proofs.FurtherKeys.{further_nothing}
-use Rattle.summary_chart.proofs.WayKeys.{IsAmongFirst, none_at_first, further_more, further_at_last}
+-- One phase more; one to which no state leads does nothing.
+use Rattle.std.proofs.Common.{◌≡◌, inl, inr, ℕ, ◌+◌, ◌*◌, ◌≤◌, length, sym, ap, subst, ◌∙◌, arith}
+use Rattle.std.proofs.lemmas.List.{length-map}
+use Rattle.std.specs.Prelude.{string_bytes}
+use Rattle.lexicon_definitions.specs.Lexicons.{RuleSet}
+use Rattle.phase_automaton.specs.Automata.{StateMachine}
+use Rattle.search_frames.specs.Configurations.{rules_in}
+use Rattle.summary_chart.specs.declared.state_set.StateSet.{StateSet}
+use Rattle.summary_chart.specs.StateSets.{IsLedTo}
+use Rattle.summary_chart.specs.Summaries.{steps_of_fronts}
+use Rattle.summary_chart.proofs.VisitedKeys.{visit_phase, visit_dead_phase, visit_all_phases}
+use Rattle.summary_chart.proofs.Visits.{gather_visit, all_further}
+use Rattle.summary_chart.proofs.SummarySteps.{one_more_within, fewer_within}
 use Rattle.summary_chart.proofs.gathering.gather.Goals as goal
 
-pub loop-way-init : goal.loop-way-init
-loop-way-init c =
-    further_nothing c.args.lexicon.now c.args.line.now c.args.choices.now c.args.table.now c.args.place c.args.states (IsAmongFirst 0 c.args.ways.now)
-    c.empty-further.result c.empty-further.ensures.none (λ key number among goes. none_at_first c.args.ways.now key among)
+pub loop-phase-init : goal.loop-phase-init
+loop-phase-init g c =
+    let none = c.empty-gathered.ensures.none in
+    record {
+      end = sym (length-map c.phases-phases.result.now string_bytes) ∙ ap length c.phases-phases.ensures ∙ ap (λ (r : RuleSet). length r.names) c.rules.ensures.value;
+      low = omega arith;
+      gathers = λ empty nothing number. (
+        λ has. absurd (none number has),
+        λ either. elim either [
+          | inl had ↦ absurd (nothing number had)
+          | inr goes ↦ absurd (omega (arith, goes.1.1))
+        ],
+      );
+      spent = λ most few. omega arith;
+    }
 
-pub loop-way-preserved : goal.loop-way-preserved
-loop-way-preserved c =
-    further_more c.args.lexicon.now c.args.line.now c.args.choices.now c.args.place c.args.states c.args.ways.now c.loop-way.way-index
-    c.way-item.result (record { below = c.loop-way-test.true; is = c.way-item.is })
-    c.args.table.now c.loop-way.further c.states_going_further.result c.union-further.result
-    c.loop-way.invariant c.states_going_further.ensures c.union-further.ensures
+pub loop-phase-preserved-then-is_empty : goal.loop-phase-preserved-then-is_empty
+loop-phase-preserved-then-is_empty g c =
+    let inv = c.loop-phase.invariant in
+    record {
+      end = inv.end;
+      low = omega (arith, c.loop-phase-test.true, inv.end);
+      gathers = λ empty nothing. visit_dead_phase c.args.lexicon.now c.args.line.now c.args.choices.now c.args.place.now c.args.states StateSet
+          (gather_visit c.args.lexicon.now c.args.line.now c.args.choices.now c.args.place.now c.args.states c.args.table.now) c.loop-phase.phase c.states_after.result
+          c.if-is_empty.ensures
+          (λ number led. (c.states_after.ensures number).1
+          (subst (λ (machine : StateMachine). IsLedTo machine c.args.states c.loop-phase.phase number) (sym c.automaton.ensures.value) led))
+          empty c.loop-phase.gathered (inv.gathers empty nothing);
+      spent = λ most few. one_more_within c.args.steps.now c.loop-phase.phase (1 + steps_of_fronts most) c.loop-phase.steps c.tick.new.self
+          (inv.spent most few) (omega (arith, c.tick.ensures));
+    }
 
-pub returns : goal.returns
-returns c = record {
-  gathers = further_at_last c.args.lexicon.now c.args.line.now c.args.choices.now c.args.place c.args.states c.args.ways.now c.loop-way.way-index
-      c.loop-way-test.false c.requires.ways c.args.table.now c.loop-way.further c.loop-way.invariant;
-}
+pub loop-phase-preserved : goal.loop-phase-preserved
+loop-phase-preserved g c =
+    let inv = c.loop-phase.invariant in
+    record {
+      end = inv.end;
+      low = omega (arith, c.loop-phase-test.true, inv.end);
+      gathers = λ empty nothing. visit_phase c.args.lexicon.now c.args.line.now c.args.choices.now c.args.place.now c.args.states StateSet
+          (gather_visit c.args.lexicon.now c.args.line.now c.args.choices.now c.args.place.now c.args.states c.args.table.now) c.loop-phase.phase
+          empty c.loop-phase.gathered c.in_ok-gathered.gathered (inv.gathers empty nothing) c.in_ok-gathered.ensures.gathers;
+      spent = λ most few. one_more_within c.args.steps.now c.loop-phase.phase (1 + steps_of_fronts most) c.loop-phase.steps c.gather_phase.new.steps
+          (inv.spent most few) (let spent = c.gather_phase.ensures.steps most few in omega (arith, spent, c.tick.ensures));
+    }
+
+pub returns-in_err-gathered-clause-steps : goal.returns-in_err-gathered-clause-steps
+returns-in_err-gathered-clause-steps g c most few =
+    let inv = c.loop-phase.invariant in
+    let spent = c.gather_phase.ensures.steps most few in
+    let one = one_more_within c.args.steps.now c.loop-phase.phase (1 + steps_of_fronts most) c.loop-phase.steps c.gather_phase.new.steps
+    (inv.spent most few) (omega (arith, spent, c.tick.ensures)) in
+    let all = fewer_within (c.loop-phase.phase + 1) (length (rules_in c.args.lexicon.now).names) (1 + steps_of_fronts most) (omega (arith, c.loop-phase-test.true, inv.end)) in
+    omega (arith, one, all)
+
+pub returns-clause-gathers : goal.returns-clause-gathers
+returns-clause-gathers g c =
+    let inv = c.loop-phase.invariant in
+    all_further c.args.lexicon.now c.args.line.now c.args.choices.now c.args.place.now c.args.states c.args.table.now c.empty-gathered.result c.loop-phase.gathered
+    c.empty-gathered.ensures.none
+    (visit_all_phases c.args.lexicon.now c.args.line.now c.args.choices.now c.args.place.now c.args.states StateSet
+    (gather_visit c.args.lexicon.now c.args.line.now c.args.choices.now c.args.place.now c.args.states c.args.table.now) c.loop-phase.phase c.requires.searched
+    (omega (arith, c.loop-phase-test.false, inv.end)) c.empty-gathered.result c.loop-phase.gathered (inv.gathers c.empty-gathered.result c.empty-gathered.ensures.none))
+
+pub returns-clause-steps : goal.returns-clause-steps
+returns-clause-steps g c most few =
+    let inv = c.loop-phase.invariant in
+    let spent = inv.spent most few in
+    let all = fewer_within c.loop-phase.phase (length (rules_in c.args.lexicon.now).names) (1 + steps_of_fronts most) inv.low in
+    omega (arith, spent, all)

@@ -1,8 +1,19 @@
--- What was gathered so far are the states that go further by the keys of the ways so far.
-use Rattle.summary_chart.specs.Spreading.{AreGoingFurther}
-use Rattle.summary_chart.proofs.WayKeys.{IsAmongFirst}
+-- The states that go further by the phases so far are gathered, and each phase took its steps.
+use Rattle.std.proofs.Common.{◌≡◌, ◌+◌, ◌*◌, ◌≤◌, ℕ, length}
+use Rattle.search_frames.specs.Costs.{HasAtMostRules}
+use Rattle.search_frames.specs.Configurations.{rules_in}
+use Rattle.summary_chart.specs.declared.state_set.StateSet.{StateSet}
+use Rattle.summary_chart.specs.StateSets.{HasState}
+use Rattle.summary_chart.specs.Spreading.{GathersMore}
+use Rattle.summary_chart.specs.Summaries.{steps_of_fronts}
+use Rattle.summary_chart.proofs.VisitedKeys.{IsEarlier}
 use Rattle.summary_chart.proofs.gathering.gather.Given as goal
 
-abbrev pub invariant-loop-way : goal.invariant-loop-way
-invariant-loop-way l =
-    AreGoingFurther l.lexicon l.line l.choices l.table l.place.at l.place.entrance l.states (IsAmongFirst l.way-index l.ways) l.further
+abbrev pub invariant-loop-phase : goal.invariant-loop-phase
+invariant-loop-phase g l = record {
+  end : l.phase-end ≡ length (rules_in l.lexicon).names;
+  low : l.phase ≤ length (rules_in l.lexicon).names;
+  gathers : (empty : StateSet) → ((number : ℕ) → HasState empty number → ⊥)
+      → GathersMore l.lexicon l.line l.choices l.table l.place.at l.place.entrance l.states (IsEarlier l.phase) empty l.gathered;
+  spent : (most : ℕ) → HasAtMostRules l.lexicon.tries most → l.steps ≤ l.fn.steps + l.phase * (1 + steps_of_fronts most);
+}

@@ -1,14 +1,18 @@
--- From the next stop on the table has only living places; the ways from its places are kept.
-use Rattle.std.proofs.Common.{◌≤◌, length}
+-- From each index on the table has only living places; each of these indices took its steps.
+use Rattle.std.proofs.Common.{◌+◌, ◌*◌, ◌≤◌, ℕ, length}
+use Rattle.search_frames.specs.Costs.{HasAtMostRules}
 use Rattle.summary_chart.specs.Charts.{IsAliveFrom}
-use Rattle.summary_chart.specs.PlaceWays.{HasWaysBefore}
-use Rattle.summary_chart.proofs.StopOrder.{limit_at}
+use Rattle.summary_chart.specs.Summaries.{steps_of_items, steps_of_summary}
 use Rattle.summary_chart.proofs.passes.keep_living.Given as goal
 
-abbrev pub invariant-loop-number : goal.invariant-loop-number
-invariant-loop-number l =
+abbrev pub invariant-loop-until : goal.invariant-loop-until
+invariant-loop-until g l =
     record {
-      from : IsAliveFrom l.lexicon l.line l.choices (limit_at l.ways.stops.items (length l.table.sets.items) l.number) l.table;
-      few : l.number ≤ length l.ways.stops.items;
-      ways : HasWaysBefore l.lexicon l.line l.choices (length l.table.sets.items) l.table l.ways.stops.items l.ways.ways.items;
+      from : IsAliveFrom l.lexicon l.line l.choices l.until l.table;
+      low : l.until ≤ length l.table.sets.items;
+      steps : (most : ℕ) → HasAtMostRules l.lexicon.tries most
+          → l.steps + l.until * steps_of_items l.lexicon most ≤ l.fn.steps + steps_of_summary l.lexicon l.line most;
     }
+
+abbrev pub decreases-loop-until : goal.decreases-loop-until
+decreases-loop-until g l = l.until

@@ -1,16 +1,70 @@
--- Each way spreads what its key leads on to; at the end the keys of all ways have, and no other key leads on to anything.
-use Rattle.summary_chart.proofs.WayKeys.{spread_more, spread_at_last}
+-- One phase more; one to which no state leads does nothing.
+use Rattle.std.proofs.Common.{◌≡◌, ◌↔◌, ℕ, ◌+◌, ◌*◌, ◌≤◌, length, sym, subst, arith}
+use Rattle.phase_automaton.specs.Automata.{StateMachine}
+use Rattle.search_frames.specs.Configurations.{rules_in}
+use Rattle.summary_chart.specs.declared.table.Table.{Table}
+use Rattle.summary_chart.specs.StateSets.{HasState, IsLedTo}
+use Rattle.summary_chart.specs.Summaries.{steps_of_fronts}
+use Rattle.summary_chart.proofs.VisitedKeys.{visit_phase, visit_dead_phase, visit_all_phases}
+use Rattle.summary_chart.proofs.Visits.{spread_visit}
+use Rattle.summary_chart.proofs.SummarySteps.{one_more_within, fewer_within}
 use Rattle.summary_chart.proofs.spreading.spread.Goals as goal
 
-pub loop-way-preserved : goal.loop-way-preserved
-loop-way-preserved c = record {
-  lawful = c.spread_way.ensures.table;
-  spreads = spread_more c.args.lexicon.now c.args.line.now c.args.choices.now c.args.place.now c.args.states c.args.ways.now c.loop-way.way-index
-      c.way-item.result (record { below = c.loop-way-test.true; is = c.way-item.is })
-      c.args.table.now c.loop-way.table c.spread_way.new.table c.loop-way.invariant.spreads c.spread_way.ensures.spreads;
-}
+pub spread_phase-requires-clause-after : goal.spread_phase-requires-clause-after
+spread_phase-requires-clause-after g c =
+    subst (λ (machine : StateMachine). (number : ℕ) → HasState c.states_after-after.result number ↔ IsLedTo machine c.args.states c.loop-phase.phase number)
+    c.automaton.ensures.value c.states_after-after.ensures
+
+pub loop-phase-preserved-then-is_empty : goal.loop-phase-preserved-then-is_empty
+loop-phase-preserved-then-is_empty g c =
+    let inv = c.loop-phase.invariant in
+    record {
+      end = inv.end;
+      low = omega (arith, c.loop-phase-test.true, inv.end);
+      lawful = inv.lawful;
+      spreads = visit_dead_phase c.args.lexicon.now c.args.line.now c.args.choices.now c.args.place.now c.args.states Table
+          (spread_visit c.args.lexicon.now c.args.line.now c.args.choices.now c.args.place.now c.args.states) c.loop-phase.phase c.states_after-after.result
+          c.if-is_empty.ensures
+          (λ number led. (c.states_after-after.ensures number).1
+          (subst (λ (machine : StateMachine). IsLedTo machine c.args.states c.loop-phase.phase number) (sym c.automaton.ensures.value) led))
+          c.args.table.now c.loop-phase.table inv.spreads;
+      spent = λ most few. one_more_within c.args.steps.now c.loop-phase.phase (1 + steps_of_fronts most) c.loop-phase.steps c.tick.new.self
+          (inv.spent most few) (omega (arith, c.tick.ensures));
+    }
+
+pub loop-phase-preserved : goal.loop-phase-preserved
+loop-phase-preserved g c =
+    let inv = c.loop-phase.invariant in
+    record {
+      end = inv.end;
+      low = omega (arith, c.loop-phase-test.true, inv.end);
+      lawful = c.in_ok-spread_phase.ensures.table;
+      spreads = visit_phase c.args.lexicon.now c.args.line.now c.args.choices.now c.args.place.now c.args.states Table
+          (spread_visit c.args.lexicon.now c.args.line.now c.args.choices.now c.args.place.now c.args.states) c.loop-phase.phase
+          c.args.table.now c.loop-phase.table c.spread_phase.new.table inv.spreads c.in_ok-spread_phase.ensures.spreads;
+      spent = λ most few. one_more_within c.args.steps.now c.loop-phase.phase (1 + steps_of_fronts most) c.loop-phase.steps c.spread_phase.new.steps
+          (inv.spent most few) (let spent = c.spread_phase.ensures.steps most few in omega (arith, spent, c.tick.ensures));
+    }
+
+pub returns-in_err-spread_phase-clause-steps : goal.returns-in_err-spread_phase-clause-steps
+returns-in_err-spread_phase-clause-steps g c most few =
+    let inv = c.loop-phase.invariant in
+    let spent = c.spread_phase.ensures.steps most few in
+    let one = one_more_within c.args.steps.now c.loop-phase.phase (1 + steps_of_fronts most) c.loop-phase.steps c.spread_phase.new.steps
+    (inv.spent most few) (omega (arith, spent, c.tick.ensures)) in
+    let all = fewer_within (c.loop-phase.phase + 1) (length (rules_in c.args.lexicon.now).names) (1 + steps_of_fronts most) (omega (arith, c.loop-phase-test.true, inv.end)) in
+    omega (arith, one, all)
 
 pub returns-clause-spreads : goal.returns-clause-spreads
-returns-clause-spreads c =
-    spread_at_last c.args.lexicon.now c.args.line.now c.args.choices.now c.args.place.now c.args.states c.args.ways.now c.loop-way.way-index
-    c.loop-way-test.false c.requires.ways c.args.table.now c.loop-way.table c.loop-way.invariant.spreads
+returns-clause-spreads g c =
+    let inv = c.loop-phase.invariant in
+    visit_all_phases c.args.lexicon.now c.args.line.now c.args.choices.now c.args.place.now c.args.states Table
+    (spread_visit c.args.lexicon.now c.args.line.now c.args.choices.now c.args.place.now c.args.states) c.loop-phase.phase c.requires.searched
+    (omega (arith, c.loop-phase-test.false, inv.end)) c.args.table.now c.loop-phase.table inv.spreads
+
+pub returns-clause-steps : goal.returns-clause-steps
+returns-clause-steps g c most few =
+    let inv = c.loop-phase.invariant in
+    let spent = inv.spent most few in
+    let all = fewer_within c.loop-phase.phase (length (rules_in c.args.lexicon.now).names) (1 + steps_of_fronts most) inv.low in
+    omega (arith, spent, all)

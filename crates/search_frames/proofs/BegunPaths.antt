@@ -1,0 +1,70 @@
+-- A key with which a path begins ends the line or leads on, so it is possible; none begins with one that is refused, nor with one that
+-- leads to where a guide says false.
+use Rattle.std.proofs.Common.{◌≡◌, ℕ, ◌⊎◌, inl, inr, Bool, true, false, Option, Some, None, List, [], ◌∷◌, sym, ◌∙◌, subst}
+use Rattle.std.specs.Prelude.{is_some}
+use Rattle.text_definitions.specs.Lines.{Line, IsLine}
+use Rattle.segmentation_definitions.specs.Items.{Choice}
+use Rattle.segmentation_definitions.specs.Listings.{Key}
+use Rattle.listing_laws.specs.Ways.{IsPath}
+use Rattle.answer_paths.specs.Following.{MayStand}
+use Rattle.phase_automaton.specs.Automata.{StateMachine, next_state, is_accepting}
+use Rattle.derivation.specs.declared.entrance.Entrance.{Entrance as ProgramEntrance}
+use Rattle.annotated_trie.specs.Searched.{SearchedLexicon, IsSearchedLexicon}
+use Rattle.search_frames.specs.declared.configuration.Configuration.{Configuration}
+use Rattle.search_frames.specs.Configurations.{NumberedConfiguration, IsPossible, LeadsOn, Ends, ways_in}
+use Rattle.search_frames.specs.Guided.{IsGuideOf}
+use Rattle.search_frames.specs.Reached.{IsReached}
+use Rattle.search_frames.specs.Tests.{IsRefused, LeadsTo}
+use Rattle.search_frames.specs.Turns.{BeginsPath}
+use Rattle.search_frames.proofs.ConfigurationPaths.{guide_says}
+use Rattle.search_frames.proofs.ConfigurationRanks.{possible_if_leads, possible_if_ends, not_both}
+use Rattle.search_frames.proofs.LeadingTo.{leads_from}
+
+module _ (searched : SearchedLexicon) (line : Line) (choices : List Choice) (here : NumberedConfiguration) (key : Key) where
+  -- a key with which a path begins ends the line or leads on
+  pub begins_cases : BeginsPath searched line choices here key → Ends searched line choices here key ⊎ LeadsOn searched line choices here key
+  begins_cases ([], ends) = inl ends
+  begins_cases (later ∷ keys, (next, (leads, same), path)) = inr leads
+
+  -- so it is possible
+  pub begins_possible : BeginsPath searched line choices here key → IsPossible searched line here key
+  begins_possible begins = elim (begins_cases begins) [
+    | inl ends ↦ possible_if_ends searched line choices here key ends
+    | inr leads ↦ possible_if_leads searched line choices here key leads
+  ]
+
+  -- and may stand there
+  pub begins_stands : BeginsPath searched line choices here key → MayStand searched.lexicon line choices here.at here.entrance key
+  begins_stands begins = elim (begins_cases begins) [
+    | inl ends ↦ ends.stands
+    | inr leads ↦ leads.stands
+  ]
+
+  -- a key that is refused begins no path
+  pub refused_begins : IsRefused searched line choices here key → BeginsPath searched line choices here key → ⊥
+  refused_begins refused begins = elim (begins_cases begins) [
+    | inl ends ↦ refused.ends ends
+    | inr leads ↦ refused.leads_on leads
+  ]
+
+  not_accepted : (machine : StateMachine) (state : Option ℕ) → is_some state ≡ false → is_accepting machine state ≡ true → ⊥
+  not_accepted machine None none accepted = cc
+  not_accepted machine (Some n) none accepted = cc
+
+  -- nor does one of a phase to which the state does not lead
+  pub no_state_begins : is_some (next_state searched.machine here.state key.phase) ≡ false → BeginsPath searched line choices here key → ⊥
+  no_state_begins none begins = elim (begins_cases begins) [
+    | inl ends ↦ not_accepted searched.machine (next_state searched.machine here.state key.phase) none ends.accepted
+    | inr leads ↦ let live = leads.live in cc
+  ]
+
+  -- nor does one that leads to where the guide says false
+  pub dead_begins : (covers : ℕ → ProgramEntrance → Option ℕ → Type 0) (says : ℕ → ProgramEntrance → Option ℕ → Bool) (next : Configuration)
+      → IsSearchedLexicon searched → IsLine line → IsGuideOf searched line choices covers says → IsReached searched line choices here
+      → LeadsTo searched line choices here key next → says next.at next.entrance next.state ≡ false → BeginsPath searched line choices here key → ⊥
+  dead_begins covers says next is line_is guide reached leads dead ([], ends) = not_both searched line choices here key ends leads.leads_on
+  dead_begins covers says next is line_is guide reached leads dead (later ∷ keys, (mid, (leads_on, same), path)) =
+      let led = leads_from searched line choices here key next leads is reached in
+      let from = subst (λ h. IsPath (ways_in searched line choices) h (later ∷ keys)) (same ∙ sym leads.is) path in
+      let live = guide_says searched line choices covers says next is guide leads.within line_is led.reached (later ∷ keys) from in
+      cc

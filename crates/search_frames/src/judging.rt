@@ -1,0 +1,49 @@
+ghost use Rattle.std.specs.Prelude.{◌≡◌, ◌+◌, ◌≤◌, length};
+ghost use Rattle.text_definitions.specs.Lines.{IsLine};
+ghost use Rattle.annotated_trie.specs.Searched.{IsSearchedLexicon};
+ghost use Rattle.derivation.specs.Steps.{key_of};
+ghost use Rattle.answer_paths.specs.Fronts.{supplied};
+ghost use Rattle.search_frames.specs.Frames.{IsConfigurationIn, numbered_of};
+ghost use Rattle.search_frames.specs.Configurations.{IsPossible};
+ghost use Rattle.search_frames.specs.Guided.{IsGuideOf};
+ghost use Rattle.search_frames.specs.Reached.{IsReached};
+ghost use Rattle.search_frames.specs.FirstKeys.{IsJudged};
+
+use super::Configuration;
+use super::guiding::{SearchGuide, Turn};
+use super::search_space::SearchSpace;
+use super::testing::{Test, test_key};
+use derivation::Step;
+use outside::Steps;
+
+/// What the step, whose key is possible at the place, does there: nothing where it neither leads on nor ends the line, or where the guide
+/// says that no answer goes on from where it leads.
+pub(crate) fn judge<D: SearchGuide, L>(
+    space: &SearchSpace<'_, D>,
+    place: &Configuration,
+    step: &Step,
+    steps: &mut Steps<L>,
+) -> Turn
+    requires searched { IsSearchedLexicon space.now.lexicon.now }
+    requires line { IsLine space.now.line.now }
+    requires guide { IsGuideOf space.now.lexicon.now space.now.line.now space.now.choices.now (D.covers space.now.guide.now) (D.says space.now.guide.now) }
+    requires place { IsConfigurationIn space.now.lexicon.now space.now.line.now place.now }
+    requires reached { IsReached space.now.lexicon.now space.now.line.now space.now.choices.now (numbered_of space.now.lexicon.now place.now) }
+    requires at { step.now.at ≡ place.now.at }
+    requires lead { step.now.lead ≡ length (supplied (numbered_of space.now.lexicon.now place.now).entrance) }
+    requires possible { IsPossible space.now.lexicon.now space.now.line.now (numbered_of space.now.lexicon.now place.now) (key_of step.now) }
+    ensures judged { IsJudged space.now.lexicon.now space.now.line.now space.now.choices.now (D.says space.now.guide.now) (numbered_of space.now.lexicon.now place.now) (key_of step.now) result }
+    ensures steps { steps.new ≤ steps.old + 1 }
+{
+    match test_key(space.lexicon, space.line, space.choices, place, step) {
+        Test::Refused => Turn::Nothing,
+        Test::Ends => Turn::Ends,
+        Test::LeadsOn(next) => {
+            if space.guide.live(next.at, next.entrance, next.state, steps) {
+                Turn::LeadsOn(next)
+            } else {
+                Turn::Nothing
+            }
+        }
+    }
+}

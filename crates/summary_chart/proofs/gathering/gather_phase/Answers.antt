@@ -1,0 +1,51 @@
+-- One front more; no possible key of the phase takes more letters than the fronts do.
+use Rattle.std.proofs.Common.{◌≡◌, ℕ, ◌+◌, ◌*◌, ◌≤◌, length, arith}
+use Rattle.lexicon_definitions.specs.declared.limits.TheConstants.{MOST_RULE_LETTERS}
+use Rattle.search_frames.specs.declared.frame.TheConstants.{NODES_OF_FRAME}
+use Rattle.summary_chart.specs.declared.state_set.StateSet.{StateSet}
+use Rattle.summary_chart.specs.Summaries.{steps_of_front}
+use Rattle.summary_chart.proofs.VisitedKeys.{visit_no_front, visit_front, visit_all_fronts}
+use Rattle.summary_chart.proofs.Visits.{gather_visit}
+use Rattle.summary_chart.proofs.SummarySteps.{one_more_within, fewer_within}
+use Rattle.summary_chart.proofs.gathering.gather_phase.Goals as goal
+
+pub loop-taken-init : goal.loop-taken-init
+loop-taken-init g c =
+    record {
+      fronts = c.in_ok-walk_fronts.ensures.fronts;
+      end = omega (arith, c.len-taken-end.ensures, c.walk_fronts.new.nodes.ok);
+      low = omega arith;
+      gathers = visit_no_front c.args.lexicon.now c.args.line.now c.args.choices.now c.args.place.now c.args.states StateSet
+          (gather_visit c.args.lexicon.now c.args.line.now c.args.choices.now c.args.place.now c.args.states c.args.table.now) c.args.phase c.args.further;
+      spent = λ most few. omega (arith, c.walk_fronts.ensures.steps);
+    }
+
+pub loop-taken-preserved : goal.loop-taken-preserved
+loop-taken-preserved g c =
+    let inv = c.loop-taken.invariant in
+    record {
+      fronts = inv.fronts;
+      end = inv.end;
+      low = omega (arith, c.loop-taken-test.true, inv.end);
+      gathers = visit_front c.args.lexicon.now c.args.line.now c.args.choices.now c.args.place.now c.args.states StateSet
+          (gather_visit c.args.lexicon.now c.args.line.now c.args.choices.now c.args.place.now c.args.states c.args.table.now) c.args.phase c.loop-taken.taken
+          c.args.further c.loop-taken.gathered c.gather_front-gathered.result inv.gathers c.gather_front-gathered.ensures.gathers;
+      spent = λ most few. one_more_within (c.args.steps.now + MOST_RULE_LETTERS + NODES_OF_FRAME) c.loop-taken.taken (steps_of_front most) c.loop-taken.steps c.gather_front-gathered.new.steps
+          (inv.spent most few) (c.gather_front-gathered.ensures.steps most few);
+    }
+
+pub returns-clause-gathers : goal.returns-clause-gathers
+returns-clause-gathers g c =
+    let inv = c.loop-taken.invariant in
+    visit_all_fronts c.args.lexicon.now c.args.line.now c.args.choices.now c.args.place.now c.args.states StateSet
+    (gather_visit c.args.lexicon.now c.args.line.now c.args.choices.now c.args.place.now c.args.states c.args.table.now) c.args.phase c.loop-taken.taken
+    c.walk_fronts.new.nodes.items (omega (arith, c.loop-taken-test.false, inv.end)) inv.fronts c.args.further c.loop-taken.gathered inv.gathers
+
+pub returns-clause-steps : goal.returns-clause-steps
+returns-clause-steps g c most few =
+    let inv = c.loop-taken.invariant in
+    let spent = inv.spent most few in
+    let short = inv.fronts.few in
+    let low = inv.low in
+    let all = fewer_within c.loop-taken.taken NODES_OF_FRAME (steps_of_front most) (omega (arith, low, short)) in
+    omega (arith, spent, all)
