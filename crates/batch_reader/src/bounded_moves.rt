@@ -3,7 +3,7 @@ ghost use Rattle.annotated_trie.specs.Searched.{IsSearchedLexicon};
 ghost use Rattle.segmenter.specs.MoveCosts.{AreKnownExact};
 ghost use Rattle.segmenter.specs.Searches.{SearchValue};
 ghost use Rattle.summary_chart.specs.Charts.{says_of};
-ghost use Rattle.summary_chart.specs.Charts.{ChartValue, IsChartOf};
+ghost use Rattle.summary_chart.specs.PlaceWays.{ChartValue, IsChartOf};
 
 use summary_chart::charts_are_exact;
 

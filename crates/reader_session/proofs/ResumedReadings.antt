@@ -19,7 +19,7 @@ use Rattle.search_frames.specs.Guided.{IsGuideOf, IsExactOf}
 use Rattle.derivation.specs.Steps.{keys_meant}
 use Rattle.segmenter.specs.Searches.{SearchValue, AreNoKeys, StandsAtKeys, StandsWhere, cursor_of}
 use Rattle.summary_chart.specs.Charts.{CoversPlace, says_of}
-use Rattle.summary_chart.specs.Charts.{IsChartOf}
+use Rattle.summary_chart.specs.PlaceWays.{IsChartOf}
 use Rattle.reader_session.specs.declared.reading.Reading.{Reading}
 use Rattle.reader_session.specs.Readings.{cursor_at_last, cursor_in}
 use Rattle.reader_session.specs.Resumed.{HasPhases, IsLastOf, IsResumed, IsResumedAt}

@@ -17,7 +17,7 @@ use Rattle.annotated_trie.specs.Searched.{SearchedLexicon}
 use Rattle.search_frames.specs.Guided.{IsGuideOf, IsExactOf}
 use Rattle.segmenter.specs.Searches.{IsStackOf, cursor_of}
 use Rattle.summary_chart.specs.Charts.{CoversPlace, says_of}
-use Rattle.summary_chart.specs.Charts.{IsChartOf}
+use Rattle.summary_chart.specs.PlaceWays.{IsChartOf}
 use Rattle.reader_session.specs.declared.reading.Reading.{Reading}
 
 -- the cursor of the answer with these steps; the one before the first answer where there are no steps

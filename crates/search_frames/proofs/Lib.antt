@@ -24,7 +24,6 @@ pub mod TriedWays
 pub mod BegunPaths
 pub mod FirstOfKeys
 pub mod GroupedRules
-pub mod LengthBits
 pub mod TriedRules
 pub mod TurnedPhases
 pub mod WalkedPlaces

@@ -7,9 +7,7 @@ use Rattle.derivation.specs.declared.entrance.Entrance.{Entrance}
 use Rattle.annotated_trie.specs.Searched.{SearchedLexicon}
 use Rattle.search_frames.specs.declared.guiding.Turn.{Turn}
 use Rattle.search_frames.specs.declared.guiding.Turn.TheVariants as turn
-use Rattle.search_frames.specs.declared.lengths.LengthSet.{LengthSet}
 use Rattle.search_frames.specs.Configurations.{NumberedConfiguration, IsPossible, Ends}
-use Rattle.search_frames.specs.Lengths.{HasLength}
 use Rattle.search_frames.specs.Tests.{LeadsTo}
 use Rattle.search_frames.specs.Turns.{BeginsPath}
 
@@ -37,9 +35,9 @@ IsRuleFrom from key = IsAtNodeFrom from key × (0 < key.rule)
 abbrev pub IsThisRuleFrom : Key → ℕ → Key → Type 0
 IsThisRuleFrom from rule key = IsRuleFrom from key × (key.rule ≡ rule)
 
--- the key has this phase and one of these lengths, and does not come before `from`
-abbrev pub IsLengthFrom : Key → LengthSet → Key → Type 0
-IsLengthFrom from lengths key = IsInPhaseFrom from key × HasLength lengths key.taken
+-- the key has this phase and takes fewer letters than this, and does not come before `from`
+abbrev pub IsShorterFrom : Key → ℕ → Key → Type 0
+IsShorterFrom from letters key = IsInPhaseFrom from key × (key.taken < letters)
 
 -- the answer says what the key does here: no path begins with it, or it ends the line, or it leads on to a place of which the guide
 -- says that an answer goes on from there

@@ -11,6 +11,5 @@ pub mod LetterTests
 pub mod Skips
 pub mod Turns
 pub mod WaysFrom
-pub mod Lengths
 pub mod Walks
 pub mod FirstKeys

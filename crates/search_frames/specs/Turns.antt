@@ -2,14 +2,13 @@
 use Rattle.std.specs.Prelude.{◌≡◌, ℕ, ◌+◌, ◌-◌, ◌*◌, ◌<◌, ◌⊎◌, true, Bool, Option, List, ◌∷◌, length}
 use Rattle.std.specs.declared.cmp.Ordering.TheVariants.{Less}
 use Rattle.text_definitions.specs.Lines.{Line}
-use Rattle.lexicon_definitions.specs.declared.limits.TheConstants.{MOST_RULES}
+use Rattle.lexicon_definitions.specs.declared.limits.TheConstants.{MOST_RULES, MOST_FORM_LETTERS}
 use Rattle.segmentation_definitions.specs.Items.{Choice}
 use Rattle.segmentation_definitions.specs.Listings.{Key, compare_keys}
 use Rattle.listing_laws.specs.Ways.{IsPath}
 use Rattle.derivation.specs.declared.entrance.Entrance.{Entrance}
 use Rattle.annotated_trie.specs.Searched.{SearchedLexicon}
 use Rattle.search_frames.specs.declared.frame.TheConstants.{NODES_OF_FRAME}
-use Rattle.search_frames.specs.declared.lengths.TheConstants.{MOST_LENGTH}
 use Rattle.search_frames.specs.declared.resumption.Resumption.{Resumption}
 use Rattle.search_frames.specs.declared.guiding.Turn.{Turn}
 use Rattle.search_frames.specs.declared.guiding.Turn.TheVariants as turn
@@ -26,7 +25,7 @@ IsToTry last to_try.Later key = compare_keys last key ≡ Less
 
 -- the first of the keys that may be still to try
 abbrev pub first_to_try : Key → ToTry → Key
-first_to_try last to_try.All = record { phase = 0; taken = MOST_LENGTH; rule = 0 }
+first_to_try last to_try.All = record { phase = 0; taken = MOST_FORM_LETTERS; rule = 0 }
 first_to_try last to_try.Later = record { phase = last.phase; taken = last.taken; rule = last.rule + 1 }
 
 -- a frame that has just the later keys to try stands at a possible one

@@ -13,11 +13,11 @@ ghost use Rattle.search_frames.specs.declared.guiding.ToTry.TheVariants.{Later a
 ghost use Rattle.lexicon_definitions.specs.declared.limits.TheConstants.{MOST_RULES};
 
 use super::guiding::{SearchGuide, ToTry, Turn};
-use super::lengths::MOST_LENGTH;
 use super::search_space::SearchSpace;
 use super::turning::turn_from;
 use super::{Configuration, Resumption};
 use derivation::{Key, Step};
+use lexicon_definitions::MOST_FORM_LETTERS;
 use outside::Steps;
 
 /// The first key that is still to try at a frame with the step.
@@ -28,7 +28,7 @@ fn first_to_try(step: &Step, to_try: ToTry) -> Key
     match to_try {
         ToTry::All => Key {
             phase: 0,
-            taken: MOST_LENGTH,
+            taken: MOST_FORM_LETTERS as u32,
             rule: 0,
         },
         ToTry::Later => Key {

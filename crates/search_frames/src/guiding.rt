@@ -1,14 +1,13 @@
-ghost use Rattle.std.specs.Prelude.{◌≡◌, ◌+◌, ◌<◌, ℕ, length};
+ghost use Rattle.std.specs.Prelude.{◌≡◌, ◌+◌, ◌≤◌, length, IfSome};
 ghost use Rattle.text_definitions.specs.Lines.{IsLine};
 ghost use Rattle.annotated_trie.specs.Searched.{IsSearchedLexicon};
-ghost use Rattle.segmentation_definitions.specs.Listings.{Key};
 ghost use Rattle.search_frames.specs.Frames.{IsConfigurationIn, numbered_of};
-ghost use Rattle.search_frames.specs.Lengths.{HasLength};
 ghost use Rattle.search_frames.specs.Reached.{IsReached};
-ghost use Rattle.search_frames.specs.Turns.{BeginsPath};
+ghost use Rattle.search_frames.specs.WaysFrom.{AreAllWays};
+ghost use Rattle.search_frames.specs.declared.way.TheConstants.{MOST_WAYS};
 
 use super::configuration::Configuration;
-use super::lengths::LengthSet;
+use super::way::{MOST_WAYS, Way};
 use annotated_trie::Lexicon;
 use derivation::{Guide, OpenGuide};
 use outside::Steps;
@@ -30,7 +29,7 @@ pub enum ToTry {
     Later,
 }
 
-/// A guide that tells besides which forms are worth a try at a configuration (own).
+/// A guide that keeps besides, from some places, the ways that are worth a try there (own).
 pub trait SearchGuide: Guide {
     ghost use Rattle.std.specs.Prelude.{List};
     ghost use Rattle.text_definitions.specs.Lines.{Line};
@@ -40,41 +39,38 @@ pub trait SearchGuide: Guide {
     /// What is known of it, where a search goes over this lexicon, this line and these choices.
     ghost known: { Self → SearchedLexicon → Line → List Choice → Type 0 };
 
-    /// After how many letters of the line forms of the phase, counted from 0, end that are worth a try at the place: every number of
-    /// letters that is not told is one with which no path to an answer begins. Numbers may be told after which no form ends. Counts one
-    /// step.
-    fn lengths<L>(
+    /// Ways from the place in the order of their keys, with one of which each path to an answer begins. `None` where the guide keeps none
+    /// from there. Counts one step.
+    fn ways<L>(
         &self,
         lexicon: &Lexicon,
         line: &Line,
         choices: &Choices,
         place: &Configuration,
-        phase: u32,
         steps: &mut Steps<L>,
-    ) -> LengthSet
+    ) -> Option<&[Way]>
         requires known { known self.now lexicon.now line.now choices.now }
         requires searched { IsSearchedLexicon lexicon.now }
         requires line { IsLine line.now }
         requires place { IsConfigurationIn lexicon.now line.now place.now }
         requires reached { IsReached lexicon.now line.now choices.now (numbered_of lexicon.now place.now) }
-        requires phase { phase < length lexicon.now.lexicon.rules.names }
-        ensures all { (key : Key) → key.phase ≡ phase → BeginsPath lexicon.now line.now choices.now (numbered_of lexicon.now place.now) key → HasLength result key.taken }
+        ensures ways { IfSome result (λ ways. AreAllWays lexicon.now line.now choices.now (numbered_of lexicon.now place.now) ways.now) }
+        ensures few { IfSome result (λ ways. length ways.now ≤ MOST_WAYS) }
         ensures steps { steps.new ≡ steps.old + 1 };
 }
 
 impl SearchGuide for OpenGuide {
     ghost known = { λ _ searched line choices. Unit {0} };
 
-    fn lengths<L>(
+    fn ways<L>(
         &self,
         _lexicon: &Lexicon,
         _line: &Line,
         _choices: &Choices,
         _place: &Configuration,
-        _phase: u32,
         steps: &mut Steps<L>,
-    ) -> LengthSet {
+    ) -> Option<&[Way]> {
         steps.tick();
-        LengthSet::full()
+        None
     }
 }

@@ -8,13 +8,48 @@ ghost use Rattle.search_frames.specs.Configurations.{IsPossible};
 ghost use Rattle.search_frames.specs.Guided.{IsGuideOf};
 ghost use Rattle.search_frames.specs.Reached.{IsReached};
 ghost use Rattle.search_frames.specs.FirstKeys.{IsJudged};
+ghost use Rattle.search_frames.specs.LetterTests.{IsLetterTestOf};
+ghost use Rattle.search_frames.specs.WaysFrom.{IsWayFrom, key_of_way};
+ghost use Rattle.segmentation_definitions.specs.Listings.{Key};
 
 use super::Configuration;
 use super::guiding::{SearchGuide, Turn};
 use super::search_space::SearchSpace;
-use super::testing::{Test, test_key};
+use super::letter_testing::{LetterTest, test_letters};
+use super::testing::{Test, test_in_grammar};
+use super::way::Way;
 use derivation::Step;
 use outside::Steps;
+
+/// What the key of this phase does at the place, where the test says what its letters do: nothing where it neither leads on nor ends the
+/// line, or where the guide says that no answer goes on from where it leads.
+fn judge_test<D: SearchGuide, L>(
+    space: &SearchSpace<'_, D>,
+    place: &Configuration,
+    phase: u32,
+    test: LetterTest,
+    steps: &mut Steps<L>,
+) -> Turn
+    requires searched { IsSearchedLexicon space.now.lexicon.now }
+    requires line { IsLine space.now.line.now }
+    requires guide { IsGuideOf space.now.lexicon.now space.now.line.now space.now.choices.now (D.covers space.now.guide.now) (D.says space.now.guide.now) }
+    requires place { IsConfigurationIn space.now.lexicon.now space.now.line.now place.now }
+    requires reached { IsReached space.now.lexicon.now space.now.line.now space.now.choices.now (numbered_of space.now.lexicon.now place.now) }
+    ensures judged { (key : Key) → key.phase ≡ phase → IsPossible space.now.lexicon.now space.now.line.now (numbered_of space.now.lexicon.now place.now) key → IsLetterTestOf space.now.lexicon.now space.now.line.now space.now.choices.now (numbered_of space.now.lexicon.now place.now) key test → IsJudged space.now.lexicon.now space.now.line.now space.now.choices.now (D.says space.now.guide.now) (numbered_of space.now.lexicon.now place.now) key result }
+    ensures steps { steps.new ≤ steps.old + 1 }
+{
+    match test_in_grammar(space.lexicon, place, phase, test) {
+        Test::Refused => Turn::Nothing,
+        Test::Ends => Turn::Ends,
+        Test::LeadsOn(next) => {
+            if space.guide.live(next.at, next.entrance, next.state, steps) {
+                Turn::LeadsOn(next)
+            } else {
+                Turn::Nothing
+            }
+        }
+    }
+}
 
 /// What the step, whose key is possible at the place, does there: nothing where it neither leads on nor ends the line, or where the guide
 /// says that no answer goes on from where it leads.
@@ -35,15 +70,25 @@ pub(crate) fn judge<D: SearchGuide, L>(
     ensures judged { IsJudged space.now.lexicon.now space.now.line.now space.now.choices.now (D.says space.now.guide.now) (numbered_of space.now.lexicon.now place.now) (key_of step.now) result }
     ensures steps { steps.new ≤ steps.old + 1 }
 {
-    match test_key(space.lexicon, space.line, space.choices, place, step) {
-        Test::Refused => Turn::Nothing,
-        Test::Ends => Turn::Ends,
-        Test::LeadsOn(next) => {
-            if space.guide.live(next.at, next.entrance, next.state, steps) {
-                Turn::LeadsOn(next)
-            } else {
-                Turn::Nothing
-            }
-        }
-    }
+    let test = test_letters(space.lexicon, space.line, space.choices, place, step);
+    judge_test(space, place, step.phase, test, steps)
+}
+
+/// What the way does at the place, from which it is one: the same.
+pub(crate) fn judge_way<D: SearchGuide, L>(
+    space: &SearchSpace<'_, D>,
+    place: &Configuration,
+    way: &Way,
+    steps: &mut Steps<L>,
+) -> Turn
+    requires searched { IsSearchedLexicon space.now.lexicon.now }
+    requires line { IsLine space.now.line.now }
+    requires guide { IsGuideOf space.now.lexicon.now space.now.line.now space.now.choices.now (D.covers space.now.guide.now) (D.says space.now.guide.now) }
+    requires place { IsConfigurationIn space.now.lexicon.now space.now.line.now place.now }
+    requires reached { IsReached space.now.lexicon.now space.now.line.now space.now.choices.now (numbered_of space.now.lexicon.now place.now) }
+    requires way { IsWayFrom space.now.lexicon.now space.now.line.now space.now.choices.now (numbered_of space.now.lexicon.now place.now) way.now }
+    ensures judged { IsJudged space.now.lexicon.now space.now.line.now space.now.choices.now (D.says space.now.guide.now) (numbered_of space.now.lexicon.now place.now) (key_of_way way.now) result }
+    ensures steps { steps.new ≤ steps.old + 1 }
+{
+    judge_test(space, place, way.key.phase, way.test, steps)
 }

@@ -1,9 +1,12 @@
-ghost use Rattle.std.specs.Prelude.{◌≡◌, length};
-ghost use Rattle.text_definitions.specs.Lines.{IsLine};
+ghost use Rattle.std.specs.Prelude.{◌≡◌, List, length};
+ghost use Rattle.text_definitions.specs.Lines.{IsLine, Line as LineValue};
+ghost use Rattle.segmentation_definitions.specs.Items.{Choice};
+ghost use Rattle.segmentation_definitions.specs.Listings.{Key};
 ghost use Rattle.derivation.specs.Steps.{key_of};
 ghost use Rattle.answer_paths.specs.Fronts.{supplied};
 ghost use Rattle.search_frames.specs.Frames.{IsConfigurationIn, numbered_of};
 ghost use Rattle.search_frames.specs.Configurations.{IsPossible};
+ghost use Rattle.search_frames.specs.LetterTests.{IsLetterTestOf};
 ghost use Rattle.search_frames.specs.Tests.{IsTestOf};
 
 use super::Configuration;
@@ -21,6 +24,43 @@ pub enum Test {
     LeadsOn(Configuration),
 }
 
+/// What a key of this phase does at the configuration, where the test says what its letters do there.
+pub(crate) fn test_in_grammar(
+    lexicon: &Lexicon,
+    place: &Configuration,
+    phase: u32,
+    test: LetterTest,
+) -> Test
+    ensures exact { (line : LineValue) (choices : List Choice) (key : Key) → IsConfigurationIn lexicon.now line place.now → key.phase ≡ phase → IsPossible lexicon.now line (numbered_of lexicon.now place.now) key → IsLetterTestOf lexicon.now line choices (numbered_of lexicon.now place.now) key test → IsTestOf lexicon.now line choices (numbered_of lexicon.now place.now) key result }
+{
+    // Its contract says that the lexicon can be searched.
+    lexicon.rules();
+    let automaton = lexicon.automaton();
+    match test {
+        LetterTest::Refused => Test::Refused,
+        LetterTest::Ends => {
+            let state = automaton.step(place.state, phase);
+            if automaton.accepts(state) {
+                Test::Ends
+            } else {
+                Test::Refused
+            }
+        }
+        LetterTest::LeadsOn { at, entrance } => {
+            let state = automaton.step(place.state, phase);
+            if automaton.live(state) {
+                Test::LeadsOn(Configuration {
+                    at,
+                    entrance,
+                    state,
+                })
+            } else {
+                Test::Refused
+            }
+        }
+    }
+}
+
 /// What the step, whose key is possible at the configuration, does there.
 pub fn test_key(
     lexicon: &Lexicon,
@@ -36,30 +76,6 @@ pub fn test_key(
     requires possible { IsPossible lexicon.now line.now (numbered_of lexicon.now place.now) (key_of step.now) }
     ensures exact { IsTestOf lexicon.now line.now choices.now (numbered_of lexicon.now place.now) (key_of step.now) result }
 {
-    // Its contract says that the lexicon can be searched.
-    lexicon.rules();
-    let automaton = lexicon.automaton();
-    match test_letters(lexicon, line, choices, place, step) {
-        LetterTest::Refused => Test::Refused,
-        LetterTest::Ends => {
-            let state = automaton.step(place.state, step.phase);
-            if automaton.accepts(state) {
-                Test::Ends
-            } else {
-                Test::Refused
-            }
-        }
-        LetterTest::LeadsOn { at, entrance } => {
-            let state = automaton.step(place.state, step.phase);
-            if automaton.live(state) {
-                Test::LeadsOn(Configuration {
-                    at,
-                    entrance,
-                    state,
-                })
-            } else {
-                Test::Refused
-            }
-        }
-    }
+    let test = test_letters(lexicon, line, choices, place, step);
+    test_in_grammar(lexicon, place, step.phase, test)
 }

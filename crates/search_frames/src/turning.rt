@@ -7,24 +7,24 @@ ghost use Rattle.derivation.specs.Guides.{IsEntranceOver};
 ghost use Rattle.derivation.specs.Steps.{key_meant};
 ghost use Rattle.answer_paths.specs.Fronts.{supplied};
 ghost use Rattle.search_frames.specs.declared.frame.TheConstants.{NODES_OF_FRAME};
-ghost use Rattle.search_frames.specs.declared.lengths.TheConstants.{MOST_LENGTH};
+ghost use Rattle.search_frames.specs.declared.frame.TheConstants.{NODES_OF_FRAME};
 ghost use Rattle.search_frames.specs.Frames.{IsConfigurationIn, numbered_of};
+ghost use Rattle.lexicon_definitions.specs.declared.limits.TheConstants.{MOST_FORM_LETTERS};
 ghost use Rattle.search_frames.specs.Guided.{IsGuideOf};
 ghost use Rattle.search_frames.specs.Reached.{IsReached};
 ghost use Rattle.search_frames.specs.Costs.{HasAtMostRules, steps_of_node, steps_of_phase, steps_of_frame};
 ghost use Rattle.search_frames.specs.Walks.{IsNodeAt, IsNodeAmong};
-ghost use Rattle.search_frames.specs.FirstKeys.{HasNoneOf, IsFirstOf, IsUnchangedFrom, IsRuleFrom, IsThisRuleFrom, IsAtNodeFrom, IsInPhaseFrom, IsLengthFrom, IsFrom};
-ghost use Rattle.search_frames.specs.Lengths.{HasLength};
-ghost use Rattle.search_frames.specs.Turns.{BeginsPath};
+ghost use Rattle.search_frames.specs.FirstKeys.{HasNoneOf, IsFirstOf, IsUnchangedFrom, IsRuleFrom, IsThisRuleFrom, IsAtNodeFrom, IsInPhaseFrom, IsShorterFrom, IsFrom};
 ghost use Rattle.segmentation_definitions.specs.Listings.{Key as DefinedKey};
 
 use super::Configuration;
 use super::guiding::{SearchGuide, Turn};
 use super::judging::judge;
-use super::lengths::{LengthSet, MOST_LENGTH};
+use super::way_turns::turn_among_ways;
 use super::search_space::SearchSpace;
 use super::walking::{supplied_letters, walk_place};
 use derivation::{Key, Step};
+use lexicon_definitions::MOST_FORM_LETTERS;
 use outside::Steps;
 use phoneme::Letter;
 use shared_trie::Node;
@@ -72,8 +72,8 @@ fn turn_unchanged<D: SearchGuide, L>(
     }
 }
 
-/// What the key with this rule does that takes as many letters as `from`, if it does not come before `from`. The rule is a choice at the
-/// node.
+/// What the key with this rule does that takes as many letters as `from`. The rule is a choice at the node, and does not come before that
+/// of `from`.
 fn turn_by_rule<D: SearchGuide, L>(
     space: &SearchSpace<'_, D>,
     place: &Configuration,
@@ -91,14 +91,12 @@ fn turn_by_rule<D: SearchGuide, L>(
     requires letters { place.now.at + from.taken ≤ length space.now.line.now.letters }
     requires node { IsNodeAt space.now.lexicon.now space.now.line.now (numbered_of space.now.lexicon.now place.now) from.phase from.taken node }
     requires rule { Contains (choices_of space.now.lexicon.now.tries node) rule }
+    requires order { from.rule ≤ rule }
     ensures first { MatchOption result (HasNoneOf space.now.lexicon.now space.now.line.now space.now.choices.now (numbered_of space.now.lexicon.now place.now) (IsThisRuleFrom (key_meant from) rule))
         (λ found. IsFirstOf space.now.lexicon.now space.now.line.now space.now.choices.now (D.says space.now.guide.now) (numbered_of space.now.lexicon.now place.now) (IsThisRuleFrom (key_meant from) rule) (key_meant found.0) found.1) }
     ensures steps { steps.new ≤ steps.old + 2 }
 {
     steps.tick();
-    if rule < from.rule {
-        return None;
-    }
     let key = Key {
         phase: from.phase,
         taken: from.taken,
@@ -111,7 +109,7 @@ fn turn_by_rule<D: SearchGuide, L>(
 }
 
 /// The first key with a rule that does not come before `from` and takes as many letters, and what it does. Only the rules whose `w` begins
-/// with the next letter of the line are looked at.
+/// with the next letter of the line are looked at, from that of `from` on.
 fn turn_in_group<D: SearchGuide, L>(
     space: &SearchSpace<'_, D>,
     place: &Configuration,
@@ -134,7 +132,8 @@ fn turn_in_group<D: SearchGuide, L>(
     ensures steps { (most : ℕ) → HasAtMostRules space.now.lexicon.now.tries most → steps.new ≤ steps.old + (1 + 2 * most) }
 {
     let group = space.lexicon.tries().choices_with(node, letter, steps);
-    for rule in group {
+    let first = group.partition_point(|rule| *rule < from.rule);
+    for rule in &group[first..] {
         match turn_by_rule(space, place, node, from, *rule, steps) {
             Some(found) => return Some(found),
             None => {}
@@ -214,44 +213,12 @@ fn first_with(from: Key, taken: u32) -> Key
     }
 }
 
-/// After how many letters, at most those of `from`, forms of its phase end that are worth a try.
-fn lengths_from<D: SearchGuide, L>(
+/// The first key of the phase of `from` that does not come before it and takes fewer letters than there are nodes, and what it does.
+/// `nodes` are those to which each number of letters leads.
+fn turn_among_nodes<D: SearchGuide, L>(
     space: &SearchSpace<'_, D>,
     place: &Configuration,
     from: Key,
-    steps: &mut Steps<L>,
-) -> LengthSet
-    requires searched { IsSearchedLexicon space.now.lexicon.now }
-    requires line { IsLine space.now.line.now }
-    requires known { D.known space.now.guide.now space.now.lexicon.now space.now.line.now space.now.choices.now }
-    requires place { IsConfigurationIn space.now.lexicon.now space.now.line.now place.now }
-    requires reached { IsReached space.now.lexicon.now space.now.line.now space.now.choices.now (numbered_of space.now.lexicon.now place.now) }
-    requires phase { from.phase < length space.now.lexicon.now.lexicon.rules.names }
-    requires taken { from.taken ≤ MOST_LENGTH }
-    ensures all { (key : DefinedKey) → IsInPhaseFrom (key_meant from) key → BeginsPath space.now.lexicon.now space.now.line.now space.now.choices.now (numbered_of space.now.lexicon.now place.now) key → HasLength result key.taken }
-    ensures few { (taken : ℕ) → HasLength result taken → taken ≤ from.taken }
-    ensures steps { steps.new ≡ steps.old + 1 }
-{
-    space
-        .guide
-        .lengths(
-            space.lexicon,
-            space.line,
-            space.choices,
-            place,
-            from.phase,
-            steps,
-        )
-        .below(from.taken + 1)
-}
-
-/// The first key of the phase of `from` that does not come before it and has one of these lengths, and what it does. `nodes` are those to
-/// which each number of letters leads.
-fn turn_by_length<D: SearchGuide, L>(
-    space: &SearchSpace<'_, D>,
-    place: &Configuration,
-    from: Key,
-    lengths: LengthSet,
     nodes: &[Node],
     steps: &mut Steps<L>,
 ) -> Option<(Key, Turn)>
@@ -261,21 +228,18 @@ fn turn_by_length<D: SearchGuide, L>(
     requires place { IsConfigurationIn space.now.lexicon.now space.now.line.now place.now }
     requires reached { IsReached space.now.lexicon.now space.now.line.now space.now.choices.now (numbered_of space.now.lexicon.now place.now) }
     requires phase { from.phase < length space.now.lexicon.now.lexicon.rules.names }
-    requires few { (taken : ℕ) → HasLength lengths taken → taken ≤ from.taken }
-    requires room { length nodes.now ≤ NODES_OF_FRAME }
-    requires nodes { (taken : ℕ) → HasLength lengths taken → IsNodeAmong space.now.lexicon.now space.now.line.now (numbered_of space.now.lexicon.now place.now) from.phase nodes.now taken }
-    ensures first { MatchOption result (HasNoneOf space.now.lexicon.now space.now.line.now space.now.choices.now (numbered_of space.now.lexicon.now place.now) (IsLengthFrom (key_meant from) lengths))
-        (λ found. IsFirstOf space.now.lexicon.now space.now.line.now space.now.choices.now (D.says space.now.guide.now) (numbered_of space.now.lexicon.now place.now) (IsLengthFrom (key_meant from) lengths) (key_meant found.0) found.1) }
+    requires few { length nodes.now ≤ from.taken + 1 }
+    requires nodes { (taken : ℕ) → taken < length nodes.now → IsNodeAmong space.now.lexicon.now space.now.line.now (numbered_of space.now.lexicon.now place.now) from.phase nodes.now taken }
+    ensures first { MatchOption result (HasNoneOf space.now.lexicon.now space.now.line.now space.now.choices.now (numbered_of space.now.lexicon.now place.now) (IsShorterFrom (key_meant from) (length nodes.now)))
+        (λ found. IsFirstOf space.now.lexicon.now space.now.line.now space.now.choices.now (D.says space.now.guide.now) (numbered_of space.now.lexicon.now place.now) (IsShorterFrom (key_meant from) (length nodes.now)) (key_meant found.0) found.1) }
     ensures steps { (most : ℕ) → HasAtMostRules space.now.lexicon.now.tries most → steps.new ≤ steps.old + length nodes.now * steps_of_node most }
 {
-    let mut limit = nodes.len() as u32;
-    while let Some(taken) = lengths.below(limit).longest() {
+    for taken in (0..nodes.len() as u32).rev() {
         let first = first_with(from, taken);
-        let found = turn_at_node(space, place, nodes[taken as usize], first, steps);
-        if found.is_some() {
-            return found;
+        match turn_at_node(space, place, nodes[taken as usize], first, steps) {
+            Some(found) => return Some(found),
+            None => {}
         }
-        limit = taken;
     }
     None
 }
@@ -292,11 +256,10 @@ fn turn_in_phase<D: SearchGuide, L>(
     requires searched { IsSearchedLexicon space.now.lexicon.now }
     requires line { IsLine space.now.line.now }
     requires guide { IsGuideOf space.now.lexicon.now space.now.line.now space.now.choices.now (D.covers space.now.guide.now) (D.says space.now.guide.now) }
-    requires known { D.known space.now.guide.now space.now.lexicon.now space.now.line.now space.now.choices.now }
     requires place { IsConfigurationIn space.now.lexicon.now space.now.line.now place.now }
     requires reached { IsReached space.now.lexicon.now space.now.line.now space.now.choices.now (numbered_of space.now.lexicon.now place.now) }
     requires phase { from.phase < length space.now.lexicon.now.lexicon.rules.names }
-    requires taken { from.taken ≤ MOST_LENGTH }
+    requires taken { from.taken ≤ MOST_FORM_LETTERS }
     requires room { NODES_OF_FRAME ≤ length nodes.old.items }
     ensures first { MatchOption result (HasNoneOf space.now.lexicon.now space.now.line.now space.now.choices.now (numbered_of space.now.lexicon.now place.now) (IsInPhaseFrom (key_meant from)))
         (λ found. IsFirstOf space.now.lexicon.now space.now.line.now space.now.choices.now (D.says space.now.guide.now) (numbered_of space.now.lexicon.now place.now) (IsInPhaseFrom (key_meant from)) (key_meant found.0) found.1) }
@@ -308,48 +271,69 @@ fn turn_in_phase<D: SearchGuide, L>(
         steps.tick();
         return None;
     }
-    let lengths = lengths_from(space, place, from, steps);
-    let Some(longest) = lengths.longest() else {
-        return None;
-    };
     let walked = walk_place(
         space.lexicon,
         space.line,
         place,
         from.phase,
-        longest,
+        from.taken,
         nodes,
         steps,
     );
-    turn_by_length(
-        space,
-        place,
-        from,
-        lengths.below(walked),
-        &nodes[..walked as usize],
-        steps,
-    )
+    turn_among_nodes(space, place, from, &nodes[..walked as usize], steps)
 }
 
 /// The first key of the phase, counted from 0, that does not come before `from`, which has no later phase.
 fn first_in(from: Key, phase: u32) -> Key
     requires order { from.phase ≤ phase }
-    requires taken { from.taken ≤ MOST_LENGTH }
+    requires taken { from.taken ≤ MOST_FORM_LETTERS }
     ensures phase { result.phase ≡ phase }
-    ensures taken { result.taken ≤ MOST_LENGTH }
-    ensures from { (key : DefinedKey) → key.taken ≤ MOST_LENGTH → key.phase ≡ phase → IsFrom (key_meant from) key ↔ IsInPhaseFrom (key_meant result) key }
+    ensures taken { result.taken ≤ MOST_FORM_LETTERS }
+    ensures from { (key : DefinedKey) → key.taken ≤ MOST_FORM_LETTERS → key.phase ≡ phase → IsFrom (key_meant from) key ↔ IsInPhaseFrom (key_meant result) key }
 {
     if phase == from.phase {
         return from;
     }
     Key {
         phase,
-        taken: MOST_LENGTH,
+        taken: MOST_FORM_LETTERS as u32,
         rule: 0,
     }
 }
 
 /// The first key that does not come before `from`, and what it does. `nodes` is room for the nodes on the way along a form.
+fn turn_by_walking<D: SearchGuide, L>(
+    space: &SearchSpace<'_, D>,
+    place: &Configuration,
+    from: Key,
+    nodes: &mut Vec<Node>,
+    steps: &mut Steps<L>,
+) -> Option<(Key, Turn)>
+    requires searched { IsSearchedLexicon space.now.lexicon.now }
+    requires line { IsLine space.now.line.now }
+    requires guide { IsGuideOf space.now.lexicon.now space.now.line.now space.now.choices.now (D.covers space.now.guide.now) (D.says space.now.guide.now) }
+    requires place { IsConfigurationIn space.now.lexicon.now space.now.line.now place.now }
+    requires reached { IsReached space.now.lexicon.now space.now.line.now space.now.choices.now (numbered_of space.now.lexicon.now place.now) }
+    requires phase { from.phase < length space.now.lexicon.now.lexicon.rules.names }
+    requires taken { from.taken ≤ MOST_FORM_LETTERS }
+    requires room { NODES_OF_FRAME ≤ length nodes.old.items }
+    ensures first { MatchOption result (HasNoneOf space.now.lexicon.now space.now.line.now space.now.choices.now (numbered_of space.now.lexicon.now place.now) (IsFrom (key_meant from)))
+        (λ found. IsFirstOf space.now.lexicon.now space.now.line.now space.now.choices.now (D.says space.now.guide.now) (numbered_of space.now.lexicon.now place.now) (IsFrom (key_meant from)) (key_meant found.0) found.1) }
+    ensures room { length nodes.new.items ≡ length nodes.old.items }
+    ensures steps { (most : ℕ) → HasAtMostRules space.now.lexicon.now.tries most → steps.new < steps.old + steps_of_frame space.now.lexicon.now most }
+{
+    for phase in from.phase..space.lexicon.rules().phases().len() as u32 {
+        let first = first_in(from, phase);
+        match turn_in_phase(space, place, first, nodes, steps) {
+            Some(found) => return Some(found),
+            None => {}
+        }
+    }
+    None
+}
+
+/// The first key that does not come before `from`, and what it does: among the ways that the guide keeps from the place, or else along
+/// the tries. `nodes` is room for the nodes on the way along a form.
 pub(crate) fn turn_from<D: SearchGuide, L>(
     space: &SearchSpace<'_, D>,
     place: &Configuration,
@@ -364,19 +348,18 @@ pub(crate) fn turn_from<D: SearchGuide, L>(
     requires place { IsConfigurationIn space.now.lexicon.now space.now.line.now place.now }
     requires reached { IsReached space.now.lexicon.now space.now.line.now space.now.choices.now (numbered_of space.now.lexicon.now place.now) }
     requires phase { from.phase < length space.now.lexicon.now.lexicon.rules.names }
-    requires taken { from.taken ≤ MOST_LENGTH }
+    requires taken { from.taken ≤ MOST_FORM_LETTERS }
     requires room { NODES_OF_FRAME ≤ length nodes.old.items }
     ensures first { MatchOption result (HasNoneOf space.now.lexicon.now space.now.line.now space.now.choices.now (numbered_of space.now.lexicon.now place.now) (IsFrom (key_meant from)))
         (λ found. IsFirstOf space.now.lexicon.now space.now.line.now space.now.choices.now (D.says space.now.guide.now) (numbered_of space.now.lexicon.now place.now) (IsFrom (key_meant from)) (key_meant found.0) found.1) }
     ensures room { length nodes.new.items ≡ length nodes.old.items }
     ensures steps { (most : ℕ) → HasAtMostRules space.now.lexicon.now.tries most → steps.new ≤ steps.old + steps_of_frame space.now.lexicon.now most }
 {
-    for phase in from.phase..space.lexicon.rules().phases().len() as u32 {
-        let first = first_in(from, phase);
-        match turn_in_phase(space, place, first, nodes, steps) {
-            Some(found) => return Some(found),
-            None => {}
-        }
+    let kept = space
+        .guide
+        .ways(space.lexicon, space.line, space.choices, place, steps);
+    match kept {
+        Some(ways) => turn_among_ways(space, place, from, ways, steps),
+        None => turn_by_walking(space, place, from, nodes, steps),
     }
-    None
 }

@@ -13,17 +13,10 @@ use super::letter_testing::{LetterTest, test_letters};
 use super::opening::begin_walk;
 use super::skipping::skip_unwritten;
 use annotated_trie::Lexicon;
-use derivation::Key;
+use super::way::Way;
 use outside::Steps;
 use phoneme::{Line, Memory};
 use reader_choices::Choices;
-
-/// A key that leads on from a configuration or ends the line there, whatever the grammar says, and which of the two (own).
-#[derive(Clone, Copy, Debug, PartialEq, Eq)]
-pub struct Way {
-    pub key: Key,
-    pub test: LetterTest,
-}
 
 /// Appends all ways from the configuration, in the order of their keys. Its state is not looked at. `walker` has room for a frame.
 /// Refused only for want of memory.

@@ -10,7 +10,7 @@ use Rattle.annotated_trie.specs.Searched.{SearchedLexicon}
 use Rattle.segmenter.specs.Searches.{IsStackOf, cursor_of}
 use Rattle.search_frames.specs.Guided.{IsGuideOf}
 use Rattle.summary_chart.specs.Charts.{CoversPlace, says_of}
-use Rattle.summary_chart.specs.Charts.{ChartValue, IsChartOf}
+use Rattle.summary_chart.specs.PlaceWays.{ChartValue, IsChartOf}
 use Rattle.search_split.specs.declared.part.Part.{Part}
 use Rattle.search_split.specs.declared.part.Parts.{Parts}
 

@@ -5,7 +5,7 @@ ghost use Rattle.segmentation_definitions.specs.Listings.{Key, compare_key_lists
 ghost use Rattle.list_laws.specs.Firsts.{ComesAfter};
 ghost use Rattle.search_frames.specs.Guided.{IsGuideOf};
 ghost use Rattle.summary_chart.specs.Charts.{CoversPlace, says_of};
-ghost use Rattle.summary_chart.specs.Charts.{IsChartOf};
+ghost use Rattle.summary_chart.specs.PlaceWays.{IsChartOf};
 ghost use Rattle.search_split.specs.Parts.{IsChartFor};
 ghost use Rattle.search_split.specs.Starts.{IsStart, front_from};
 ghost use Rattle.search_split.specs.Listing.{IsListed, IsFoundFor, AreFound, HasPut, IsPageOfFronts, IsListedPage};

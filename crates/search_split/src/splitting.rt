@@ -6,7 +6,7 @@ ghost use Rattle.front_definitions.specs.Fronts.{front_of};
 ghost use Rattle.search_frames.specs.Guided.{IsGuideOf};
 ghost use Rattle.segmenter.specs.Searches.{IsStackOf, StandsWhere, cursor_of};
 ghost use Rattle.summary_chart.specs.Charts.{CoversPlace, says_of};
-ghost use Rattle.summary_chart.specs.Charts.{IsChartOf};
+ghost use Rattle.summary_chart.specs.PlaceWays.{IsChartOf};
 ghost use Rattle.search_split.specs.Parts.{IsPart, AreNextParts, front_in, cursor_of_part};
 
 use super::fronts::{front_at, go_to_next_front};

@@ -81,11 +81,3 @@ is_entrance (Plain letter) = nat_lt 0 letter && nat_lt letter 51
 -- what it says of the place
 abbrev pub says_of : Table → ℕ → Entrance → Option ℕ → Bool
 says_of table at entrance state = if is_entrance entrance then has_state (set_at table at entrance) state else false
-
--- what contracts see of a chart
-pub record ChartValue : Type 0 where
-  pub table : Table
-
--- the chart is that of the lexicon, the line and the choices: its table has just the living places
-pub record IsChartOf (searched : SearchedLexicon) (line : Line) (choices : List Choice) (chart : ChartValue) : Type 0 where
-  pub table : IsChartTable searched line choices chart.table

@@ -4,3 +4,4 @@ pub mod Spreading
 pub mod Fronts
 pub mod Charts
 pub mod Summaries
+pub mod PlaceWays

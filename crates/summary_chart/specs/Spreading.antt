@@ -5,6 +5,7 @@ use Rattle.lexicon_definitions.specs.Leads.{Lead, leads_of}
 use Rattle.segmentation_definitions.specs.Items.{Choice}
 use Rattle.segmentation_definitions.specs.Listings.{Key}
 use Rattle.derivation.specs.declared.entrance.Entrance.{Entrance}
+use Rattle.phase_automaton.specs.Automata.{StateMachine}
 use Rattle.annotated_trie.specs.Searched.{SearchedLexicon}
 use Rattle.search_frames.specs.declared.configuration.Configuration.{Configuration}
 use Rattle.search_frames.specs.Configurations.{NumberedConfiguration, Ends, rules_in}
@@ -12,7 +13,7 @@ use Rattle.search_frames.specs.Frames.{IsConfigurationIn, numbered_of}
 use Rattle.search_frames.specs.Tests.{LeadsTo}
 use Rattle.summary_chart.specs.declared.state_set.StateSet.{StateSet}
 use Rattle.summary_chart.specs.declared.table.Table.{Table}
-use Rattle.summary_chart.specs.StateSets.{HasState, IsStateOf}
+use Rattle.summary_chart.specs.StateSets.{HasState, IsStateOf, IsLedTo}
 use Rattle.summary_chart.specs.Tables.{IsIn}
 
 -- the leads of the lexicon's rules
@@ -74,6 +75,10 @@ IsAtFront phase taken key = (key.phase ≡ phase) × (key.taken ≡ taken)
 
 abbrev pub IsByRule : ℕ → ℕ → List ℕ → Key → Type 0
 IsByRule phase taken rules key = (key.phase ≡ phase) × (key.taken ≡ taken) × Contains rules key.rule
+
+-- one of a phase to which some state of the set leads
+abbrev pub IsLedByPhase : StateMachine → StateSet → Key → Type 0
+IsLedByPhase machine set key = (number : ℕ) × IsLedTo machine set key.phase number
 
 -- the states of the set from which such a key goes further were put to those before
 abbrev pub GathersMore : SearchedLexicon → Line → List Choice → Table → ℕ → Entrance → StateSet → (Key → Type 0) → StateSet → StateSet → Type 0

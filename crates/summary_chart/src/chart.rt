@@ -3,11 +3,13 @@ ghost use Rattle.text_definitions.specs.Lines.{IsLine};
 ghost use Rattle.segmentation_definitions.specs.StepBounds.{chart_bound};
 ghost use Rattle.search_frames.specs.Costs.{HasAtMostRules};
 ghost use Rattle.search_frames.specs.Guided.{IsGuideOf, IsExactOf};
-ghost use Rattle.summary_chart.specs.Charts.{IsChartOf, IsOpenTable, CoversPlace, says_of, set_count};
+ghost use Rattle.summary_chart.specs.PlaceWays.{IsChartOf, AreFew};
+ghost use Rattle.summary_chart.specs.Charts.{IsOpenTable, CoversPlace, says_of, set_count};
 ghost use Rattle.summary_chart.specs.Summaries.{steps_of_summary};
 ghost use Rattle.summary_chart.specs.Spreading.{leads_in};
 
 use super::passes::{keep_living, reach};
+use super::place_ways::PlaceWays;
 use super::state_set::StateSet;
 use super::table::Table;
 use annotated_trie::Lexicon;
@@ -25,14 +27,15 @@ use std::marker::Model;
 #[derive(Debug, Drop)]
 pub struct Chart {
     pub(crate) table: Table,
+    pub(crate) kept: PlaceWays,
 }
 
 impl Model for Chart {
-    ghost use Rattle.summary_chart.specs.Charts.{ChartValue};
+    ghost use Rattle.summary_chart.specs.PlaceWays.{ChartValue};
 
     ghost Value = { ChartValue };
 
-    ghost view = { λ c. record { table = c.table } };
+    ghost view = { λ c. record { table = c.table; stops = c.kept.stops.items; ways = c.kept.ways.items } };
 }
 
 /// A table that has the opening alone.
@@ -49,8 +52,9 @@ fn open_table(alloc: Global, lexicon: &Lexicon, line: &Line) -> Result<Table, Me
 
 impl Chart {
     /// The chart of the line with these choices, over the lexicon: a set of states, of four bytes, for each number of letters and each
-    /// entrance. `steps` counts each phase, node and rule that is looked at, in two passes. Looking for sets that are not empty is not
-    /// counted. Refused only for want of memory.
+    /// entrance; and the ways from places that have few of them, as long as ways and stops, of 24 bytes each, take no more than four
+    /// bytes for each of the sets and each phase. `steps` counts each phase, node, rule and way that is looked at or kept, in two passes.
+    /// Looking for sets that are not empty is not counted. Refused only for want of memory.
     pub fn build<L>(
         alloc: Global,
         lexicon: &Lexicon,
@@ -62,7 +66,8 @@ impl Chart {
         ensures exact { IfOk result (λ chart. IsExactOf lexicon.now line.now choices.now (says_of chart.table)) }
         ensures chart { IfOk result (λ chart. IsChartOf lexicon.now line.now choices.now chart) }
         ensures stored { IfOk result (λ chart. length chart.table.sets.items ≡ set_count lexicon.now line.now) }
-        ensures steps { (most : ℕ) → HasAtMostRules lexicon.now.tries most → steps.new ≤ steps.old + 2 * steps_of_summary lexicon.now line.now most }
+        ensures few { IfOk result (λ chart. AreFew lexicon.now line.now chart.stops chart.ways) }
+        ensures steps { (most : ℕ) → HasAtMostRules lexicon.now.tries most → steps.new ≤ steps.old + 4 * steps_of_summary lexicon.now line.now most }
         ensures bound { (most : ℕ) → HasAtMostRules lexicon.now.tries most → steps.new ≤ steps.old + chart_bound lexicon.now.lexicon most (length line.now.letters) (length (leads_in lexicon.now)) }
     {
         // The proof knows what holds of a line, a lexicon and an automaton only of those that are read.
@@ -71,9 +76,14 @@ impl Chart {
         let _states = lexicon.automaton().states();
         let mut nodes = Vec::with_capacity(alloc, NODES_OF_FRAME)?;
         let mut table = open_table(alloc, lexicon, line)?;
-        reach(lexicon, line, choices, &mut nodes, &mut table, steps)?;
-        keep_living(lexicon, line, choices, &mut nodes, &mut table, steps)?;
-        Ok(Chart { table })
+        let letters = line.letters.as_slice().len();
+        let mut kept = PlaceWays {
+            stops: Vec::with_capacity(alloc, letters)?,
+            ways: Vec::with_capacity(alloc, letters)?,
+        };
+        reach(lexicon, line, choices, &mut nodes, &mut table, &mut kept, steps)?;
+        keep_living(lexicon, line, choices, &kept, &mut nodes, &mut table, steps)?;
+        Ok(Chart { table, kept })
     }
 }
 

@@ -1,17 +1,19 @@
-ghost use Rattle.std.specs.Prelude.{◌≡◌, ◌+◌, ◌*◌, ◌<◌, ◌≤◌, ℕ, length, All, OnOk};
+ghost use Rattle.std.specs.Prelude.{◌≡◌, ◌++◌, ◌∷◌, [], ◌+◌, ◌*◌, ◌<◌, ◌≤◌, ℕ, length, All, OnOk};
 ghost use Rattle.text_definitions.specs.Lines.{IsLine};
 ghost use Rattle.derivation.specs.Steps.{key_meant};
 ghost use Rattle.annotated_trie.specs.Searched.{IsSearchedLexicon};
 ghost use Rattle.search_frames.specs.Frames.{IsConfigurationIn, numbered_of};
 ghost use Rattle.search_frames.specs.Configurations.{IsPossible};
 ghost use Rattle.search_frames.specs.Costs.{HasAtMostRules};
+ghost use Rattle.search_frames.specs.WaysFrom.{IsWayFrom, key_of_way};
 ghost use Rattle.summary_chart.specs.Fronts.{IsFrontAt};
+ghost use Rattle.summary_chart.specs.PlaceWays.{HasEachKey};
 ghost use Rattle.summary_chart.specs.Tables.{IsTable};
 ghost use Rattle.summary_chart.specs.Spreading.{leads_in};
-ghost use Rattle.summary_chart.specs.Summaries.{AddsItems, HasSeen, IsCollected, IsItemBy, IsItemByRule, IsItemAtFront, IsItemInPhase, IsItemFrom, steps_of_front, steps_of_fronts, steps_of_items};
+ghost use Rattle.summary_chart.specs.Summaries.{item_with, AddsItems, HasSeen, IsCollected, IsItemBy, IsItemByRule, IsItemAtFront, IsItemInPhase, IsItemFrom, steps_of_front, steps_of_fronts, steps_of_items};
 
 use super::collected::Collected;
-use super::gathering::states_by_key;
+use super::gathering::{states_by_key, states_by_way};
 use super::items::item_of_step;
 use super::state_set::StateSet;
 use super::state_steps::states_after;
@@ -22,9 +24,107 @@ use derivation::{Key, Step};
 use outside::Steps;
 use phoneme::{Line, Memory};
 use reader_choices::Choices;
-use search_frames::{Configuration, supplied_letters};
+use search_frames::{Configuration, Way, supplied_letters};
 use shared_trie::Node;
 use std::alloc::Global;
+
+/// Puts in the item of the way, which is from the place, where some state of the set goes further by it. The place's own state is not
+/// looked at. An item takes two steps: it is made, and put in order later. Refused only for want of memory.
+fn collect_way<L>(
+    alloc: Global,
+    lexicon: &Lexicon,
+    line: &Line,
+    choices: &Choices,
+    place: &Configuration,
+    states: StateSet,
+    way: &Way,
+    table: &Table,
+    collected: &mut Collected,
+    steps: &mut Steps<L>,
+) -> Result<(), Memory>
+    requires searched { IsSearchedLexicon lexicon.now }
+    requires line { IsLine line.now }
+    requires place { IsConfigurationIn lexicon.now line.now place.now }
+    requires way { IsWayFrom lexicon.now line.now choices.now (numbered_of lexicon.now place.now) way.now }
+    requires table { IsTable (leads_in lexicon.now) (length line.now.letters) table.now }
+    requires collected { IsCollected lexicon.now.lexicon.rules collected.old }
+    ensures collected { OnOk result (IsCollected lexicon.now.lexicon.rules collected.new) }
+    ensures adds { OnOk result (AddsItems (IsItemBy lexicon.now line.now choices.now table.now place.now.at place.now.entrance states (key_of_way way.now)) collected.old.items.items collected.new.items.items) }
+    ensures steps { steps.new ≤ steps.old + 2 }
+{
+    if states_by_way(lexicon, line, choices, place, states, way, table).is_empty() {
+        return Ok(());
+    }
+    put_item(alloc, lexicon, line, place, way.key, collected, steps)
+}
+
+/// Puts in the items of the ways by which some state of the set goes further. They are from the place, and each key that leads on from
+/// there with one of these states, or ends the line, is that of one. The place's own state is not looked at. Refused only for want of
+/// memory.
+pub(crate) fn collect_ways<L>(
+    alloc: Global,
+    lexicon: &Lexicon,
+    line: &Line,
+    choices: &Choices,
+    place: &Configuration,
+    states: StateSet,
+    ways: &[Way],
+    table: &Table,
+    collected: &mut Collected,
+    steps: &mut Steps<L>,
+) -> Result<(), Memory>
+    requires searched { IsSearchedLexicon lexicon.now }
+    requires line { IsLine line.now }
+    requires place { IsConfigurationIn lexicon.now line.now place.now }
+    requires ways { All (IsWayFrom lexicon.now line.now choices.now (numbered_of lexicon.now place.now)) ways.now }
+    requires all { HasEachKey lexicon.now line.now choices.now place.now.at place.now.entrance states ways.now }
+    requires table { IsTable (leads_in lexicon.now) (length line.now.letters) table.now }
+    requires collected { IsCollected lexicon.now.lexicon.rules collected.old }
+    ensures collected { OnOk result (IsCollected lexicon.now.lexicon.rules collected.new) }
+    ensures adds { OnOk result (AddsItems (IsItemFrom lexicon.now line.now choices.now table.now place.now.at place.now.entrance states) collected.old.items.items collected.new.items.items) }
+    ensures steps { steps.new ≤ steps.old + 3 * length ways.now }
+{
+    for way in ways {
+        steps.tick();
+        collect_way(
+            alloc, lexicon, line, choices, place, states, way, table, collected, steps,
+        )?;
+    }
+    Ok(())
+}
+
+/// Puts in the item of the key at the place, which takes two steps. Refused only for want of memory.
+fn put_item<L>(
+    alloc: Global,
+    lexicon: &Lexicon,
+    line: &Line,
+    place: &Configuration,
+    key: Key,
+    collected: &mut Collected,
+    steps: &mut Steps<L>,
+) -> Result<(), Memory>
+    requires searched { IsSearchedLexicon lexicon.now }
+    requires line { IsLine line.now }
+    requires place { IsConfigurationIn lexicon.now line.now place.now }
+    requires possible { IsPossible lexicon.now line.now (numbered_of lexicon.now place.now) (key_meant key) }
+    requires collected { IsCollected lexicon.now.lexicon.rules collected.old }
+    ensures collected { OnOk result (IsCollected lexicon.now.lexicon.rules collected.new) }
+    ensures items { OnOk result (collected.new.items.items ≡ collected.old.items.items ++ item_with lexicon.now line.now place.now.at place.now.entrance (key_meant key) ∷ []) }
+    ensures steps { steps.new ≡ steps.old + 2 }
+{
+    let rules = lexicon.rules();
+    let step = Step {
+        phase: key.phase,
+        rule: key.rule,
+        at: place.at,
+        lead: supplied_letters(rules, place.entrance).len() as u32,
+        taken: key.taken,
+    };
+    steps.tick();
+    steps.tick();
+    let item = item_of_step(alloc, rules, line, place.entrance, &step)?;
+    collected.put(rules, key.rule, item)
+}
 
 /// Puts in the item of the key, which is possible at the place, where some state of the set goes further by it: then its step stands
 /// in an answer. The place's own state is not looked at. An item takes two steps: it is made, and put in order later. Refused only

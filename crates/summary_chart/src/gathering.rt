@@ -6,7 +6,9 @@ ghost use Rattle.annotated_trie.specs.Searched.{IsSearchedLexicon};
 ghost use Rattle.search_frames.specs.Frames.{IsConfigurationIn, numbered_of};
 ghost use Rattle.search_frames.specs.Configurations.{IsPossible};
 ghost use Rattle.search_frames.specs.Costs.{HasAtMostRules};
+ghost use Rattle.search_frames.specs.WaysFrom.{IsWayFrom, key_of_way};
 ghost use Rattle.summary_chart.specs.Fronts.{IsFrontAt};
+ghost use Rattle.summary_chart.specs.PlaceWays.{HasEachKey};
 ghost use Rattle.summary_chart.specs.Tables.{IsTable};
 ghost use Rattle.summary_chart.specs.Spreading.{AreGoingFurther, GathersMore, EveryKey, OnlyKey, IsByRule, IsAtFront, IsInPhase, leads_in};
 ghost use Rattle.summary_chart.specs.Summaries.{steps_of_front, steps_of_fronts, steps_of_items};
@@ -20,7 +22,7 @@ use derivation::{Key, Step};
 use outside::Steps;
 use phoneme::{Line, Memory};
 use reader_choices::Choices;
-use search_frames::{Configuration, LetterTest, supplied_letters, test_letters};
+use search_frames::{Configuration, LetterTest, Way, supplied_letters, test_letters};
 use shared_trie::Node;
 
 /// The states of the set from which the step, whose key is possible at the place, ends the line or leads on to a place of the table.
@@ -258,4 +260,61 @@ pub(crate) fn gather<L>(
         )?;
     }
     Ok(gathered)
+}
+
+/// The states of the set from which the way ends the line or leads on to a place of the table. The place's own state is not looked at.
+pub(crate) fn states_by_way(
+    lexicon: &Lexicon,
+    line: &Line,
+    choices: &Choices,
+    place: &Configuration,
+    states: StateSet,
+    way: &Way,
+    table: &Table,
+) -> StateSet
+    requires searched { IsSearchedLexicon lexicon.now }
+    requires place { IsConfigurationIn lexicon.now line.now place.now }
+    requires way { IsWayFrom lexicon.now line.now choices.now (numbered_of lexicon.now place.now) way.now }
+    requires table { IsTable (leads_in lexicon.now) (length line.now.letters) table.now }
+    ensures { AreGoingFurther lexicon.now line.now choices.now table.now place.now.at place.now.entrance states (OnlyKey (key_of_way way.now)) result }
+{
+    let automaton = lexicon.automaton();
+    match way.test {
+        LetterTest::Refused => StateSet::empty(),
+        LetterTest::Ends => accepted_states(automaton, states, way.key.phase),
+        LetterTest::LeadsOn { at, entrance } => {
+            states_into(automaton, states, way.key.phase, table.get(at, entrance))
+        }
+    }
+}
+
+/// The states of the set from which one of the ways ends the line or leads on to a place of the table. They are from the place, and each
+/// key that leads on from there with one of these states, or ends the line, is that of one. The place's own state is not looked at. Each
+/// way takes a step.
+pub(crate) fn gather_ways<L>(
+    lexicon: &Lexicon,
+    line: &Line,
+    choices: &Choices,
+    place: &Configuration,
+    states: StateSet,
+    ways: &[Way],
+    table: &Table,
+    steps: &mut Steps<L>,
+) -> StateSet
+    requires searched { IsSearchedLexicon lexicon.now }
+    requires place { IsConfigurationIn lexicon.now line.now place.now }
+    requires ways { All (IsWayFrom lexicon.now line.now choices.now (numbered_of lexicon.now place.now)) ways.now }
+    requires all { HasEachKey lexicon.now line.now choices.now place.now.at place.now.entrance states ways.now }
+    requires table { IsTable (leads_in lexicon.now) (length line.now.letters) table.now }
+    ensures gathers { AreGoingFurther lexicon.now line.now choices.now table.now place.now.at place.now.entrance states EveryKey result }
+    ensures steps { steps.new ≡ steps.old + length ways.now }
+{
+    let mut further = StateSet::empty();
+    for way in ways {
+        steps.tick();
+        further = further.union(states_by_way(
+            lexicon, line, choices, place, states, way, table,
+        ));
+    }
+    further
 }

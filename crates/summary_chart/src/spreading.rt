@@ -5,7 +5,9 @@ ghost use Rattle.annotated_trie.specs.Searched.{IsSearchedLexicon};
 ghost use Rattle.search_frames.specs.Frames.{IsConfigurationIn, numbered_of};
 ghost use Rattle.search_frames.specs.Configurations.{IsPossible};
 ghost use Rattle.search_frames.specs.Costs.{HasAtMostRules};
+ghost use Rattle.search_frames.specs.WaysFrom.{IsWayFrom, key_of_way};
 ghost use Rattle.summary_chart.specs.Fronts.{IsFrontAt};
+ghost use Rattle.summary_chart.specs.PlaceWays.{HasEachKey};
 ghost use Rattle.summary_chart.specs.StateSets.{HasState, IsLedTo};
 ghost use Rattle.summary_chart.specs.Tables.{IsTable};
 ghost use Rattle.summary_chart.specs.Spreading.{Spreads, EveryKey, OnlyKey, IsByRule, IsAtFront, IsInPhase, leads_in};
@@ -20,7 +22,7 @@ use derivation::{Key, Step};
 use outside::Steps;
 use phoneme::{Line, Memory};
 use reader_choices::Choices;
-use search_frames::{Configuration, LetterTest, supplied_letters, test_letters};
+use search_frames::{Configuration, LetterTest, Way, supplied_letters, test_letters};
 use shared_trie::Node;
 
 /// Puts into the table where the key, which is possible at the place, leads on to from the states of the set: these lead by its phase to
@@ -211,4 +213,57 @@ pub(crate) fn spread<L>(
         )?;
     }
     Ok(())
+}
+
+/// Puts into the table where the way leads on to from the states of the set at the place. The place's own state is not looked at.
+fn spread_way(
+    lexicon: &Lexicon,
+    line: &Line,
+    choices: &Choices,
+    place: &Configuration,
+    states: StateSet,
+    way: &Way,
+    table: &mut Table,
+)
+    requires searched { IsSearchedLexicon lexicon.now }
+    requires place { IsConfigurationIn lexicon.now line.now place.now }
+    requires way { IsWayFrom lexicon.now line.now choices.now (numbered_of lexicon.now place.now) way.now }
+    requires table { IsTable (leads_in lexicon.now) (length line.now.letters) table.old }
+    ensures table { IsTable (leads_in lexicon.now) (length line.now.letters) table.new }
+    ensures spreads { Spreads lexicon.now line.now choices.now place.now.at place.now.entrance states (OnlyKey (key_of_way way.now)) table.old table.new }
+{
+    if let LetterTest::LeadsOn { at, entrance } = way.test {
+        table.add(
+            at,
+            entrance,
+            states_after(lexicon.automaton(), states, way.key.phase),
+        );
+    }
+}
+
+/// Puts into the table where the ways lead on to from the states of the set. They are from the place, and each key that leads on from
+/// there with one of these states is that of one. The place's own state is not looked at. Each way takes a step.
+pub(crate) fn spread_ways<L>(
+    lexicon: &Lexicon,
+    line: &Line,
+    choices: &Choices,
+    place: &Configuration,
+    states: StateSet,
+    ways: &[Way],
+    table: &mut Table,
+    steps: &mut Steps<L>,
+)
+    requires searched { IsSearchedLexicon lexicon.now }
+    requires place { IsConfigurationIn lexicon.now line.now place.now }
+    requires ways { All (IsWayFrom lexicon.now line.now choices.now (numbered_of lexicon.now place.now)) ways.now }
+    requires all { HasEachKey lexicon.now line.now choices.now place.now.at place.now.entrance states ways.now }
+    requires table { IsTable (leads_in lexicon.now) (length line.now.letters) table.old }
+    ensures table { IsTable (leads_in lexicon.now) (length line.now.letters) table.new }
+    ensures spreads { Spreads lexicon.now line.now choices.now place.now.at place.now.entrance states EveryKey table.old table.new }
+    ensures steps { steps.new ≡ steps.old + length ways.now }
+{
+    for way in ways {
+        steps.tick();
+        spread_way(lexicon, line, choices, place, states, way, table);
+    }
 }

@@ -5,14 +5,15 @@ ghost use Rattle.segmentation_definitions.specs.StepBounds.{chart_bound};
 ghost use Rattle.annotated_trie.specs.Searched.{IsSearchedLexicon};
 ghost use Rattle.search_frames.specs.Costs.{HasAtMostRules};
 ghost use Rattle.summary_chart.specs.Charts.{IsChartTable};
-ghost use Rattle.summary_chart.specs.Charts.{IsChartOf};
+ghost use Rattle.summary_chart.specs.PlaceWays.{IsChartOf};
 ghost use Rattle.summary_chart.specs.Spreading.{leads_in};
 ghost use Rattle.summary_chart.specs.Summaries.{HasItemsBefore, steps_of_summary};
 
 use super::Chart;
 use super::collected::Collected;
-use super::collecting::collect;
+use super::collecting::{collect, collect_ways};
 use super::items::sort_items;
+use super::place_ways::PlaceWays;
 use super::table::Table;
 use annotated_trie::Lexicon;
 use derivation::Item;
@@ -29,6 +30,7 @@ fn items_of_table<L>(
     line: &Line,
     choices: &Choices,
     table: &Table,
+    kept: &PlaceWays,
     steps: &mut Steps<L>,
 ) -> Result<Vec<Item>, Memory>
     requires searched { IsSearchedLexicon lexicon.now }
@@ -49,18 +51,32 @@ fn items_of_table<L>(
             entrance,
             state,
         };
-        collect(
-            alloc,
-            lexicon,
-            line,
-            choices,
-            &place,
-            states,
-            &mut nodes,
-            table,
-            &mut collected,
-            steps,
-        )?;
+        match kept.at(index) {
+            Some(ways) => collect_ways(
+                alloc,
+                lexicon,
+                line,
+                choices,
+                &place,
+                states,
+                ways,
+                table,
+                &mut collected,
+                steps,
+            )?,
+            None => collect(
+                alloc,
+                lexicon,
+                line,
+                choices,
+                &place,
+                states,
+                &mut nodes,
+                table,
+                &mut collected,
+                steps,
+            )?,
+        }
         index = table.next_filled(index + 1);
     }
     Ok(collected.items)
@@ -88,7 +104,7 @@ impl Chart {
         // The proof knows what holds of a line and of a lexicon only of those that are read.
         let _letters = &line.letters;
         let _rules = lexicon.rules();
-        let mut items = items_of_table(alloc, lexicon, line, choices, &self.table, steps)?;
+        let mut items = items_of_table(alloc, lexicon, line, choices, &self.table, &self.kept, steps)?;
         sort_items(&mut items);
         Ok(items)
     }

@@ -2,7 +2,7 @@
 use Rattle.std.proofs.Common.{length, ap, subst}
 use Rattle.text_definitions.specs.Lines.{IsLine}
 use Rattle.summary_chart.specs.declared.table.Table.{Table}
-use Rattle.summary_chart.specs.Charts.{ChartValue}
+use Rattle.summary_chart.specs.PlaceWays.{ChartValue}
 use Rattle.summary_chart.specs.Summaries.{HasItemsBefore}
 use Rattle.summary_chart.proofs.TableItems.{summary_of_table}
 use Rattle.summary_chart.proofs.SummarySteps.{summary_within}

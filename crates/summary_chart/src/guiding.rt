@@ -3,23 +3,22 @@ use annotated_trie::Lexicon;
 use outside::Steps;
 use phoneme::Line;
 use reader_choices::Choices;
-use search_frames::{Configuration, LengthSet, SearchGuide};
+use search_frames::{Configuration, SearchGuide, Way};
 
 impl SearchGuide for Chart {
-    ghost use Rattle.summary_chart.specs.Charts.{IsChartOf};
+    ghost use Rattle.summary_chart.specs.PlaceWays.{IsChartOf};
 
     ghost known = { λ chart searched line choices. IsChartOf searched line choices chart };
 
-    fn lengths<L>(
+    fn ways<L>(
         &self,
         _lexicon: &Lexicon,
         _line: &Line,
         _choices: &Choices,
-        _place: &Configuration,
-        _phase: u32,
+        place: &Configuration,
         steps: &mut Steps<L>,
-    ) -> LengthSet {
+    ) -> Option<&[Way]> {
         steps.tick();
-        LengthSet::full()
+        self.kept.at(self.table.index(place.at, place.entrance))
     }
 }

@@ -1,0 +1,113 @@
+-- The ways from places of a table, kept one after another (own).
+use Rattle.std.specs.Prelude.{◌≡◌, ℕ, ◌+◌, ◌-◌, ◌*◌, ◌<◌, ◌≤◌, ◌⊎◌, List, ◌++◌, length, take, drop, map, All, Contains}
+use Rattle.std.specs.declared.cmp.Ordering.{Ordering}
+use Rattle.std.specs.Ordering.{nat_cmp}
+use Rattle.std.specs.List.Sorted.{IsStrictlySortedBy}
+use Rattle.text_definitions.specs.Lines.{Line}
+use Rattle.segmentation_definitions.specs.Items.{Choice}
+use Rattle.segmentation_definitions.specs.Listings.{Key, compare_keys}
+use Rattle.annotated_trie.specs.Searched.{SearchedLexicon}
+use Rattle.search_frames.specs.declared.configuration.Configuration.{Configuration}
+use Rattle.search_frames.specs.declared.way.Way.{Way}
+use Rattle.search_frames.specs.declared.way.TheConstants.{MOST_WAYS}
+use Rattle.search_frames.specs.Configurations.{NumberedConfiguration, IsPossible, Ends, rules_in}
+use Rattle.search_frames.specs.Frames.{IsConfigurationIn, numbered_of}
+use Rattle.search_frames.specs.LetterTests.{MayNeither}
+use Rattle.search_frames.specs.Tests.{LeadsTo}
+use Rattle.search_frames.specs.WaysFrom.{IsWayFrom, key_of_way}
+use Rattle.derivation.specs.declared.entrance.Entrance.{Entrance}
+use Rattle.summary_chart.specs.declared.place_ways.Stop.{Stop}
+use Rattle.summary_chart.specs.declared.state_set.StateSet.{StateSet}
+use Rattle.summary_chart.specs.declared.table.Table.{Table}
+use Rattle.summary_chart.specs.declared.passes.TheConstants.{SETS_FOR_A_WAY}
+use Rattle.summary_chart.specs.StateSets.{IsStateOf}
+use Rattle.summary_chart.specs.Spreading.{standing_with}
+use Rattle.summary_chart.specs.Tables.{IsIn, IsEntrance}
+use Rattle.summary_chart.specs.Charts.{IsChartTable, index_of_place, set_count}
+
+-- the ways of a stop
+abbrev pub ways_of : List Way → Stop → List Way
+ways_of ways stop = take (stop.end - stop.first) (drop stop.first ways)
+
+-- stops are ordered by their indices
+abbrev pub compare_stops : Stop → Stop → Ordering
+compare_stops left right = nat_cmp left.index right.index
+
+-- the stop's ways are some of so many
+pub record IsStopWithin (count : ℕ) (stop : Stop) : Type 0 where
+  pub rises : stop.first ≤ stop.end
+  pub within : stop.end ≤ count
+
+-- the stops rise, and their ways are some of so many
+pub record AreStops (stops : List Stop) (count : ℕ) : Type 0 where
+  pub rising : IsStrictlySortedBy compare_stops stops
+  pub within : All (IsStopWithin count) stops
+
+-- the key ends the line here, or leads on
+abbrev pub LeadsOnOrEnds : SearchedLexicon → Line → List Choice → NumberedConfiguration → Key → Type 0
+LeadsOnOrEnds searched line choices here key =
+    Ends searched line choices here key ⊎ ((next : Configuration) × LeadsTo searched line choices here key next)
+
+-- ways from here were appended, in the order of their keys: those of the keys that are told by this
+pub record AppendsWays (searched : SearchedLexicon) (line : Line) (choices : List Choice) (here : NumberedConfiguration) (IsTold : Key → Type 0) (old new : List Way) : Type 0 where
+  pub ways : List Way
+  pub appended : new ≡ old ++ ways
+  pub each : All (IsWayFrom searched line choices here) ways
+  pub told : All (λ way. IsTold (key_of_way way)) ways
+  pub rising : IsStrictlySortedBy compare_keys (map key_of_way ways)
+  pub all : (key : Key) → IsTold key → IsPossible searched line here key → (MayNeither searched line choices here key → ⊥)
+      → Contains (map key_of_way ways) key
+
+-- each key that leads on from a place with one of these states, or ends the line, is that of a way
+abbrev pub HasEachKey : SearchedLexicon → Line → List Choice → ℕ → Entrance → StateSet → List Way → Type 0
+HasEachKey searched line choices at entrance set ways =
+    (number : ℕ) (key : Key) → IsStateOf searched.machine set number
+    → LeadsOnOrEnds searched line choices (standing_with searched at entrance number) key → Contains (map key_of_way ways) key
+
+-- these are ways from the place in the order of their keys, no more than are kept from one place; and where the table has the place, each
+-- key that leads on from there or ends the line is that of one
+pub record AreWaysOf (searched : SearchedLexicon) (line : Line) (choices : List Choice) (table : Table) (place : Configuration) (ways : List Way) : Type 0 where
+  pub each : All (IsWayFrom searched line choices (numbered_of searched place)) ways
+  pub all : IsIn table place → (key : Key) → LeadsOnOrEnds searched line choices (numbered_of searched place) key
+      → Contains (map key_of_way ways) key
+  pub rising : IsStrictlySortedBy compare_keys (map key_of_way ways)
+  pub few : length ways ≤ MOST_WAYS
+
+-- the stop has the ways of each place at its index
+abbrev pub HasWays : SearchedLexicon → Line → List Choice → Table → List Way → Stop → Type 0
+HasWays searched line choices table ways stop = (place : Configuration) → IsConfigurationIn searched line place → IsEntrance place.entrance
+    → index_of_place searched place ≡ stop.index → AreWaysOf searched line choices table place (ways_of ways stop)
+
+-- there is a stop at the index
+abbrev pub HasStopAt : List Stop → ℕ → Type 0
+HasStopAt stops index = (stop : Stop) × Contains stops stop × (stop.index ≡ index)
+
+-- these are the ways of a stop at the index
+abbrev pub AreWaysAt : List Stop → List Way → ℕ → List Way → Type 0
+AreWaysAt stops ways index found = (stop : Stop) × Contains stops stop × (stop.index ≡ index) × (found ≡ ways_of ways stop)
+
+-- each stop has the ways of its places
+pub record HaveWays (searched : SearchedLexicon) (line : Line) (choices : List Choice) (table : Table) (stops : List Stop) (ways : List Way) : Type 0 where
+  pub are : AreStops stops (length ways)
+  pub each : All (HasWays searched line choices table ways) stops
+
+-- and the stops stand before the index
+pub record HaveWaysBefore (searched : SearchedLexicon) (line : Line) (choices : List Choice) (index : ℕ) (table : Table) (stops : List Stop) (ways : List Way) : Type 0 where
+  pub have : HaveWays searched line choices table stops ways
+  pub before : All (λ stop. stop.index < index) stops
+
+-- the stops and ways together are no more than a sixth of the table's sets for each phase
+abbrev pub AreFew : SearchedLexicon → Line → List Stop → List Way → Type 0
+AreFew searched line stops ways =
+    SETS_FOR_A_WAY * (length stops + length ways) ≤ set_count searched line * length (rules_in searched).names
+
+-- what contracts see of a chart
+pub record ChartValue : Type 0 where
+  pub table : Table
+  pub stops : List Stop
+  pub ways : List Way
+
+-- the chart is that of the lexicon, the line and the choices: its table has just the living places, and its stops have the ways of these
+pub record IsChartOf (searched : SearchedLexicon) (line : Line) (choices : List Choice) (chart : ChartValue) : Type 0 where
+  pub table : IsChartTable searched line choices chart.table
+  pub ways : HaveWays searched line choices chart.table chart.stops chart.ways

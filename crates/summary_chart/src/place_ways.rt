@@ -1,0 +1,40 @@
+ghost use Rattle.std.specs.Prelude.{◌≡◌, length, MatchOption};
+ghost use Rattle.summary_chart.specs.PlaceWays.{AreStops, AreWaysAt, HasStopAt, IsStopWithin, ways_of};
+
+use search_frames::Way;
+
+/// Where the ways stand that lead from the places at an index of a table: from `first` to before `end` among all ways.
+#[derive(Clone, Copy, Debug, PartialEq, Eq)]
+pub(crate) struct Stop {
+    pub index: usize,
+    pub first: usize,
+    pub end: usize,
+}
+
+/// The ways from places of a table, one stop after another in the order of the table. Not every place has a stop.
+#[derive(Debug, Drop)]
+pub(crate) struct PlaceWays {
+    pub stops: Vec<Stop>,
+    pub ways: Vec<Way>,
+}
+
+impl PlaceWays {
+    /// The ways of the stop.
+    pub fn of(&self, stop: Stop) -> &[Way]
+        requires within { IsStopWithin (length self.now.ways.items) stop }
+        ensures { result.now ≡ ways_of self.now.ways.items stop }
+    {
+        &self.ways.as_slice()[stop.first..stop.end]
+    }
+
+    /// The ways from the places at the index of the table. `None` where there is no stop.
+    pub fn at(&self, index: usize) -> Option<&[Way]>
+        requires stops { AreStops self.now.stops.items (length self.now.ways.items) }
+        ensures found { MatchOption result (HasStopAt self.now.stops.items index → ⊥) (λ ways. AreWaysAt self.now.stops.items self.now.ways.items index ways.now) }
+    {
+        match self.stops.binary_search_by(|stop| stop.index.cmp(&index)) {
+            Ok(number) => Some(self.of(self.stops[number])),
+            Err(_) => None,
+        }
+    }
+}
