@@ -24,7 +24,9 @@ pub mod TriedWays
 pub mod BegunPaths
 pub mod FirstOfKeys
 pub mod GroupedRules
+pub mod RisingRules
 pub mod TriedRules
 pub mod TurnedPhases
+pub mod TurnedWays
 pub mod WalkedPlaces
 pub mod TurnedFrames

@@ -17,7 +17,7 @@ use Rattle.answer_paths.specs.Following.{MayStand}
 use Rattle.annotated_trie.specs.Searched.{SearchedLexicon}
 use Rattle.search_frames.specs.declared.resumption.Resumption.{Resumption}
 use Rattle.search_frames.specs.declared.configuration.Configuration.{Configuration}
-use Rattle.search_frames.specs.declared.ways.Way.{Way}
+use Rattle.search_frames.specs.declared.way.Way.{Way}
 use Rattle.search_frames.specs.Configurations.{rules_in}
 use Rattle.search_frames.specs.Frames.{HasAllToTry, HasNothingToTry, WentOn, numbered_of, configuration_at, step_of, key_at}
 use Rattle.search_frames.specs.LetterTests.{MayNeither}

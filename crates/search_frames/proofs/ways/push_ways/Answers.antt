@@ -2,7 +2,7 @@
 use Rattle.std.proofs.Common.{◌∙◌, arith, ap, sym, subst}
 use Rattle.derivation.specs.Steps.{key_of, key_meant}
 use Rattle.derivation.specs.declared.step.Step.{Step}
-use Rattle.search_frames.specs.declared.ways.Way.{Way}
+use Rattle.search_frames.specs.declared.way.Way.{Way}
 use Rattle.search_frames.specs.Configurations.{IsPossible}
 use Rattle.search_frames.specs.Frames.{numbered_of}
 use Rattle.search_frames.specs.LetterTests.{MayNeither, IsLetterTestOf}
