@@ -13,14 +13,11 @@ pub mod StepKeys
 pub mod StepLeaves
 pub mod StepLoops
 pub mod StepMoves
-pub mod StepSkips
 pub mod ConfigurationRanks
 pub mod ReachedConfigurations
 pub mod ConfigurationPaths
 pub mod LeadingTo
 pub mod FrameCosts
-pub mod TriedKeys
-pub mod TriedWays
 pub mod BegunPaths
 pub mod FirstOfKeys
 pub mod GroupedRules
