@@ -24,4 +24,8 @@ mod FrontKeys
 mod CollectedItems
 mod AnswerItems
 mod TableItems
+mod WaysElsewhere
+mod KeptWays
+mod WayCosts
+mod ChartWays
 mod SummarySteps
