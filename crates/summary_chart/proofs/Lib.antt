@@ -21,6 +21,9 @@ mod RisingItems
 mod SameU
 mod Walks
 mod FrontKeys
+mod AppendedWays
+mod OrderedKeys
+mod WayKeys
 mod CollectedItems
 mod AnswerItems
 mod TableItems
