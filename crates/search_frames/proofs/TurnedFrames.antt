@@ -4,7 +4,7 @@ use Rattle.std.specs.declared.cmp.Ordering.TheVariants.{Less}
 use Rattle.std.proofs.Math.Nat.{suc-mul, mul-le-mul_right}
 use Rattle.std.proofs.lemmas.Bool.{cases_lt}
 use Rattle.text_definitions.specs.Lines.{Line}
-use Rattle.lexicon_definitions.specs.declared.limits.TheConstants.{MOST_RULES}
+use Rattle.lexicon_definitions.specs.declared.limits.TheConstants.{MOST_RULES, MOST_FORM_LETTERS}
 use Rattle.segmentation_definitions.specs.Items.{Choice}
 use Rattle.segmentation_definitions.specs.Listings.{Key, compare_keys}
 use Rattle.derivation.specs.Steps.{key_of, key_meant}
@@ -21,7 +21,6 @@ use Rattle.search_frames.specs.declared.guiding.ToTry.{ToTry}
 use Rattle.search_frames.specs.declared.guiding.ToTry.TheVariants.{All, Later}
 use Rattle.search_frames.specs.declared.guiding.Turn.{Turn}
 use Rattle.search_frames.specs.declared.guiding.Turn.TheVariants as turn
-use Rattle.search_frames.specs.declared.lengths.TheConstants.{MOST_LENGTH}
 use Rattle.search_frames.specs.declared.resumption.Resumption.{Resumption}
 use Rattle.search_frames.specs.Changes.{HasSet}
 use Rattle.search_frames.specs.Configurations.{NumberedConfiguration, IsPossible, Ends, rules_in}
@@ -38,12 +37,12 @@ use Rattle.search_frames.proofs.TurnedPhases.{few_letters}
 -- ---- the first key to try
 
 -- the keys that are to try are those from the first one on
-pub told_first : (last : Key) (what : ToTry) (key : Key) → key.taken ≤ MOST_LENGTH → IsFrom (first_to_try last what) key ↔ IsToTry last what key
+pub told_first : (last : Key) (what : ToTry) (key : Key) → key.taken ≤ MOST_FORM_LETTERS → IsFrom (first_to_try last what) key ↔ IsToTry last what key
 told_first last All key few = (
   λ from. tt,
   λ to_try. elim (cases_lt 0 key.phase) [
     | inl later ↦ inl later
-    | inr first ↦ inr (omega arith, elim (cases_lt key.taken MOST_LENGTH) [ inl less ↦ inl less | inr no_less ↦ inr (omega arith, omega arith) ])
+    | inr first ↦ inr (omega arith, elim (cases_lt key.taken MOST_FORM_LETTERS) [ inl less ↦ inl less | inr no_less ↦ inr (omega arith, omega arith) ])
   ],
 )
 told_first last Later key few = (
@@ -66,7 +65,7 @@ module _ (searched : SearchedLexicon) (line : Line) (is : IsSearchedLexicon sear
   first_phase stack level Later stands = possible_phase searched is line (here_of searched stack level) (key_at stack level) stands
 
   pub first_taken : (stack : Resumption) (level : ℕ) (what : ToTry) → StandsToTry searched line stack level what
-      → (first_to_try (key_at stack level) what).taken ≤ MOST_LENGTH
+      → (first_to_try (key_at stack level) what).taken ≤ MOST_FORM_LETTERS
   first_taken stack level All stands = omega arith
   first_taken stack level Later stands = few_letters searched line (here_of searched stack level) (key_at stack level) is stands
 
@@ -151,7 +150,7 @@ module _ (searched : SearchedLexicon) (line : Line) (is : IsSearchedLexicon sear
       }
 
       module _ (does : Turn) (first : IsFirstOf searched line choices says (here_of searched old level) (IsFrom from) (key_meant key) does) where
-        few : (key_meant key).taken ≤ MOST_LENGTH
+        few : (key_meant key).taken ≤ MOST_FORM_LETTERS
         few = few_letters searched line (here_of searched old level) (key_meant key) is first.possible
 
         to_try_key : IsToTry (key_at old level) what (key_meant key)

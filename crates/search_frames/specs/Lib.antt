@@ -8,7 +8,6 @@ pub mod Reached
 pub mod Guided
 pub mod Costs
 pub mod LetterTests
-pub mod Skips
 pub mod Turns
 pub mod WaysFrom
 pub mod Walks

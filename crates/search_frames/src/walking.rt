@@ -166,6 +166,7 @@ pub(crate) fn walk_place<L>(
     requires room { NODES_OF_FRAME ≤ length nodes.old.items }
     ensures room { length nodes.new.items ≡ length nodes.old.items }
     ensures few { result ≤ NODES_OF_FRAME }
+    ensures within { result ≤ most + 1 }
     ensures walked { (taken : ℕ) → taken < result → IsNodeAmong lexicon.now line.now (numbered_of lexicon.now place.now) phase (take result nodes.new.items) taken }
     ensures all { (taken node : ℕ) → taken ≤ most → place.now.at + taken ≤ length line.now.letters → IsNodeAt lexicon.now line.now (numbered_of lexicon.now place.now) phase taken node → taken < result }
     ensures steps { steps.new + result + 1 ≤ steps.old + 2 * NODES_OF_FRAME }

@@ -1,5 +1,5 @@
 -- Phase by phase.
-use Rattle.std.proofs.Common.{◌≡◌, ◌+◌, ◌*◌, ◌≤◌, ℕ, suc, length, ◌∙◌, ap, arith}
+use Rattle.std.proofs.Common.{◌≡◌, ◌+◌, ◌-◌, ◌*◌, ◌<◌, ◌≤◌, ℕ, suc, length, ◌∙◌, ap, arith}
 use Rattle.std.specs.Prelude.{string_bytes}
 use Rattle.std.proofs.Math.Nat.{suc-mul, mul-le-mul_right}
 use Rattle.std.proofs.lemmas.List.{length-map}
@@ -8,18 +8,19 @@ use Rattle.derivation.specs.Steps.{key_meant}
 use Rattle.search_frames.specs.Costs.{steps_of_phase}
 use Rattle.search_frames.specs.Frames.{numbered_of}
 use Rattle.search_frames.proofs.TurnedPhases.{next_phase_found, next_phase_passed, all_passed}
-use Rattle.search_frames.proofs.turning.turn_from.Goals as goal
+use Rattle.search_frames.proofs.turning.turn_by_walking.Goals as goal
 
 -- one phase more
-one_phase : (phase cost start before now : ℕ) → before ≤ start + phase * cost → now ≤ before + cost → now ≤ start + (phase + 1) * cost
-one_phase phase cost start before now so_far spent =
+one_phase : (phase first cost start before now : ℕ) → first ≤ phase → before + (phase - first) ≤ start + phase * cost → now < before + cost
+    → now + (phase + 1 - first) ≤ start + (phase + 1) * cost
+one_phase phase first cost start before now order so_far spent =
     let one = suc-mul phase cost in
     let same : (phase + 1) * cost ≡ suc phase * cost = ap (λ (n : ℕ). n * cost) (omega arith) in
-    omega (arith, so_far, spent, one, same)
+    omega (arith, order, so_far, spent, one, same)
 
--- no more phases than there are
-few_phases : (phases count cost start now : ℕ) → phases ≤ count → now ≤ start + phases * cost → now ≤ start + count * cost
-few_phases phases count cost start now few spent = let more = mul-le-mul_right cost few in omega (arith, spent, more)
+-- no more phases than there are, and one at least
+few_phases : (phases first count cost start now : ℕ) → phases ≤ count → first < phases → now + (phases - first) ≤ start + phases * cost → now < start + count * cost
+few_phases phases first count cost start now few some spent = let more = mul-le-mul_right cost few in omega (arith, some, spent, more)
 
 pub returns-in-Some-clause-first : goal.returns-in-Some-clause-first
 returns-in-Some-clause-first g c =
@@ -31,8 +32,10 @@ returns-in-Some-clause-steps g c most few =
     let names = ap (λ (r : RuleSet). length r.names) c.rules.ensures.value in
     let count : c.loop-phase.phase + 1 ≤ length c.args.space.now.lexicon.now.lexicon.rules.names =
     omega (arith, c.loop-phase-test.true, length-map c.phases.result.now string_bytes, ap length c.phases.ensures, names) in
-    few_phases (c.loop-phase.phase + 1) (length c.args.space.now.lexicon.now.lexicon.rules.names) (steps_of_phase most) c.args.steps.now c.turn_in_phase.new.steps count
-    (one_phase c.loop-phase.phase (steps_of_phase most) c.args.steps.now c.loop-phase.steps c.turn_in_phase.new.steps (c.loop-phase.invariant.spent most few) (c.turn_in_phase.ensures.steps most few))
+    few_phases (c.loop-phase.phase + 1) c.args.from.phase (length c.args.space.now.lexicon.now.lexicon.rules.names) (steps_of_phase most) c.args.steps.now c.turn_in_phase.new.steps count
+    (omega (arith, c.loop-phase.invariant.after))
+    (one_phase c.loop-phase.phase c.args.from.phase (steps_of_phase most) c.args.steps.now c.loop-phase.steps c.turn_in_phase.new.steps c.loop-phase.invariant.after
+    (c.loop-phase.invariant.spent most few) (c.turn_in_phase.ensures.steps most few))
 
 pub loop-phase-preserved : goal.loop-phase-preserved
 loop-phase-preserved g c = record {
@@ -40,8 +43,8 @@ loop-phase-preserved g c = record {
       c.loop-phase.invariant.none c.in-None.ensures.first;
   room = c.turn_in_phase.ensures.room ∙ c.loop-phase.invariant.room;
   after = omega (arith, c.loop-phase.invariant.after);
-  spent = λ most few. one_phase c.loop-phase.phase (steps_of_phase most) c.args.steps.now c.loop-phase.steps c.turn_in_phase.new.steps (c.loop-phase.invariant.spent most few)
-      (c.turn_in_phase.ensures.steps most few);
+  spent = λ most few. one_phase c.loop-phase.phase c.args.from.phase (steps_of_phase most) c.args.steps.now c.loop-phase.steps c.turn_in_phase.new.steps c.loop-phase.invariant.after
+      (c.loop-phase.invariant.spent most few) (c.turn_in_phase.ensures.steps most few);
 }
 
 pub returns-clause-first : goal.returns-clause-first
@@ -56,4 +59,7 @@ returns-clause-steps g c most few =
     let names = ap (λ (r : RuleSet). length r.names) c.rules.ensures.value in
     let count : c.loop-phase.phase ≤ length c.args.space.now.lexicon.now.lexicon.rules.names =
     omega (arith, c.loop-phase.auto.phase-end, length-map c.phases.result.now string_bytes, ap length c.phases.ensures, names) in
-    few_phases c.loop-phase.phase (length c.args.space.now.lexicon.now.lexicon.rules.names) (steps_of_phase most) c.args.steps.now c.loop-phase.steps count (c.loop-phase.invariant.spent most few)
+    let all : length c.args.space.now.lexicon.now.lexicon.rules.names ≤ c.loop-phase.phase =
+    omega (arith, c.loop-phase-test.false, length-map c.phases.result.now string_bytes, ap length c.phases.ensures, names) in
+    few_phases c.loop-phase.phase c.args.from.phase (length c.args.space.now.lexicon.now.lexicon.rules.names) (steps_of_phase most) c.args.steps.now c.loop-phase.steps count
+    (omega (arith, all, c.requires.phase)) (c.loop-phase.invariant.spent most few)
