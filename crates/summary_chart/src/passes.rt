@@ -23,8 +23,8 @@ use reader_choices::Choices;
 use search_frames::Configuration;
 use shared_trie::Node;
 
-/// For each way and each stop that is kept there are so many sets for each phase: together these take as many bytes, four for a set, as
-/// it takes.
+/// A way or a stop takes 24 bytes, as much as six sets of the table. So there is room for one for each six sets, where each set is counted
+/// once for each phase.
 const SETS_FOR_A_WAY: usize = 6;
 
 /// How many ways and stops there is room for beside the table.
