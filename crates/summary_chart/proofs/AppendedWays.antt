@@ -1,13 +1,13 @@
 -- Ways that are appended key by key: of no key, of one, of some and then of others that come after them, and of keys that are told in
 -- another way. A key has a way where it is possible and may lead on or end the line as the letters tell.
-use Rattle.std.proofs.Common.{◌≡◌, ◌⊎◌, inl, inr, ℕ, ◌+◌, ◌<◌, ◌≤◌, List, [], ◌∷◌, ◌++◌, length, take, drop, map, All, Contains, refl, sym, ◌∙◌, ap, subst, arith}
+use Rattle.std.proofs.Common.{◌≡◌, ◌⊎◌, inl, inr, ◌≤◌, List, [], ◌∷◌, ◌++◌, length, take, drop, map, All, Contains, refl, sym, ◌∙◌, ap, subst, arith}
 use Rattle.std.specs.List.Sorted.{IsStrictlySortedBy}
 use Rattle.std.specs.declared.cmp.Ordering.TheVariants.{Less}
 use Rattle.std.proofs.lemmas.List.{append-nil, append_assoc, map-append, length-append, take-append-drop, take-append-le}
 use Rattle.std.proofs.lemmas.List.Elements.{All-nil, All-cons, All-append, All-map, All-contains, All-weaker, Contains-append_left, Contains-append_right}
 use Rattle.std.proofs.Math.Seq.{take-append_seam}
-use Rattle.list_laws.proofs.Sorted.{All-from_Contains, Contains-first}
-use Rattle.list_laws.proofs.FirstOnes.{sorted-append, sorted-cons, Contains-map, Contains-map_cases}
+use Rattle.list_laws.proofs.Sorted.{Contains-first}
+use Rattle.list_laws.proofs.FirstOnes.{sorted-append, sorted-cons}
 use Rattle.text_definitions.specs.Lines.{Line}
 use Rattle.segmentation_definitions.specs.Items.{Choice}
 use Rattle.segmentation_definitions.specs.Listings.{Key, compare_keys}

@@ -1,6 +1,6 @@
 -- Ways are appended in the order of their keys: phase by phase upwards, in a phase the longest fronts first, and after a front no change and
 -- then the rules upwards. What may lead on or end the line after a front is no change, or a rule that begins with the next letter.
-use Rattle.std.proofs.Common.{◌≡◌, ◌≢◌, ◌⊎◌, inl, inr, ℕ, zero, suc, ◌+◌, ◌-◌, ◌<◌, ◌≤◌, ◌==◌, Bool, true, false, List, [], ◌∷◌, ◌++◌, length, take, drop, get_or, All, Contains, refl, sym, ◌∙◌, ap, subst, arith}
+use Rattle.std.proofs.Common.{◌≡◌, ◌≢◌, ◌⊎◌, inl, inr, ℕ, ◌+◌, ◌-◌, ◌<◌, ◌≤◌, ◌==◌, Bool, true, List, [], ◌∷◌, ◌++◌, length, take, get_or, Contains, refl, sym, ◌∙◌, ap, subst, arith}
 use Rattle.std.specs.List.{filter}
 use Rattle.std.specs.Ordering.{nat_cmp}
 use Rattle.std.specs.List.Sorted.{IsStrictlySortedBy}
@@ -25,7 +25,7 @@ use Rattle.search_frames.proofs.StepKeys.{less_from_before}
 use Rattle.search_frames.proofs.GroupedRules.{choice_of_group}
 use Rattle.search_frames.proofs.PossibleKeys.{possible_phase}
 use Rattle.summary_chart.specs.declared.state_set.StateSet.{StateSet}
-use Rattle.summary_chart.specs.StateSets.{HasState, IsLedTo}
+use Rattle.summary_chart.specs.StateSets.{IsLedTo}
 use Rattle.summary_chart.specs.Fronts.{IsFrontAt, AreFronts}
 use Rattle.summary_chart.specs.Summaries.{key_with}
 use Rattle.summary_chart.specs.PlaceWays.{AppendsWays}

@@ -1,5 +1,5 @@
 -- Where no state goes further, nothing is added; else the step's item is, whose form is supplied few letters.
-use Rattle.std.proofs.Common.{◌≡◌, ◌≤◌, length, refl, ap, ◌∙◌, arith, Result, Ok, Err}
+use Rattle.std.proofs.Common.{◌≡◌, length, refl, ap, ◌∙◌, arith, Result, Ok, Err}
 use Rattle.std.specs.Prelude.{OnOk}
 use Rattle.std.proofs.lemmas.Result.{on_ok_weaker}
 use Rattle.lexicon_definitions.specs.Lexicons.{RuleSet}

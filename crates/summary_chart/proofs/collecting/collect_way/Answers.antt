@@ -3,7 +3,7 @@ use Rattle.std.proofs.Common.{refl}
 use Rattle.std.proofs.lemmas.Result.{on_ok_weaker}
 use Rattle.search_frames.specs.WaysFrom.{key_of_way}
 use Rattle.summary_chart.specs.Summaries.{item_with}
-use Rattle.summary_chart.proofs.CollectedItems.{none_added, one_added}
+use Rattle.summary_chart.proofs.CollectedItems.{one_added}
 use Rattle.summary_chart.proofs.collecting.collect_way.Goals as goal
 
 pub returns-clause-adds : goal.returns-clause-adds

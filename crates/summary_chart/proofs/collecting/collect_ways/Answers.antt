@@ -1,5 +1,5 @@
 -- Each way adds its item; at the end those of all ways are there, and no state goes further by another key (`WayKeys`).
-use Rattle.std.proofs.Common.{◌≤◌, arith}
+use Rattle.std.proofs.Common.{arith}
 use Rattle.summary_chart.proofs.WayKeys.{items_at_first, items_more, items_at_last}
 use Rattle.summary_chart.proofs.collecting.collect_ways.Goals as goal
 

@@ -1,5 +1,5 @@
 -- Each way tells which states go further by its key; at the end the keys of all ways have, and none goes further by another key.
-use Rattle.std.proofs.Common.{◌≡◌, ◌+◌, ◌≤◌, ℕ, inl, inr, length, arith}
+use Rattle.std.proofs.Common.{inl, inr, arith}
 use Rattle.search_frames.specs.WaysFrom.{key_of_way}
 use Rattle.summary_chart.specs.declared.state_set.StateSet.{StateSet}
 use Rattle.summary_chart.proofs.Visits.{gather_visit, all_further}

@@ -1,12 +1,11 @@
 -- What may stand after the front is no change, where a form ends there, and the choices that begin with the next letter (`OrderedKeys`).
-use Rattle.std.proofs.Common.{◌≡◌, ◌≢◌, ℕ, ◌+◌, ◌*◌, ◌<◌, ◌≤◌, [], List, length, All, get_or, sym, ap, subst, ◌∙◌, arith}
+use Rattle.std.proofs.Common.{◌≡◌, ◌≢◌, ℕ, ◌+◌, ◌<◌, ◌≤◌, [], List, length, All, get_or, sym, ap, subst, ◌∙◌, arith}
 use Rattle.std.specs.Ordering.{nat_cmp}
 use Rattle.std.specs.List.Sorted.{IsStrictlySortedBy}
 use Rattle.std.proofs.lemmas.Result.{on_ok_weaker}
 use Rattle.phoneme.specs.declared.line.Line.{Line}
 use Rattle.lexicon_definitions.specs.Tries.{Trie, row_of}
 use Rattle.annotated_trie.specs.Choices.{AnnotatedTrie, choices_with}
-use Rattle.search_frames.specs.declared.way.Way.{Way}
 use Rattle.search_frames.specs.Configurations.{IsPossible}
 use Rattle.search_frames.specs.Frames.{numbered_of}
 use Rattle.search_frames.proofs.GroupedRules.{group_rises}

@@ -1,5 +1,5 @@
 -- The ways of the fronts so far, which are the longest, are appended, and are not too many; each front took its steps.
-use Rattle.std.proofs.Common.{◌≡◌, ◌+◌, ◌*◌, ◌≤◌, ℕ, length}
+use Rattle.std.proofs.Common.{◌+◌, ◌*◌, ◌≤◌, ℕ, length}
 use Rattle.lexicon_definitions.specs.declared.limits.TheConstants.{MOST_RULE_LETTERS}
 use Rattle.search_frames.specs.declared.frame.TheConstants.{NODES_OF_FRAME}
 use Rattle.search_frames.specs.declared.way.TheConstants.{MOST_WAYS}

@@ -1,5 +1,5 @@
 -- Each way spreads what its key leads on to; at the end the keys of all ways have, and no other key leads on to anything.
-use Rattle.std.proofs.Common.{◌≡◌, ◌≤◌, length, arith}
+use Rattle.std.proofs.Common.{arith}
 use Rattle.summary_chart.specs.declared.table.Table.{Table}
 use Rattle.summary_chart.proofs.Visits.{spread_visit}
 use Rattle.summary_chart.proofs.WayKeys.{visit_no_way, visit_way, visit_all_ways, has_if_led}
