@@ -27,4 +27,8 @@ mod WayKeys
 mod CollectedItems
 mod AnswerItems
 mod TableItems
+mod WaysElsewhere
+mod KeptWays
+mod WayCosts
+mod ChartWays
 mod SummarySteps
