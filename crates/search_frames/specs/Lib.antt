@@ -8,6 +8,7 @@ pub mod Reached
 pub mod Guided
 pub mod Costs
 pub mod LetterTests
+pub mod Ahead
 pub mod Skips
 pub mod Turns
 pub mod WaysFrom
