@@ -6,6 +6,8 @@ pub mod WalkLeads
 pub mod TestBlanks
 pub mod TestWords
 pub mod TestPlaces
+pub mod AheadBlanks
+pub mod AheadTests
 pub mod StepChanges
 pub mod StepChoices
 pub mod StepFrames

@@ -16,6 +16,7 @@
 //! keys that lead on or end at a configuration, in their order (`ok`), within the steps of a frame (`steps`).
 #![tactic(auto)]
 
+mod ahead;
 mod configuration;
 mod cursor;
 mod entering;
@@ -39,6 +40,7 @@ mod walking;
 mod way;
 mod way_turns;
 
+pub use ahead::{Ahead, may_begin, rule_test};
 pub use configuration::Configuration;
 pub use cursor::Cursor;
 pub use frame::{Frame, NODES_OF_FRAME};
