@@ -98,6 +98,22 @@ impl Annotated {
             .get(CODES * place + letter.code() as usize)
     }
 
+    /// The number of the node's list of choices: a number by which nodes with the same choices may be told together.
+    pub fn list_number(&self, node: Node) -> u32
+        requires { node < length self.now.trie.rows }
+    {
+        self.places[node.number() as usize]
+    }
+
+    /// Whether the nodes are known to have the same choices, since they share one list.
+    pub fn have_same_choices(&self, one: Node, other: Node) -> bool
+        requires one { one < length self.now.trie.rows }
+        requires other { other < length self.now.trie.rows }
+        ensures { OnTrue result (choices_of self.now one ≡ choices_of self.now other) }
+    {
+        self.places[one.number() as usize] == self.places[other.number() as usize]
+    }
+
     /// The greatest number of choices that a node has: 0 where there are no nodes.
     pub fn most_choices(&self) -> u32
         ensures above { (node : ℕ) → node < length self.now.trie.rows → length (choices_of self.now node) ≤ result }

@@ -1,4 +1,6 @@
 ghost use Rattle.std.specs.Prelude.{◌≡◌, ℕ, true, ◌+◌, ◌<◌, ◌≤◌, ◌↔◌, ◌++◌, length, take, drop, All, IsTrue, MatchOption};
+ghost use Rattle.std.specs.Bool.{OnTrue};
+ghost use Rattle.segmentation_definitions.specs.Listings.{Key as KeyValue};
 ghost use Rattle.text_definitions.specs.Lines.{IsLine, Line as LineValue};
 ghost use Rattle.lexicon_definitions.specs.Leads.{leads_of};
 ghost use Rattle.lexicon_definitions.specs.Lexicons.{RuleSet as RuleSetValue};
@@ -31,9 +33,9 @@ use sandhi_rules::RuleSet;
 /// form; and whether a form that takes a letter of the line may be entered.
 #[derive(Clone, Copy, Debug, PartialEq, Eq)]
 pub struct Ahead {
-    pub(crate) limit: u32,
-    pub(crate) may_end: bool,
-    pub(crate) enters: bool,
+    pub limit: u32,
+    pub may_end: bool,
+    pub enters: bool,
 }
 
 /// The first blank after so many letters of the line, if there is one.
@@ -223,6 +225,31 @@ impl Ahead {
         self.lets_in(rules, place, key) && is_allowed(rules, line, choices, place, key)
     }
 
+    /// Whether every key that takes so many letters fits the place whichever its rule, as far as can be told without looking at rules: no
+    /// choice is made, and a letter is taken before which a form may be entered, or nothing stands before the form but a rule.
+    pub fn fits_all(
+        self,
+        lexicon: &Lexicon,
+        line: &Line,
+        choices: &Choices,
+        place: &Configuration,
+        taken: u32,
+    ) -> bool
+        requires place { IsConfigurationIn lexicon.now line.now place.now }
+        requires ahead { IsAhead lexicon.now.lexicon.rules line.now place.now.at (numbered_of lexicon.now place.now).entrance self }
+        requires limit { place.now.at + taken ≤ self.limit }
+        ensures { OnTrue result ((key : KeyValue) → key.taken ≡ taken → IsPossible lexicon.now line.now (numbered_of lexicon.now place.now) key → MayBegin (numbered_of lexicon.now place.now).entrance key.phase → FitsPlace lexicon.now line.now choices.now (numbered_of lexicon.now place.now) key) }
+    {
+        // The line and the lexicon are those of which the contract speaks.
+        let _letters = &line.letters;
+        let _rules = lexicon.rules();
+        choices.list().is_empty()
+            && match place.entrance {
+                Entrance::Plain(_) => taken > 0 && self.enters,
+                Entrance::Start | Entrance::Lead(_) => true,
+            }
+    }
+
     /// What the key does at the place as far as the letters of the line, the blanks and the choices tell. It has no rule, goes no further
     /// than the limit, and its phase may begin.
     pub fn test_unchanged(
@@ -358,5 +385,30 @@ impl Ahead {
             test: self.limited(way.test),
         };
         self.test_where_it_fits(lexicon, line, choices, place, kept)
+    }
+
+    /// What the key does at the place as far as the letters of the line, the blanks and the choices tell. It goes no further than the
+    /// limit, and its phase may begin.
+    pub fn test(
+        self,
+        lexicon: &Lexicon,
+        line: &Line,
+        choices: &Choices,
+        place: &Configuration,
+        key: Key,
+    ) -> LetterTest
+        requires line { IsLine line.now }
+        requires place { IsConfigurationIn lexicon.now line.now place.now }
+        requires ahead { IsAhead lexicon.now.lexicon.rules line.now place.now.at (numbered_of lexicon.now place.now).entrance self }
+        requires possible { IsPossible lexicon.now line.now (numbered_of lexicon.now place.now) (key_meant key) }
+        requires limit { place.now.at + key.taken ≤ self.limit }
+        requires begins { MayBegin (numbered_of lexicon.now place.now).entrance key.phase }
+        ensures exact { IsLetterTestOf lexicon.now line.now choices.now (numbered_of lexicon.now place.now) (key_meant key) result }
+    {
+        if key.rule == 0 {
+            self.test_unchanged(lexicon, line, choices, place, key)
+        } else {
+            self.test_rule(lexicon, line, choices, place, key)
+        }
     }
 }

@@ -3,6 +3,7 @@ ghost use Rattle.text_definitions.specs.Lines.{IsLine};
 ghost use Rattle.lexicon_definitions.specs.Lexicons.{rule_of};
 ghost use Rattle.derivation.specs.Steps.{key_meant};
 ghost use Rattle.annotated_trie.specs.Searched.{IsSearchedLexicon};
+ghost use Rattle.search_frames.specs.Ahead.{IsAhead, MayBegin};
 ghost use Rattle.search_frames.specs.Frames.{IsConfigurationIn, numbered_of};
 ghost use Rattle.search_frames.specs.Configurations.{IsPossible};
 ghost use Rattle.search_frames.specs.Costs.{HasAtMostRules};
@@ -25,7 +26,7 @@ use derivation::{Key, Step};
 use outside::Steps;
 use phoneme::{Line, Memory};
 use reader_choices::Choices;
-use search_frames::{Configuration, Way, supplied_letters};
+use search_frames::{Ahead, Configuration, Way, may_begin, supplied_letters};
 use shared_trie::Node;
 use std::alloc::Global;
 
@@ -138,6 +139,7 @@ fn collect_key<L>(
     line: &Line,
     choices: &Choices,
     place: &Configuration,
+    ahead: Ahead,
     states: StateSet,
     key: Key,
     table: &Table,
@@ -147,6 +149,9 @@ fn collect_key<L>(
     requires searched { IsSearchedLexicon lexicon.now }
     requires line { IsLine line.now }
     requires place { IsConfigurationIn lexicon.now line.now place.now }
+    requires ahead { IsAhead lexicon.now.lexicon.rules line.now place.now.at (numbered_of lexicon.now place.now).entrance ahead }
+    requires limit { place.now.at + key.taken ≤ ahead.limit }
+    requires begins { MayBegin (numbered_of lexicon.now place.now).entrance key.phase }
     requires possible { IsPossible lexicon.now line.now (numbered_of lexicon.now place.now) (key_meant key) }
     requires table { IsTable (leads_in lexicon.now) (length line.now.letters) table.now }
     requires collected { IsCollected lexicon.now.lexicon.rules collected.old }
@@ -156,14 +161,10 @@ fn collect_key<L>(
         → HasSeen lexicon.now line.now place.now.at place.now.entrance key.phase key.taken since collected.new) }
     ensures steps { steps.new ≤ steps.old + 2 }
 {
-    let step = Step {
-        phase: key.phase,
-        rule: key.rule,
-        at: place.at,
-        lead: supplied_letters(lexicon.rules(), place.entrance).len() as u32,
-        taken: key.taken,
-    };
-    if states_by_key(lexicon, line, choices, place, states, &step, table).is_empty() {
+    if states_by_key(
+        lexicon, line, choices, place, ahead, states, key, table,
+    )
+    .is_empty() {
         return Ok(());
     }
     put_item(alloc, lexicon, line, place, key, collected, steps)
@@ -177,6 +178,7 @@ fn collect_rules<L>(
     line: &Line,
     choices: &Choices,
     place: &Configuration,
+    ahead: Ahead,
     states: StateSet,
     phase: u32,
     taken: u32,
@@ -188,6 +190,9 @@ fn collect_rules<L>(
     requires searched { IsSearchedLexicon lexicon.now }
     requires line { IsLine line.now }
     requires place { IsConfigurationIn lexicon.now line.now place.now }
+    requires ahead { IsAhead lexicon.now.lexicon.rules line.now place.now.at (numbered_of lexicon.now place.now).entrance ahead }
+    requires limit { place.now.at + taken ≤ ahead.limit }
+    requires begins { MayBegin (numbered_of lexicon.now place.now).entrance phase }
     requires possible { All (λ rule. IsPossible lexicon.now line.now (numbered_of lexicon.now place.now) (record { phase = phase; taken = taken; rule = rule })) rules.now }
     requires table { IsTable (leads_in lexicon.now) (length line.now.letters) table.now }
     requires collected { IsCollected lexicon.now.lexicon.rules collected.old }
@@ -208,7 +213,7 @@ fn collect_rules<L>(
             rule: *rule,
         };
         collect_key(
-            alloc, lexicon, line, choices, place, states, key, table, collected, steps,
+            alloc, lexicon, line, choices, place, ahead, states, key, table, collected, steps,
         )?;
     }
     Ok(())
@@ -222,6 +227,7 @@ fn collect_front<L>(
     line: &Line,
     choices: &Choices,
     place: &Configuration,
+    ahead: Ahead,
     states: StateSet,
     phase: u32,
     taken: u32,
@@ -233,6 +239,9 @@ fn collect_front<L>(
     requires searched { IsSearchedLexicon lexicon.now }
     requires line { IsLine line.now }
     requires place { IsConfigurationIn lexicon.now line.now place.now }
+    requires ahead { IsAhead lexicon.now.lexicon.rules line.now place.now.at (numbered_of lexicon.now place.now).entrance ahead }
+    requires limit { place.now.at + taken ≤ ahead.limit }
+    requires begins { MayBegin (numbered_of lexicon.now place.now).entrance phase }
     requires front { IsFrontAt lexicon.now line.now (numbered_of lexicon.now place.now) phase taken node }
     requires table { IsTable (leads_in lexicon.now) (length line.now.letters) table.now }
     requires collected { IsCollected lexicon.now.lexicon.rules collected.old }
@@ -249,7 +258,7 @@ fn collect_front<L>(
             rule: 0,
         };
         collect_key(
-            alloc, lexicon, line, choices, place, states, key, table, collected, steps,
+            alloc, lexicon, line, choices, place, ahead, states, key, table, collected, steps,
         )?;
     }
     let end = place.at as usize + taken as usize;
@@ -258,7 +267,7 @@ fn collect_front<L>(
     };
     let rules = tries.choices_with(node, *letter, steps);
     collect_rules(
-        alloc, lexicon, line, choices, place, states, phase, taken, rules, table, collected, steps,
+        alloc, lexicon, line, choices, place, ahead, states, phase, taken, rules, table, collected, steps,
     )
 }
 
@@ -270,6 +279,7 @@ fn collect_phase<L>(
     line: &Line,
     choices: &Choices,
     place: &Configuration,
+    ahead: Ahead,
     states: StateSet,
     phase: u32,
     nodes: &mut Vec<Node>,
@@ -280,6 +290,8 @@ fn collect_phase<L>(
     requires searched { IsSearchedLexicon lexicon.now }
     requires line { IsLine line.now }
     requires place { IsConfigurationIn lexicon.now line.now place.now }
+    requires ahead { IsAhead lexicon.now.lexicon.rules line.now place.now.at (numbered_of lexicon.now place.now).entrance ahead }
+    requires begins { MayBegin (numbered_of lexicon.now place.now).entrance phase }
     requires phase { phase < length lexicon.now.lexicon.rules.names }
     requires table { IsTable (leads_in lexicon.now) (length line.now.letters) table.now }
     requires collected { IsCollected lexicon.now.lexicon.rules collected.old }
@@ -287,7 +299,7 @@ fn collect_phase<L>(
     ensures adds { OnOk result (AddsItems (IsItemInPhase lexicon.now line.now choices.now table.now place.now.at place.now.entrance states phase) collected.old.items.items collected.new.items.items) }
     ensures steps { (most : ℕ) → HasAtMostRules lexicon.now.tries most → steps.new ≤ steps.old + steps_of_fronts most }
 {
-    walk_fronts(lexicon, line, place, phase, nodes, steps)?;
+    walk_fronts(lexicon, line, place, phase, ahead.limit, nodes, steps)?;
     for taken in 0..nodes.len() {
         collect_front(
             alloc,
@@ -295,6 +307,7 @@ fn collect_phase<L>(
             line,
             choices,
             place,
+            ahead,
             states,
             phase,
             taken as u32,
@@ -330,14 +343,18 @@ pub(crate) fn collect<L>(
     ensures adds { OnOk result (AddsItems (IsItemFrom lexicon.now line.now choices.now table.now place.now.at place.now.entrance states) collected.old.items.items collected.new.items.items) }
     ensures steps { (most : ℕ) → HasAtMostRules lexicon.now.tries most → steps.new ≤ steps.old + steps_of_items lexicon.now most }
 {
-    let phases = lexicon.rules().phases().len();
+    let rules = lexicon.rules();
+    let ahead = Ahead::of(rules, line, place);
+    let phases = rules.phases().len();
     for phase in 0..phases as u32 {
         steps.tick();
-        if states_after(lexicon.automaton(), states, phase).is_empty() {
+        if states_after(lexicon.automaton(), states, phase).is_empty()
+            || !may_begin(rules, place, phase)
+        {
             continue;
         }
         collect_phase(
-            alloc, lexicon, line, choices, place, states, phase, nodes, table, collected, steps,
+            alloc, lexicon, line, choices, place, ahead, states, phase, nodes, table, collected, steps,
         )?;
     }
     Ok(())

@@ -24,6 +24,7 @@ mod guiding;
 mod items;
 mod laws;
 mod listing;
+mod memo;
 mod passes;
 mod place_ways;
 mod same_u;

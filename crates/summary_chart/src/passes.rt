@@ -12,6 +12,7 @@ ghost use Rattle.summary_chart.specs.Summaries.{steps_of_items, steps_of_summary
 
 use super::gathering::{gather, gather_ways};
 use super::listing::push_ways;
+use super::memo::Memo;
 use super::place_ways::{PlaceWays, Stop};
 use super::spreading::{spread, spread_ways};
 use super::state_set::StateSet;
@@ -95,6 +96,7 @@ fn reach_from<L>(
     nodes: &mut Vec<Node>,
     table: &mut Table,
     kept: &mut PlaceWays,
+    memo: &mut Memo,
     steps: &mut Steps<L>,
 ) -> Result<(), Memory>
     requires searched { IsSearchedLexicon lexicon.now }
@@ -116,7 +118,9 @@ fn reach_from<L>(
         lexicon, line, choices, place, states, index, most, nodes, kept, steps,
     )?
     else {
-        return spread(lexicon, line, choices, place, states, nodes, table, steps);
+        return spread(
+            lexicon, line, choices, place, states, nodes, table, memo, steps,
+        );
     };
     let ways = kept.of(stop);
     spread_ways(lexicon, line, choices, place, states, ways, table, steps);
@@ -133,6 +137,7 @@ pub(crate) fn reach<L>(
     nodes: &mut Vec<Node>,
     table: &mut Table,
     kept: &mut PlaceWays,
+    memo: &mut Memo,
     steps: &mut Steps<L>,
 ) -> Result<(), Memory>
     requires searched { IsSearchedLexicon lexicon.now }
@@ -155,7 +160,7 @@ pub(crate) fn reach<L>(
             state,
         };
         reach_from(
-            lexicon, line, choices, &place, index, nodes, table, kept, steps,
+            lexicon, line, choices, &place, index, nodes, table, kept, memo, steps,
         )?;
         index = table.next_filled(index + 1);
     }
@@ -174,6 +179,7 @@ fn gather_from<L>(
     kept: &PlaceWays,
     nodes: &mut Vec<Node>,
     table: &Table,
+    memo: &mut Memo,
     steps: &mut Steps<L>,
 ) -> Result<StateSet, Memory>
     requires searched { IsSearchedLexicon lexicon.now }
@@ -188,7 +194,9 @@ fn gather_from<L>(
 {
     let states = table.sets[index];
     let Some(ways) = kept.at(index) else {
-        return gather(lexicon, line, choices, place, states, nodes, table, steps);
+        return gather(
+            lexicon, line, choices, place, states, nodes, table, memo, steps,
+        );
     };
     Ok(gather_ways(lexicon, line, choices, place, states, ways, table, steps))
 }
@@ -202,6 +210,7 @@ pub(crate) fn keep_living<L>(
     kept: &PlaceWays,
     nodes: &mut Vec<Node>,
     table: &mut Table,
+    memo: &mut Memo,
     steps: &mut Steps<L>,
 ) -> Result<(), Memory>
     requires searched { IsSearchedLexicon lexicon.now }
@@ -223,7 +232,7 @@ pub(crate) fn keep_living<L>(
             state,
         };
         let living = gather_from(
-            lexicon, line, choices, &place, index, kept, nodes, table, steps,
+            lexicon, line, choices, &place, index, kept, nodes, table, memo, steps,
         )?;
         table.replace(index, living);
         until = table.filled_until(index);
