@@ -4,10 +4,10 @@ ghost use Rattle.lexicon_definitions.specs.Tries.{walk};
 ghost use Rattle.derivation.specs.Guides.{IsEntranceOver, entrance_of};
 ghost use Rattle.answer_paths.specs.Fronts.{supplied};
 ghost use Rattle.search_frames.specs.declared.frame.TheConstants.{NODES_OF_FRAME};
-ghost use Rattle.search_frames.specs.Frames.{IsConfigurationIn, IsPlaced, IsFrame, HasPhasesFrom, ChangesFrom, configuration_at, numbered_of, step_of};
+ghost use Rattle.search_frames.specs.Frames.{IsConfigurationIn, numbered_of};
 ghost use Rattle.search_frames.specs.Walks.{IsNodeAt, IsNodeAmong};
 
-use super::{Configuration, NODES_OF_FRAME, Resumption};
+use super::{Configuration, NODES_OF_FRAME};
 use annotated_trie::Lexicon;
 use derivation::Entrance;
 use outside::Steps;
@@ -109,43 +109,6 @@ fn walk_fronts<L>(
         None => 0,
         Some(node) => walk_letters(store, node, letters, nodes, base, steps),
     }
-}
-
-/// Begins the phase, counted from 0, at the frame: walks to the nodes to which the letters that the rule before supplies and
-/// then those of the line lead from its root.
-pub(crate) fn walk_phase<L>(
-    lexicon: &Lexicon,
-    line: &Line,
-    stack: &mut Resumption,
-    level: usize,
-    phase: u32,
-    steps: &mut Steps<L>,
-)
-    requires placed { IsPlaced lexicon.now line.now stack.old level }
-    requires phase { phase < length lexicon.now.lexicon.rules.names }
-    ensures frame { IsFrame lexicon.now line.now stack.new level }
-    ensures place { configuration_at stack.new level ≡ configuration_at stack.old level }
-    ensures begun { (step_of stack.new level).phase ≡ phase }
-    ensures phases { HasPhasesFrom lexicon.now line.now phase stack.new level }
-    ensures changes { ChangesFrom level stack.old stack.new }
-    ensures steps { steps.new ≤ steps.old + NODES_OF_FRAME }
-{
-    let store = lexicon.tries().store();
-    let lead = supplied_letters(lexicon.rules(), stack.frames[level].entrance);
-    let at = stack.steps[level].at as usize;
-    let walked = walk_fronts(
-        store,
-        store.root(phase),
-        lead,
-        &line.letters.as_slice()[at..],
-        &mut stack.nodes,
-        level * NODES_OF_FRAME,
-        steps,
-    );
-    stack.steps[level].phase = phase;
-    let frame = &mut stack.frames[level];
-    frame.walked = walked;
-    frame.next = 0;
 }
 
 /// Walks in the trie of the phase, counted from 0, along the letters that the rule before supplies to a form at the place and then along
