@@ -27,7 +27,7 @@ module _ (level : ℕ) (old mid new : Resumption) (key : ProgramKey) (steps : mi
       ∙ ap (λ (items : List Step). record (get_or items level (record { phase = 0; rule = 0; at = 0; lead = 0; taken = 0 })) { phase = key.phase; taken = key.taken; rule = key.rule }) steps
 
   frame_is : frame_of new level ≡ frame_of old level
-  frame_is = set.is_frame ∙ ap (λ (items : List Frame). get_or items level (record { entrance = program.Start; state = Some 0; walked = 0; next = 0 })) frames
+  frame_is = set.is_frame ∙ ap (λ (items : List Frame). get_or items level (record { entrance = program.Start; state = Some 0 })) frames
 
   pub set_place : configuration_at new level ≡ configuration_at old level
   set_place = let step = step_is in let frame = frame_is in λ i. record { at = (step i).at; entrance = (frame i).entrance; state = (frame i).state }

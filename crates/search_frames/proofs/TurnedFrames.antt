@@ -172,6 +172,6 @@ module _ (searched : SearchedLexicon) (line : Line) (is : IsSearchedLexicon sear
       has_fallen turn.Ends first = falls turn.Ends first
       has_fallen (turn.LeadsOn next) first = falls (turn.LeadsOn next) first
 
--- a stack has room for the nodes along a form where it has a frame
-pub room_for_nodes : (stack : Resumption) (level : ℕ) → IsStack stack → level < length stack.frames.items → NODES_OF_FRAME ≤ length stack.nodes.items
-room_for_nodes stack level is there = let nodes = is.nodes in omega (arith, nodes, there)
+-- a stack has room for the nodes along a form
+pub room_for_nodes : (stack : Resumption) → IsStack stack → NODES_OF_FRAME ≤ length stack.nodes.items
+room_for_nodes stack is = let nodes = is.nodes in omega (arith, nodes)

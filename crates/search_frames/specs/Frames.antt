@@ -28,7 +28,7 @@ abbrev pub step_of : Resumption → ℕ → Step
 step_of stack level = slice_index_or stack.steps.items level (record { phase = 0; rule = 0; at = 0; lead = 0; taken = 0 })
 
 abbrev pub frame_of : Resumption → ℕ → Frame
-frame_of stack level = slice_index_or stack.frames.items level (record { entrance = program.Start; state = Some 0; walked = 0; next = 0 })
+frame_of stack level = slice_index_or stack.frames.items level (record { entrance = program.Start; state = Some 0 })
 
 -- the configuration of the frame at a level
 abbrev pub configuration_at : Resumption → ℕ → Configuration

@@ -35,7 +35,5 @@ pub fn open_frame(
     stack.frames[level] = Frame {
         entrance: place.entrance,
         state: place.state,
-        walked: 0,
-        next: 0,
     };
 }

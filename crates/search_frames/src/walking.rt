@@ -65,8 +65,7 @@ fn walk_letters<L>(
     ensures walked { (taken : ℕ) → taken < result → walk store.now.rows node (take taken letters.now) ≡ Some (slice_index_or nodes.new.items (base + taken) 0) }
     ensures all { (taken : ℕ) → taken ≤ length letters.now → IsSome (walk store.now.rows node (take taken letters.now)) → taken < result }
     ensures some { 0 < result }
-    ensures steps { steps.new ≤ steps.old + result }
-    ensures few_steps { steps.new ≤ steps.old + length letters.now }
+    ensures steps { steps.new ≤ steps.old + length letters.now }
 {
     nodes[base] = node;
     let mut walked = 1;
@@ -102,8 +101,7 @@ fn walk_fronts<L>(
     ensures within { result ≤ length letters.now + 1 }
     ensures walked { (taken : ℕ) → taken < result → walk store.now.rows root (lead.now ++ take taken letters.now) ≡ Some (slice_index_or nodes.new.items (base + taken) 0) }
     ensures all { (taken : ℕ) → taken ≤ length letters.now → IsSome (walk store.now.rows root (lead.now ++ take taken letters.now)) → taken < result }
-    ensures steps { steps.new ≤ steps.old + NODES_OF_FRAME }
-    ensures both { steps.new + result ≤ steps.old + NODES_OF_FRAME + length letters.now }
+    ensures steps { steps.new + result ≤ steps.old + NODES_OF_FRAME + length letters.now }
 {
     match walk_word(store, root, lead, steps) {
         None => 0,

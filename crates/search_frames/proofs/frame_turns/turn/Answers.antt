@@ -47,7 +47,7 @@ turn_from-requires-clause-reached g c =
     subst (λ (p : Configuration). IsReached c.args.space.now.lexicon.now c.args.space.now.line.now c.args.space.now.choices.now (numbered_of c.args.space.now.lexicon.now p)) (sym c.of_frame-place.ensures) c.requires.reached
 
 pub turn_from-requires-clause-room : goal.turn_from-requires-clause-room
-turn_from-requires-clause-room g c = room_for_nodes c.args.stack.now c.args.level c.requires.placed.is_stack c.requires.placed.there
+turn_from-requires-clause-room g c = room_for_nodes c.args.stack.now c.requires.placed.is_stack
 
 pub returns-in_default-clause-turn : goal.returns-in_default-clause-turn
 returns-in_default-clause-turn g c =

@@ -8,4 +8,4 @@ pub has_key-requires-clause-place : goal.has_key-requires-clause-place
 has_key-requires-clause-place c = subst (IsConfigurationIn c.args.lexicon.now c.args.line.now) (sym c.of_frame-place.ensures) c.requires.placed.within
 
 pub has_key-requires-clause-room : goal.has_key-requires-clause-room
-has_key-requires-clause-room c = room_for_nodes c.args.stack.now c.args.level c.requires.placed.is_stack c.requires.placed.there
+has_key-requires-clause-room c = room_for_nodes c.args.stack.now c.requires.placed.is_stack
