@@ -1,4 +1,4 @@
--- A key that is possible at a place and whose w may be written there has its phase, its node and its change; else it is refused, whatever
+-- A key that is possible at a place and whose w may be written there has its node and its change; else it is refused, whatever
 -- the reader chooses.
 use Rattle.std.proofs.Common.{◌≡◌, ◌≢◌, ℕ, ◌+◌, ◌<◌, ◌≤◌, ◌↔◌, inl, inr, Bool, true, false, [], length, take, drop, get_or, sym, subst, arith}
 use Rattle.std.specs.Prelude.{Contains, IsTrue}
@@ -14,8 +14,8 @@ use Rattle.search_frames.specs.Configurations.{NumberedConfiguration, IsPossible
 use Rattle.search_frames.specs.Tests.{IsAlwaysRefused}
 use Rattle.search_frames.specs.Walks.{IsNodeAt}
 use Rattle.search_frames.proofs.ConfigurationRanks.{possible_if_leads, possible_if_ends}
-use Rattle.search_frames.proofs.GroupedRules.{choice_of_group, letter_there, in_group}
-use Rattle.search_frames.proofs.PossibleKeys.{change_possible, possible_ends, possible_phase, possible_walks}
+use Rattle.search_frames.proofs.GroupedRules.{choice_of_group, in_group}
+use Rattle.search_frames.proofs.PossibleKeys.{change_possible, possible_ends, possible_walks}
 use Rattle.search_frames.proofs.TurnedPhases.{few_letters}
 
 module _ (searched : SearchedLexicon) (is : IsSearchedLexicon searched) (line : Line) (here : NumberedConfiguration) (key : Key) where
@@ -29,9 +29,6 @@ module _ (searched : SearchedLexicon) (is : IsSearchedLexicon searched) (line : 
     leads_on = λ leads. none (possible_if_leads searched line choices here key leads) leads.stands.written;
     ends = λ ends. none (possible_if_ends searched line choices here key ends) ends.stands.written;
   }
-
-  pub refused_phase : length (rules_in searched).names ≤ key.phase → IsAlwaysRefused searched line here key
-  refused_phase past = refused_unless (λ possible written. let low = possible_phase searched is line here key possible in omega (arith, past, low))
 
   pub refused_letters : MOST_FORM_LETTERS < key.taken → IsAlwaysRefused searched line here key
   refused_letters many = refused_unless (λ possible written. let few = few_letters searched line here key is possible in omega (arith, many, few))
@@ -53,11 +50,6 @@ module _ (searched : SearchedLexicon) (is : IsSearchedLexicon searched) (line : 
         let reached : node ≡ ends.reached = same_Some node ends.reached ends.walked in
         let there : accepted ≡ true = told.1 (subst (λ (n : ℕ). (row_of searched.tries.trie.rows n).deltas ≢ []) (sym reached) ends.ends) in
         cc)
-
-    pub refused_at_end : 0 < key.rule → length line.letters ≤ here.at + key.taken → IsAlwaysRefused searched line here key
-    refused_at_end some end = refused_unless (λ possible written.
-        let low = letter_there searched is line here key possible some written in
-        omega (arith, low, end))
 
     pub refused_choice : 0 < key.rule → (letter : ℕ) → letter ≡ get_or line.letters (here.at + key.taken) 0
         → (has : Bool) → (IsTrue has ↔ Contains (choices_with searched.tries node letter) key.rule) → has ≡ false → IsAlwaysRefused searched line here key

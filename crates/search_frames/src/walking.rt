@@ -46,35 +46,33 @@ fn walk_word<L>(store: &Store, node: Node, word: &[Letter], steps: &mut Steps<L>
 }
 
 /// Walks from the node along the letters as far as they lead, and puts the node itself and those after one letter, two letters and so
-/// on at the places from `base` on. Answers how many nodes these are.
+/// on at the first places of `nodes`. Answers how many nodes these are.
 fn walk_letters<L>(
     store: &Store,
     node: Node,
     letters: &[Letter],
     nodes: &mut Vec<Node>,
-    base: usize,
     steps: &mut Steps<L>,
 ) -> u32
     requires there { node < length store.now.rows }
-    requires room { base + NODES_OF_FRAME ≤ length nodes.old.items }
+    requires room { NODES_OF_FRAME ≤ length nodes.old.items }
     requires short { (word : List ℕ) → IsSome (walk store.now.rows node word) → length word < NODES_OF_FRAME }
     ensures count { length nodes.new.items ≡ length nodes.old.items }
-    ensures before { take base nodes.new.items ≡ take base nodes.old.items }
     ensures few { result ≤ NODES_OF_FRAME }
     ensures within { result ≤ length letters.now + 1 }
-    ensures walked { (taken : ℕ) → taken < result → walk store.now.rows node (take taken letters.now) ≡ Some (slice_index_or nodes.new.items (base + taken) 0) }
+    ensures walked { (taken : ℕ) → taken < result → walk store.now.rows node (take taken letters.now) ≡ Some (slice_index_or nodes.new.items taken 0) }
     ensures all { (taken : ℕ) → taken ≤ length letters.now → IsSome (walk store.now.rows node (take taken letters.now)) → taken < result }
     ensures some { 0 < result }
     ensures steps { steps.new ≤ steps.old + length letters.now }
 {
-    nodes[base] = node;
+    nodes[0] = node;
     let mut walked = 1;
     let mut reached = node;
     for letter in letters {
         let Some(child) = store.child(reached, *letter, steps) else {
             break;
         };
-        nodes[base + walked] = child;
+        nodes[walked] = child;
         walked += 1;
         reached = child;
     }
@@ -82,30 +80,28 @@ fn walk_letters<L>(
 }
 
 /// Walks from the root along the lead and then along the letters as far as they lead, and puts the node after the lead and those after
-/// one letter more, two letters more and so on at the places from `base` on. Answers how many nodes these are.
+/// one letter more, two letters more and so on at the first places of `nodes`. Answers how many nodes these are.
 fn walk_fronts<L>(
     store: &Store,
     root: Node,
     lead: &[Letter],
     letters: &[Letter],
     nodes: &mut Vec<Node>,
-    base: usize,
     steps: &mut Steps<L>,
 ) -> u32
     requires there { root < length store.now.rows }
-    requires room { base + NODES_OF_FRAME ≤ length nodes.old.items }
+    requires room { NODES_OF_FRAME ≤ length nodes.old.items }
     requires short { (word : List ℕ) → IsSome (walk store.now.rows root word) → length word < NODES_OF_FRAME }
     ensures count { length nodes.new.items ≡ length nodes.old.items }
-    ensures before { take base nodes.new.items ≡ take base nodes.old.items }
     ensures few { result ≤ NODES_OF_FRAME }
     ensures within { result ≤ length letters.now + 1 }
-    ensures walked { (taken : ℕ) → taken < result → walk store.now.rows root (lead.now ++ take taken letters.now) ≡ Some (slice_index_or nodes.new.items (base + taken) 0) }
+    ensures walked { (taken : ℕ) → taken < result → walk store.now.rows root (lead.now ++ take taken letters.now) ≡ Some (slice_index_or nodes.new.items taken 0) }
     ensures all { (taken : ℕ) → taken ≤ length letters.now → IsSome (walk store.now.rows root (lead.now ++ take taken letters.now)) → taken < result }
     ensures steps { steps.new + result ≤ steps.old + NODES_OF_FRAME + length letters.now }
 {
     match walk_word(store, root, lead, steps) {
         None => 0,
-        Some(node) => walk_letters(store, node, letters, nodes, base, steps),
+        Some(node) => walk_letters(store, node, letters, nodes, steps),
     }
 }
 
@@ -143,7 +139,6 @@ pub(crate) fn walk_place<L>(
         lead,
         &letters[at..end],
         nodes,
-        0,
         steps,
     )
 }
