@@ -51,7 +51,7 @@ pub(crate) fn stand_at(stack: &mut Resumption, level: usize, key: Key)
 
 /// Brings the frame at the level, counted from 0, which has still to try what is said, to its next key that leads on or ends the line,
 /// and tells which. It leaves out keys with which no path to an answer begins, as far as the guide tells. A step is counted for each
-/// phase, each letter that is walked, each group of rules, each rule and each question to the guide.
+/// phase, each letter that is walked, each group of rules, each rule, each way that is kept and each question to the guide.
 pub fn turn<D: SearchGuide, L>(
     space: &SearchSpace<'_, D>,
     stack: &mut Resumption,
