@@ -36,7 +36,7 @@ use Rattle.summary_chart.specs.StateSets.{IsStateOf, IsLedTo}
 use Rattle.summary_chart.specs.Tables.{IsTable, IsIn, IsIndexed, IsEntrance, set_of}
 use Rattle.summary_chart.specs.Spreading.{IsLedByPhase, leads_in, place_with, standing_with}
 use Rattle.summary_chart.specs.Charts.{index_of_place}
-use Rattle.summary_chart.specs.PlaceWays.{AddsStop, AppendsWays, AreFew, AreStops, AreWaysAt, AreWaysOf, HasEachKey, HasWays, HaveWays, HaveWaysBefore, IsStopWithin, LeadsOnOrEnds, compare_stops, ways_of}
+use Rattle.summary_chart.specs.PlaceWays.{AddsStop, AppendsWays, AreFew, AreStops, AreWaysAt, AreWaysOf, HasEachKey, HasKept, HasWays, HaveWays, HaveWaysBefore, IsStopWithin, LeadsOnOrEnds, compare_stops, ways_of}
 use Rattle.summary_chart.proofs.TableOrder.{same_index}
 use Rattle.summary_chart.proofs.TableStates.{at_index, stands_in, with_within}
 use Rattle.summary_chart.proofs.WaysElsewhere.{possible_elsewhere, neither_elsewhere, ways_elsewhere}
@@ -249,6 +249,18 @@ module _ (searched : SearchedLexicon) (line : Line) (choices : List Choice) wher
     Adds stop = AddsStop searched line choices (numbered_of searched (record { at = at; entrance = entrance; state = state })) (set_of table index)
         index most old_stops old stops ways stop
 
+    -- what is told of a set that was read at the index
+    abbrev IsTold : StateSet → Option Stop → Type 0
+    IsTold set told = HasKept searched line choices (numbered_of searched (record { at = at; entrance = entrance; state = state })) set
+        index most old_stops old stops ways told
+
+    pub put_in : (set : StateSet) (told : Option Stop) (stop : Stop) → set_of table index ≡ set → told ≡ Some stop → IsTold set told → Adds stop
+    put_in set told stop read is kept = subst (λ (s : StateSet). IsTold s (Some stop)) (sym read) (subst (IsTold set) is kept)
+
+    pub left : (set : StateSet) (told : Option Stop) → ((stop : Stop) → told ≡ Some stop → ⊥) → IsTold set told → (stops ≡ old_stops) × (ways ≡ old)
+    left set None none kept = kept
+    left set (Some stop) none kept = absurd (none stop refl)
+
     -- the ways of the stop that was put in are those that were appended
     pub added_ways : (stop : Stop) (adds : Adds stop) → ways_of ways stop ≡ adds.appends.ways
     added_ways stop adds =
@@ -265,13 +277,6 @@ module _ (searched : SearchedLexicon) (line : Line) (choices : List Choice) wher
     keys_added stop adds =
         subst (HasEachKey searched line choices at entrance (set_of table index)) (sym (added_ways stop adds))
         (has_each_key index at entrance table lawful indexed state old ways adds.appends)
-
-    pub few_added : (stop : Stop) → Adds stop → length (ways_of ways stop) ≤ MOST_WAYS
-    few_added stop adds =
-        let same = ap length (added_ways stop adds) in
-        let count = ap length adds.appends.appended in
-        let sum = length-append old adds.appends.ways in
-        omega (arith, same, count, sum, adds.few)
 
     -- whether a stop was put in or not, those that are kept are right up to the next index
     module _ (new : Table)
