@@ -1,13 +1,13 @@
 -- The ways from one place at an index are those from each place there that the table has: the states of its set lead by the phases that
 -- were gone over. One stop more stands after those before it, and the ways of these stay where others are appended; and a table that
 -- loses places needs no other stops.
-use Rattle.std.proofs.Common.{◌≡◌, ℕ, ◌+◌, ◌-◌, ◌*◌, ◌<◌, ◌≤◌, inl, inr, IsTrue, IsSome, Option, Some, None, List, [], ◌∷◌, ◌++◌, length, map, take, drop, Contains, refl, sym, ap, subst, ◌∙◌, arith}
+use Rattle.std.proofs.Common.{◌≡◌, ℕ, ◌+◌, ◌-◌, ◌<◌, ◌≤◌, inl, inr, IsTrue, IsSome, Option, Some, None, List, [], ◌∷◌, ◌++◌, length, take, drop, Contains, refl, sym, ap, subst, ◌∙◌, arith}
 use Rattle.std.specs.List.{All}
 use Rattle.std.specs.Ordering.{nat_cmp}
 use Rattle.std.specs.Cmp.{nat_cmp_is}
 use Rattle.std.specs.List.Sorted.{IsStrictlySortedBy}
 use Rattle.std.specs.declared.cmp.Ordering.TheVariants.{Less}
-use Rattle.std.proofs.lemmas.Bool.{cases_lt, false≢true}
+use Rattle.std.proofs.lemmas.Bool.{false≢true}
 use Rattle.std.proofs.lemmas.List.{take-append-le, drop-append-le, length-append, length-drop}
 use Rattle.std.proofs.lemmas.List.Elements.{All-nil, All-contains, Contains-push_cases}
 use Rattle.std.proofs.Math.Seq.{drop-append_seam, take-length}
@@ -26,17 +26,17 @@ use Rattle.search_frames.specs.declared.way.TheConstants.{MOST_WAYS}
 use Rattle.search_frames.specs.Configurations.{NumberedConfiguration, IsPossible}
 use Rattle.search_frames.specs.Frames.{IsConfigurationIn, numbered_of}
 use Rattle.search_frames.specs.LetterTests.{MayNeither}
-use Rattle.search_frames.specs.WaysFrom.{IsWayFrom, key_of_way}
+use Rattle.search_frames.specs.WaysFrom.{IsWayFrom}
 use Rattle.search_frames.proofs.ConfigurationRanks.{possible_if_leads, possible_if_ends, may_if_leads, may_if_ends}
 use Rattle.search_frames.proofs.PossibleKeys.{some_there}
 use Rattle.summary_chart.specs.declared.place_ways.Stop.{Stop}
 use Rattle.summary_chart.specs.declared.state_set.StateSet.{StateSet}
 use Rattle.summary_chart.specs.declared.table.Table.{Table}
-use Rattle.summary_chart.specs.StateSets.{IsStateOf, IsLedTo}
+use Rattle.summary_chart.specs.StateSets.{IsStateOf}
 use Rattle.summary_chart.specs.Tables.{IsTable, IsIn, IsIndexed, IsEntrance, set_of}
 use Rattle.summary_chart.specs.Spreading.{IsLedByPhase, leads_in, place_with, standing_with}
 use Rattle.summary_chart.specs.Charts.{index_of_place}
-use Rattle.summary_chart.specs.PlaceWays.{AddsStop, AppendsWays, AreFew, AreStops, AreWaysAt, AreWaysOf, HasEachKey, HasKept, HasWays, HaveWays, HaveWaysBefore, IsStopWithin, LeadsOnOrEnds, compare_stops, ways_of}
+use Rattle.summary_chart.specs.PlaceWays.{AddsStop, AppendsWays, AreFew, AreWaysAt, AreWaysOf, HasEachKey, HasKept, HasWays, HaveWays, HaveWaysBefore, IsStopWithin, LeadsOnOrEnds, compare_stops, ways_of}
 use Rattle.summary_chart.proofs.TableOrder.{same_index}
 use Rattle.summary_chart.proofs.TableStates.{at_index, stands_in, with_within}
 use Rattle.summary_chart.proofs.WaysElsewhere.{possible_elsewhere, neither_elsewhere, ways_elsewhere}

@@ -1,5 +1,5 @@
 -- What is kept at the index are the ways from each place there, and to go over them takes no more steps than to go over all.
-use Rattle.std.proofs.Common.{◌+◌, ◌≤◌, length, subst, arith}
+use Rattle.std.proofs.Common.{length, subst, arith}
 use Rattle.summary_chart.specs.declared.state_set.StateSet.{StateSet}
 use Rattle.summary_chart.specs.PlaceWays.{HasEachKey}
 use Rattle.summary_chart.proofs.KeptWays.{keys_found, ways_at}
