@@ -45,11 +45,11 @@ returns-in_default-clause-kept g c =
     let new = c.spread.new.table in
     let read = read_set table index c.index-states.result.now c.requires.there c.index-states.ensures in
     let same = left searched line choices index most place.at place.entrance place.state table c.requires.before.lawful c.requires.indexed
-    old.stops.items old.ways.items kept.stops.items kept.ways.items
+    old kept
     c.index-states.result.now c.in_ok-stop.field-0 c.in_default.not-Some c.in_ok-stop.ensures.kept in
     on_ok c.spread.result _ _ _ (λ lawful spreads.
     without_stop searched line choices index most place.at place.entrance place.state table c.requires.before.lawful c.requires.indexed
-    old.stops.items old.ways.items kept.stops.items kept.ways.items new
+    old kept new
     (old_before searched line choices index place.at place.entrance table c.requires.searched c.requires.before c.requires.indexed new lawful
     (subst (λ (set : StateSet). Spreads searched line choices place.at place.entrance set EveryKey table new) (sym read) spreads))
     c.requires.kept same)
@@ -68,11 +68,11 @@ spread_ways-requires-clause-ways g c =
     let kept = c.keep_ways.new.kept in
     let read = read_set table index c.index-states.result.now c.requires.there c.index-states.ensures in
     let adds = put_in searched line choices index most place.at place.entrance place.state table c.requires.before.lawful c.requires.indexed
-    old.stops.items old.ways.items kept.stops.items kept.ways.items
+    old kept
     c.index-states.result.now c.in_ok-stop.field-0 c.in-Some.stop read c.in-Some.is c.in_ok-stop.ensures.kept in
     subst (All (IsWayFrom searched line choices (numbered_of searched place))) (sym c.of-ways.ensures)
     (each_added searched line choices index most place.at place.entrance place.state table c.requires.before.lawful c.requires.indexed
-    old.stops.items old.ways.items kept.stops.items kept.ways.items c.in-Some.stop adds)
+    old kept c.in-Some.stop adds)
 
 pub spread_ways-requires-clause-all : goal.spread_ways-requires-clause-all
 spread_ways-requires-clause-all g c =
@@ -87,12 +87,12 @@ spread_ways-requires-clause-all g c =
     let kept = c.keep_ways.new.kept in
     let read = read_set table index c.index-states.result.now c.requires.there c.index-states.ensures in
     let adds = put_in searched line choices index most place.at place.entrance place.state table c.requires.before.lawful c.requires.indexed
-    old.stops.items old.ways.items kept.stops.items kept.ways.items
+    old kept
     c.index-states.result.now c.in_ok-stop.field-0 c.in-Some.stop read c.in-Some.is c.in_ok-stop.ensures.kept in
     subst (λ (ways : List Way). HasEachKey searched line choices place.at place.entrance c.index-states.result.now ways) (sym c.of-ways.ensures)
     (subst (λ (set : StateSet). HasEachKey searched line choices place.at place.entrance set (ways_of kept.ways.items c.in-Some.stop)) read
     (keys_added searched line choices index most place.at place.entrance place.state table c.requires.before.lawful c.requires.indexed
-    old.stops.items old.ways.items kept.stops.items kept.ways.items c.in-Some.stop adds))
+    old kept c.in-Some.stop adds))
 
 pub returns-clause-before : goal.returns-clause-before
 returns-clause-before g c =
@@ -121,10 +121,10 @@ returns-clause-kept g c =
     let new = c.spread_ways.new.table in
     let read = read_set table index c.index-states.result.now c.requires.there c.index-states.ensures in
     let adds = put_in searched line choices index most place.at place.entrance place.state table c.requires.before.lawful c.requires.indexed
-    old.stops.items old.ways.items kept.stops.items kept.ways.items
+    old kept
     c.index-states.result.now c.in_ok-stop.field-0 c.in-Some.stop read c.in-Some.is c.in_ok-stop.ensures.kept in
     with_stop searched line choices index most place.at place.entrance place.state table c.requires.before.lawful c.requires.indexed
-    old.stops.items old.ways.items kept.stops.items kept.ways.items new
+    old kept new
     (old_before searched line choices index place.at place.entrance table c.requires.searched c.requires.before c.requires.indexed new c.spread_ways.ensures.table
     (subst (λ (set : StateSet). Spreads searched line choices place.at place.entrance set EveryKey table new) (sym read) c.spread_ways.ensures.spreads))
     c.requires.kept c.in-Some.stop adds
