@@ -3,7 +3,6 @@ pub mod Copies
 pub mod Configurations
 pub mod Frames
 pub mod Tests
-pub mod Changes
 pub mod Reached
 pub mod Guided
 pub mod Costs
