@@ -3,9 +3,7 @@ pub mod WalkDeltas
 pub mod WalkLemmas
 pub mod WalkFrames
 pub mod WalkLeads
-pub mod TestBlanks
 pub mod TestWords
-pub mod TestPlaces
 pub mod AheadBlanks
 pub mod AheadTests
 pub mod StepChanges

@@ -19,7 +19,6 @@
 mod ahead;
 mod configuration;
 mod cursor;
-mod entering;
 mod frame;
 mod frame_turns;
 mod going_on;
