@@ -2,9 +2,7 @@ pub mod PossibleKeys
 pub mod WalkDeltas
 pub mod WalkLemmas
 pub mod WalkLeads
-pub mod TestBlanks
 pub mod TestWords
-pub mod TestPlaces
 pub mod AheadBlanks
 pub mod AheadTests
 pub mod StepKeys

@@ -1,6 +1,6 @@
-ghost use Rattle.std.specs.Prelude.{◌≡◌, ℕ, true, ◌+◌, ◌<◌, ◌≤◌, ◌↔◌, ◌++◌, length, take, drop, All, IsTrue, MatchOption};
-ghost use Rattle.text_definitions.specs.Lines.{IsLine, Line as LineValue};
-ghost use Rattle.lexicon_definitions.specs.Leads.{leads_of};
+ghost use Rattle.std.specs.Prelude.{◌≡◌, ℕ, List, true, ◌+◌, ◌<◌, ◌≤◌, ◌↔◌, ◌++◌, length, take, drop, All, IsTrue, MatchOption};
+ghost use Rattle.text_definitions.specs.Lines.{Line as LineValue};
+ghost use Rattle.lexicon_definitions.specs.Leads.{Lead, leads_of};
 ghost use Rattle.lexicon_definitions.specs.Lexicons.{RuleSet as RuleSetValue};
 ghost use Rattle.lexicon_definitions.specs.Limits.{IsRuleSetWithinLimits};
 ghost use Rattle.segmentation_definitions.specs.LocalTests.{Allows};
@@ -15,7 +15,6 @@ ghost use Rattle.search_frames.specs.Frames.{IsConfigurationIn, numbered_of};
 ghost use Rattle.search_frames.specs.LetterTests.{IsLetterTestOf};
 
 use super::Configuration;
-use super::entering::is_first;
 use super::letter_testing::LetterTest;
 use super::line_tests::{begins_with, u_of};
 use super::walking::supplied_letters;
@@ -112,6 +111,13 @@ pub fn rule_test(
     }
 }
 
+/// Whether nothing stands before a form that is entered so.
+fn is_first(entrance: Entrance) -> bool
+    ensures { (leads : List Lead) → result ≡ is_start (entrance_of leads entrance) }
+{
+    matches!(entrance, Entrance::Start)
+}
+
 /// Whether the step with this key at the place passes the local test of each choice.
 fn is_allowed(
     rules: &RuleSet,
@@ -191,6 +197,13 @@ impl Ahead {
         }
     }
 
+    /// How many letters of the line stand before the first blank after the place, or all where there is none.
+    pub fn limit(self) -> u32
+        ensures { result ≡ self.limit }
+    {
+        self.limit
+    }
+
     /// Whether the form of the key may be entered at the place.
     fn lets_in(self, rules: &RuleSet, place: &Configuration, key: Key) -> bool
         requires { key.rule ≤ length rules.now.rules }
@@ -233,7 +246,6 @@ impl Ahead {
         place: &Configuration,
         key: Key,
     ) -> LetterTest
-        requires line { IsLine line.now }
         requires place { IsConfigurationIn lexicon.now line.now place.now }
         requires ahead { IsAhead lexicon.now.lexicon.rules line.now place.now.at (numbered_of lexicon.now place.now).entrance self }
         requires possible { IsPossible lexicon.now line.now (numbered_of lexicon.now place.now) (key_meant key) }
@@ -280,7 +292,6 @@ impl Ahead {
         place: &Configuration,
         way: Way,
     ) -> LetterTest
-        requires line { IsLine line.now }
         requires place { IsConfigurationIn lexicon.now line.now place.now }
         requires ahead { IsAhead lexicon.now.lexicon.rules line.now place.now.at (numbered_of lexicon.now place.now).entrance self }
         requires possible { IsPossible lexicon.now line.now (numbered_of lexicon.now place.now) (key_meant way.key) }
@@ -312,7 +323,6 @@ impl Ahead {
         place: &Configuration,
         key: Key,
     ) -> LetterTest
-        requires line { IsLine line.now }
         requires place { IsConfigurationIn lexicon.now line.now place.now }
         requires ahead { IsAhead lexicon.now.lexicon.rules line.now place.now.at (numbered_of lexicon.now place.now).entrance self }
         requires possible { IsPossible lexicon.now line.now (numbered_of lexicon.now place.now) (key_meant key) }
@@ -343,7 +353,6 @@ impl Ahead {
         place: &Configuration,
         way: Way,
     ) -> LetterTest
-        requires line { IsLine line.now }
         requires place { IsConfigurationIn lexicon.now line.now place.now }
         requires ahead { IsAhead lexicon.now.lexicon.rules line.now place.now.at (numbered_of lexicon.now place.now).entrance self }
         requires possible { IsPossible lexicon.now line.now (numbered_of lexicon.now place.now) (key_meant way.key) }

@@ -16,7 +16,6 @@
 mod ahead;
 mod configuration;
 mod cursor;
-mod entering;
 mod frame;
 mod frame_turns;
 mod guiding;
