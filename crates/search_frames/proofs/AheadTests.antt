@@ -4,13 +4,13 @@ use Rattle.std.proofs.lemmas.Bool.{ne_eqb}
 use Rattle.std.proofs.lemmas.List.{get_or_append_left, get_or-take, get_or-drop, length-take-le}
 use Rattle.std.proofs.lemmas.List.Elements.{All-contains}
 use Rattle.text_definitions.specs.Lines.{Line}
-use Rattle.lexicon_definitions.specs.Lexicons.{RuleSet, rule_of, IsPlain}
+use Rattle.lexicon_definitions.specs.Lexicons.{RuleSet, rule_of, IsForm, IsPlain}
 use Rattle.segmentation_definitions.specs.Derivations.{Step, rule_after}
 use Rattle.segmentation_definitions.specs.Items.{Choice}
 use Rattle.segmentation_definitions.specs.Listings.{Key}
 use Rattle.segmentation_definitions.specs.Configurations.{Entrance, Start, Plain, Lead, entrance_after_step}
-use Rattle.segmentation_definitions.proofs.Coverings.{unchanged_at_zero}
-use Rattle.annotated_trie.specs.Searched.{SearchedLexicon}
+use Rattle.segmentation_definitions.proofs.Coverings.{form_not_empty, unchanged_at_zero}
+use Rattle.annotated_trie.specs.Searched.{SearchedLexicon, IsSearchedLexicon}
 use Rattle.answer_paths.specs.Following.{MayEnter, MayStand, step_at}
 use Rattle.search_frames.specs.declared.ahead.Ahead.{Ahead}
 use Rattle.search_frames.specs.declared.letter_testing.LetterTest.{LetterTest}
@@ -19,6 +19,11 @@ use Rattle.search_frames.specs.Ahead.{IsAhead, FitsPlace, LetsLetterIn, LetsRule
 use Rattle.search_frames.specs.Configurations.{NumberedConfiguration, rules_in}
 use Rattle.search_frames.specs.LetterTests.{MayNeither, IsLetterTestOf}
 use Rattle.list_laws.proofs.Elements.{written_within}
+
+-- a form has a letter
+pub some_letter : (searched : SearchedLexicon) (phase : ℕ) (form : List ℕ) → IsSearchedLexicon searched → IsForm searched.lexicon phase form
+    → 0 < length form
+some_letter searched phase form is of_phase = form_not_empty searched.lexicon phase form is.lexicon of_phase
 
 -- the first letter of a form that takes a letter of the line is the line's next one
 first_taken : (letters u : List ℕ) (at taken : ℕ) → at + taken ≤ length letters → 0 < taken

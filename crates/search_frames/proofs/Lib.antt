@@ -1,20 +1,11 @@
 pub mod PossibleKeys
 pub mod WalkDeltas
 pub mod WalkLemmas
-pub mod WalkFrames
 pub mod WalkLeads
-pub mod TestBlanks
 pub mod TestWords
-pub mod TestPlaces
 pub mod AheadBlanks
 pub mod AheadTests
-pub mod StepChanges
-pub mod StepChoices
-pub mod StepFrames
 pub mod StepKeys
-pub mod StepLeaves
-pub mod StepLoops
-pub mod StepMoves
 pub mod ConfigurationRanks
 pub mod ReachedConfigurations
 pub mod ConfigurationPaths
@@ -28,4 +19,6 @@ pub mod TriedRules
 pub mod TurnedPhases
 pub mod TurnedWays
 pub mod WalkedPlaces
+pub mod SetFrames
 pub mod TurnedFrames
+pub mod SoughtKeys

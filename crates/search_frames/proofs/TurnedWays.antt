@@ -93,9 +93,6 @@ abbrev pub IsTriedWay : Key → List Key → ℕ → Key → Type 0
 IsTriedWay from keys count key = IsFrom from key × ((k : ℕ) × (k < count) × (k < length keys) × (get_or keys k key ≡ key))
 
 module _ (searched : SearchedLexicon) (line : Line) (choices : List Choice) (here : NumberedConfiguration) (from : Key) (keys : List Key) where
-  pub no_way_at_first : HasNoneOf searched line choices here (IsTriedWay from keys 0)
-  no_way_at_first key begins (meant, tried) = omega (arith, tried.1)
-
   -- one way more with which no path begins, or which comes before
   pub one_way_more : (count : ℕ) (way : Key) → ((default : Key) → get_or keys count default ≡ way) → HasNoneOf searched line choices here (IsTriedWay from keys count)
       → (IsFrom from way → BeginsPath searched line choices here way → ⊥) → HasNoneOf searched line choices here (IsTriedWay from keys (count + 1))

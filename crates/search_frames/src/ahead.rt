@@ -1,8 +1,8 @@
-ghost use Rattle.std.specs.Prelude.{◌≡◌, ℕ, true, ◌+◌, ◌<◌, ◌≤◌, ◌↔◌, ◌++◌, length, take, drop, All, IsTrue, MatchOption};
+ghost use Rattle.std.specs.Prelude.{◌≡◌, ℕ, List, true, ◌+◌, ◌<◌, ◌≤◌, ◌↔◌, ◌++◌, length, take, drop, All, IsTrue, MatchOption};
 ghost use Rattle.std.specs.Bool.{OnTrue};
 ghost use Rattle.segmentation_definitions.specs.Listings.{Key as KeyValue};
-ghost use Rattle.text_definitions.specs.Lines.{IsLine, Line as LineValue};
-ghost use Rattle.lexicon_definitions.specs.Leads.{leads_of};
+ghost use Rattle.text_definitions.specs.Lines.{Line as LineValue};
+ghost use Rattle.lexicon_definitions.specs.Leads.{Lead, leads_of};
 ghost use Rattle.lexicon_definitions.specs.Lexicons.{RuleSet as RuleSetValue};
 ghost use Rattle.lexicon_definitions.specs.Limits.{IsRuleSetWithinLimits};
 ghost use Rattle.segmentation_definitions.specs.LocalTests.{Allows};
@@ -17,7 +17,6 @@ ghost use Rattle.search_frames.specs.Frames.{IsConfigurationIn, numbered_of};
 ghost use Rattle.search_frames.specs.LetterTests.{IsLetterTestOf};
 
 use super::Configuration;
-use super::entering::is_first;
 use super::letter_testing::LetterTest;
 use super::line_tests::{begins_with, u_of};
 use super::walking::supplied_letters;
@@ -112,6 +111,13 @@ pub fn rule_test(
             }
         }
     }
+}
+
+/// Whether nothing stands before a form that is entered so.
+fn is_first(entrance: Entrance) -> bool
+    ensures { (leads : List Lead) → result ≡ is_start (entrance_of leads entrance) }
+{
+    matches!(entrance, Entrance::Start)
 }
 
 /// Whether the step with this key at the place passes the local test of each choice.
@@ -252,7 +258,7 @@ impl Ahead {
 
     /// What the key does at the place as far as the letters of the line, the blanks and the choices tell. It has no rule, goes no further
     /// than the limit, and its phase may begin.
-    pub fn test_unchanged(
+    fn test_unchanged(
         self,
         lexicon: &Lexicon,
         line: &Line,
@@ -260,7 +266,6 @@ impl Ahead {
         place: &Configuration,
         key: Key,
     ) -> LetterTest
-        requires line { IsLine line.now }
         requires place { IsConfigurationIn lexicon.now line.now place.now }
         requires ahead { IsAhead lexicon.now.lexicon.rules line.now place.now.at (numbered_of lexicon.now place.now).entrance self }
         requires possible { IsPossible lexicon.now line.now (numbered_of lexicon.now place.now) (key_meant key) }
@@ -287,16 +292,6 @@ impl Ahead {
         }
     }
 
-    /// What a rule does where the line may end only as it may after the place, if the test says what it does where the line may end.
-    fn limited(self, test: LetterTest) -> LetterTest
-        ensures { (rules : RuleSetValue) (line : LineValue) (end phase rule : ℕ) → IsRuleTest rules line end true phase rule test → IsRuleTest rules line end self.may_end phase rule result }
-    {
-        match test {
-            LetterTest::Ends if !self.may_end => LetterTest::Refused,
-            test => test,
-        }
-    }
-
     /// What the key with a rule does at the place, where the test of the way says what the rule does after its letters: the same, if the
     /// key fits the place.
     fn test_where_it_fits(
@@ -307,7 +302,6 @@ impl Ahead {
         place: &Configuration,
         way: Way,
     ) -> LetterTest
-        requires line { IsLine line.now }
         requires place { IsConfigurationIn lexicon.now line.now place.now }
         requires ahead { IsAhead lexicon.now.lexicon.rules line.now place.now.at (numbered_of lexicon.now place.now).entrance self }
         requires possible { IsPossible lexicon.now line.now (numbered_of lexicon.now place.now) (key_meant way.key) }
@@ -331,7 +325,7 @@ impl Ahead {
 
     /// What the key does at the place as far as the letters of the line, the blanks and the choices tell. It has a rule, goes no further
     /// than the limit, and its phase may begin.
-    pub fn test_rule(
+    fn test_rule(
         self,
         lexicon: &Lexicon,
         line: &Line,
@@ -339,7 +333,6 @@ impl Ahead {
         place: &Configuration,
         key: Key,
     ) -> LetterTest
-        requires line { IsLine line.now }
         requires place { IsConfigurationIn lexicon.now line.now place.now }
         requires ahead { IsAhead lexicon.now.lexicon.rules line.now place.now.at (numbered_of lexicon.now place.now).entrance self }
         requires possible { IsPossible lexicon.now line.now (numbered_of lexicon.now place.now) (key_meant key) }
@@ -360,33 +353,6 @@ impl Ahead {
         self.test_where_it_fits(lexicon, line, choices, place, Way { key, test })
     }
 
-    /// The same, where the test of the way says what its rule does after its letters if the line may end there, wherever the form begins
-    /// (`rule_test`).
-    pub fn test_kept(
-        self,
-        lexicon: &Lexicon,
-        line: &Line,
-        choices: &Choices,
-        place: &Configuration,
-        way: Way,
-    ) -> LetterTest
-        requires line { IsLine line.now }
-        requires place { IsConfigurationIn lexicon.now line.now place.now }
-        requires ahead { IsAhead lexicon.now.lexicon.rules line.now place.now.at (numbered_of lexicon.now place.now).entrance self }
-        requires possible { IsPossible lexicon.now line.now (numbered_of lexicon.now place.now) (key_meant way.key) }
-        requires limit { place.now.at + way.key.taken ≤ self.limit }
-        requires begins { MayBegin (numbered_of lexicon.now place.now).entrance way.key.phase }
-        requires rule { 1 ≤ way.key.rule }
-        requires test { IsRuleTest lexicon.now.lexicon.rules line.now (place.now.at + way.key.taken) true way.key.phase way.key.rule way.test }
-        ensures exact { IsLetterTestOf lexicon.now line.now choices.now (numbered_of lexicon.now place.now) (key_meant way.key) result }
-    {
-        let kept = Way {
-            key: way.key,
-            test: self.limited(way.test),
-        };
-        self.test_where_it_fits(lexicon, line, choices, place, kept)
-    }
-
     /// What the key does at the place as far as the letters of the line, the blanks and the choices tell. It goes no further than the
     /// limit, and its phase may begin.
     pub fn test(
@@ -397,7 +363,6 @@ impl Ahead {
         place: &Configuration,
         key: Key,
     ) -> LetterTest
-        requires line { IsLine line.now }
         requires place { IsConfigurationIn lexicon.now line.now place.now }
         requires ahead { IsAhead lexicon.now.lexicon.rules line.now place.now.at (numbered_of lexicon.now place.now).entrance self }
         requires possible { IsPossible lexicon.now line.now (numbered_of lexicon.now place.now) (key_meant key) }

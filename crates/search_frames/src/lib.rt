@@ -4,25 +4,20 @@
 //!
 //! Proved: `turn` brings a frame to its next key that leads on or ends the line, leaves out only keys with which no path begins, and
 //! tells what the key does (`turn`); it begins after the key at which the frame stands, and counts a step for each phase, each letter
-//! that is walked, each group of rules, each rule and each question to the guide, at most `steps_of_frame` in all (`steps`). A
-//! `SearchGuide` tells after how many letters forms end that are worth a try (`all` of `lengths`), as a set of numbers of letters (the
-//! clauses of `LengthSet`). `open_frame` has a frame stand at a configuration (`placed`, `place`). `test_key` says whether a key leads
-//! on, and where to, or ends the line, or neither (`exact`), and `test_letters` says the same as far as the letters, the blanks and the
-//! choices tell, whatever the grammar says (`exact`). `Resumption::copy` gives the same in every field (`ok`). A frame that walks its
-//! phases itself (`begin_walk`) has every key to try (`all`); `go_on` brings it to its next key, which is the first of those left, and
-//! leaves just those after it, and answers false only where no key is left (`went_on`, `nothing`); `seek` brings it to a given key, or
-//! answers false where this is not possible there (`found`, `not_possible`); `skip_unwritten` leaves out only keys whose rule's `w` does
-//! not come next in the line (`skipped`). None of them changes what stands before its level (`changes`). `push_ways` appends just the
-//! keys that lead on or end at a configuration, in their order (`ok`), within the steps of a frame (`steps`).
+//! that is walked, each group of rules, each rule, each way that is kept and each question to the guide, at most `steps_of_frame` in all
+//! (`steps`). A `SearchGuide` may keep, from some places, all ways that are worth a try there: each path from there begins with one of
+//! them, and they rise (`ways`). `open_frame` has a frame stand at a configuration (`placed`, `place`), and `seek` brings it to a given
+//! key, or answers false where the key neither leads on nor ends the line there, whatever the reader chooses (`found`, `refused`).
+//! `test_key` says whether a key leads on, and where to, or ends the line, or neither (`exact`), and `test_letters` says the same as far
+//! as the letters, the blanks and the choices tell, whatever the grammar says (`exact`). None of them changes what stands before its
+//! level (`changes`). `Resumption::copy` gives the same in every field (`ok`).
 #![tactic(auto)]
 
 mod ahead;
 mod configuration;
 mod cursor;
-mod entering;
 mod frame;
 mod frame_turns;
-mod going_on;
 mod guiding;
 mod judging;
 mod letter_testing;
@@ -33,7 +28,6 @@ mod rooms;
 mod search_space;
 mod seeking;
 mod sharing;
-mod stepping;
 mod testing;
 mod turning;
 mod walking;
@@ -45,10 +39,9 @@ pub use configuration::Configuration;
 pub use cursor::Cursor;
 pub use frame::{Frame, NODES_OF_FRAME};
 pub use frame_turns::turn;
-pub use going_on::go_on;
 pub use guiding::{SearchGuide, ToTry, Turn};
 pub use letter_testing::{LetterTest, test_letters};
-pub use opening::{begin_walk, open_frame};
+pub use opening::open_frame;
 pub use resumption::Resumption;
 pub use rooms::new_stack;
 pub use search_space::SearchSpace;

@@ -13,23 +13,21 @@ use Rattle.search_frames.specs.Frames.{IsConfigurationIn, numbered_of}
 use Rattle.search_frames.specs.Reached.{IsReached}
 use Rattle.search_frames.specs.Turns.{BeginsPath}
 use Rattle.search_frames.specs.WaysFrom.{AreAllWays}
-use Rattle.search_frames.proofs.ReachedConfigurations.{reached_after}
 use Rattle.summary_chart.specs.Tables.{HasSet, IsEntrance, index_in}
 use Rattle.summary_chart.specs.Spreading.{leads_in}
 use Rattle.summary_chart.specs.PlaceWays.{AreWaysAt, AreWaysOf, ChartValue, IsChartOf, LeadsOnOrEnds}
 use Rattle.summary_chart.proofs.TableStates.{same_configuration}
 use Rattle.summary_chart.proofs.TablePlaces.{has_set}
-use Rattle.summary_chart.proofs.ProgramPlaces.{place_of_reached}
+use Rattle.summary_chart.proofs.ProgramPlaces.{led_place}
 use Rattle.summary_chart.proofs.KeptWays.{found_ways}
 
 module _ (searched : SearchedLexicon) (line : Line) (choices : List Choice) where
   goes_if_begins : (here : NumberedConfiguration) (key : Key) → IsSearchedLexicon searched → IsReached searched line choices here
       → BeginsPath searched line choices here key → LeadsOnOrEnds searched line choices here key
   goes_if_begins here key is reached ([], path) = inl path
-  goes_if_begins here key is reached (later ∷ keys, (next, (leads, next_is), path)) =
-      let there = subst (IsReached searched line choices) (sym next_is) (reached_after searched line choices here key is reached leads) in
-      let found = place_of_reached searched line choices next is there in
-      inr (found.place, record { leads_on = leads; is = found.is ∙ next_is; within = found.within })
+  goes_if_begins here key is reached (later ∷ keys, (next, leads, path)) =
+      let led = led_place searched line choices here next key is reached leads in
+      inr (led.place, led.leads)
 
   module _ (chart : ChartValue) (place : Configuration) (of : IsChartOf searched line choices chart) (within : IsConfigurationIn searched line place) where
     -- a chart can be asked of each place

@@ -1,13 +1,13 @@
 -- The ways from one place at an index are those from each place there that the table has: the states of its set lead by the phases that
 -- were gone over. One stop more stands after those before it, and the ways of these stay where others are appended; and a table that
 -- loses places needs no other stops.
-use Rattle.std.proofs.Common.{◌≡◌, ℕ, ◌+◌, ◌-◌, ◌*◌, ◌<◌, ◌≤◌, inl, inr, IsTrue, IsSome, Option, Some, None, List, [], ◌∷◌, ◌++◌, length, map, take, drop, Contains, refl, sym, ap, subst, ◌∙◌, arith}
+use Rattle.std.proofs.Common.{◌≡◌, ℕ, ◌+◌, ◌-◌, ◌<◌, ◌≤◌, inl, inr, IsTrue, IsSome, Option, Some, None, List, [], ◌∷◌, ◌++◌, length, take, drop, Contains, refl, sym, ap, subst, ◌∙◌, arith}
 use Rattle.std.specs.List.{All}
 use Rattle.std.specs.Ordering.{nat_cmp}
 use Rattle.std.specs.Cmp.{nat_cmp_is}
 use Rattle.std.specs.List.Sorted.{IsStrictlySortedBy}
 use Rattle.std.specs.declared.cmp.Ordering.TheVariants.{Less}
-use Rattle.std.proofs.lemmas.Bool.{cases_lt, false≢true}
+use Rattle.std.proofs.lemmas.Bool.{false≢true}
 use Rattle.std.proofs.lemmas.List.{take-append-le, drop-append-le, length-append, length-drop}
 use Rattle.std.proofs.lemmas.List.Elements.{All-nil, All-contains, Contains-push_cases}
 use Rattle.std.proofs.Math.Seq.{drop-append_seam, take-length}
@@ -26,17 +26,18 @@ use Rattle.search_frames.specs.declared.way.TheConstants.{MOST_WAYS}
 use Rattle.search_frames.specs.Configurations.{NumberedConfiguration, IsPossible}
 use Rattle.search_frames.specs.Frames.{IsConfigurationIn, numbered_of}
 use Rattle.search_frames.specs.LetterTests.{MayNeither}
-use Rattle.search_frames.specs.WaysFrom.{IsWayFrom, key_of_way}
+use Rattle.search_frames.specs.WaysFrom.{IsWayFrom}
 use Rattle.search_frames.proofs.ConfigurationRanks.{possible_if_leads, possible_if_ends, may_if_leads, may_if_ends}
 use Rattle.search_frames.proofs.PossibleKeys.{some_there}
+use Rattle.summary_chart.specs.declared.place_ways.PlaceWays.{PlaceWays}
 use Rattle.summary_chart.specs.declared.place_ways.Stop.{Stop}
 use Rattle.summary_chart.specs.declared.state_set.StateSet.{StateSet}
 use Rattle.summary_chart.specs.declared.table.Table.{Table}
-use Rattle.summary_chart.specs.StateSets.{IsStateOf, IsLedTo}
+use Rattle.summary_chart.specs.StateSets.{IsStateOf}
 use Rattle.summary_chart.specs.Tables.{IsTable, IsIn, IsIndexed, IsEntrance, set_of}
 use Rattle.summary_chart.specs.Spreading.{IsLedByPhase, leads_in, place_with, standing_with}
 use Rattle.summary_chart.specs.Charts.{index_of_place}
-use Rattle.summary_chart.specs.PlaceWays.{AddsStop, AppendsWays, AreFew, AreStops, AreWaysAt, AreWaysOf, HasEachKey, HasWays, HaveWays, HaveWaysBefore, IsStopWithin, LeadsOnOrEnds, compare_stops, ways_of}
+use Rattle.summary_chart.specs.PlaceWays.{AddsStop, AppendsWays, AreFew, AreWaysAt, AreWaysOf, HasEachKey, HasKept, HasWays, HaveWays, HaveWaysBefore, IsStopWithin, LeadsOnOrEnds, compare_stops, ways_of}
 use Rattle.summary_chart.proofs.TableOrder.{same_index}
 use Rattle.summary_chart.proofs.TableStates.{at_index, stands_in, with_within}
 use Rattle.summary_chart.proofs.WaysElsewhere.{possible_elsewhere, neither_elsewhere, ways_elsewhere}
@@ -60,15 +61,19 @@ module _ (searched : SearchedLexicon) (line : Line) (choices : List Choice) wher
   led_if_goes at number entrance set key state (inl ends) =
       led_by_phase searched.machine set number key state
       (some_if_accepting searched.machine (next_state searched.machine (Some number) key.phase) ends.accepted)
-  led_if_goes at number entrance set key state (inr (next, leads)) = led_by_phase searched.machine set number key state leads.leads_on.live
+  led_if_goes at number entrance set key state (inr (next, leads)) =
+      led_by_phase searched.machine set number key state leads.leads_on.live
 
-  possible_if_goes : (here : NumberedConfiguration) (key : Key) → LeadsOnOrEnds searched line choices here key → IsPossible searched line here key
+  possible_if_goes : (here : NumberedConfiguration) (key : Key) → LeadsOnOrEnds searched line choices here key
+      → IsPossible searched line here key
   possible_if_goes here key (inl ends) = possible_if_ends searched line choices here key ends
   possible_if_goes here key (inr (next, leads)) = possible_if_leads searched line choices here key leads.leads_on
 
-  not_neither : (here : NumberedConfiguration) (key : Key) → LeadsOnOrEnds searched line choices here key → MayNeither searched line choices here key → ⊥
+  not_neither : (here : NumberedConfiguration) (key : Key) → LeadsOnOrEnds searched line choices here key
+      → MayNeither searched line choices here key → ⊥
   not_neither here key (inl ends) neither = neither.ends (may_if_ends searched line choices here key ends)
-  not_neither here key (inr (next, leads)) neither = neither.leads_on (may_if_leads searched line choices here key leads.leads_on)
+  not_neither here key (inr (next, leads)) neither =
+      neither.leads_on (may_if_leads searched line choices here key leads.leads_on)
 
   -- ---- ways at an index
 
@@ -80,7 +85,8 @@ module _ (searched : SearchedLexicon) (line : Line) (choices : List Choice) wher
       subst (AreWaysOf searched line choices table place) (sym found_is)
       (All-contains (HasWays searched line choices table ways) stops stop have.each there place within proper (same ∙ sym stop_is))
 
-  module _ (index at : ℕ) (entrance : Entrance) (table : Table) (lawful : IsTable (leads_in searched) (length line.letters) table)
+  module _ (index at : ℕ) (entrance : Entrance) (table : Table)
+      (lawful : IsTable (leads_in searched) (length line.letters) table)
       (indexed : IsIndexed (leads_in searched) (length line.letters) index at entrance) where
     -- ways that were appended from one place there, by phases to which a state of the set leads
     module _ (state : Option ℕ) (old new : List Way)
@@ -95,18 +101,19 @@ module _ (searched : SearchedLexicon) (line : Line) (choices : List Choice) wher
           (λ neither. not_neither here key goes (neither_elsewhere searched line choices at entered state (Some number) key neither))
 
       -- they are those of each place there that the table has
-      pub ways_there : length new ≤ length old + MOST_WAYS → (place : Configuration) → IsConfigurationIn searched line place → IsEntrance place.entrance
+      pub ways_there : length new ≤ length old + MOST_WAYS
+          → (place : Configuration) → IsConfigurationIn searched line place → IsEntrance place.entrance
           → index_of_place searched place ≡ index → AreWaysOf searched line choices table place appends.ways
       ways_there few place within proper same =
-          let cell = same_index (leads_in searched) place.at at place.entrance entrance proper indexed.proper within.over indexed.over (same ∙ sym indexed.is) in
-          let each = ways_elsewhere searched line choices at (entrance_of (leads_in searched) entrance) state place.state appends.ways appends.each in
+          let leads = leads_in searched in
+          let cell = same_index leads place.at at place.entrance entrance proper indexed.proper within.over indexed.over (same ∙ sym indexed.is) in
+          let each = ways_elsewhere searched line choices at (entrance_of leads entrance) state place.state appends.ways appends.each in
+          let From : ℕ → Entrance → Type 0 = λ (n : ℕ) (e : Entrance).
+          All (IsWayFrom searched line choices (record { at = n; entrance = entrance_of leads e; state = place.state })) appends.ways in
           let sum = length-append old appends.ways in
           let count = ap length appends.appended in
           record {
-            each = subst (λ (n : ℕ). All (IsWayFrom searched line choices (record { at = n; entrance = entrance_of (leads_in searched) place.entrance; state = place.state })) appends.ways)
-                (sym cell.at_is)
-                (subst (λ (e : Entrance). All (IsWayFrom searched line choices (record { at = at; entrance = entrance_of (leads_in searched) e; state = place.state })) appends.ways)
-                (sym cell.entrance_is) each);
+            each = subst (λ (n : ℕ). From n place.entrance) (sym cell.at_is) (subst (From at) (sym cell.entrance_is) each);
             all = λ inside key goes.
                 let here = at_index searched line index at entrance table lawful indexed place within inside same in
                 has_each_key here.number key here.state
@@ -116,7 +123,8 @@ module _ (searched : SearchedLexicon) (line : Line) (choices : List Choice) wher
           }
 
     -- what is found at the index
-    module _ (stops : List Stop) (ways found : List Way) (have : HaveWays searched line choices table stops ways) (is : AreWaysAt stops ways index found) where
+    module _ (stops : List Stop) (ways found : List Way) (have : HaveWays searched line choices table stops ways)
+        (is : AreWaysAt stops ways index found) where
       pub keys_found : HasEachKey searched line choices at entrance (set_of table index) found
       keys_found number key state goes =
           (found_ways index table stops ways found have is (place_with at entrance number)
@@ -136,13 +144,16 @@ module _ (searched : SearchedLexicon) (line : Line) (choices : List Choice) wher
       let low : stop.first ≤ length ways = omega (arith, is.rises, is.within) in
       let count = length-drop stop.first ways in
       let enough : stop.end - stop.first ≤ length (drop stop.first ways) = omega (arith, count, is.within) in
-      ap (take (stop.end - stop.first)) (drop-append-le stop.first ways more low) ∙ take-append-le (stop.end - stop.first) (drop stop.first ways) more enough
+      ap (take (stop.end - stop.first)) (drop-append-le stop.first ways more low)
+      ∙ take-append-le (stop.end - stop.first) (drop stop.first ways) more enough
 
   -- the ways of the last stop are those that were appended
-  pub last_ways : (ways more : List Way) (index : ℕ) → ways_of (ways ++ more) (record { index = index; first = length ways; end = length (ways ++ more) }) ≡ more
+  last_ways : (ways more : List Way) (index : ℕ)
+      → ways_of (ways ++ more) (record { index = index; first = length ways; end = length (ways ++ more) }) ≡ more
   last_ways ways more index =
       let count : length (ways ++ more) - length ways ≡ length more = let sum = length-append ways more in omega (arith, sum) in
-      ap (λ (n : ℕ). take n (drop (length ways) (ways ++ more))) count ∙ ap (take (length more)) (drop-append_seam ways more) ∙ take-length more
+      ap (λ (n : ℕ). take n (drop (length ways) (ways ++ more))) count ∙ ap (take (length more)) (drop-append_seam ways more)
+      ∙ take-length more
 
   -- no stop before the first index
   pub no_stops : (table : Table) → HaveWaysBefore searched line choices 0 table [] []
@@ -170,7 +181,12 @@ module _ (searched : SearchedLexicon) (line : Line) (choices : List Choice) wher
   -- a table that loses places
   of_fewer : (old new : Table) (place : Configuration) (ways : List Way) → (IsIn new place → IsIn old place)
       → AreWaysOf searched line choices old place ways → AreWaysOf searched line choices new place ways
-  of_fewer old new place ways fewer are = record { each = are.each; all = λ inside. are.all (fewer inside); rising = are.rising; few = are.few }
+  of_fewer old new place ways fewer are = record {
+    each = are.each;
+    all = λ inside. are.all (fewer inside);
+    rising = are.rising;
+    few = are.few;
+  }
 
   pub fewer_places : (old new : Table) (stops : List Stop) (ways : List Way)
       → ((place : Configuration) → IsConfigurationIn searched line place → IsIn new place → IsIn old place)
@@ -243,51 +259,63 @@ module _ (searched : SearchedLexicon) (line : Line) (choices : List Choice) wher
 
   -- ---- one turn of the pass forward
 
-  module _ (index most at : ℕ) (entrance : Entrance) (state : Option ℕ) (table : Table) (lawful : IsTable (leads_in searched) (length line.letters) table)
-      (indexed : IsIndexed (leads_in searched) (length line.letters) index at entrance) (old_stops : List Stop) (old : List Way) (stops : List Stop) (ways : List Way) where
+  module _ (index most at : ℕ) (entrance : Entrance) (state : Option ℕ) (table : Table)
+      (lawful : IsTable (leads_in searched) (length line.letters) table)
+      (indexed : IsIndexed (leads_in searched) (length line.letters) index at entrance) (old kept : PlaceWays) where
+    abbrev here : NumberedConfiguration
+    here = numbered_of searched (record { at = at; entrance = entrance; state = state })
+
+    -- what is told of a set that was read at the index
+    abbrev IsTold : StateSet → Option Stop → Type 0
+    IsTold set told = HasKept searched line choices here set index most old kept told
+
     abbrev Adds : Stop → Type 0
-    Adds stop = AddsStop searched line choices (numbered_of searched (record { at = at; entrance = entrance; state = state })) (set_of table index)
-        index most old_stops old stops ways stop
+    Adds stop = AddsStop searched line choices here (set_of table index) index most old kept stop
+
+    pub put_in : (set : StateSet) (told : Option Stop) (stop : Stop) → set_of table index ≡ set → told ≡ Some stop → IsTold set told → Adds stop
+    put_in set told stop read is has = subst (λ (s : StateSet). IsTold s (Some stop)) (sym read) (subst (IsTold set) is has)
+
+    pub left : (set : StateSet) (told : Option Stop) → ((stop : Stop) → told ≡ Some stop → ⊥) → IsTold set told
+        → (kept.stops.items ≡ old.stops.items) × (kept.ways.items ≡ old.ways.items)
+    left set None none has = has
+    left set (Some stop) none has = absurd (none stop refl)
 
     -- the ways of the stop that was put in are those that were appended
-    pub added_ways : (stop : Stop) (adds : Adds stop) → ways_of ways stop ≡ adds.appends.ways
+    added_ways : (stop : Stop) (adds : Adds stop) → ways_of kept.ways.items stop ≡ adds.appends.ways
     added_ways stop adds =
-        ap (ways_of ways) adds.is
-        ∙ subst (λ (new : List Way). ways_of new (record { index = index; first = length old; end = length new }) ≡ adds.appends.ways) (sym adds.appends.appended)
-        (last_ways old adds.appends.ways index)
+        let first = length old.ways.items in
+        ap (ways_of kept.ways.items) adds.is
+        ∙ subst (λ (new : List Way). ways_of new (record { index = index; first = first; end = length new }) ≡ adds.appends.ways)
+        (sym adds.appends.appended) (last_ways old.ways.items adds.appends.ways index)
 
-    pub each_added : (stop : Stop) → Adds stop → All (IsWayFrom searched line choices (numbered_of searched (record { at = at; entrance = entrance; state = state }))) (ways_of ways stop)
-    each_added stop adds =
-        subst (All (IsWayFrom searched line choices (numbered_of searched (record { at = at; entrance = entrance; state = state }))))
-        (sym (added_ways stop adds)) adds.appends.each
+    pub each_added : (stop : Stop) → Adds stop → All (IsWayFrom searched line choices here) (ways_of kept.ways.items stop)
+    each_added stop adds = subst (All (IsWayFrom searched line choices here)) (sym (added_ways stop adds)) adds.appends.each
 
-    pub keys_added : (stop : Stop) → Adds stop → HasEachKey searched line choices at entrance (set_of table index) (ways_of ways stop)
+    pub keys_added : (stop : Stop) → Adds stop
+        → HasEachKey searched line choices at entrance (set_of table index) (ways_of kept.ways.items stop)
     keys_added stop adds =
         subst (HasEachKey searched line choices at entrance (set_of table index)) (sym (added_ways stop adds))
-        (has_each_key index at entrance table lawful indexed state old ways adds.appends)
-
-    pub few_added : (stop : Stop) → Adds stop → length (ways_of ways stop) ≤ MOST_WAYS
-    few_added stop adds =
-        let same = ap length (added_ways stop adds) in
-        let count = ap length adds.appends.appended in
-        let sum = length-append old adds.appends.ways in
-        omega (arith, same, count, sum, adds.few)
+        (has_each_key index at entrance table lawful indexed state old.ways.items kept.ways.items adds.appends)
 
     -- whether a stop was put in or not, those that are kept are right up to the next index
     module _ (new : Table)
-        (was : (place : Configuration) → IsConfigurationIn searched line place → index_of_place searched place < index + 1 → IsIn new place → IsIn table place)
-        (so_far : HaveWaysBefore searched line choices index table old_stops old) where
-      pub with_stop : (stop : Stop) → Adds stop → HaveWaysBefore searched line choices (index + 1) new stops ways
-      with_stop stop adds =
-          let more = adds.appends.ways in
-          let last : List Way → Stop = λ (w : List Way). record { index = index; first = length old; end = length w } in
-          let one = one_stop_more index table new old_stops old was so_far more
-          (ways_there index at entrance table lawful indexed state old ways adds.appends adds.few) in
-          subst (λ (s : List Stop). HaveWaysBefore searched line choices (index + 1) new s ways) (sym adds.added)
-          (subst (λ (s : Stop). HaveWaysBefore searched line choices (index + 1) new (old_stops ++ s ∷ []) ways) (sym adds.is)
-          (subst (λ (w : List Way). HaveWaysBefore searched line choices (index + 1) new (old_stops ++ last w ∷ []) w) (sym adds.appends.appended) one))
+        (was : (place : Configuration) → IsConfigurationIn searched line place → index_of_place searched place < index + 1 → IsIn new place
+        → IsIn table place)
+        (so_far : HaveWaysBefore searched line choices index table old.stops.items old.ways.items) where
+      abbrev Have : List Stop → List Way → Type 0
+      Have stops ways = HaveWaysBefore searched line choices (index + 1) new stops ways
 
-      pub without_stop : (stops ≡ old_stops) × (ways ≡ old) → HaveWaysBefore searched line choices (index + 1) new stops ways
+      pub with_stop : (stop : Stop) → Adds stop → Have kept.stops.items kept.ways.items
+      with_stop stop adds =
+          let stops = old.stops.items in
+          let last : List Way → Stop = λ (w : List Way). record { index = index; first = length old.ways.items; end = length w } in
+          let one = one_stop_more index table new stops old.ways.items was so_far adds.appends.ways
+          (ways_there index at entrance table lawful indexed state old.ways.items kept.ways.items adds.appends adds.few) in
+          subst (λ (s : List Stop). Have s kept.ways.items) (sym adds.added)
+          (subst (λ (s : Stop). Have (stops ++ s ∷ []) kept.ways.items) (sym adds.is)
+          (subst (λ (w : List Way). Have (stops ++ last w ∷ []) w) (sym adds.appends.appended) one))
+
+      pub without_stop : (kept.stops.items ≡ old.stops.items) × (kept.ways.items ≡ old.ways.items) → Have kept.stops.items kept.ways.items
       without_stop (same_stops, same_ways) =
-          subst (λ (s : List Stop). HaveWaysBefore searched line choices (index + 1) new s ways) (sym same_stops)
-          (subst (HaveWaysBefore searched line choices (index + 1) new old_stops) (sym same_ways) (no_stop_more index table new old_stops old was so_far))
+          subst (λ (s : List Stop). Have s kept.ways.items) (sym same_stops)
+          (subst (Have old.stops.items) (sym same_ways) (no_stop_more index table new old.stops.items old.ways.items was so_far))

@@ -29,6 +29,5 @@ mod AnswerItems
 mod TableItems
 mod WaysElsewhere
 mod KeptWays
-mod WayCosts
 mod ChartWays
 mod SummarySteps

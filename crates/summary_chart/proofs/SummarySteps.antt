@@ -4,6 +4,7 @@ use Rattle.std.proofs.Math.Nat.{mul-le-mul_left, mul-le-mul_right}
 use Rattle.text_definitions.specs.Lines.{Line}
 use Rattle.segmentation_definitions.specs.StepBounds.{chart_bound, configuration_count}
 use Rattle.annotated_trie.specs.Searched.{SearchedLexicon, IsSearchedLexicon}
+use Rattle.search_frames.specs.declared.way.TheConstants.{MOST_WAYS}
 use Rattle.search_frames.specs.Configurations.{rules_in}
 use Rattle.summary_chart.specs.Spreading.{leads_in}
 use Rattle.summary_chart.specs.Charts.{set_count}
@@ -34,6 +35,14 @@ one_more_within start count each now then spent more = one_frame_more start coun
 -- fewer fronts, or phases, than there are take no more
 pub fewer_within : (count all each : ℕ) → count ≤ all → count * each ≤ all * each
 fewer_within count all each few = mul-le-mul_right each few
+
+-- a place takes more than three steps for each of as many ways as are kept from one, since there is a phase
+pub ways_within : (searched : SearchedLexicon) (most count : ℕ) → IsSearchedLexicon searched → count ≤ MOST_WAYS → 3 * count ≤ steps_of_items searched most
+ways_within searched most count is few =
+    let one : 1 ≤ length (rules_in searched).names = is.limits.some_phase in
+    let all : 1 * (1 + (8 + 65 + 65 * (3 * most + 4))) ≤ length (rules_in searched).names * (1 + (8 + 65 + 65 * (3 * most + 4))) =
+    mul-le-mul_right (1 + (8 + 65 + 65 * (3 * most + 4))) one in
+    omega (arith, all, few)
 
 module _ (searched : SearchedLexicon) (line : Line) (most : ℕ) where
   -- one place more

@@ -1,5 +1,5 @@
 ghost use Rattle.std.specs.Prelude.{◌≡◌, ◌+◌, ◌*◌, ◌<◌, ◌≤◌, ℕ, length, take, All, IfOk, OnOk};
-ghost use Rattle.std.specs.Bool.{OnTrue};
+ghost use Rattle.std.specs.Bool.{OnTrue, OnFalse};
 ghost use Rattle.std.specs.Ordering.{nat_cmp};
 ghost use Rattle.std.specs.List.Sorted.{IsStrictlySortedBy};
 ghost use Rattle.text_definitions.specs.Lines.{IsLine};
@@ -162,6 +162,7 @@ fn push_phase<L>(
     ensures kept { OnOk result (take (length ways.old.items) ways.new.items ≡ ways.old.items) }
     ensures appends { IfOk result (λ all. OnTrue all (AppendsWays lexicon.now line.now choices.now (numbered_of lexicon.now place.now) (IsInPhase phase) ways.old.items ways.new.items)) }
     ensures few { IfOk result (λ all. OnTrue all (length ways.new.items ≤ first + MOST_WAYS)) }
+    ensures many { IfOk result (λ all. OnFalse all (first + MOST_WAYS < length ways.new.items)) }
     ensures steps { (most : ℕ) → HasAtMostRules lexicon.now.tries most → steps.new ≤ steps.old + steps_of_fronts most }
 {
     walk_fronts(lexicon, line, place, phase, ahead.limit, nodes, steps)?;
@@ -204,6 +205,7 @@ pub(crate) fn push_ways<L>(
     ensures kept { OnOk result (take (length ways.old.items) ways.new.items ≡ ways.old.items) }
     ensures appends { IfOk result (λ all. OnTrue all (AppendsWays lexicon.now line.now choices.now (numbered_of lexicon.now place.now) (IsLedByPhase lexicon.now.machine states) ways.old.items ways.new.items)) }
     ensures few { IfOk result (λ all. OnTrue all (length ways.new.items ≤ length ways.old.items + MOST_WAYS)) }
+    ensures many { IfOk result (λ all. OnFalse all (length ways.old.items + MOST_WAYS < length ways.new.items)) }
     ensures steps { (most : ℕ) → HasAtMostRules lexicon.now.tries most → steps.new ≤ steps.old + steps_of_items lexicon.now most }
 {
     let first = ways.len();

@@ -55,7 +55,7 @@ fn keep_ways<L>(
     requires searched { IsSearchedLexicon lexicon.now }
     requires line { IsLine line.now }
     requires place { IsConfigurationIn lexicon.now line.now place.now }
-    ensures kept { IfOk result (λ stop. HasKept lexicon.now line.now choices.now (numbered_of lexicon.now place.now) states index most kept.old.stops.items kept.old.ways.items kept.new.stops.items kept.new.ways.items stop) }
+    ensures kept { IfOk result (λ stop. HasKept lexicon.now line.now choices.now (numbered_of lexicon.now place.now) states index most kept.old kept.new stop) }
     ensures steps { (most : ℕ) → HasAtMostRules lexicon.now.tries most → steps.new ≤ steps.old + steps_of_items lexicon.now most }
 {
     if !kept.has_room(most) {

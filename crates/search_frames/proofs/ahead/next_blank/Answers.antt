@@ -5,8 +5,7 @@ use Rattle.std.proofs.lemmas.Bool.{ltb-true, ltb-false}
 use Rattle.std.proofs.lemmas.List.Sorted.{IsPartitionedBy-leb, IsPartitionPoint-from_clause}
 use Rattle.text_definitions.specs.Lines.{Line}
 use Rattle.search_frames.specs.Ahead.{IsNextBlank}
-use Rattle.search_frames.proofs.TestBlanks.{no_later_below}
-use Rattle.search_frames.proofs.AheadBlanks.{none_after, next_after}
+use Rattle.search_frames.proofs.AheadBlanks.{no_later_below, none_after, next_after}
 use Rattle.search_frames.proofs.ahead.next_blank.Goals as goal
 use lib.Dec.{leb}
 

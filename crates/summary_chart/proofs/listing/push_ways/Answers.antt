@@ -8,6 +8,8 @@ use Rattle.phase_automaton.specs.Automata.{StateMachine}
 use Rattle.search_frames.specs.Configurations.{rules_in}
 use Rattle.search_frames.specs.Frames.{numbered_of}
 use Rattle.summary_chart.specs.StateSets.{IsLedTo}
+use Rattle.summary_chart.specs.PlaceWays.{AppendsWays}
+use Rattle.summary_chart.specs.Spreading.{IsInPhase}
 use Rattle.summary_chart.specs.Summaries.{steps_of_fronts}
 use Rattle.summary_chart.proofs.AppendedWays.{still_begins}
 use Rattle.summary_chart.proofs.OrderedKeys.{append_no_phase, append_phase, append_dead_phase, append_all_phases}
@@ -53,7 +55,8 @@ loop-phase-preserved g c =
       low = omega (arith, c.loop-phase-test.true, inv.end);
       appends = append_phase searched c.args.line.now c.args.choices.now (numbered_of searched c.args.place.now) c.args.states c.loop-phase.phase some.0 led
           c.args.ways.now.items c.loop-phase.ways.items c.push_phase.new.ways.items inv.appends
-          (OnTrue_at c.if-not-branch.false c.in_ok-push_phase.ensures.appends);
+          (OnTrue_at {P = AppendsWays searched c.args.line.now c.args.choices.now (numbered_of searched c.args.place.now) (IsInPhase c.loop-phase.phase)
+          c.loop-phase.ways.items c.push_phase.new.ways.items} c.if-not-branch.false c.in_ok-push_phase.ensures.appends);
       few = (let few = OnTrue_at c.if-not-branch.false c.in_ok-push_phase.ensures.few in omega (arith, few, c.len-first.ensures, c.args.ways.now.ok));
       spent = λ most few. one_more_within c.args.steps.now c.loop-phase.phase (1 + steps_of_fronts most) c.loop-phase.steps c.push_phase.new.steps
           (inv.spent most few) (let spent = c.push_phase.ensures.steps most few in omega (arith, spent, c.tick.ensures));

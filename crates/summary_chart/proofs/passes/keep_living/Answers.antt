@@ -1,6 +1,6 @@
 -- One turn by the lemmas on turns, from an index to the last one before it whose set is not empty; before the pass the table has only
 -- places that are reached, and every living one.
-use Rattle.std.proofs.Common.{◌≡◌, ◌<◌, ◌≤◌, ◌+◌, ◌-◌, ◌*◌, ℕ, length, sym, ap, subst, refl, ◌∙◌, arith}
+use Rattle.std.proofs.Common.{◌≡◌, ◌+◌, ◌-◌, ◌*◌, ℕ, length, sym, ap, subst, arith}
 use Rattle.summary_chart.specs.Spreading.{leads_in}
 use Rattle.summary_chart.specs.Charts.{IsAliveFrom, set_count}
 use Rattle.summary_chart.specs.Summaries.{steps_of_items, steps_of_summary}

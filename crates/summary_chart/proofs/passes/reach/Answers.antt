@@ -1,9 +1,7 @@
 -- The turn is that of `reach_from`, and where sets are empty nothing is to be done (`ReachedPlaces`, `KeptWays`); at the end the table is
 -- closed everywhere.
-use Rattle.std.proofs.Common.{◌≡◌, ◌+◌, ◌-◌, ◌*◌, ◌<◌, ◌≤◌, [], ℕ, List, length, sym, subst, arith}
-use Rattle.search_frames.specs.declared.way.Way.{Way}
+use Rattle.std.proofs.Common.{◌≡◌, ◌+◌, ◌*◌, [], ℕ, List, sym, subst, arith}
 use Rattle.summary_chart.specs.declared.place_ways.Stop.{Stop}
-use Rattle.summary_chart.specs.Spreading.{leads_in}
 use Rattle.summary_chart.specs.Charts.{IsReachedBefore, set_count}
 use Rattle.summary_chart.specs.PlaceWays.{AreFew, HaveWaysBefore}
 use Rattle.summary_chart.specs.Summaries.{steps_of_items}

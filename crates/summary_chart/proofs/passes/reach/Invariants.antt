@@ -1,6 +1,6 @@
 -- Before each index the table is closed, and the ways that are kept are those of its places, few as they are; each index took its steps
 -- twice at most.
-use Rattle.std.proofs.Common.{◌<◌, ◌+◌, ◌*◌, ◌≤◌, ◌-◌, ℕ, length}
+use Rattle.std.proofs.Common.{◌+◌, ◌*◌, ◌≤◌, ◌-◌, ℕ, length}
 use Rattle.search_frames.specs.Costs.{HasAtMostRules}
 use Rattle.summary_chart.specs.Charts.{IsReachedBefore}
 use Rattle.summary_chart.specs.PlaceWays.{AreFew, HaveWaysBefore}

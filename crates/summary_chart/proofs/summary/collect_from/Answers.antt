@@ -1,11 +1,10 @@
 -- What is kept at the index are the ways from each place there, and to go over them takes no more steps than to go over all.
-use Rattle.std.proofs.Common.{◌+◌, ◌≤◌, length, subst, arith}
-use Rattle.search_frames.specs.Frames.{numbered_of}
+use Rattle.std.proofs.Common.{length, subst, arith}
 use Rattle.summary_chart.specs.declared.state_set.StateSet.{StateSet}
 use Rattle.summary_chart.specs.PlaceWays.{HasEachKey}
 use Rattle.summary_chart.proofs.KeptWays.{keys_found, ways_at}
 use Rattle.summary_chart.proofs.TableItems.{read_set}
-use Rattle.summary_chart.proofs.WayCosts.{ways_within}
+use Rattle.summary_chart.proofs.SummarySteps.{ways_within}
 use Rattle.summary_chart.proofs.summary.collect_from.Goals as goal
 
 pub collect_ways-requires-clause-ways : goal.collect_ways-requires-clause-ways
@@ -30,6 +29,6 @@ returns-clause-steps g c most few =
     let kept = c.args.kept.now in
     let are = ways_at c.args.lexicon.now c.args.line.now c.args.choices.now c.args.index place.at place.entrance c.args.table.now c.requires.table c.requires.indexed
     kept.stops.items kept.ways.items c.in-Some.ways.now c.requires.kept c.in-Some.ensures.found place.state c.requires.place in
-    let less = ways_within c.args.lexicon.now c.args.line.now c.args.choices.now (numbered_of c.args.lexicon.now place) c.requires.searched most c.in-Some.ways.now are.each are.few in
+    let less = ways_within c.args.lexicon.now most (length c.in-Some.ways.now) c.requires.searched are.few in
     let spent = c.collect_ways.ensures.steps in
     omega (arith, less, spent)

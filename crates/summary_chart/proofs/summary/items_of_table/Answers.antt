@@ -1,10 +1,9 @@
 -- At the start there is nothing, each index adds the items of its places, no place stands where the sets are empty, and at the end those
 -- of all places are there (`TableItems`).
-use Rattle.std.proofs.Common.{◌≡◌, ◌<◌, ◌≤◌, ◌+◌, ℕ, length, sym, subst, arith}
+use Rattle.std.proofs.Common.{◌≡◌, ◌+◌, ℕ, length, subst, arith}
 use Rattle.lexicon_definitions.specs.Lexicons.{RuleSet}
-use Rattle.summary_chart.specs.declared.state_set.StateSet.{StateSet}
 use Rattle.summary_chart.specs.Spreading.{leads_in}
-use Rattle.summary_chart.specs.Summaries.{AddsItems, IsCollected, IsItemFrom, HasItemsBefore}
+use Rattle.summary_chart.specs.Summaries.{IsCollected, HasItemsBefore}
 use Rattle.summary_chart.proofs.TableItems.{no_items, items_more, items_on, none_in_empty}
 use Rattle.summary_chart.proofs.SummarySteps.{place_and_skip, places_within}
 use Rattle.summary_chart.proofs.summary.items_of_table.Goals as goal

@@ -2,8 +2,7 @@
 use Rattle.std.proofs.Common.{refl}
 use Rattle.derivation.specs.Steps.{key_meant}
 use Rattle.search_frames.specs.Frames.{numbered_of}
-use Rattle.search_frames.proofs.TestPlaces.{some_letter}
-use Rattle.search_frames.proofs.AheadTests.{no_blank_inside}
+use Rattle.search_frames.proofs.AheadTests.{some_letter, no_blank_inside}
 use Rattle.search_frames.proofs.ahead.Ahead.fits.Goals as goal
 
 pub returns-then-lets_in : goal.returns-then-lets_in

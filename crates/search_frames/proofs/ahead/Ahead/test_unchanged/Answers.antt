@@ -2,8 +2,7 @@
 use Rattle.std.proofs.Common.{List, ℕ, ◌++◌, take, drop}
 use Rattle.answer_paths.specs.Fronts.{supplied}
 use Rattle.search_frames.specs.Frames.{numbered_of}
-use Rattle.search_frames.proofs.TestPlaces.{some_letter}
-use Rattle.search_frames.proofs.AheadTests.{some_unchanged}
+use Rattle.search_frames.proofs.AheadTests.{some_letter, some_unchanged}
 use Rattle.search_frames.proofs.ahead.Ahead.test_unchanged.Goals as goal
 
 pub last_taken-last-requires-clause-some : goal.last_taken-last-requires-clause-some
