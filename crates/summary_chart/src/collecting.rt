@@ -161,10 +161,7 @@ fn collect_key<L>(
         → HasSeen lexicon.now line.now place.now.at place.now.entrance key.phase key.taken since collected.new) }
     ensures steps { steps.new ≤ steps.old + 2 }
 {
-    if states_by_key(
-        lexicon, line, choices, place, ahead, states, key, table,
-    )
-    .is_empty() {
+    if states_by_key(lexicon, line, choices, place, ahead, states, key, table).is_empty() {
         return Ok(());
     }
     put_item(alloc, lexicon, line, place, key, collected, steps)
@@ -267,7 +264,8 @@ fn collect_front<L>(
     };
     let rules = tries.choices_with(node, *letter, steps);
     collect_rules(
-        alloc, lexicon, line, choices, place, ahead, states, phase, taken, rules, table, collected, steps,
+        alloc, lexicon, line, choices, place, ahead, states, phase, taken, rules, table, collected,
+        steps,
     )
 }
 
@@ -354,7 +352,8 @@ pub(crate) fn collect<L>(
             continue;
         }
         collect_phase(
-            alloc, lexicon, line, choices, place, ahead, states, phase, nodes, table, collected, steps,
+            alloc, lexicon, line, choices, place, ahead, states, phase, nodes, table, collected,
+            steps,
         )?;
     }
     Ok(())

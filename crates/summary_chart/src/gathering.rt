@@ -17,8 +17,8 @@ ghost use Rattle.summary_chart.specs.Tables.{IsTable};
 ghost use Rattle.summary_chart.specs.Spreading.{AreGoingFurther, GathersMore, EveryKey, OnlyKey, IsByRule, IsAtFront, IsInPhase, leads_in};
 ghost use Rattle.summary_chart.specs.Summaries.{steps_of_front, steps_of_fronts, steps_of_items};
 
-use super::state_set::StateSet;
 use super::memo::{Memo, Work};
+use super::state_set::StateSet;
 use super::state_steps::{accepted_states, accepting_states, states_after, states_into};
 use super::table::Table;
 use super::walking::walk_fronts;
@@ -85,9 +85,7 @@ fn gather_key(
     requires table { IsTable (leads_in lexicon.now) (length line.now.letters) table.now }
     ensures { GathersMore lexicon.now line.now choices.now table.now place.now.at place.now.entrance states (OnlyKey (key_meant key)) further result }
 {
-    further.union(states_by_key(
-        lexicon, line, choices, place, ahead, states, key, table,
-    ))
+    further.union(states_by_key(lexicon, line, choices, place, ahead, states, key, table))
 }
 
 /// The same for the keys with these rules, each of which is possible after this front.
@@ -190,14 +188,7 @@ fn living_by_rules<L>(
     for rule in rules {
         steps.tick();
         let end = work.end as usize;
-        match rule_test(
-            lexicon.rules(),
-            line,
-            end,
-            work.may_end,
-            work.phase,
-            *rule,
-        ) {
+        match rule_test(lexicon.rules(), line, end, work.may_end, work.phase, *rule) {
             LetterTest::Refused => {}
             LetterTest::Ends => living = living.union(accepting_states(lexicon.automaton())),
             LetterTest::LeadsOn { at, entrance } => living = living.union(table.get(at, entrance)),
@@ -379,7 +370,8 @@ pub(crate) fn gather<L>(
             continue;
         }
         gathered = gather_phase(
-            lexicon, line, choices, place, ahead, states, phase, nodes, table, memo, gathered, steps,
+            lexicon, line, choices, place, ahead, states, phase, nodes, table, memo, gathered,
+            steps,
         )?;
     }
     Ok(gathered)
