@@ -5,6 +5,8 @@ pub mod WalkLeads
 pub mod TestBlanks
 pub mod TestWords
 pub mod TestPlaces
+pub mod AheadBlanks
+pub mod AheadTests
 pub mod StepKeys
 pub mod ConfigurationRanks
 pub mod ReachedConfigurations

@@ -13,6 +13,7 @@
 //! level (`changes`). `Resumption::copy` gives the same in every field (`ok`).
 #![tactic(auto)]
 
+mod ahead;
 mod configuration;
 mod cursor;
 mod entering;
@@ -34,6 +35,7 @@ mod walking;
 mod way;
 mod way_turns;
 
+pub use ahead::{Ahead, may_begin, rule_test};
 pub use configuration::Configuration;
 pub use cursor::Cursor;
 pub use frame::{Frame, NODES_OF_FRAME};

@@ -24,7 +24,7 @@ use Rattle.summary_chart.specs.Fronts.{IsFrontAt, front_after}
 use Rattle.summary_chart.specs.Summaries.{key_with}
 
 -- an element that passes a filter stays
-filter_keeps : (p : ℕ → Bool) (xs : List ℕ) (x : ℕ) → Contains xs x → p x ≡ true → Contains (filter p xs) x
+pub filter_keeps : (p : ℕ → Bool) (xs : List ℕ) (x : ℕ) → Contains xs x → p x ≡ true → Contains (filter p xs) x
 filter_keeps p [] x among passes = absurd (not_Contains-nil x among)
 filter_keeps p (y ∷ ys) x among passes =
     let go : (b : Bool) → p y ≡ b → Contains (cond b (y ∷ filter p ys) (filter p ys)) x =

@@ -21,7 +21,14 @@ mod RisingItems
 mod SameU
 mod Walks
 mod FrontKeys
+mod AppendedWays
+mod OrderedKeys
+mod WayKeys
 mod CollectedItems
 mod AnswerItems
 mod TableItems
+mod WaysElsewhere
+mod KeptWays
+mod WayCosts
+mod ChartWays
 mod SummarySteps

@@ -1,5 +1,5 @@
 -- The ways from places of a table, kept one after another (own).
-use Rattle.std.specs.Prelude.{◌≡◌, ℕ, ◌+◌, ◌-◌, ◌*◌, ◌<◌, ◌≤◌, ◌⊎◌, List, ◌++◌, length, take, drop, map, All, Contains}
+use Rattle.std.specs.Prelude.{◌≡◌, ℕ, ◌+◌, ◌-◌, ◌*◌, ◌<◌, ◌≤◌, ◌⊎◌, Option, Some, None, List, [], ◌∷◌, ◌++◌, length, take, drop, map, All, Contains}
 use Rattle.std.specs.declared.cmp.Ordering.{Ordering}
 use Rattle.std.specs.Ordering.{nat_cmp}
 use Rattle.std.specs.List.Sorted.{IsStrictlySortedBy}
@@ -21,7 +21,7 @@ use Rattle.summary_chart.specs.declared.state_set.StateSet.{StateSet}
 use Rattle.summary_chart.specs.declared.table.Table.{Table}
 use Rattle.summary_chart.specs.declared.passes.TheConstants.{SETS_FOR_A_WAY}
 use Rattle.summary_chart.specs.StateSets.{IsStateOf}
-use Rattle.summary_chart.specs.Spreading.{standing_with}
+use Rattle.summary_chart.specs.Spreading.{IsLedByPhase, standing_with}
 use Rattle.summary_chart.specs.Tables.{IsIn, IsEntrance}
 use Rattle.summary_chart.specs.Charts.{IsChartTable, index_of_place, set_count}
 
@@ -57,6 +57,22 @@ pub record AppendsWays (searched : SearchedLexicon) (line : Line) (choices : Lis
   pub rising : IsStrictlySortedBy compare_keys (map key_of_way ways)
   pub all : (key : Key) → IsTold key → IsPossible searched line here key → (MayNeither searched line choices here key → ⊥)
       → Contains (map key_of_way ways) key
+
+-- a stop for the index was put in, with ways from here: those by phases to which some state of the set leads, no more than are kept from one
+-- place, and stops and ways no more than this together
+pub record AddsStop (searched : SearchedLexicon) (line : Line) (choices : List Choice) (here : NumberedConfiguration) (set : StateSet) (index most : ℕ)
+    (old_stops : List Stop) (old : List Way) (stops : List Stop) (new : List Way) (stop : Stop) : Type 0 where
+  pub appends : AppendsWays searched line choices here (IsLedByPhase searched.machine set) old new
+  pub few : length new ≤ length old + MOST_WAYS
+  pub is : stop ≡ record { index = index; first = length old; end = length new }
+  pub added : stops ≡ old_stops ++ stop ∷ []
+  pub room : length stops + length new ≤ most
+
+-- such a stop was put in, or all stays as it was
+abbrev pub HasKept : SearchedLexicon → Line → List Choice → NumberedConfiguration → StateSet → ℕ → ℕ → List Stop → List Way → List Stop → List Way → Option Stop → Type 0
+HasKept searched line choices here set index most old_stops old stops new None = (stops ≡ old_stops) × (new ≡ old)
+HasKept searched line choices here set index most old_stops old stops new (Some stop) =
+    AddsStop searched line choices here set index most old_stops old stops new stop
 
 -- each key that leads on from a place with one of these states, or ends the line, is that of a way
 abbrev pub HasEachKey : SearchedLexicon → Line → List Choice → ℕ → Entrance → StateSet → List Way → Type 0

@@ -81,7 +81,9 @@ impl Chart {
             stops: Vec::with_capacity(alloc, letters)?,
             ways: Vec::with_capacity(alloc, letters)?,
         };
-        reach(lexicon, line, choices, &mut nodes, &mut table, &mut kept, steps)?;
+        reach(
+            lexicon, line, choices, &mut nodes, &mut table, &mut kept, steps,
+        )?;
         keep_living(lexicon, line, choices, &kept, &mut nodes, &mut table, steps)?;
         Ok(Chart { table, kept })
     }

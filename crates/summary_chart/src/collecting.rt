@@ -1,5 +1,6 @@
-ghost use Rattle.std.specs.Prelude.{◌≡◌, ◌++◌, ◌∷◌, [], ◌+◌, ◌*◌, ◌<◌, ◌≤◌, ℕ, length, All, OnOk};
+ghost use Rattle.std.specs.Prelude.{◌≡◌, ◌⊎◌, ◌++◌, ◌∷◌, [], ◌+◌, ◌*◌, ◌<◌, ◌≤◌, ℕ, length, All, OnOk};
 ghost use Rattle.text_definitions.specs.Lines.{IsLine};
+ghost use Rattle.lexicon_definitions.specs.Lexicons.{rule_of};
 ghost use Rattle.derivation.specs.Steps.{key_meant};
 ghost use Rattle.annotated_trie.specs.Searched.{IsSearchedLexicon};
 ghost use Rattle.search_frames.specs.Frames.{IsConfigurationIn, numbered_of};
@@ -10,7 +11,7 @@ ghost use Rattle.summary_chart.specs.Fronts.{IsFrontAt};
 ghost use Rattle.summary_chart.specs.PlaceWays.{HasEachKey};
 ghost use Rattle.summary_chart.specs.Tables.{IsTable};
 ghost use Rattle.summary_chart.specs.Spreading.{leads_in};
-ghost use Rattle.summary_chart.specs.Summaries.{item_with, AddsItems, HasSeen, IsCollected, IsItemBy, IsItemByRule, IsItemAtFront, IsItemInPhase, IsItemFrom, steps_of_front, steps_of_fronts, steps_of_items};
+ghost use Rattle.summary_chart.specs.Summaries.{item_with, made_of, AddsItems, HasSeen, IsCollected, IsItemBy, IsItemByRule, IsItemAtFront, IsItemInPhase, IsItemFrom, steps_of_front, steps_of_fronts, steps_of_items};
 
 use super::collected::Collected;
 use super::gathering::{states_by_key, states_by_way};
@@ -110,6 +111,8 @@ fn put_item<L>(
     requires collected { IsCollected lexicon.now.lexicon.rules collected.old }
     ensures collected { OnOk result (IsCollected lexicon.now.lexicon.rules collected.new) }
     ensures items { OnOk result (collected.new.items.items ≡ collected.old.items.items ++ item_with lexicon.now line.now place.now.at place.now.entrance (key_meant key) ∷ []) }
+    ensures made { OnOk result ((other : ℕ) → other ≤ length lexicon.now.lexicon.rules.rules
+        → (made_of collected.new other ≡ made_of collected.old other) ⊎ ((rule_of lexicon.now.lexicon.rules other).u ≡ (rule_of lexicon.now.lexicon.rules key.rule).u)) }
     ensures steps { steps.new ≡ steps.old + 2 }
 {
     let rules = lexicon.rules();
@@ -153,21 +156,17 @@ fn collect_key<L>(
         → HasSeen lexicon.now line.now place.now.at place.now.entrance key.phase key.taken since collected.new) }
     ensures steps { steps.new ≤ steps.old + 2 }
 {
-    let rules = lexicon.rules();
     let step = Step {
         phase: key.phase,
         rule: key.rule,
         at: place.at,
-        lead: supplied_letters(rules, place.entrance).len() as u32,
+        lead: supplied_letters(lexicon.rules(), place.entrance).len() as u32,
         taken: key.taken,
     };
     if states_by_key(lexicon, line, choices, place, states, &step, table).is_empty() {
         return Ok(());
     }
-    steps.tick();
-    steps.tick();
-    let item = item_of_step(alloc, rules, line, place.entrance, &step)?;
-    collected.put(rules, key.rule, item)
+    put_item(alloc, lexicon, line, place, key, collected, steps)
 }
 
 /// Puts in the items of the rules, each of which is possible after this front, by which some state of the set goes further; where there are

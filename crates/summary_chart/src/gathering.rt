@@ -312,9 +312,7 @@ pub(crate) fn gather_ways<L>(
     let mut further = StateSet::empty();
     for way in ways {
         steps.tick();
-        further = further.union(states_by_way(
-            lexicon, line, choices, place, states, way, table,
-        ));
+        further = further.union(states_by_way(lexicon, line, choices, place, states, way, table));
     }
     further
 }

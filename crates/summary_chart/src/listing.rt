@@ -1,4 +1,4 @@
-ghost use Rattle.std.specs.Prelude.{◌≡◌, ◌+◌, ◌<◌, ◌≤◌, ℕ, length, take, All, IfOk, OnOk};
+ghost use Rattle.std.specs.Prelude.{◌≡◌, ◌+◌, ◌*◌, ◌<◌, ◌≤◌, ℕ, length, take, All, IfOk, OnOk};
 ghost use Rattle.std.specs.Bool.{OnTrue};
 ghost use Rattle.std.specs.Ordering.{nat_cmp};
 ghost use Rattle.std.specs.List.Sorted.{IsStrictlySortedBy};
@@ -50,12 +50,14 @@ fn push_key<L>(
         lead: supplied_letters(lexicon.rules(), place.entrance).len() as u32,
         taken: key.taken,
     };
-    let test = test_letters(lexicon, line, choices, place, &step);
-    if test != LetterTest::Refused {
-        steps.tick();
-        ways.push(Way { key, test })?;
+    match test_letters(lexicon, line, choices, place, &step) {
+        LetterTest::Refused => Ok(()),
+        test => {
+            steps.tick();
+            ways.push(Way { key, test })?;
+            Ok(())
+        }
     }
-    Ok(())
 }
 
 /// Appends those of the keys with these rules, each of which is possible after this front. Refused only for want of memory.
@@ -120,15 +122,13 @@ fn push_front<L>(
         push_key(lexicon, line, choices, place, key, ways, steps)?;
     }
     let end = place.at as usize + taken as usize;
-    match line.letters.as_slice().get(end) {
-        None => Ok(()),
-        Some(letter) => {
-            let rules = tries.choices_with(node, *letter, steps);
-            push_rules(
-                lexicon, line, choices, place, phase, taken, rules, ways, steps,
-            )
-        }
-    }
+    let Some(letter) = line.letters.as_slice().get(end) else {
+        return Ok(());
+    };
+    let rules = tries.choices_with(node, *letter, steps);
+    push_rules(
+        lexicon, line, choices, place, phase, taken, rules, ways, steps,
+    )
 }
 
 /// Appends those of the keys of the phase. False where these are not all of them, since more are appended than are kept from one place.

@@ -1,0 +1,157 @@
+-- What a key does at a place, told by what the line tells of all forms that begin there and by what its rule does after its letters.
+use Rattle.std.proofs.Common.{◌≡◌, ℕ, ◌+◌, ◌<◌, ◌≤◌, ◌↔◌, IsTrue, Bool, List, [], ◌++◌, All, length, take, drop, get_or, refl, sym, ap, subst, ◌∙◌, add-zero, arith, length-drop, length-append}
+use Rattle.std.proofs.lemmas.Bool.{ne_eqb}
+use Rattle.std.proofs.lemmas.List.{get_or_append_left, get_or-take, get_or-drop, length-take-le}
+use Rattle.std.proofs.lemmas.List.Elements.{All-contains}
+use Rattle.text_definitions.specs.Lines.{Line}
+use Rattle.lexicon_definitions.specs.Lexicons.{RuleSet, rule_of, IsPlain}
+use Rattle.segmentation_definitions.specs.Derivations.{Step, rule_after}
+use Rattle.segmentation_definitions.specs.Items.{Choice}
+use Rattle.segmentation_definitions.specs.Listings.{Key}
+use Rattle.segmentation_definitions.specs.Configurations.{Entrance, Start, Plain, Lead, entrance_after_step}
+use Rattle.segmentation_definitions.proofs.Coverings.{unchanged_at_zero}
+use Rattle.annotated_trie.specs.Searched.{SearchedLexicon}
+use Rattle.answer_paths.specs.Following.{MayEnter, MayStand, step_at}
+use Rattle.search_frames.specs.declared.ahead.Ahead.{Ahead}
+use Rattle.search_frames.specs.declared.letter_testing.LetterTest.{LetterTest}
+use Rattle.search_frames.specs.declared.letter_testing.LetterTest.TheVariants as test
+use Rattle.search_frames.specs.Ahead.{IsAhead, FitsPlace, LetsLetterIn, LetsRuleIn, MayBegin, RuleStands, RuleFails, IsRuleTest}
+use Rattle.search_frames.specs.Configurations.{NumberedConfiguration, rules_in}
+use Rattle.search_frames.specs.LetterTests.{MayNeither, IsLetterTestOf}
+use Rattle.list_laws.proofs.Elements.{written_within}
+
+-- the first letter of a form that takes a letter of the line is the line's next one
+first_taken : (letters u : List ℕ) (at taken : ℕ) → at + taken ≤ length letters → 0 < taken
+    → get_or (([] ++ take taken (drop at letters)) ++ u) 0 0 ≡ get_or letters at 0
+first_taken letters u at taken within some =
+    let left = length-drop at letters in
+    let count : length (take taken (drop at letters)) ≡ taken = length-take-le taken (drop at letters) (omega (arith, left, within)) in
+    get_or_append_left (take taken (drop at letters)) u 0 0 (omega (arith, count, some))
+    ∙ get_or-take taken (drop at letters) 0 0 some
+    ∙ get_or-drop at letters 0 0
+    ∙ ap (λ (n : ℕ). get_or letters n 0) (add-zero at)
+
+-- the form of a key that takes a letter may be entered where the line's next letter may
+pub enters_with_letter : (rules : RuleSet) (line : Line) (at : ℕ) (entrance : Entrance) (key : Key) (enters : Bool)
+    → at + key.taken ≤ length line.letters → 0 < key.taken → MayBegin entrance key.phase → IsTrue enters ↔ LetsLetterIn rules line at entrance
+    → IsTrue enters ↔ MayEnter rules entrance (step_at rules line at entrance key)
+enters_with_letter rules line at Start key enters within some begins says = says
+enters_with_letter rules line at (Plain letter) key enters within some begins says =
+    let is = first_taken line.letters (rule_of rules key.rule).u at key.taken within some in (
+      λ t. subst (IsPlain rules letter) (sym is) (says.0 t (omega (arith, within, some))),
+      λ h. says.1 (λ low. subst (IsPlain rules letter) is h),
+    )
+enters_with_letter rules line at (Lead v after) key enters within some begins says = (λ t. begins, λ h. says.1 tt)
+
+-- the form of a key that takes no letter may be entered where the u of its rule may
+pub enters_with_rule : (rules : RuleSet) (line : Line) (at : ℕ) (entrance : Entrance) (key : Key) (enters : Bool)
+    → key.taken ≡ 0 → 0 < length (step_at rules line at entrance key).form → MayBegin entrance key.phase → IsTrue enters ↔ LetsRuleIn rules entrance key.rule
+    → IsTrue enters ↔ MayEnter rules entrance (step_at rules line at entrance key)
+enters_with_rule rules line at Start key enters none some begins says = says
+enters_with_rule rules line at (Plain letter) key enters none some begins says =
+    let u = (rule_of rules key.rule).u in
+    let is : ([] ++ take key.taken (drop at line.letters)) ++ u ≡ u = ap (λ (n : ℕ). ([] ++ take n (drop at line.letters)) ++ u) none in
+    let long : 0 < length u = subst (λ (form : List ℕ). 0 < length form) is some in (
+      λ t. subst (λ (form : List ℕ). IsPlain rules letter (get_or form 0 0)) (sym is) (says.0 t long),
+      λ h. says.1 (λ l. subst (λ (form : List ℕ). IsPlain rules letter (get_or form 0 0)) is h),
+    )
+enters_with_rule rules line at (Lead v after) key enters none some begins says = (λ t. begins, λ h. says.1 tt)
+
+-- after a step with a rule a form is entered by its v
+entrance_changed : (rules : RuleSet) (step : Step) → 0 < step.rule
+    → entrance_after_step rules step ≡ Lead (rule_after rules step).v (rule_after rules step).after
+entrance_changed rules step some =
+    let e : step.rule ≡ 0 → ⊥ = λ z. omega arith in
+    rw (ne_eqb step.rule 0 e)
+
+-- a form with no rule has a letter before the u of its rule
+pub some_unchanged : (rules : RuleSet) (front : List ℕ) (rule : ℕ) → rule ≡ 0 → 0 < length (front ++ (rule_of rules rule).u) → 0 < length front
+some_unchanged rules front rule none some =
+    omega (arith, some, length-append front (rule_of rules rule).u, (unchanged_at_zero rules rule none).u_empty)
+
+module _ (searched : SearchedLexicon) (line : Line) (choices : List Choice) (here : NumberedConfiguration) (key : Key) where
+  -- a key that may stand fits the place
+  pub stands_fits : MayStand searched.lexicon line choices here.at here.entrance key → FitsPlace searched line choices here key
+  stands_fits stands = record {
+    number = stands.number;
+    within = stands.within;
+    form = stands.form;
+    enters = stands.enters;
+    blanks = stands.blanks;
+    allowed = stands.allowed;
+  }
+
+  -- and its rule, if it has one, stands after its letters
+  stands_rule : 0 < key.rule → MayStand searched.lexicon line choices here.at here.entrance key
+      → RuleStands (rules_in searched) line (here.at + key.taken) key.phase key.rule
+  stands_rule some stands = record { follows = stands.follows some; written = stands.written }
+
+  -- the other way, a key that fits may stand where its rule does
+  rule_stands : FitsPlace searched line choices here key → RuleStands (rules_in searched) line (here.at + key.taken) key.phase key.rule
+      → MayStand searched.lexicon line choices here.at here.entrance key
+  rule_stands fits stands = record {
+    number = fits.number;
+    within = fits.within;
+    form = fits.form;
+    follows = λ some. stands.follows;
+    written = stands.written;
+    enters = fits.enters;
+    blanks = fits.blanks;
+    allowed = fits.allowed;
+  }
+
+  -- a key that may not stand neither leads on nor ends the line
+  pub not_standing : (MayStand searched.lexicon line choices here.at here.entrance key → ⊥) → MayNeither searched line choices here key
+  not_standing not = record { leads_on = λ may. not may.stands; ends = λ may. not may.stands }
+
+  pub not_fitting : (FitsPlace searched line choices here key → ⊥) → MayNeither searched line choices here key
+  not_fitting not = not_standing (λ stands. not (stands_fits stands))
+
+  -- no key takes a letter past the limit
+  pub past_limit : (ahead : Ahead) → IsAhead (rules_in searched) line here.at here.entrance ahead → ahead.limit < here.at + key.taken
+      → MayNeither searched line choices here key
+  past_limit ahead is past = not_standing (λ stands.
+      let within = stands.within in
+      let stop = is.stop (omega (arith, past, within)) in
+      All-contains (λ blank. here.at < blank → blank < here.at + key.taken → ⊥) line.blanks ahead.limit stands.blanks stop.0 stop.1 past)
+
+  -- where the phase of a key may not begin, it does nothing
+  pub not_begun : (MayBegin here.entrance key.phase → ⊥) → MayNeither searched line choices here key
+  not_begun not = not_standing (λ stands. not (begun here.entrance refl stands.enters)) where
+    begun : (entrance : Entrance) → here.entrance ≡ entrance → MayEnter (rules_in searched) entrance (step_at (rules_in searched) line here.at here.entrance key)
+        → MayBegin entrance key.phase
+    begun Start is enters = tt
+    begun (Plain letter) is enters = tt
+    begun (Lead v after) is enters = enters
+
+  -- no blank stands inside what goes no further than the limit
+  pub no_blank_inside : (ahead : Ahead) → IsAhead (rules_in searched) line here.at here.entrance ahead → here.at + key.taken ≤ ahead.limit
+      → All (λ blank. here.at < blank → blank < here.at + key.taken → ⊥) line.blanks
+  no_blank_inside ahead is within k d low above below = is.blanks k d low above (omega (arith, below, within))
+
+  module _ (may_end : Bool) (says : IsTrue may_end ↔ All (λ blank. blank ≤ here.at) line.blanks) where
+    -- where the rule fails after the letters of the key, the key does nothing
+    pub rule_fails : 0 < key.rule → RuleFails (rules_in searched) line (here.at + key.taken) may_end key.phase key.rule
+        → MayNeither searched line choices here key
+    rule_fails some fails = record {
+      leads_on = λ may. fails.leads (stands_rule some may.stands) (may.inner some);
+      ends = λ may. fails.ends (record { stands = stands_rule some may.stands; final_rule = may.final_rule some; all = may.all; may = says.1 may.blanks_before });
+    }
+
+    -- what the rule does after the letters of a key that fits, the key does
+    pub rule_does : (does : LetterTest) → 0 < key.rule → FitsPlace searched line choices here key
+        → IsRuleTest (rules_in searched) line (here.at + key.taken) may_end key.phase key.rule does → IsLetterTestOf searched line choices here key does
+    rule_does test.Refused some fits is = rule_fails some is
+    rule_does test.Ends some fits is = record {
+      stands = rule_stands fits is.stands;
+      final_rule = λ l. is.final_rule;
+      all = is.all;
+      blanks_before = says.0 is.may;
+    }
+    rule_does (test.LeadsOn at entrance) some fits is = record {
+      may = record { stands = rule_stands fits is.stands; inner = λ l. is.inner; left = λ none. absurd (omega (arith, none, some)) };
+      at_is = is.at_is;
+      entrance_is = is.entrance_is ∙ sym (entrance_changed (rules_in searched) (step_at (rules_in searched) line here.at here.entrance key) some);
+      within = omega (arith, is.at_is, written_within line.letters (rule_of (rules_in searched) key.rule).w (here.at + key.taken) fits.within is.stands.written);
+      over = is.over;
+    }

@@ -1,0 +1,362 @@
+ghost use Rattle.std.specs.Prelude.{◌≡◌, ℕ, true, ◌+◌, ◌<◌, ◌≤◌, ◌↔◌, ◌++◌, length, take, drop, All, IsTrue, MatchOption};
+ghost use Rattle.text_definitions.specs.Lines.{IsLine, Line as LineValue};
+ghost use Rattle.lexicon_definitions.specs.Leads.{leads_of};
+ghost use Rattle.lexicon_definitions.specs.Lexicons.{RuleSet as RuleSetValue};
+ghost use Rattle.lexicon_definitions.specs.Limits.{IsRuleSetWithinLimits};
+ghost use Rattle.segmentation_definitions.specs.LocalTests.{Allows};
+ghost use Rattle.segmentation_definitions.specs.Configurations.{last_letter};
+ghost use Rattle.derivation.specs.Guides.{IsEntranceOver, entrance_of};
+ghost use Rattle.derivation.specs.Steps.{key_meant};
+ghost use Rattle.answer_paths.specs.Fronts.{supplied};
+ghost use Rattle.answer_paths.specs.Following.{MayEnter, is_start, placed_at, step_at};
+ghost use Rattle.search_frames.specs.Ahead.{FitsPlace, IsAhead, IsNextBlank, IsRuleTest, LetsLetterIn, LetsRuleIn, MayBegin};
+ghost use Rattle.search_frames.specs.Configurations.{IsPossible};
+ghost use Rattle.search_frames.specs.Frames.{IsConfigurationIn, numbered_of};
+ghost use Rattle.search_frames.specs.LetterTests.{IsLetterTestOf};
+
+use super::Configuration;
+use super::entering::is_first;
+use super::letter_testing::LetterTest;
+use super::line_tests::{begins_with, u_of};
+use super::walking::supplied_letters;
+use super::way::Way;
+use annotated_trie::Lexicon;
+use derivation::{Entrance, Key, Step};
+use phoneme::{Letter, Line};
+use reader_choices::Choices;
+use sandhi_rules::RuleSet;
+
+/// What a line tells of every form that begins at a place: after how many letters of the line the first blank after the place stands, or
+/// all letters where there is none, and no form goes past it; whether no blank stands after the place, so that the line may end with the
+/// form; and whether a form that takes a letter of the line may be entered.
+#[derive(Clone, Copy, Debug, PartialEq, Eq)]
+pub struct Ahead {
+    pub(crate) limit: u32,
+    pub(crate) may_end: bool,
+    pub(crate) enters: bool,
+}
+
+/// The first blank after so many letters of the line, if there is one.
+fn next_blank(line: &Line, at: u32) -> Option<u32>
+    ensures { MatchOption result (All (λ blank. blank ≤ at) line.now.blanks) (IsNextBlank line.now.blanks at) }
+{
+    let blanks = line.blanks.as_slice();
+    let next = blanks.partition_point(|blank| *blank <= at);
+    match blanks.get(next) {
+        None => None,
+        Some(blank) => Some(*blank),
+    }
+}
+
+/// Whether a form that takes a letter of the line may be entered at the place: after a letter, this and the next letter of the line are a
+/// plain pair.
+fn lets_letter_in(rules: &RuleSet, line: &Line, place: &Configuration) -> bool
+    ensures { IsTrue result ↔ LetsLetterIn rules.now line.now place.now.at (entrance_of (leads_of rules.now.rules) place.now.entrance) }
+{
+    match place.entrance {
+        Entrance::Plain(last) => match line.letters.as_slice().get(place.at as usize) {
+            None => true,
+            Some(letter) => rules.is_plain(last, *letter),
+        },
+        Entrance::Start | Entrance::Lead(_) => true,
+    }
+}
+
+/// Whether a form of this phase, counted from 0, may be entered at the place: after a rule, this may precede the phase. Where it may not,
+/// no key of the phase leads on or ends the line there.
+pub fn may_begin(rules: &RuleSet, place: &Configuration, phase: u32) -> bool
+    requires { IsEntranceOver (leads_of rules.now.rules) place.now.entrance }
+    ensures { IsTrue result ↔ MayBegin (entrance_of (leads_of rules.now.rules) place.now.entrance) phase }
+{
+    match place.entrance {
+        Entrance::Start | Entrance::Plain(_) => true,
+        Entrance::Lead(lead) => rules.leads()[usize::from(lead)].may_precede(phase),
+    }
+}
+
+/// What the rule, counted from 1, does after a form of the phase that ends after so many letters of the line, wherever the form begins and
+/// however it is entered. `may_end` says whether the line may end there.
+pub fn rule_test(
+    rules: &RuleSet,
+    line: &Line,
+    end: usize,
+    may_end: bool,
+    phase: u32,
+    rule: u32,
+) -> LetterTest
+    requires within { end ≤ length line.now.letters }
+    requires some { 1 ≤ rule }
+    requires rule { rule ≤ length rules.now.rules }
+    ensures { IsRuleTest rules.now line.now end may_end phase rule result }
+{
+    let Some(found) = rules.rule(rule) else {
+        unreachable!()
+    };
+    let w = found.w.as_slice();
+    let left = &line.letters.as_slice()[end..];
+    if !begins_with(left, w) || !found.may_follow(phase) {
+        return LetterTest::Refused;
+    }
+    match rules.lead_of(rule) {
+        Some(lead) => LetterTest::LeadsOn {
+            at: (end + w.len()) as u32,
+            entrance: Entrance::Lead(lead),
+        },
+        None => {
+            if may_end && left.len() == w.len() {
+                LetterTest::Ends
+            } else {
+                LetterTest::Refused
+            }
+        }
+    }
+}
+
+/// Whether the step with this key at the place passes the local test of each choice.
+fn is_allowed(
+    rules: &RuleSet,
+    line: &Line,
+    choices: &Choices,
+    place: &Configuration,
+    key: Key,
+) -> bool
+    requires limits { IsRuleSetWithinLimits rules.now }
+    requires over { IsEntranceOver (leads_of rules.now.rules) place.now.entrance }
+    requires rule { key.rule ≤ length rules.now.rules }
+    requires within { place.now.at + key.taken ≤ length line.now.letters }
+    ensures { let entrance = entrance_of (leads_of rules.now.rules) place.now.entrance in IsTrue result ↔ Allows rules.now (length line.now.letters) choices.now (is_start entrance) (placed_at rules.now line.now place.now.at entrance (key_meant key)) }
+{
+    if choices.list().is_empty() {
+        return true;
+    }
+    let lead = supplied_letters(rules, place.entrance);
+    let step = Step {
+        phase: key.phase,
+        rule: key.rule,
+        at: place.at,
+        lead: lead.len() as u32,
+        taken: key.taken,
+    };
+    choices.allows_entered(rules, line, lead, is_first(place.entrance), &step)
+}
+
+/// The last letter of what is supplied to a form at the place with so many letters of the line.
+fn last_taken(rules: &RuleSet, line: &Line, place: &Configuration, taken: u32) -> Letter
+    requires over { IsEntranceOver (leads_of rules.now.rules) place.now.entrance }
+    requires within { place.now.at + taken ≤ length line.now.letters }
+    requires some { 0 < length (supplied (entrance_of (leads_of rules.now.rules) place.now.entrance) ++ take taken (drop place.now.at line.now.letters)) }
+    ensures { result ≡ last_letter (supplied (entrance_of (leads_of rules.now.rules) place.now.entrance) ++ take taken (drop place.now.at line.now.letters)) }
+{
+    if taken > 0 {
+        let end = place.at as usize + taken as usize;
+        return line.letters.as_slice()[end - 1];
+    }
+    let lead = supplied_letters(rules, place.entrance);
+    lead[lead.len() - 1]
+}
+
+/// Whether a form that takes no letter of the line may be entered at the place: after a letter, this and the first letter of the rule's
+/// `u` are a plain pair.
+fn lets_rule_in(rules: &RuleSet, place: &Configuration, rule: u32) -> bool
+    requires { rule ≤ length rules.now.rules }
+    ensures { IsTrue result ↔ LetsRuleIn rules.now (entrance_of (leads_of rules.now.rules) place.now.entrance) rule }
+{
+    match place.entrance {
+        Entrance::Plain(last) => match u_of(rules, rule) {
+            [] => true,
+            [first, ..] => rules.is_plain(last, *first),
+        },
+        Entrance::Start | Entrance::Lead(_) => true,
+    }
+}
+
+impl Ahead {
+    /// What the line tells of the forms that begin at the place.
+    pub fn of(rules: &RuleSet, line: &Line, place: &Configuration) -> Ahead
+        requires { place.now.at ≤ length line.now.letters }
+        ensures { IsAhead rules.now line.now place.now.at (entrance_of (leads_of rules.now.rules) place.now.entrance) result }
+    {
+        let enters = lets_letter_in(rules, line, place);
+        match next_blank(line, place.at) {
+            None => Ahead {
+                limit: line.letters.len() as u32,
+                may_end: true,
+                enters,
+            },
+            Some(blank) => Ahead {
+                limit: blank,
+                may_end: false,
+                enters,
+            },
+        }
+    }
+
+    /// Whether the form of the key may be entered at the place.
+    fn lets_in(self, rules: &RuleSet, place: &Configuration, key: Key) -> bool
+        requires { key.rule ≤ length rules.now.rules }
+        ensures { (line : LineValue) → let entrance = entrance_of (leads_of rules.now.rules) place.now.entrance in IsAhead rules.now line place.now.at entrance self → place.now.at + key.taken ≤ length line.letters → MayBegin entrance key.phase → 0 < length (step_at rules.now line place.now.at entrance (key_meant key)).form → IsTrue result ↔ MayEnter rules.now entrance (step_at rules.now line place.now.at entrance (key_meant key)) }
+    {
+        if key.taken > 0 {
+            self.enters
+        } else {
+            lets_rule_in(rules, place, key.rule)
+        }
+    }
+
+    /// Whether the key, which goes no further than the limit and whose phase may begin, may stand at the place but for what its rule asks.
+    fn fits(
+        self,
+        lexicon: &Lexicon,
+        line: &Line,
+        choices: &Choices,
+        place: &Configuration,
+        key: Key,
+    ) -> bool
+        requires place { IsConfigurationIn lexicon.now line.now place.now }
+        requires ahead { IsAhead lexicon.now.lexicon.rules line.now place.now.at (numbered_of lexicon.now place.now).entrance self }
+        requires possible { IsPossible lexicon.now line.now (numbered_of lexicon.now place.now) (key_meant key) }
+        requires limit { place.now.at + key.taken ≤ self.limit }
+        requires begins { MayBegin (numbered_of lexicon.now place.now).entrance key.phase }
+        ensures { IsTrue result ↔ FitsPlace lexicon.now line.now choices.now (numbered_of lexicon.now place.now) (key_meant key) }
+    {
+        let rules = lexicon.rules();
+        self.lets_in(rules, place, key) && is_allowed(rules, line, choices, place, key)
+    }
+
+    /// What the key does at the place as far as the letters of the line, the blanks and the choices tell. It has no rule, goes no further
+    /// than the limit, and its phase may begin.
+    pub fn test_unchanged(
+        self,
+        lexicon: &Lexicon,
+        line: &Line,
+        choices: &Choices,
+        place: &Configuration,
+        key: Key,
+    ) -> LetterTest
+        requires line { IsLine line.now }
+        requires place { IsConfigurationIn lexicon.now line.now place.now }
+        requires ahead { IsAhead lexicon.now.lexicon.rules line.now place.now.at (numbered_of lexicon.now place.now).entrance self }
+        requires possible { IsPossible lexicon.now line.now (numbered_of lexicon.now place.now) (key_meant key) }
+        requires limit { place.now.at + key.taken ≤ self.limit }
+        requires begins { MayBegin (numbered_of lexicon.now place.now).entrance key.phase }
+        requires unchanged { key.rule ≡ 0 }
+        ensures exact { IsLetterTestOf lexicon.now line.now choices.now (numbered_of lexicon.now place.now) (key_meant key) result }
+    {
+        if !self.fits(lexicon, line, choices, place, key) {
+            return LetterTest::Refused;
+        }
+        let end = place.at as usize + key.taken as usize;
+        if end < line.letters.len() {
+            let last = last_taken(lexicon.rules(), line, place, key.taken);
+            return LetterTest::LeadsOn {
+                at: end as u32,
+                entrance: Entrance::Plain(last),
+            };
+        }
+        if self.may_end {
+            LetterTest::Ends
+        } else {
+            LetterTest::Refused
+        }
+    }
+
+    /// What a rule does where the line may end only as it may after the place, if the test says what it does where the line may end.
+    fn limited(self, test: LetterTest) -> LetterTest
+        ensures { (rules : RuleSetValue) (line : LineValue) (end phase rule : ℕ) → IsRuleTest rules line end true phase rule test → IsRuleTest rules line end self.may_end phase rule result }
+    {
+        match test {
+            LetterTest::Ends if !self.may_end => LetterTest::Refused,
+            test => test,
+        }
+    }
+
+    /// What the key with a rule does at the place, where the test of the way says what the rule does after its letters: the same, if the
+    /// key fits the place.
+    fn test_where_it_fits(
+        self,
+        lexicon: &Lexicon,
+        line: &Line,
+        choices: &Choices,
+        place: &Configuration,
+        way: Way,
+    ) -> LetterTest
+        requires line { IsLine line.now }
+        requires place { IsConfigurationIn lexicon.now line.now place.now }
+        requires ahead { IsAhead lexicon.now.lexicon.rules line.now place.now.at (numbered_of lexicon.now place.now).entrance self }
+        requires possible { IsPossible lexicon.now line.now (numbered_of lexicon.now place.now) (key_meant way.key) }
+        requires limit { place.now.at + way.key.taken ≤ self.limit }
+        requires begins { MayBegin (numbered_of lexicon.now place.now).entrance way.key.phase }
+        requires rule { 1 ≤ way.key.rule }
+        requires test { IsRuleTest lexicon.now.lexicon.rules line.now (place.now.at + way.key.taken) self.may_end way.key.phase way.key.rule way.test }
+        ensures exact { IsLetterTestOf lexicon.now line.now choices.now (numbered_of lexicon.now place.now) (key_meant way.key) result }
+    {
+        match way.test {
+            LetterTest::Refused => LetterTest::Refused,
+            test => {
+                if self.fits(lexicon, line, choices, place, way.key) {
+                    test
+                } else {
+                    LetterTest::Refused
+                }
+            }
+        }
+    }
+
+    /// What the key does at the place as far as the letters of the line, the blanks and the choices tell. It has a rule, goes no further
+    /// than the limit, and its phase may begin.
+    pub fn test_rule(
+        self,
+        lexicon: &Lexicon,
+        line: &Line,
+        choices: &Choices,
+        place: &Configuration,
+        key: Key,
+    ) -> LetterTest
+        requires line { IsLine line.now }
+        requires place { IsConfigurationIn lexicon.now line.now place.now }
+        requires ahead { IsAhead lexicon.now.lexicon.rules line.now place.now.at (numbered_of lexicon.now place.now).entrance self }
+        requires possible { IsPossible lexicon.now line.now (numbered_of lexicon.now place.now) (key_meant key) }
+        requires limit { place.now.at + key.taken ≤ self.limit }
+        requires begins { MayBegin (numbered_of lexicon.now place.now).entrance key.phase }
+        requires rule { 1 ≤ key.rule }
+        ensures exact { IsLetterTestOf lexicon.now line.now choices.now (numbered_of lexicon.now place.now) (key_meant key) result }
+    {
+        let end = place.at as usize + key.taken as usize;
+        let test = rule_test(
+            lexicon.rules(),
+            line,
+            end,
+            self.may_end,
+            key.phase,
+            key.rule,
+        );
+        self.test_where_it_fits(lexicon, line, choices, place, Way { key, test })
+    }
+
+    /// The same, where the test of the way says what its rule does after its letters if the line may end there, wherever the form begins
+    /// (`rule_test`).
+    pub fn test_kept(
+        self,
+        lexicon: &Lexicon,
+        line: &Line,
+        choices: &Choices,
+        place: &Configuration,
+        way: Way,
+    ) -> LetterTest
+        requires line { IsLine line.now }
+        requires place { IsConfigurationIn lexicon.now line.now place.now }
+        requires ahead { IsAhead lexicon.now.lexicon.rules line.now place.now.at (numbered_of lexicon.now place.now).entrance self }
+        requires possible { IsPossible lexicon.now line.now (numbered_of lexicon.now place.now) (key_meant way.key) }
+        requires limit { place.now.at + way.key.taken ≤ self.limit }
+        requires begins { MayBegin (numbered_of lexicon.now place.now).entrance way.key.phase }
+        requires rule { 1 ≤ way.key.rule }
+        requires test { IsRuleTest lexicon.now.lexicon.rules line.now (place.now.at + way.key.taken) true way.key.phase way.key.rule way.test }
+        ensures exact { IsLetterTestOf lexicon.now line.now choices.now (numbered_of lexicon.now place.now) (key_meant way.key) result }
+    {
+        let kept = Way {
+            key: way.key,
+            test: self.limited(way.test),
+        };
+        self.test_where_it_fits(lexicon, line, choices, place, kept)
+    }
+}
