@@ -8,7 +8,6 @@ pub mod Guided
 pub mod Costs
 pub mod LetterTests
 pub mod Ahead
-pub mod Skips
 pub mod Turns
 pub mod WaysFrom
 pub mod Walks
