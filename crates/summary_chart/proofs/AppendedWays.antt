@@ -69,7 +69,7 @@ module _ (searched : SearchedLexicon) (line : Line) (choices : List Choice) (her
   }
 
   -- of some and then of others that come after them
-  pub append_both : (IsFirst IsSecond : Key → Type 0) (old mid new : List Way)
+  append_both : (IsFirst IsSecond : Key → Type 0) (old mid new : List Way)
       → ((one other : Key) → IsFirst one → IsSecond other → compare_keys one other ≡ Less)
       → AppendsWays searched line choices here IsFirst old mid → AppendsWays searched line choices here IsSecond mid new
       → AppendsWays searched line choices here (λ key. IsFirst key ⊎ IsSecond key) old new
@@ -120,9 +120,6 @@ module _ (searched : SearchedLexicon) (line : Line) (choices : List Choice) (her
       ])
       (append_both IsFirst IsSecond old mid new before first second)
 
-  -- what was there before stays, and the list does not become shorter
-  pub append_keeps : (IsTold : Key → Type 0) (old new : List Way) → AppendsWays searched line choices here IsTold old new → take (length old) new ≡ old
-  append_keeps IsTold old new appends = ap (take (length old)) appends.appended ∙ take-append_seam old appends.ways
-
+  -- the list does not become shorter
   pub append_longer : (IsTold : Key → Type 0) (old new : List Way) → AppendsWays searched line choices here IsTold old new → length old ≤ length new
   append_longer IsTold old new appends = (let long = ap length appends.appended in omega (arith, long, length-append old appends.ways))
