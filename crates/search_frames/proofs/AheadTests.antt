@@ -1,5 +1,5 @@
 -- What a key does at a place, told by what the line tells of all forms that begin there and by what its rule does after its letters.
-use Rattle.std.proofs.Common.{◌≡◌, ℕ, ◌+◌, ◌<◌, ◌≤◌, ◌↔◌, IsTrue, Bool, List, [], ◌++◌, All, length, take, drop, get_or, refl, sym, ap, subst, ◌∙◌, add-zero, arith, length-drop, length-append}
+use Rattle.std.proofs.Common.{◌≡◌, ℕ, ◌+◌, ◌<◌, ◌≤◌, ◌↔◌, IsTrue, Bool, true, List, [], ◌++◌, All, length, take, drop, get_or, refl, sym, ap, subst, ◌∙◌, add-zero, arith, length-drop, length-append}
 use Rattle.std.proofs.lemmas.Bool.{ne_eqb}
 use Rattle.std.proofs.lemmas.List.{get_or_append_left, get_or-take, get_or-drop, length-take-le}
 use Rattle.std.proofs.lemmas.List.Elements.{All-contains}
@@ -133,6 +133,13 @@ module _ (searched : SearchedLexicon) (line : Line) (choices : List Choice) (her
   pub no_blank_inside : (ahead : Ahead) → IsAhead (rules_in searched) line here.at here.entrance ahead → here.at + key.taken ≤ ahead.limit
       → All (λ blank. here.at < blank → blank < here.at + key.taken → ⊥) line.blanks
   no_blank_inside ahead is within k d low above below = is.blanks k d low above (omega (arith, below, within))
+
+  -- a rule that fails after the letters of a key, though the line may end there, leaves the key nothing to do
+  pub kept_fails : 0 < key.rule → RuleFails (rules_in searched) line (here.at + key.taken) true key.phase key.rule → MayNeither searched line choices here key
+  kept_fails some fails = record {
+    leads_on = λ may. fails.leads (stands_rule some may.stands) (may.inner some);
+    ends = λ may. fails.ends (record { stands = stands_rule some may.stands; final_rule = may.final_rule some; all = may.all; may = refl });
+  }
 
   module _ (may_end : Bool) (says : IsTrue may_end ↔ All (λ blank. blank ≤ here.at) line.blanks) where
     -- where the rule fails after the letters of the key, the key does nothing

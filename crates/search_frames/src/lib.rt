@@ -8,12 +8,14 @@
 //! `SearchGuide` tells after how many letters forms end that are worth a try (`all` of `lengths`), as a set of numbers of letters (the
 //! clauses of `LengthSet`). `open_frame` has a frame stand at a configuration (`placed`, `place`). `test_key` says whether a key leads
 //! on, and where to, or ends the line, or neither (`exact`), and `test_letters` says the same as far as the letters, the blanks and the
-//! choices tell, whatever the grammar says (`exact`). `Resumption::copy` gives the same in every field (`ok`). A frame that walks its
-//! phases itself (`begin_walk`) has every key to try (`all`); `go_on` brings it to its next key, which is the first of those left, and
-//! leaves just those after it, and answers false only where no key is left (`went_on`, `nothing`); `seek` brings it to a given key, or
-//! answers false where this is not possible there (`found`, `not_possible`); `skip_unwritten` leaves out only keys whose rule's `w` does
-//! not come next in the line (`skipped`). None of them changes what stands before its level (`changes`). `push_ways` appends just the
-//! keys that lead on or end at a configuration, in their order (`ok`), within the steps of a frame (`steps`).
+//! choices tell, whatever the grammar says (`exact`). `Ahead::of` says what the line tells of every form that begins at a place, and
+//! `Ahead::test_unchanged` and `test_rule` say by this what `test_letters` says of a key (`exact`); `rule_test` says what a rule does after
+//! so many letters wherever the form begins, which may be kept for `Ahead::test_kept` (`exact`). `Resumption::copy` gives the same in every
+//! field (`ok`). A frame that walks its phases itself (`begin_walk`) has every key to try (`all`); `go_on` brings it to its next key, which
+//! is the first of those left, and leaves just those after it, and answers false only where no key is left (`went_on`, `nothing`); `seek`
+//! brings it to a given key, or answers false where this is not possible there (`found`, `not_possible`); `skip_unwritten` leaves out only
+//! keys whose rule's `w` does not come next in the line (`skipped`). None of them changes what stands before its level (`changes`).
+//! `push_ways` appends just the keys that lead on or end at a configuration, in their order (`ok`), within the steps of a frame (`steps`).
 #![tactic(auto)]
 
 mod ahead;
