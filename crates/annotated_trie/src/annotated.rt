@@ -1,4 +1,5 @@
 ghost use Rattle.std.specs.Prelude.{◌≡◌, ◌+◌, ◌≤◌, ◌<◌, ◌^◌, ◌⊎◌, ℕ, length, slice_get};
+ghost use Rattle.std.specs.Bool.{OnTrue};
 ghost use Rattle.annotated_trie.specs.Choices.{choices_of, choices_with};
 ghost use Rattle.annotated_trie.specs.RuleGroups.{AreGroupedBy};
 ghost use Rattle.annotated_trie.specs.Views.{annotated_with, ArePlaces};
@@ -96,6 +97,22 @@ impl Annotated {
         self.groups
             .lists
             .get(CODES * place + letter.code() as usize)
+    }
+
+    /// The number of the node's list of choices: a number by which nodes with the same choices may be told together.
+    pub fn list_number(&self, node: Node) -> u32
+        requires { node < length self.now.trie.rows }
+    {
+        self.places[node.number() as usize]
+    }
+
+    /// Whether the nodes are known to have the same choices, since they share one list.
+    pub fn have_same_choices(&self, one: Node, other: Node) -> bool
+        requires one { one < length self.now.trie.rows }
+        requires other { other < length self.now.trie.rows }
+        ensures { OnTrue result (choices_of self.now one ≡ choices_of self.now other) }
+    {
+        self.places[one.number() as usize] == self.places[other.number() as usize]
     }
 
     /// The greatest number of choices that a node has: 0 where there are no nodes.

@@ -1,13 +1,11 @@
 -- A key with which a path begins ends the line or leads on, so it is possible; none begins with one that is refused, nor with one that
 -- leads to where a guide says false.
-use Rattle.std.proofs.Common.{◌≡◌, ℕ, ◌⊎◌, inl, inr, Bool, true, false, Option, Some, None, List, [], ◌∷◌, sym, ◌∙◌, subst}
-use Rattle.std.specs.Prelude.{is_some}
+use Rattle.std.proofs.Common.{◌≡◌, ℕ, ◌⊎◌, inl, inr, Bool, false, Option, List, [], ◌∷◌, sym, ◌∙◌, subst}
 use Rattle.text_definitions.specs.Lines.{Line, IsLine}
 use Rattle.segmentation_definitions.specs.Items.{Choice}
 use Rattle.segmentation_definitions.specs.Listings.{Key}
 use Rattle.listing_laws.specs.Ways.{IsPath}
 use Rattle.answer_paths.specs.Following.{MayStand}
-use Rattle.phase_automaton.specs.Automata.{StateMachine, next_state, is_accepting}
 use Rattle.derivation.specs.declared.entrance.Entrance.{Entrance as ProgramEntrance}
 use Rattle.annotated_trie.specs.Searched.{SearchedLexicon, IsSearchedLexicon}
 use Rattle.search_frames.specs.declared.configuration.Configuration.{Configuration}
@@ -45,17 +43,6 @@ module _ (searched : SearchedLexicon) (line : Line) (choices : List Choice) (her
   refused_begins refused begins = elim (begins_cases begins) [
     | inl ends ↦ refused.ends ends
     | inr leads ↦ refused.leads_on leads
-  ]
-
-  not_accepted : (machine : StateMachine) (state : Option ℕ) → is_some state ≡ false → is_accepting machine state ≡ true → ⊥
-  not_accepted machine None none accepted = cc
-  not_accepted machine (Some n) none accepted = cc
-
-  -- nor does one of a phase to which the state does not lead
-  pub no_state_begins : is_some (next_state searched.machine here.state key.phase) ≡ false → BeginsPath searched line choices here key → ⊥
-  no_state_begins none begins = elim (begins_cases begins) [
-    | inl ends ↦ not_accepted searched.machine (next_state searched.machine here.state key.phase) none ends.accepted
-    | inr leads ↦ let live = leads.live in cc
   ]
 
   -- nor does one that leads to where the guide says false

@@ -16,7 +16,6 @@ use Rattle.answer_paths.specs.Fronts.{supplied}
 use Rattle.annotated_trie.specs.Choices.{LeadsToEnd, choices_of}
 use Rattle.annotated_trie.specs.Searched.{SearchedLexicon, IsSearchedLexicon}
 use Rattle.search_frames.specs.Configurations.{NumberedConfiguration, IsPossible, rules_in}
-use Rattle.search_frames.specs.Frames.{changes_at}
 use Rattle.search_frames.proofs.WalkDeltas.{delta_exists}
 use Rattle.list_laws.proofs.Elements.{some_element, some_by_element}
 
@@ -154,14 +153,14 @@ module _ (searched : SearchedLexicon) (is : IsSearchedLexicon searched) where
           record { number = number; within = within; form = walked_form key.phase (front_at line here key.taken ++ u) low whole }
 
       -- a possible key's change is among those at its node
-      pub possible_change : IsPossible searched line here key → Contains (changes_at searched.tries node) key.rule
+      pub possible_change : IsPossible searched line here key → Contains (0 ∷ choices_of searched.tries node) key.rule
       possible_change possible =
           let low = reached_there key.phase node (front_at line here key.taken) (possible_phase possible) walked in
           let members = (is.tries.each node low).members key.rule in
           let leads = possible_ends possible in
-          let go : (rule : ℕ) → key.rule ≡ rule → Contains (changes_at searched.tries node) key.rule =
+          let go : (rule : ℕ) → key.rule ≡ rule → Contains (0 ∷ choices_of searched.tries node) key.rule =
           elim [
-            | zero ↦ λ e. subst (Contains (changes_at searched.tries node)) (sym e) (Contains-first 0 (choices_of searched.tries node))
+            | zero ↦ λ e. subst (Contains (0 ∷ choices_of searched.tries node)) (sym e) (Contains-first 0 (choices_of searched.tries node))
             | suc rule ↦ λ e. Contains-later 0 (choices_of searched.tries node) key.rule (members.1 (omega (arith, e), possible.number, leads))
           ]
           in go key.rule refl

@@ -24,7 +24,7 @@ use Rattle.search_frames.specs.Walks.{IsNodeAt}
 use Rattle.search_frames.specs.Turns.{BeginsPath}
 use Rattle.search_frames.specs.FirstKeys.{IsFirstOf, HasNoneOf, IsJudged, IsRuleFrom, IsThisRuleFrom, IsUnchangedFrom}
 use Rattle.search_frames.proofs.BegunPaths.{begins_stands, begins_possible}
-use Rattle.search_frames.proofs.GroupedRules.{choice_of_group, group_rises, letter_there, in_group}
+use Rattle.search_frames.proofs.GroupedRules.{choice_of_group, letter_there, in_group}
 use Rattle.search_frames.proofs.PossibleKeys.{change_possible, possible_ends, reached_there}
 
 -- the key has one of the first rules of the group
@@ -107,30 +107,30 @@ module _ (searched : SearchedLexicon) (line : Line) (choices : List Choice) (her
       first = λ key begins meant. inr (meant.0.0.0, inr (meant.0.0.1, (let same = meant.1 in omega (arith, same))));
     }
 
-    module _ (letter : ℕ) (letter_is : letter ≡ get_or line.letters (here.at + from.taken) 0) (group : List ℕ)
-        (group_is : group ≡ choices_with searched.tries node letter) where
-      -- each rule of the group is a choice
-      pub rule_chosen : (count rule : ℕ) → count < length group → rule ≡ get_or group count 0 → Contains (choices_of searched.tries node) rule
+    module _ (letter : ℕ) (letter_is : letter ≡ get_or line.letters (here.at + from.taken) 0) (rules : List ℕ) (rising : IsStrictlySortedBy nat_cmp rules)
+        (left : (rule : ℕ) → Contains rules rule ↔ (Contains (choices_with searched.tries node letter) rule × (from.rule ≤ rule))) where
+      -- each rule that is left is a choice, and does not come before the first one
+      pub rule_chosen : (count rule : ℕ) → count < length rules → rule ≡ get_or rules count 0 → Contains (choices_of searched.tries node) rule × (from.rule ≤ rule)
       rule_chosen count rule low rule_is =
-          choice_of_group searched is node letter rule
-          (subst (λ (g : List ℕ). Contains g rule) group_is (subst (Contains group) (sym rule_is) (Contains-get_or group count 0 low)))
+          let both = (left rule).0 (subst (Contains rules) (sym rule_is) (Contains-get_or rules count 0 low)) in
+          (choice_of_group searched is node letter rule both.0, both.1)
 
-      -- and each key with a rule with which a path begins has one of the group
-      rule_of_group : (key : Key) → BeginsPath searched line choices here key → IsRuleFrom from key → (k : ℕ) × (k < length group) × (get_or group k 0 ≡ key.rule)
+      -- and each key with a rule with which a path begins has one of them
+      rule_of_group : (key : Key) → BeginsPath searched line choices here key → IsRuleFrom from key → (k : ℕ) × (k < length rules) × (get_or rules k 0 ≡ key.rule)
       rule_of_group key begins ((phase, taken, rule), some) =
           let stands = begins_stands searched line choices here key begins in
           let next : letter ≡ get_or line.letters (here.at + key.taken) 0 = letter_is ∙ ap (λ (n : ℕ). get_or line.letters (here.at + n) 0) (sym taken) in
           let among = in_group searched is line here key (begins_possible searched line choices here key begins) some stands.written node letter (key_at_node key phase taken) next in
-          let there : Contains group key.rule = subst (λ (g : List ℕ). Contains g key.rule) (sym group_is) among in
-          (there.0, there.1, get_or_default group there.0 0 key.rule there.1 ∙ there.2)
+          let there : Contains rules key.rule = (left key.rule).1 (among, rule) in
+          (there.0, there.1, get_or_default rules there.0 0 key.rule there.1 ∙ there.2)
 
       -- so where all were tried there is none
-      pub none_of_group : HasNoneOf searched line choices here (IsTriedRule from group (length group)) → HasNoneOf searched line choices here (IsRuleFrom from)
+      pub none_of_group : HasNoneOf searched line choices here (IsTriedRule from rules (length rules)) → HasNoneOf searched line choices here (IsRuleFrom from)
       none_of_group none key begins meant = none key begins (meant, rule_of_group key begins meant)
 
       -- and the next one with which a path may begin is the first
-      pub first_of_group : (says : ℕ → Entrance → Option ℕ → Bool) (count rule : ℕ) (found : Key) (does : Turn) → count < length group → rule ≡ get_or group count 0
-          → HasNoneOf searched line choices here (IsTriedRule from group count)
+      pub first_of_group : (says : ℕ → Entrance → Option ℕ → Bool) (count rule : ℕ) (found : Key) (does : Turn) → count < length rules → rule ≡ get_or rules count 0
+          → HasNoneOf searched line choices here (IsTriedRule from rules count)
           → IsFirstOf searched line choices says here (IsThisRuleFrom from rule) found does → IsFirstOf searched line choices says here (IsRuleFrom from) found does
       first_of_group says count rule found does low rule_is none at_rule = record {
         possible = at_rule.possible;
@@ -140,8 +140,6 @@ module _ (searched : SearchedLexicon) (line : Line) (choices : List Choice) (her
         first = λ key begins meant.
             let there = rule_of_group key begins meant in
             let found_rule = at_rule.meant.1 in
-            let rising = subst (IsStrictlySortedBy nat_cmp) (sym group_is)
-            (group_rises searched is node letter (reached_there searched is from.phase node _ phase_low at)) in
             elim (cases_lt there.0 count) [
               | inl below ↦ absurd (none key begins (meant, (there.0, below, there.2)))
               | inr above ↦ inr (
@@ -149,10 +147,10 @@ module _ (searched : SearchedLexicon) (line : Line) (choices : List Choice) (her
                 inr (
                   meant.0.1 ∙ sym at_rule.meant.0.0.1,
                   elim (cases_lt count there.0) [
-                    | inl more ↦ let less = below_from_sorted group count there.0 0 rising more there.1 in let same = there.2 in omega (arith, less, rule_is, same, found_rule)
+                    | inl more ↦ let less = below_from_sorted rules count there.0 0 rising more there.1 in let same = there.2 in omega (arith, less, rule_is, same, found_rule)
                     | inr no_more ↦
                         let same : there.0 ≡ count = omega arith in
-                        let is_here = ap (λ (n : ℕ). get_or group n 0) same in
+                        let is_here = ap (λ (n : ℕ). get_or rules n 0) same in
                         let is_rule = there.2 in
                         omega (arith, is_here, rule_is, is_rule, found_rule)
                   ],

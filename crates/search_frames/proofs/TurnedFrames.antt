@@ -1,49 +1,44 @@
 -- A frame is brought to the first of the keys that it has still to try with which a path may begin, and then fewer are left.
-use Rattle.std.proofs.Common.{◌≡◌, ◌↔◌, ℕ, suc, ◌+◌, ◌-◌, ◌*◌, ◌<◌, ◌≤◌, ◌⊎◌, inl, inr, Bool, Option, Some, List, length, take, get_or, refl, sym, ◌∙◌, ap, subst, arith}
+use Rattle.std.proofs.Common.{◌≡◌, ◌↔◌, ℕ, suc, ◌+◌, ◌-◌, ◌*◌, ◌<◌, ◌≤◌, ◌⊎◌, inl, inr, Bool, Option, List, length, refl, sym, ap, subst, arith}
 use Rattle.std.specs.declared.cmp.Ordering.TheVariants.{Less}
 use Rattle.std.proofs.Math.Nat.{suc-mul, mul-le-mul_right}
 use Rattle.std.proofs.lemmas.Bool.{cases_lt}
 use Rattle.text_definitions.specs.Lines.{Line}
-use Rattle.lexicon_definitions.specs.declared.limits.TheConstants.{MOST_RULES}
+use Rattle.lexicon_definitions.specs.declared.limits.TheConstants.{MOST_RULES, MOST_FORM_LETTERS}
 use Rattle.segmentation_definitions.specs.Items.{Choice}
 use Rattle.segmentation_definitions.specs.Listings.{Key, compare_keys}
-use Rattle.derivation.specs.Steps.{key_of, key_meant}
+use Rattle.derivation.specs.Steps.{key_meant}
 use Rattle.derivation.specs.declared.entrance.Entrance.{Entrance}
-use Rattle.derivation.specs.declared.entrance.Entrance.TheVariants as program
 use Rattle.derivation.specs.declared.step.Key.{Key as ProgramKey}
-use Rattle.derivation.specs.declared.step.Step.{Step}
-use Rattle.answer_paths.specs.Fronts.{supplied}
 use Rattle.annotated_trie.specs.Searched.{SearchedLexicon, IsSearchedLexicon}
 use Rattle.search_frames.specs.declared.configuration.Configuration.{Configuration}
 use Rattle.search_frames.specs.declared.frame.TheConstants.{NODES_OF_FRAME}
-use Rattle.search_frames.specs.declared.frame.Frame.{Frame}
 use Rattle.search_frames.specs.declared.guiding.ToTry.{ToTry}
 use Rattle.search_frames.specs.declared.guiding.ToTry.TheVariants.{All, Later}
 use Rattle.search_frames.specs.declared.guiding.Turn.{Turn}
 use Rattle.search_frames.specs.declared.guiding.Turn.TheVariants as turn
-use Rattle.search_frames.specs.declared.lengths.TheConstants.{MOST_LENGTH}
 use Rattle.search_frames.specs.declared.resumption.Resumption.{Resumption}
-use Rattle.search_frames.specs.Changes.{HasSet}
 use Rattle.search_frames.specs.Configurations.{NumberedConfiguration, IsPossible, Ends, rules_in}
 use Rattle.search_frames.specs.FirstKeys.{IsFirstOf, HasNoneOf, IsFrom}
-use Rattle.search_frames.specs.Frames.{IsPlaced, IsConfigurationIn, ChangesFrom, configuration_at, frame_of, here_of, key_at, numbered_of, step_of}
+use Rattle.search_frames.specs.Frames.{IsPlaced, HasSet, configuration_at, frame_of, here_of, key_at, numbered_of, step_of}
 use Rattle.search_frames.specs.Stacks.{IsStack}
 use Rattle.search_frames.specs.Tests.{LeadsTo}
 use Rattle.search_frames.specs.Turns.{BeginsPath, HasTurned, HasNoTurn, HasFallen, IsToTry, IsTurn, StandsToTry, first_to_try, keys_left}
 use Rattle.search_frames.proofs.BegunPaths.{begins_possible}
 use Rattle.search_frames.proofs.PossibleKeys.{possible_phase}
+use Rattle.search_frames.proofs.SetFrames.{set_key, set_place, set_placed}
 use Rattle.search_frames.proofs.StepKeys.{before_from_less, less_from_before}
 use Rattle.search_frames.proofs.TurnedPhases.{few_letters}
 
 -- ---- the first key to try
 
 -- the keys that are to try are those from the first one on
-pub told_first : (last : Key) (what : ToTry) (key : Key) → key.taken ≤ MOST_LENGTH → IsFrom (first_to_try last what) key ↔ IsToTry last what key
+pub told_first : (last : Key) (what : ToTry) (key : Key) → key.taken ≤ MOST_FORM_LETTERS → IsFrom (first_to_try last what) key ↔ IsToTry last what key
 told_first last All key few = (
   λ from. tt,
   λ to_try. elim (cases_lt 0 key.phase) [
     | inl later ↦ inl later
-    | inr first ↦ inr (omega arith, elim (cases_lt key.taken MOST_LENGTH) [ inl less ↦ inl less | inr no_less ↦ inr (omega arith, omega arith) ])
+    | inr first ↦ inr (omega arith, elim (cases_lt key.taken MOST_FORM_LETTERS) [ inl less ↦ inl less | inr no_less ↦ inr (omega arith, omega arith) ])
   ],
 )
 told_first last Later key few = (
@@ -66,7 +61,7 @@ module _ (searched : SearchedLexicon) (line : Line) (is : IsSearchedLexicon sear
   first_phase stack level Later stands = possible_phase searched is line (here_of searched stack level) (key_at stack level) stands
 
   pub first_taken : (stack : Resumption) (level : ℕ) (what : ToTry) → StandsToTry searched line stack level what
-      → (first_to_try (key_at stack level) what).taken ≤ MOST_LENGTH
+      → (first_to_try (key_at stack level) what).taken ≤ MOST_FORM_LETTERS
   first_taken stack level All stands = omega arith
   first_taken stack level Later stands = few_letters searched line (here_of searched stack level) (key_at stack level) is stands
 
@@ -125,33 +120,11 @@ module _ (searched : SearchedLexicon) (line : Line) (is : IsSearchedLexicon sear
     module _ (mid new : Resumption) (key : ProgramKey) (placed : IsPlaced searched line old level)
         (steps : mid.steps.items ≡ old.steps.items) (frames : mid.frames.items ≡ old.frames.items)
         (set : HasSet level (record (step_of mid level) { phase = key.phase; taken = key.taken; rule = key.rule }) (frame_of mid level) mid new) where
-      step_is : step_of new level ≡ record (step_of old level) { phase = key.phase; taken = key.taken; rule = key.rule }
-      step_is =
-          set.is_step
-          ∙ ap (λ (items : List Step). record (get_or items level (record { phase = 0; rule = 0; at = 0; lead = 0; taken = 0 })) { phase = key.phase; taken = key.taken; rule = key.rule }) steps
-
-      frame_is : frame_of new level ≡ frame_of old level
-      frame_is = set.is_frame ∙ ap (λ (items : List Frame). get_or items level (record { entrance = program.Start; state = Some 0; walked = 0; next = 0 })) frames
-
-      pub place_is : configuration_at new level ≡ configuration_at old level
-      place_is = let step = step_is in let frame = frame_is in λ i. record { at = (step i).at; entrance = (frame i).entrance; state = (frame i).state }
-
-      pub key_is : key_at new level ≡ key_meant key
-      key_is = ap key_of step_is
-
-      room_is : length new.frames.items ≡ length old.frames.items
-      room_is = set.changes.room ∙ ap length frames
-
-      placed_new : IsPlaced searched line new level
-      placed_new = record {
-        is_stack = set.changes.is_stack;
-        there = (let there = placed.there in let room = room_is in omega (arith, there, room));
-        within = subst (IsConfigurationIn searched line) (sym place_is) placed.within;
-        lead = ap (λ (s : Step). s.lead) step_is ∙ placed.lead ∙ ap (λ (p : Configuration). length (supplied (numbered_of searched p).entrance)) (sym place_is);
-      }
+      key_is : key_at new level ≡ key_meant key
+      key_is = set_key level old mid new key steps frames set
 
       module _ (does : Turn) (first : IsFirstOf searched line choices says (here_of searched old level) (IsFrom from) (key_meant key) does) where
-        few : (key_meant key).taken ≤ MOST_LENGTH
+        few : (key_meant key).taken ≤ MOST_FORM_LETTERS
         few = few_letters searched line (here_of searched old level) (key_meant key) is first.possible
 
         to_try_key : IsToTry (key_at old level) what (key_meant key)
@@ -170,8 +143,8 @@ module _ (searched : SearchedLexicon) (line : Line) (is : IsSearchedLexicon sear
 
         turned : HasTurned searched line choices level what old new
         turned = record {
-          placed = placed_new;
-          same_configuration = place_is;
+          placed = set_placed level old mid new key steps frames set searched line placed;
+          same_configuration = set_place level old mid new key steps frames set;
           possible = subst (IsPossible searched line (here_of searched old level)) (sym key_is) first.possible;
           to_try = subst (IsToTry (key_at old level) what) (sym key_is) to_try_key;
           first = λ other begins to_try.
@@ -199,16 +172,6 @@ module _ (searched : SearchedLexicon) (line : Line) (is : IsSearchedLexicon sear
       has_fallen turn.Ends first = falls turn.Ends first
       has_fallen (turn.LeadsOn next) first = falls (turn.LeadsOn next) first
 
-      pub changes_old : mid.cursor ≡ old.cursor → mid.depth ≡ old.depth → ChangesFrom level old new
-      changes_old cursor depth = record {
-        cursor = set.changes.cursor ∙ cursor;
-        depth = set.changes.depth ∙ depth;
-        room = room_is;
-        is_stack = set.changes.is_stack;
-        steps = set.changes.steps ∙ ap (take level) steps;
-        frames = set.changes.frames ∙ ap (take level) frames;
-      }
-
--- a stack has room for the nodes along a form where it has a frame
-pub room_for_nodes : (stack : Resumption) (level : ℕ) → IsStack stack → level < length stack.frames.items → NODES_OF_FRAME ≤ length stack.nodes.items
-room_for_nodes stack level is there = let nodes = is.nodes in omega (arith, nodes, there)
+-- a stack has room for the nodes along a form
+pub room_for_nodes : (stack : Resumption) → IsStack stack → NODES_OF_FRAME ≤ length stack.nodes.items
+room_for_nodes stack is = let nodes = is.nodes in omega (arith, nodes)

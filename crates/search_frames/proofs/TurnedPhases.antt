@@ -1,23 +1,21 @@
 -- The first key of a phase and of all phases, from one on: its parts are the keys with one length and the phases, one after another.
-use Rattle.std.proofs.Common.{◌≡◌, ℕ, ◌+◌, ◌<◌, ◌≤◌, ◌⊎◌, ◌↔◌, inl, inr, Bool, true, false, Option, Some, None, List, length, take, drop, length-append, sym, ◌∙◌, ap, subst, arith}
+use Rattle.std.proofs.Common.{◌≡◌, ℕ, ◌+◌, ◌<◌, ◌≤◌, ◌⊎◌, ◌↔◌, inl, inr, Bool, Option, Some, None, List, length, take, drop, length-append, sym, ◌∙◌, ap, subst, arith}
 use Rattle.std.specs.Prelude.{is_some, MatchOption}
 use Rattle.derivation.specs.Steps.{key_meant}
 use Rattle.derivation.specs.declared.step.Key.{Key as ProgramKey}
 use Rattle.std.proofs.lemmas.List.{length-drop, length-take-le}
 use Rattle.std.proofs.lemmas.Bool.{cases_lt, cases_eq}
 use Rattle.text_definitions.specs.Lines.{Line}
+use Rattle.lexicon_definitions.specs.declared.limits.TheConstants.{MOST_FORM_LETTERS}
 use Rattle.segmentation_definitions.specs.Items.{Choice}
 use Rattle.segmentation_definitions.specs.Listings.{Key}
 use Rattle.derivation.specs.declared.entrance.Entrance.{Entrance}
 use Rattle.annotated_trie.specs.Searched.{SearchedLexicon, IsSearchedLexicon}
 use Rattle.search_frames.specs.declared.guiding.Turn.{Turn}
-use Rattle.search_frames.specs.declared.lengths.LengthSet.{LengthSet}
-use Rattle.search_frames.specs.declared.lengths.TheConstants.{MOST_LENGTH}
 use Rattle.search_frames.specs.Configurations.{NumberedConfiguration, IsPossible}
-use Rattle.search_frames.specs.Lengths.{HasLength, IsLongest}
 use Rattle.search_frames.specs.Walks.{IsNodeAt}
 use Rattle.search_frames.specs.Turns.{BeginsPath}
-use Rattle.search_frames.specs.FirstKeys.{IsFirstOf, HasNoneOf, IsUnchangedFrom, IsRuleFrom, IsAtNodeFrom, IsInPhaseFrom, IsLengthFrom, IsFrom}
+use Rattle.search_frames.specs.FirstKeys.{IsFirstOf, HasNoneOf, IsUnchangedFrom, IsRuleFrom, IsAtNodeFrom, IsInPhaseFrom, IsShorterFrom, IsFrom}
 use Rattle.search_frames.proofs.BegunPaths.{begins_possible}
 use Rattle.search_frames.proofs.FirstOfKeys.{none_of_both, first_of_first, first_of_rest, first_told, none_told}
 use Rattle.search_frames.proofs.PossibleKeys.{front_at, possible_walks, possible_phase, short_walks}
@@ -27,9 +25,9 @@ use Rattle.answer_paths.specs.Fronts.{supplied}
 at_node_cases : (from key : Key) → IsAtNodeFrom from key → IsUnchangedFrom from key ⊎ IsRuleFrom from key
 at_node_cases from key at = elim (cases_lt 0 key.rule) [ inl some ↦ inr (at, some) | inr none ↦ inl (at, omega arith) ]
 
--- the keys of one length more
-abbrev pub IsDoneFrom : Key → LengthSet → ℕ → Key → Type 0
-IsDoneFrom from lengths limit key = IsLengthFrom from lengths key × (limit ≤ key.taken)
+-- the keys that take no fewer letters than this
+abbrev pub IsDoneFrom : Key → ℕ → ℕ → Key → Type 0
+IsDoneFrom from letters limit key = IsShorterFrom from letters key × (limit ≤ key.taken)
 
 -- the keys of the phases so far
 abbrev pub IsPassedFrom : Key → ℕ → Key → Type 0
@@ -37,7 +35,7 @@ IsPassedFrom from phase key = IsFrom from key × (key.phase < phase)
 
 -- no form takes more letters than this
 pub few_letters : (searched : SearchedLexicon) (line : Line) (here : NumberedConfiguration) (key : Key) → IsSearchedLexicon searched → IsPossible searched line here key
-    → key.taken ≤ MOST_LENGTH
+    → key.taken ≤ MOST_FORM_LETTERS
 few_letters searched line here key is possible =
     let (node, walked) = possible_walks searched is line here key possible in
     let short = short_walks searched is key.phase (front_at line here key.taken) (possible_phase searched is line here key possible) (ap is_some walked) in
@@ -81,120 +79,80 @@ module _ (searched : SearchedLexicon) (line : Line) (choices : List Choice) (say
 
   -- ---- length by length
 
-  module _ (lengths : LengthSet) where
-    pub none_done_at_first : (limit : ℕ) → ((taken : ℕ) → HasLength lengths taken → taken < limit) → HasNoneOf searched line choices here (IsDoneFrom from lengths limit)
-    none_done_at_first limit low key begins done = let below = low key.taken done.0.1 in let more = done.1 in omega (arith, below, more)
+  module _ (letters : ℕ) where
+    pub none_done_at_first : HasNoneOf searched line choices here (IsDoneFrom from letters letters)
+    none_done_at_first key begins done = let below = done.0.1 in let more = done.1 in omega (arith, below, more)
 
     -- no length is left
-    pub all_done : (limit : ℕ) (left : LengthSet) → ((other : ℕ) → HasLength left other ↔ ((other < limit) × HasLength lengths other))
-        → ((other : ℕ) → HasLength left other → ⊥) → HasNoneOf searched line choices here (IsDoneFrom from lengths limit)
-        → HasNoneOf searched line choices here (IsLengthFrom from lengths)
-    all_done limit left told empty none key begins meant = elim (cases_lt key.taken limit) [
-      | inl below ↦ empty key.taken ((told key.taken).1 (below, meant.1))
-      | inr above ↦ none key begins (meant, above)
-    ]
+    pub all_done : (limit : ℕ) → limit ≤ 0 → HasNoneOf searched line choices here (IsDoneFrom from letters limit)
+        → HasNoneOf searched line choices here (IsShorterFrom from letters)
+    all_done limit none_left none key begins meant = none key begins (meant, omega (arith, none_left))
 
     -- the greatest length that is left
-    module _ (limit taken : ℕ) (left : LengthSet) (first : Key) (told : (other : ℕ) → HasLength left other ↔ ((other < limit) × HasLength lengths other))
-        (longest : IsLongest left taken) (taken_is : first.taken ≡ taken) (phase_is : first.phase ≡ from.phase)
+    module _ (limit taken : ℕ) (first : Key) (next : limit ≡ taken + 1) (low : limit ≤ letters)
         (meant_at : (key : Key) → IsAtNodeFrom first key ↔ (IsInPhaseFrom from key × (key.taken ≡ taken)))
-        (none : HasNoneOf searched line choices here (IsDoneFrom from lengths limit)) where
+        (none : HasNoneOf searched line choices here (IsDoneFrom from letters limit)) where
       -- a key comes before it, with it, or after it
-      length_cases : (key : Key) → IsLengthFrom from lengths key → (limit ≤ key.taken) ⊎ ((key.taken ≡ taken) ⊎ (key.taken < taken))
+      length_cases : (key : Key) → IsShorterFrom from letters key → (limit ≤ key.taken) ⊎ ((key.taken ≡ taken) ⊎ (key.taken < taken))
       length_cases key meant = elim (cases_lt key.taken limit) [
         | inr above ↦ inl above
-        | inl below ↦
-            let most = longest.greatest key.taken ((told key.taken).1 (below, meant.1)) in
-            inr (elim (cases_lt key.taken taken) [ inl less ↦ inr less | inr no_less ↦ inl (omega arith) ])
+        | inl below ↦ inr (elim (cases_lt key.taken taken) [ inl less ↦ inr less | inr no_less ↦ inl (omega (arith, next)) ])
       ]
 
       pub length_found : (found : Key) (does : Turn) → IsFirstOf searched line choices says here (IsAtNodeFrom first) found does
-          → IsFirstOf searched line choices says here (IsLengthFrom from lengths) found does
+          → IsFirstOf searched line choices says here (IsShorterFrom from letters) found does
       length_found found does at =
           let told_found = (meant_at found).0 at.meant in
-          let has = ((told taken).0 longest.has).1 in
+          let found_taken = told_found.1 in
           record {
             possible = at.possible;
-            meant = (told_found.0, subst (HasLength lengths) (sym told_found.1) has);
+            meant = (told_found.0, omega (arith, found_taken, next, low));
             judged = at.judged;
             goes = at.goes;
             first = λ key begins meant. elim (length_cases key meant) [
               | inl above ↦ absurd (none key begins (meant, above))
               | inr (inl same) ↦ at.first key begins ((meant_at key).1 (meant.0, same))
-              | inr (inr less) ↦ inr (sym told_found.0.0 ∙ meant.0.0, inl (let found_taken = told_found.1 in omega (arith, less, found_taken)))
+              | inr (inr less) ↦ inr (sym told_found.0.0 ∙ meant.0.0, inl (omega (arith, less, found_taken)))
             ];
           }
 
-      pub length_done : HasNoneOf searched line choices here (IsAtNodeFrom first) → HasNoneOf searched line choices here (IsDoneFrom from lengths taken)
+      pub length_done : HasNoneOf searched line choices here (IsAtNodeFrom first) → HasNoneOf searched line choices here (IsDoneFrom from letters taken)
       length_done nothing key begins (meant, no_less) = elim (length_cases key meant) [
         | inl above ↦ none key begins (meant, above)
         | inr (inl same) ↦ nothing key begins ((meant_at key).1 (meant.0, same))
         | inr (inr less) ↦ omega (arith, less, no_less)
       ]
 
-  -- where something was found, it is that of all
-  pub found_some : (IsMeant IsOther : Key → Type 0) (found : Option (ProgramKey × Turn)) → is_some found ≡ true
-      → ((f : ProgramKey × Turn) → IsFirstOf searched line choices says here IsMeant (key_meant f.0) f.1 → IsFirstOf searched line choices says here IsOther (key_meant f.0) f.1)
-      → MatchOption found (HasNoneOf searched line choices here IsMeant) (λ f. IsFirstOf searched line choices says here IsMeant (key_meant f.0) f.1)
-      → MatchOption found (HasNoneOf searched line choices here IsOther) (λ f. IsFirstOf searched line choices says here IsOther (key_meant f.0) f.1)
-  found_some IsMeant IsOther None some told first = absurd (cc)
-  found_some IsMeant IsOther (Some f) some told first = told f first
-
-  pub found_none : (IsMeant : Key → Type 0) (found : Option (ProgramKey × Turn)) → is_some found ≡ false
-      → MatchOption found (HasNoneOf searched line choices here IsMeant) (λ f. IsFirstOf searched line choices says here IsMeant (key_meant f.0) f.1)
-      → HasNoneOf searched line choices here IsMeant
-  found_none IsMeant None none first = first
-  found_none IsMeant (Some f) none first = absurd (cc)
-
   -- ---- a phase
 
-  module _ (told left : LengthSet) (longest walked : ℕ) (all : (key : Key) → IsInPhaseFrom from key → BeginsPath searched line choices here key → HasLength told key.taken)
-      (is_longest : IsLongest told longest) (is_left : (other : ℕ) → HasLength left other ↔ ((other < walked) × HasLength told other))
-      (reaches : (taken node : ℕ) → taken ≤ longest → here.at + taken ≤ length line.letters → IsNodeAt searched line here from.phase taken node → taken < walked)
-      (is : IsSearchedLexicon searched) where
-    -- each key with which a path begins has one of the lengths to which the trie leads
-    in_lengths : (key : Key) → BeginsPath searched line choices here key → IsInPhaseFrom from key → IsLengthFrom from left key
+  module _ (walked : ℕ) (is : IsSearchedLexicon searched)
+      (reaches : (taken node : ℕ) → taken ≤ from.taken → here.at + taken ≤ length line.letters → IsNodeAt searched line here from.phase taken node → taken < walked) where
+    -- each key with which a path begins takes as many letters as lead somewhere in the trie
+    in_lengths : (key : Key) → BeginsPath searched line choices here key → IsInPhaseFrom from key → IsShorterFrom from walked key
     in_lengths key begins meant =
-        let has = all key meant begins in
         let possible = begins_possible searched line choices here key begins in
         let (node, at) = possible_walks searched is line here key possible in
-        let low = reaches key.taken node (is_longest.greatest key.taken has) possible.within (subst (λ (n : ℕ). IsNodeAt searched line here n key.taken node) (sym meant.0) at) in
-        (meant, (is_left key.taken).1 (low, has))
-
-    pub phase_found : (found : Key) (does : Turn) → IsFirstOf searched line choices says here (IsLengthFrom from left) found does
-        → IsFirstOf searched line choices says here (IsInPhaseFrom from) found does
-    phase_found found does first =
-        first_told searched line choices says here (IsLengthFrom from left) (IsInPhaseFrom from) found does in_lengths (λ meant. meant.0) first
-
-    phase_none : HasNoneOf searched line choices here (IsLengthFrom from left) → HasNoneOf searched line choices here (IsInPhaseFrom from)
-    phase_none none = none_told searched line choices says here (IsLengthFrom from left) (IsInPhaseFrom from) in_lengths none
+        let few : key.taken ≤ from.taken = elim meant.1 [ inl fewer ↦ omega (arith, fewer) | inr same ↦ (let taken = same.0 in omega (arith, taken)) ] in
+        (meant, reaches key.taken node few possible.within (subst (λ (n : ℕ). IsNodeAt searched line here n key.taken node) (sym meant.0) at))
 
     -- what comes of these lengths is what comes of the phase
     pub phase_told : (found : Option (ProgramKey × Turn))
-        → MatchOption found (HasNoneOf searched line choices here (IsLengthFrom from left)) (λ f. IsFirstOf searched line choices says here (IsLengthFrom from left) (key_meant f.0) f.1)
+        → MatchOption found (HasNoneOf searched line choices here (IsShorterFrom from walked)) (λ f. IsFirstOf searched line choices says here (IsShorterFrom from walked) (key_meant f.0) f.1)
         → MatchOption found (HasNoneOf searched line choices here (IsInPhaseFrom from)) (λ f. IsFirstOf searched line choices says here (IsInPhaseFrom from) (key_meant f.0) f.1)
-    phase_told None none = phase_none none
-    phase_told (Some f) first = phase_found (key_meant f.0) f.1 first
-
-  -- no length is worth a try
-  pub no_length : (told : LengthSet) → ((key : Key) → IsInPhaseFrom from key → BeginsPath searched line choices here key → HasLength told key.taken)
-      → ((length : ℕ) → HasLength told length → ⊥) → HasNoneOf searched line choices here (IsInPhaseFrom from)
-  no_length told all none key begins meant = none key.taken (all key meant begins)
+    phase_told None none = none_told searched line choices says here (IsShorterFrom from walked) (IsInPhaseFrom from) in_lengths none
+    phase_told (Some f) first =
+        first_told searched line choices says here (IsShorterFrom from walked) (IsInPhaseFrom from) (key_meant f.0) f.1 in_lengths (λ meant. meant.0) first
 
   -- ---- phase by phase
 
   -- no form takes more letters than this
-  pub few_taken : IsSearchedLexicon searched → (key : Key) → IsPossible searched line here key → key.taken ≤ MOST_LENGTH
+  pub few_taken : IsSearchedLexicon searched → (key : Key) → IsPossible searched line here key → key.taken ≤ MOST_FORM_LETTERS
   few_taken is key possible = few_letters searched line here key is possible
 
-  pub none_passed_at_first : HasNoneOf searched line choices here (IsPassedFrom from from.phase)
-  none_passed_at_first key begins (inl later, low) = omega (arith, later, low)
-  none_passed_at_first key begins (inr (phase, rest), low) = omega (arith, phase, low)
-
   module _ (is : IsSearchedLexicon searched) (phase : ℕ) (first : Key) (phase_is : first.phase ≡ phase)
-      (told : (key : Key) → key.taken ≤ MOST_LENGTH → key.phase ≡ phase → IsFrom from key ↔ IsInPhaseFrom first key)
+      (told : (key : Key) → key.taken ≤ MOST_FORM_LETTERS → key.phase ≡ phase → IsFrom from key ↔ IsInPhaseFrom first key)
       (none : HasNoneOf searched line choices here (IsPassedFrom from phase)) where
-    short : (key : Key) → BeginsPath searched line choices here key → key.taken ≤ MOST_LENGTH
+    short : (key : Key) → BeginsPath searched line choices here key → key.taken ≤ MOST_FORM_LETTERS
     short key begins = few_taken is key (begins_possible searched line choices here key begins)
 
     pub next_phase_found : (found : Key) (does : Turn) → IsFirstOf searched line choices says here (IsInPhaseFrom first) found does

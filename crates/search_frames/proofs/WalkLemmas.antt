@@ -9,9 +9,9 @@ use Rattle.lexicon_definitions.specs.Tries.{Row, child_in, walk}
 use Rattle.lexicon_definitions.proofs.TrieGrowth.{walk-child, walk-none}
 use Rattle.lexicon_definitions.proofs.TrieWalks.{walk-two}
 
--- each number of first letters below the count leads from the node to that at its place from the base on
-pub record AreWalked (rows : List Row) (node : ℕ) (letters nodes : List ℕ) (base count : ℕ) : Type 0 where
-  pub each : (taken : ℕ) → taken < count → walk rows node (take taken letters) ≡ Some (get_or nodes (base + taken) 0)
+-- each number of first letters below the count leads from the node to that at its place
+pub record AreWalked (rows : List Row) (node : ℕ) (letters nodes : List ℕ) (count : ℕ) : Type 0 where
+  pub each : (taken : ℕ) → taken < count → walk rows node (take taken letters) ≡ Some (get_or nodes taken 0)
 
 -- what an option leads to, which leads to itself
 and_then_some : (o : Option ℕ) → option_and_then (λ (x : ℕ). Some x) o ≡ o
@@ -65,32 +65,29 @@ walked_below rows node letters count taken none walks =
     ]
 
 -- the first node
-pub first_walked : (rows : List Row) (node : ℕ) (letters nodes : List ℕ) (base : ℕ) → base < length nodes
-    → AreWalked rows node letters (set nodes base node) base 1
-first_walked rows node letters nodes base low =
+pub first_walked : (rows : List Row) (node : ℕ) (letters nodes : List ℕ) → 0 < length nodes → AreWalked rows node letters (set nodes 0 node) 1
+first_walked rows node letters nodes low =
     record {
       each = λ taken l.
           let none : taken ≡ 0 = omega (arith, l) in
-          let here : get_or (set nodes base node) base 0 ≡ node = get_or-set_same nodes base node 0 low in
-          let place : base + taken ≡ base = omega (arith, none) in
-          ap (λ (t : ℕ). walk rows node (take t letters)) none ∙ ap Some (sym here) ∙ ap (λ (p : ℕ). Some (get_or (set nodes base node) p 0)) (sym place);
+          let here : get_or (set nodes 0 node) 0 0 ≡ node = get_or-set_same nodes 0 node 0 low in
+          ap (λ (t : ℕ). walk rows node (take t letters)) none ∙ ap Some (sym here) ∙ ap (λ (p : ℕ). Some (get_or (set nodes 0 node) p 0)) (sym none);
     }
 
 -- one node more
-pub more_walked : (rows : List Row) (node child : ℕ) (letters nodes : List ℕ) (base count : ℕ) → AreWalked rows node letters nodes base count
-    → base + count < length nodes → walk rows node (take count letters) ≡ Some child
-    → AreWalked rows node letters (set nodes (base + count) child) base (count + 1)
-more_walked rows node child letters nodes base count are low walked =
+pub more_walked : (rows : List Row) (node child : ℕ) (letters nodes : List ℕ) (count : ℕ) → AreWalked rows node letters nodes count
+    → count < length nodes → walk rows node (take count letters) ≡ Some child → AreWalked rows node letters (set nodes count child) (count + 1)
+more_walked rows node child letters nodes count are low walked =
     record {
       each = λ taken l.
           elim (cases_lt taken count) [
             | inl less ↦
-                let apart : base + taken ≢ base + count = omega (arith, less) in
-                are.each taken less ∙ ap Some (sym (get_or-set_other nodes (base + count) (base + taken) child 0 apart))
+                let apart : taken ≢ count = omega (arith, less) in
+                are.each taken less ∙ ap Some (sym (get_or-set_other nodes count taken child 0 apart))
             | inr more ↦
                 let last : taken ≡ count = omega (arith, l, more) in
-                subst (λ (t : ℕ). walk rows node (take t letters) ≡ Some (get_or (set nodes (base + count) child) (base + t) 0)) (sym last)
-                (walked ∙ ap Some (sym (get_or-set_same nodes (base + count) child 0 low)))
+                subst (λ (t : ℕ). walk rows node (take t letters) ≡ Some (get_or (set nodes count child) t 0)) (sym last)
+                (walked ∙ ap Some (sym (get_or-set_same nodes count child 0 low)))
           ];
     }
 

@@ -28,13 +28,12 @@ module _ (searched : SearchedLexicon) (line : Line) (here : NumberedConfiguratio
   pub place_walked : (nodes : List ℕ) → rows ≡ searched.tries.trie.rows → root ≡ root_in searched phase → lead ≡ supplied here.entrance → letters ≡ line.letters
       → here.at ≤ end → end ≤ length letters → count ≤ NODES_OF_FRAME → NODES_OF_FRAME ≤ length nodes
       → count ≤ length (take (end - here.at) (drop here.at letters)) + 1
-      → ((taken : ℕ) → taken < count → walk rows root (lead ++ take taken (take (end - here.at) (drop here.at letters))) ≡ Some (get_or nodes (0 + taken) 0))
+      → ((taken : ℕ) → taken < count → walk rows root (lead ++ take taken (take (end - here.at) (drop here.at letters))) ≡ Some (get_or nodes taken 0))
       → (taken : ℕ) → taken < count → IsNodeAmong searched line here phase (take count nodes) taken
   place_walked nodes rows_is root_is lead_is letters_is order inside few room within walked taken low =
       let long = ahead_long order inside in
       let whole = ap length letters_is in
-      let first : get_or nodes (0 + taken) 0 ≡ get_or (take count nodes) taken 0 =
-      ap (λ (n : ℕ). get_or nodes n 0) (omega arith) ∙ sym (get_or-take count nodes taken 0 low) in
+      let first : get_or nodes taken 0 ≡ get_or (take count nodes) taken 0 = sym (get_or-take count nodes taken 0 low) in
       record {
         letters = omega (arith, low, within, long, order, inside, whole);
         there = omega (arith, low, length-take-le count nodes (omega (arith, few, room)));

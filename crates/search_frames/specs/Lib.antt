@@ -3,13 +3,11 @@ pub mod Copies
 pub mod Configurations
 pub mod Frames
 pub mod Tests
-pub mod Changes
 pub mod Reached
 pub mod Guided
 pub mod Costs
 pub mod LetterTests
 pub mod Ahead
-pub mod Skips
 pub mod Turns
 pub mod WaysFrom
 pub mod Walks

@@ -1,5 +1,5 @@
 -- The state of a search as its users see it (own).
-use Rattle.std.specs.Prelude.{◌≡◌, ℕ, ◌*◌, List, length, take}
+use Rattle.std.specs.Prelude.{◌≡◌, ℕ, List, length, take}
 use Rattle.derivation.specs.declared.step.Step.{Step}
 use Rattle.search_frames.specs.declared.frame.TheConstants.{NODES_OF_FRAME}
 use Rattle.search_frames.specs.declared.cursor.Cursor.{Cursor}
@@ -29,10 +29,10 @@ with_cursor stack cursor = record { cursor = cursor; depth = stack.depth; steps 
 abbrev pub with_depth : Resumption → ℕ → Resumption
 with_depth stack depth = record { cursor = stack.cursor; depth = depth; steps = stack.steps; frames = stack.frames; nodes = stack.nodes }
 
--- there are a step and a frame's nodes for each frame
+-- there is a step for each frame, and room for the nodes along a form
 pub record IsStack (stack : Resumption) : Type 0 where
   pub steps : length stack.steps.items ≡ length stack.frames.items
-  pub nodes : length stack.nodes.items ≡ length stack.frames.items * NODES_OF_FRAME
+  pub nodes : length stack.nodes.items ≡ NODES_OF_FRAME
 
 -- nothing changes before the level, and the room and the cursor stay
 pub record KeepsBefore (level : ℕ) (old new : Resumption) : Type 0 where

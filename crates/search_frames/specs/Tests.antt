@@ -15,6 +15,10 @@ pub record IsRefused (searched : SearchedLexicon) (line : Line) (choices : List 
   pub leads_on : LeadsOn searched line choices here key → ⊥
   pub ends : Ends searched line choices here key → ⊥
 
+-- it does neither, whatever the reader chooses
+abbrev pub IsAlwaysRefused : SearchedLexicon → Line → NumberedConfiguration → Key → Type 0
+IsAlwaysRefused searched line here key = (choices : List Choice) → IsRefused searched line choices here key
+
 -- the key leads on to this configuration
 pub record LeadsTo (searched : SearchedLexicon) (line : Line) (choices : List Choice) (here : NumberedConfiguration) (key : Key) (next : Configuration) : Type 0 where
   pub leads_on : LeadsOn searched line choices here key

@@ -1,5 +1,5 @@
 -- The keys that lead on from a configuration or end the line there, whatever the grammar says (own).
-use Rattle.std.specs.Prelude.{◌≡◌, ◌≢◌, List, ◌++◌, All, Contains, map}
+use Rattle.std.specs.Prelude.{◌≢◌, List, All, Contains, map}
 use Rattle.std.specs.List.Sorted.{IsStrictlySortedBy}
 use Rattle.text_definitions.specs.Lines.{Line}
 use Rattle.segmentation_definitions.specs.Items.{Choice}
@@ -10,7 +10,7 @@ use Rattle.search_frames.specs.declared.letter_testing.LetterTest.TheVariants.{R
 use Rattle.search_frames.specs.declared.way.Way.{Way}
 use Rattle.search_frames.specs.Configurations.{NumberedConfiguration, IsPossible}
 use Rattle.search_frames.specs.Turns.{BeginsPath}
-use Rattle.search_frames.specs.LetterTests.{MayNeither, IsLetterTestOf}
+use Rattle.search_frames.specs.LetterTests.{IsLetterTestOf}
 
 -- the key of a way
 abbrev pub key_of_way : Way → Key
@@ -27,15 +27,3 @@ pub record AreAllWays (searched : SearchedLexicon) (line : Line) (choices : List
   pub each : All (IsWayFrom searched line choices here) ways
   pub all : (key : Key) → BeginsPath searched line choices here key → Contains (map key_of_way ways) key
   pub rising : IsStrictlySortedBy compare_keys (map key_of_way ways)
-
--- these are all ways from here, in the order of their keys
-pub record AreWaysFrom (searched : SearchedLexicon) (line : Line) (choices : List Choice) (here : NumberedConfiguration) (ways : List Way) : Type 0 where
-  pub each : All (IsWayFrom searched line choices here) ways
-  pub all : (key : Key) → IsPossible searched line here key → (MayNeither searched line choices here key → ⊥) → Contains (map key_of_way ways) key
-  pub rising : IsStrictlySortedBy compare_keys (map key_of_way ways)
-
--- all ways from here come after those before
-pub record AppendsWays (searched : SearchedLexicon) (line : Line) (choices : List Choice) (here : NumberedConfiguration) (old new : List Way) : Type 0 where
-  pub ways : List Way
-  pub appended : new ≡ old ++ ways
-  pub are : AreWaysFrom searched line choices here ways

@@ -1,4 +1,6 @@
 ghost use Rattle.std.specs.Prelude.{◌≡◌, ℕ, List, true, ◌+◌, ◌<◌, ◌≤◌, ◌↔◌, ◌++◌, length, take, drop, All, IsTrue, MatchOption};
+ghost use Rattle.std.specs.Bool.{OnTrue};
+ghost use Rattle.segmentation_definitions.specs.Listings.{Key as KeyValue};
 ghost use Rattle.text_definitions.specs.Lines.{Line as LineValue};
 ghost use Rattle.lexicon_definitions.specs.Leads.{Lead, leads_of};
 ghost use Rattle.lexicon_definitions.specs.Lexicons.{RuleSet as RuleSetValue};
@@ -9,7 +11,7 @@ ghost use Rattle.derivation.specs.Guides.{IsEntranceOver, entrance_of};
 ghost use Rattle.derivation.specs.Steps.{key_meant};
 ghost use Rattle.answer_paths.specs.Fronts.{supplied};
 ghost use Rattle.answer_paths.specs.Following.{MayEnter, is_start, placed_at, step_at};
-ghost use Rattle.search_frames.specs.Ahead.{FitsPlace, IsAhead, IsNextBlank, IsRuleTest, LetsLetterIn, LetsRuleIn, MayBegin};
+ghost use Rattle.search_frames.specs.Ahead.{FitsPlace, IsAhead, IsNextBlank, IsRuleTest, LetsAllIn, LetsLetterIn, LetsRuleIn, MayBegin};
 ghost use Rattle.search_frames.specs.Configurations.{IsPossible};
 ghost use Rattle.search_frames.specs.Frames.{IsConfigurationIn, numbered_of};
 ghost use Rattle.search_frames.specs.LetterTests.{IsLetterTestOf};
@@ -30,9 +32,9 @@ use sandhi_rules::RuleSet;
 /// form; and whether a form that takes a letter of the line may be entered.
 #[derive(Clone, Copy, Debug, PartialEq, Eq)]
 pub struct Ahead {
-    pub(crate) limit: u32,
-    pub(crate) may_end: bool,
-    pub(crate) enters: bool,
+    pub limit: u32,
+    pub may_end: bool,
+    pub enters: bool,
 }
 
 /// The first blank after so many letters of the line, if there is one.
@@ -197,13 +199,6 @@ impl Ahead {
         }
     }
 
-    /// How many letters of the line stand before the first blank after the place, or all where there is none.
-    pub fn limit(self) -> u32
-        ensures { result ≡ self.limit }
-    {
-        self.limit
-    }
-
     /// Whether the form of the key may be entered at the place.
     fn lets_in(self, rules: &RuleSet, place: &Configuration, key: Key) -> bool
         requires { key.rule ≤ length rules.now.rules }
@@ -236,9 +231,41 @@ impl Ahead {
         self.lets_in(rules, place, key) && is_allowed(rules, line, choices, place, key)
     }
 
+    /// Whether every form that takes so many letters may be entered at the place, as far as the line tells: nothing or a rule stands before
+    /// it, or it takes a letter that may be entered.
+    fn lets_all_in(self, place: &Configuration, taken: u32) -> bool
+        ensures { OnTrue result (LetsAllIn self place.now.entrance taken) }
+    {
+        match place.entrance {
+            Entrance::Plain(_) => taken > 0 && self.enters,
+            Entrance::Start | Entrance::Lead(_) => true,
+        }
+    }
+
+    /// Whether every key that takes so many letters fits the place whichever its rule, as far as can be told without looking at rules: no
+    /// choice is made, and a letter is taken before which a form may be entered, or nothing stands before the form but a rule.
+    pub fn fits_all(
+        self,
+        lexicon: &Lexicon,
+        line: &Line,
+        choices: &Choices,
+        place: &Configuration,
+        taken: u32,
+    ) -> bool
+        requires place { IsConfigurationIn lexicon.now line.now place.now }
+        requires ahead { IsAhead lexicon.now.lexicon.rules line.now place.now.at (numbered_of lexicon.now place.now).entrance self }
+        requires limit { place.now.at + taken ≤ self.limit }
+        ensures { OnTrue result ((key : KeyValue) → key.taken ≡ taken → IsPossible lexicon.now line.now (numbered_of lexicon.now place.now) key → MayBegin (numbered_of lexicon.now place.now).entrance key.phase → FitsPlace lexicon.now line.now choices.now (numbered_of lexicon.now place.now) key) }
+    {
+        // The line and the lexicon are those of which the contract speaks.
+        let _letters = &line.letters;
+        let _rules = lexicon.rules();
+        choices.list().is_empty() && self.lets_all_in(place, taken)
+    }
+
     /// What the key does at the place as far as the letters of the line, the blanks and the choices tell. It has no rule, goes no further
     /// than the limit, and its phase may begin.
-    pub fn test_unchanged(
+    fn test_unchanged(
         self,
         lexicon: &Lexicon,
         line: &Line,
@@ -269,16 +296,6 @@ impl Ahead {
             LetterTest::Ends
         } else {
             LetterTest::Refused
-        }
-    }
-
-    /// What a rule does where the line may end only as it may after the place, if the test says what it does where the line may end.
-    fn limited(self, test: LetterTest) -> LetterTest
-        ensures { (rules : RuleSetValue) (line : LineValue) (end phase rule : ℕ) → IsRuleTest rules line end true phase rule test → IsRuleTest rules line end self.may_end phase rule result }
-    {
-        match test {
-            LetterTest::Ends if !self.may_end => LetterTest::Refused,
-            test => test,
         }
     }
 
@@ -315,7 +332,7 @@ impl Ahead {
 
     /// What the key does at the place as far as the letters of the line, the blanks and the choices tell. It has a rule, goes no further
     /// than the limit, and its phase may begin.
-    pub fn test_rule(
+    fn test_rule(
         self,
         lexicon: &Lexicon,
         line: &Line,
@@ -343,29 +360,27 @@ impl Ahead {
         self.test_where_it_fits(lexicon, line, choices, place, Way { key, test })
     }
 
-    /// The same, where the test of the way says what its rule does after its letters if the line may end there, wherever the form begins
-    /// (`rule_test`).
-    pub fn test_kept(
+    /// What the key does at the place as far as the letters of the line, the blanks and the choices tell. It goes no further than the
+    /// limit, and its phase may begin.
+    pub fn test(
         self,
         lexicon: &Lexicon,
         line: &Line,
         choices: &Choices,
         place: &Configuration,
-        way: Way,
+        key: Key,
     ) -> LetterTest
         requires place { IsConfigurationIn lexicon.now line.now place.now }
         requires ahead { IsAhead lexicon.now.lexicon.rules line.now place.now.at (numbered_of lexicon.now place.now).entrance self }
-        requires possible { IsPossible lexicon.now line.now (numbered_of lexicon.now place.now) (key_meant way.key) }
-        requires limit { place.now.at + way.key.taken ≤ self.limit }
-        requires begins { MayBegin (numbered_of lexicon.now place.now).entrance way.key.phase }
-        requires rule { 1 ≤ way.key.rule }
-        requires test { IsRuleTest lexicon.now.lexicon.rules line.now (place.now.at + way.key.taken) true way.key.phase way.key.rule way.test }
-        ensures exact { IsLetterTestOf lexicon.now line.now choices.now (numbered_of lexicon.now place.now) (key_meant way.key) result }
+        requires possible { IsPossible lexicon.now line.now (numbered_of lexicon.now place.now) (key_meant key) }
+        requires limit { place.now.at + key.taken ≤ self.limit }
+        requires begins { MayBegin (numbered_of lexicon.now place.now).entrance key.phase }
+        ensures exact { IsLetterTestOf lexicon.now line.now choices.now (numbered_of lexicon.now place.now) (key_meant key) result }
     {
-        let kept = Way {
-            key: way.key,
-            test: self.limited(way.test),
-        };
-        self.test_where_it_fits(lexicon, line, choices, place, kept)
+        if key.rule == 0 {
+            self.test_unchanged(lexicon, line, choices, place, key)
+        } else {
+            self.test_rule(lexicon, line, choices, place, key)
+        }
     }
 }

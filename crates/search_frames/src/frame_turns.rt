@@ -2,8 +2,7 @@ ghost use Rattle.std.specs.Prelude.{◌≡◌, ◌+◌, ◌<◌, ◌≤◌, ℕ,
 ghost use Rattle.text_definitions.specs.Lines.{IsLine};
 ghost use Rattle.annotated_trie.specs.Searched.{IsSearchedLexicon};
 ghost use Rattle.derivation.specs.Steps.{key_of, key_meant};
-ghost use Rattle.search_frames.specs.Frames.{IsPlaced, ChangesFrom, here_of, step_of, frame_of};
-ghost use Rattle.search_frames.specs.Changes.{HasSet};
+ghost use Rattle.search_frames.specs.Frames.{IsPlaced, ChangesFrom, HasSet, here_of, step_of, frame_of};
 ghost use Rattle.search_frames.specs.Guided.{IsGuideOf};
 ghost use Rattle.search_frames.specs.Reached.{IsReached};
 ghost use Rattle.search_frames.specs.Costs.{HasAtMostRules, steps_of_frame};
@@ -40,7 +39,7 @@ fn first_to_try(step: &Step, to_try: ToTry) -> Key
 }
 
 /// Brings the frame at the level, counted from 0, to the key.
-fn stand_at(stack: &mut Resumption, level: usize, key: Key)
+pub(crate) fn stand_at(stack: &mut Resumption, level: usize, key: Key)
     requires stack { IsStack stack.old }
     requires there { level < length stack.old.frames.items }
     ensures { HasSet level (record (step_of stack.old level) { phase = key.phase; taken = key.taken; rule = key.rule }) (frame_of stack.old level) stack.old stack.new }
@@ -52,7 +51,7 @@ fn stand_at(stack: &mut Resumption, level: usize, key: Key)
 
 /// Brings the frame at the level, counted from 0, which has still to try what is said, to its next key that leads on or ends the line,
 /// and tells which. It leaves out keys with which no path to an answer begins, as far as the guide tells. A step is counted for each
-/// phase, each letter that is walked, each group of rules, each rule and each question to the guide.
+/// phase, each letter that is walked, each group of rules, each rule, each way that is kept and each question to the guide.
 pub fn turn<D: SearchGuide, L>(
     space: &SearchSpace<'_, D>,
     stack: &mut Resumption,

@@ -1,7 +1,7 @@
 ghost use Rattle.std.specs.Prelude.{◌≡◌, ◌+◌, ◌≤◌, length};
 ghost use Rattle.text_definitions.specs.Lines.{IsLine};
 ghost use Rattle.annotated_trie.specs.Searched.{IsSearchedLexicon};
-ghost use Rattle.derivation.specs.Steps.{key_of};
+ghost use Rattle.derivation.specs.Steps.{key_of, key_meant};
 ghost use Rattle.answer_paths.specs.Fronts.{supplied};
 ghost use Rattle.search_frames.specs.Frames.{IsConfigurationIn, numbered_of};
 ghost use Rattle.search_frames.specs.Configurations.{IsPossible};
@@ -10,23 +10,22 @@ ghost use Rattle.search_frames.specs.Reached.{IsReached};
 ghost use Rattle.search_frames.specs.FirstKeys.{IsJudged};
 ghost use Rattle.search_frames.specs.LetterTests.{IsLetterTestOf};
 ghost use Rattle.search_frames.specs.WaysFrom.{IsWayFrom, key_of_way};
-ghost use Rattle.segmentation_definitions.specs.Listings.{Key};
 
 use super::Configuration;
 use super::guiding::{SearchGuide, Turn};
-use super::search_space::SearchSpace;
 use super::letter_testing::{LetterTest, test_letters};
+use super::search_space::SearchSpace;
 use super::testing::{Test, test_in_grammar};
 use super::way::Way;
-use derivation::Step;
+use derivation::{Key, Step};
 use outside::Steps;
 
-/// What the key of this phase does at the place, where the test says what its letters do: nothing where it neither leads on nor ends the
-/// line, or where the guide says that no answer goes on from where it leads.
+/// What the key, which is possible at the place, does there, where the test says what its letters do: nothing where it neither leads on nor
+/// ends the line, or where the guide says that no answer goes on from where it leads.
 fn judge_test<D: SearchGuide, L>(
     space: &SearchSpace<'_, D>,
     place: &Configuration,
-    phase: u32,
+    key: Key,
     test: LetterTest,
     steps: &mut Steps<L>,
 ) -> Turn
@@ -35,10 +34,12 @@ fn judge_test<D: SearchGuide, L>(
     requires guide { IsGuideOf space.now.lexicon.now space.now.line.now space.now.choices.now (D.covers space.now.guide.now) (D.says space.now.guide.now) }
     requires place { IsConfigurationIn space.now.lexicon.now space.now.line.now place.now }
     requires reached { IsReached space.now.lexicon.now space.now.line.now space.now.choices.now (numbered_of space.now.lexicon.now place.now) }
-    ensures judged { (key : Key) → key.phase ≡ phase → IsPossible space.now.lexicon.now space.now.line.now (numbered_of space.now.lexicon.now place.now) key → IsLetterTestOf space.now.lexicon.now space.now.line.now space.now.choices.now (numbered_of space.now.lexicon.now place.now) key test → IsJudged space.now.lexicon.now space.now.line.now space.now.choices.now (D.says space.now.guide.now) (numbered_of space.now.lexicon.now place.now) key result }
+    requires possible { IsPossible space.now.lexicon.now space.now.line.now (numbered_of space.now.lexicon.now place.now) (key_meant key) }
+    requires test { IsLetterTestOf space.now.lexicon.now space.now.line.now space.now.choices.now (numbered_of space.now.lexicon.now place.now) (key_meant key) test }
+    ensures judged { IsJudged space.now.lexicon.now space.now.line.now space.now.choices.now (D.says space.now.guide.now) (numbered_of space.now.lexicon.now place.now) (key_meant key) result }
     ensures steps { steps.new ≤ steps.old + 1 }
 {
-    match test_in_grammar(space.lexicon, place, phase, test) {
+    match test_in_grammar(space.lexicon, place, key.phase, test) {
         Test::Refused => Turn::Nothing,
         Test::Ends => Turn::Ends,
         Test::LeadsOn(next) => {
@@ -71,7 +72,7 @@ pub(crate) fn judge<D: SearchGuide, L>(
     ensures steps { steps.new ≤ steps.old + 1 }
 {
     let test = test_letters(space.lexicon, space.line, space.choices, place, step);
-    judge_test(space, place, step.phase, test, steps)
+    judge_test(space, place, step.key(), test, steps)
 }
 
 /// What the way does at the place, from which it is one: the same.
@@ -90,5 +91,5 @@ pub(crate) fn judge_way<D: SearchGuide, L>(
     ensures judged { IsJudged space.now.lexicon.now space.now.line.now space.now.choices.now (D.says space.now.guide.now) (numbered_of space.now.lexicon.now place.now) (key_of_way way.now) result }
     ensures steps { steps.new ≤ steps.old + 1 }
 {
-    judge_test(space, place, way.key.phase, way.test, steps)
+    judge_test(space, place, way.key, way.test, steps)
 }

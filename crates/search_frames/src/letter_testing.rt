@@ -44,9 +44,5 @@ pub fn test_letters(
     if ahead.limit < place.at + key.taken || !may_begin(rules, place, key.phase) {
         return LetterTest::Refused;
     }
-    if key.rule == 0 {
-        ahead.test_unchanged(lexicon, line, choices, place, key)
-    } else {
-        ahead.test_rule(lexicon, line, choices, place, key)
-    }
+    ahead.test(lexicon, line, choices, place, key)
 }

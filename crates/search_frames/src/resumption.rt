@@ -7,8 +7,7 @@ use shared_trie::Node;
 use std::alloc::Global;
 
 /// The state of a backtracking search (after Huet 2005). `steps` and `frames` have one length, the room of the search, and
-/// their first `depth` entries are in use. `nodes` is room for the nodes along a form, and has `NODES_OF_FRAME` for each frame, of
-/// which the first `walked` of a frame that walks its phases itself are the nodes that it has walked in its present phase.
+/// their first `depth` entries are in use. `nodes` is room for the nodes along a form (`NODES_OF_FRAME`).
 #[derive(Debug, Drop)]
 pub struct Resumption {
     pub(crate) cursor: Cursor,

@@ -1,5 +1,4 @@
-ghost use Rattle.std.specs.Prelude.{◌≡◌, ◌*◌, ◌^◌, ◌<◌, length, IfOk};
-ghost use Rattle.search_frames.specs.declared.frame.TheConstants.{NODES_OF_FRAME};
+ghost use Rattle.std.specs.Prelude.{◌≡◌, length, IfOk};
 ghost use Rattle.search_frames.specs.declared.cursor.Cursor.TheVariants as cursor;
 ghost use Rattle.search_frames.specs.Stacks.{IsStack, depth_of, cursor_in, room_of};
 
@@ -21,7 +20,6 @@ fn filled<T: Copy>(alloc: Global, value: T, count: usize) -> Result<Vec<T>, Memo
 /// A stack with room for so many frames, of which none is in use; it stands before the first answer. Refused only for want of
 /// memory.
 pub fn new_stack(alloc: Global, lexicon: &Lexicon, room: usize) -> Result<Resumption, Memory>
-    requires few { room * NODES_OF_FRAME < 2 ^ 32 }
     ensures cursor { IfOk result (λ stack. cursor_in stack ≡ cursor.Before) }
     ensures empty { IfOk result (λ stack. depth_of stack ≡ 0) }
     ensures room { IfOk result (λ stack. room_of stack ≡ room) }
@@ -39,8 +37,6 @@ pub fn new_stack(alloc: Global, lexicon: &Lexicon, room: usize) -> Result<Resump
     let frame = Frame {
         entrance: Entrance::Start,
         state: lexicon.automaton().start(),
-        walked: 0,
-        next: 0,
     };
     let node = lexicon.tries().store().root(0);
     Ok(Resumption {
@@ -48,6 +44,6 @@ pub fn new_stack(alloc: Global, lexicon: &Lexicon, room: usize) -> Result<Resump
         depth: 0,
         steps: filled(alloc, step, room)?,
         frames: filled(alloc, frame, room)?,
-        nodes: filled(alloc, node, room * NODES_OF_FRAME)?,
+        nodes: filled(alloc, node, NODES_OF_FRAME)?,
     })
 }

@@ -1,7 +1,8 @@
-ghost use Rattle.std.specs.Prelude.{◌≡◌, List, length};
+ghost use Rattle.std.specs.Prelude.{◌≡◌, ◌<◌, List, length};
 ghost use Rattle.text_definitions.specs.Lines.{IsLine, Line as LineValue};
 ghost use Rattle.segmentation_definitions.specs.Items.{Choice};
 ghost use Rattle.segmentation_definitions.specs.Listings.{Key};
+ghost use Rattle.phase_automaton.specs.Automata.{IsStateIn};
 ghost use Rattle.derivation.specs.Steps.{key_of};
 ghost use Rattle.answer_paths.specs.Fronts.{supplied};
 ghost use Rattle.search_frames.specs.Frames.{IsConfigurationIn, numbered_of};
@@ -31,6 +32,8 @@ pub(crate) fn test_in_grammar(
     phase: u32,
     test: LetterTest,
 ) -> Test
+    requires state { IsStateIn lexicon.now.machine place.now.state }
+    requires phase { phase < length lexicon.now.lexicon.rules.names }
     ensures exact { (line : LineValue) (choices : List Choice) (key : Key) → IsConfigurationIn lexicon.now line place.now → key.phase ≡ phase → IsPossible lexicon.now line (numbered_of lexicon.now place.now) key → IsLetterTestOf lexicon.now line choices (numbered_of lexicon.now place.now) key test → IsTestOf lexicon.now line choices (numbered_of lexicon.now place.now) key result }
 {
     // Its contract says that the lexicon can be searched.
@@ -76,6 +79,8 @@ pub fn test_key(
     requires possible { IsPossible lexicon.now line.now (numbered_of lexicon.now place.now) (key_of step.now) }
     ensures exact { IsTestOf lexicon.now line.now choices.now (numbered_of lexicon.now place.now) (key_of step.now) result }
 {
+    // Its contract says that the lexicon can be searched.
+    lexicon.rules();
     let test = test_letters(lexicon, line, choices, place, step);
     test_in_grammar(lexicon, place, step.phase, test)
 }

@@ -1,4 +1,6 @@
 ghost use Rattle.std.specs.Prelude.{◌≡◌, ◌+◌, ◌*◌, ◌<◌, ◌≤◌, ◌↔◌, ℕ, length, slice_index, Contains, MatchOption};
+ghost use Rattle.std.specs.Ordering.{nat_cmp};
+ghost use Rattle.std.specs.List.Sorted.{IsStrictlySortedBy};
 ghost use Rattle.text_definitions.specs.Lines.{IsLine};
 ghost use Rattle.lexicon_definitions.specs.Leads.{leads_of};
 ghost use Rattle.annotated_trie.specs.Choices.{choices_of};
@@ -6,7 +8,6 @@ ghost use Rattle.annotated_trie.specs.Searched.{IsSearchedLexicon};
 ghost use Rattle.derivation.specs.Guides.{IsEntranceOver};
 ghost use Rattle.derivation.specs.Steps.{key_meant};
 ghost use Rattle.answer_paths.specs.Fronts.{supplied};
-ghost use Rattle.search_frames.specs.declared.frame.TheConstants.{NODES_OF_FRAME};
 ghost use Rattle.search_frames.specs.declared.frame.TheConstants.{NODES_OF_FRAME};
 ghost use Rattle.search_frames.specs.Frames.{IsConfigurationIn, numbered_of};
 ghost use Rattle.lexicon_definitions.specs.declared.limits.TheConstants.{MOST_FORM_LETTERS};
@@ -20,9 +21,9 @@ ghost use Rattle.segmentation_definitions.specs.Listings.{Key as DefinedKey};
 use super::Configuration;
 use super::guiding::{SearchGuide, Turn};
 use super::judging::judge;
-use super::way_turns::turn_among_ways;
 use super::search_space::SearchSpace;
 use super::walking::{supplied_letters, walk_place};
+use super::way_turns::turn_among_ways;
 use derivation::{Key, Step};
 use lexicon_definitions::MOST_FORM_LETTERS;
 use outside::Steps;
@@ -108,6 +109,17 @@ fn turn_by_rule<D: SearchGuide, L>(
     }
 }
 
+/// The rules of the group, which rise, from this one on.
+fn rules_from(group: &[u32], first: u32) -> &[u32]
+    requires { IsStrictlySortedBy nat_cmp group.now }
+    ensures left { (rule : ℕ) → Contains result.now rule ↔ (Contains group.now rule × (first ≤ rule)) }
+    ensures rising { IsStrictlySortedBy nat_cmp result.now }
+    ensures few { length result.now ≤ length group.now }
+{
+    let place = group.partition_point(|rule| *rule < first);
+    &group[place..]
+}
+
 /// The first key with a rule that does not come before `from` and takes as many letters, and what it does. Only the rules whose `w` begins
 /// with the next letter of the line are looked at, from that of `from` on.
 fn turn_in_group<D: SearchGuide, L>(
@@ -132,8 +144,8 @@ fn turn_in_group<D: SearchGuide, L>(
     ensures steps { (most : ℕ) → HasAtMostRules space.now.lexicon.now.tries most → steps.new ≤ steps.old + (1 + 2 * most) }
 {
     let group = space.lexicon.tries().choices_with(node, letter, steps);
-    let first = group.partition_point(|rule| *rule < from.rule);
-    for rule in &group[first..] {
+    let rules = rules_from(group, from.rule);
+    for rule in rules {
         match turn_by_rule(space, place, node, from, *rule, steps) {
             Some(found) => return Some(found),
             None => {}
@@ -234,9 +246,9 @@ fn turn_among_nodes<D: SearchGuide, L>(
         (λ found. IsFirstOf space.now.lexicon.now space.now.line.now space.now.choices.now (D.says space.now.guide.now) (numbered_of space.now.lexicon.now place.now) (IsShorterFrom (key_meant from) (length nodes.now)) (key_meant found.0) found.1) }
     ensures steps { (most : ℕ) → HasAtMostRules space.now.lexicon.now.tries most → steps.new ≤ steps.old + length nodes.now * steps_of_node most }
 {
-    for taken in (0..nodes.len() as u32).rev() {
-        let first = first_with(from, taken);
-        match turn_at_node(space, place, nodes[taken as usize], first, steps) {
+    for taken in (0..nodes.len()).rev() {
+        let first = first_with(from, taken as u32);
+        match turn_at_node(space, place, nodes[taken], first, steps) {
             Some(found) => return Some(found),
             None => {}
         }
@@ -264,7 +276,7 @@ fn turn_in_phase<D: SearchGuide, L>(
     ensures first { MatchOption result (HasNoneOf space.now.lexicon.now space.now.line.now space.now.choices.now (numbered_of space.now.lexicon.now place.now) (IsInPhaseFrom (key_meant from)))
         (λ found. IsFirstOf space.now.lexicon.now space.now.line.now space.now.choices.now (D.says space.now.guide.now) (numbered_of space.now.lexicon.now place.now) (IsInPhaseFrom (key_meant from)) (key_meant found.0) found.1) }
     ensures room { length nodes.new.items ≡ length nodes.old.items }
-    ensures steps { (most : ℕ) → HasAtMostRules space.now.lexicon.now.tries most → steps.new ≤ steps.old + steps_of_phase most }
+    ensures steps { (most : ℕ) → HasAtMostRules space.now.lexicon.now.tries most → steps.new < steps.old + steps_of_phase most }
 {
     let automaton = space.lexicon.automaton();
     if !automaton.live(automaton.step(place.state, from.phase)) {

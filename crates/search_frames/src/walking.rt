@@ -4,10 +4,10 @@ ghost use Rattle.lexicon_definitions.specs.Tries.{walk};
 ghost use Rattle.derivation.specs.Guides.{IsEntranceOver, entrance_of};
 ghost use Rattle.answer_paths.specs.Fronts.{supplied};
 ghost use Rattle.search_frames.specs.declared.frame.TheConstants.{NODES_OF_FRAME};
-ghost use Rattle.search_frames.specs.Frames.{IsConfigurationIn, IsPlaced, IsFrame, HasPhasesFrom, ChangesFrom, configuration_at, numbered_of, step_of};
+ghost use Rattle.search_frames.specs.Frames.{IsConfigurationIn, numbered_of};
 ghost use Rattle.search_frames.specs.Walks.{IsNodeAt, IsNodeAmong};
 
-use super::{Configuration, NODES_OF_FRAME, Resumption};
+use super::{Configuration, NODES_OF_FRAME};
 use annotated_trie::Lexicon;
 use derivation::Entrance;
 use outside::Steps;
@@ -46,36 +46,33 @@ fn walk_word<L>(store: &Store, node: Node, word: &[Letter], steps: &mut Steps<L>
 }
 
 /// Walks from the node along the letters as far as they lead, and puts the node itself and those after one letter, two letters and so
-/// on at the places from `base` on. Answers how many nodes these are.
+/// on at the first places of `nodes`. Answers how many nodes these are.
 fn walk_letters<L>(
     store: &Store,
     node: Node,
     letters: &[Letter],
     nodes: &mut Vec<Node>,
-    base: usize,
     steps: &mut Steps<L>,
 ) -> u32
     requires there { node < length store.now.rows }
-    requires room { base + NODES_OF_FRAME ≤ length nodes.old.items }
+    requires room { NODES_OF_FRAME ≤ length nodes.old.items }
     requires short { (word : List ℕ) → IsSome (walk store.now.rows node word) → length word < NODES_OF_FRAME }
     ensures count { length nodes.new.items ≡ length nodes.old.items }
-    ensures before { take base nodes.new.items ≡ take base nodes.old.items }
     ensures few { result ≤ NODES_OF_FRAME }
     ensures within { result ≤ length letters.now + 1 }
-    ensures walked { (taken : ℕ) → taken < result → walk store.now.rows node (take taken letters.now) ≡ Some (slice_index_or nodes.new.items (base + taken) 0) }
+    ensures walked { (taken : ℕ) → taken < result → walk store.now.rows node (take taken letters.now) ≡ Some (slice_index_or nodes.new.items taken 0) }
     ensures all { (taken : ℕ) → taken ≤ length letters.now → IsSome (walk store.now.rows node (take taken letters.now)) → taken < result }
     ensures some { 0 < result }
-    ensures steps { steps.new ≤ steps.old + result }
-    ensures few_steps { steps.new ≤ steps.old + length letters.now }
+    ensures steps { steps.new ≤ steps.old + length letters.now }
 {
-    nodes[base] = node;
+    nodes[0] = node;
     let mut walked = 1;
     let mut reached = node;
     for letter in letters {
         let Some(child) = store.child(reached, *letter, steps) else {
             break;
         };
-        nodes[base + walked] = child;
+        nodes[walked] = child;
         walked += 1;
         reached = child;
     }
@@ -83,69 +80,29 @@ fn walk_letters<L>(
 }
 
 /// Walks from the root along the lead and then along the letters as far as they lead, and puts the node after the lead and those after
-/// one letter more, two letters more and so on at the places from `base` on. Answers how many nodes these are.
+/// one letter more, two letters more and so on at the first places of `nodes`. Answers how many nodes these are.
 fn walk_fronts<L>(
     store: &Store,
     root: Node,
     lead: &[Letter],
     letters: &[Letter],
     nodes: &mut Vec<Node>,
-    base: usize,
     steps: &mut Steps<L>,
 ) -> u32
     requires there { root < length store.now.rows }
-    requires room { base + NODES_OF_FRAME ≤ length nodes.old.items }
+    requires room { NODES_OF_FRAME ≤ length nodes.old.items }
     requires short { (word : List ℕ) → IsSome (walk store.now.rows root word) → length word < NODES_OF_FRAME }
     ensures count { length nodes.new.items ≡ length nodes.old.items }
-    ensures before { take base nodes.new.items ≡ take base nodes.old.items }
     ensures few { result ≤ NODES_OF_FRAME }
     ensures within { result ≤ length letters.now + 1 }
-    ensures walked { (taken : ℕ) → taken < result → walk store.now.rows root (lead.now ++ take taken letters.now) ≡ Some (slice_index_or nodes.new.items (base + taken) 0) }
+    ensures walked { (taken : ℕ) → taken < result → walk store.now.rows root (lead.now ++ take taken letters.now) ≡ Some (slice_index_or nodes.new.items taken 0) }
     ensures all { (taken : ℕ) → taken ≤ length letters.now → IsSome (walk store.now.rows root (lead.now ++ take taken letters.now)) → taken < result }
-    ensures steps { steps.new ≤ steps.old + NODES_OF_FRAME }
-    ensures both { steps.new + result ≤ steps.old + NODES_OF_FRAME + length letters.now }
+    ensures steps { steps.new + result ≤ steps.old + NODES_OF_FRAME + length letters.now }
 {
     match walk_word(store, root, lead, steps) {
         None => 0,
-        Some(node) => walk_letters(store, node, letters, nodes, base, steps),
+        Some(node) => walk_letters(store, node, letters, nodes, steps),
     }
-}
-
-/// Begins the phase, counted from 0, at the frame: walks to the nodes to which the letters that the rule before supplies and
-/// then those of the line lead from its root.
-pub(crate) fn walk_phase<L>(
-    lexicon: &Lexicon,
-    line: &Line,
-    stack: &mut Resumption,
-    level: usize,
-    phase: u32,
-    steps: &mut Steps<L>,
-)
-    requires placed { IsPlaced lexicon.now line.now stack.old level }
-    requires phase { phase < length lexicon.now.lexicon.rules.names }
-    ensures frame { IsFrame lexicon.now line.now stack.new level }
-    ensures place { configuration_at stack.new level ≡ configuration_at stack.old level }
-    ensures begun { (step_of stack.new level).phase ≡ phase }
-    ensures phases { HasPhasesFrom lexicon.now line.now phase stack.new level }
-    ensures changes { ChangesFrom level stack.old stack.new }
-    ensures steps { steps.new ≤ steps.old + NODES_OF_FRAME }
-{
-    let store = lexicon.tries().store();
-    let lead = supplied_letters(lexicon.rules(), stack.frames[level].entrance);
-    let at = stack.steps[level].at as usize;
-    let walked = walk_fronts(
-        store,
-        store.root(phase),
-        lead,
-        &line.letters.as_slice()[at..],
-        &mut stack.nodes,
-        level * NODES_OF_FRAME,
-        steps,
-    );
-    stack.steps[level].phase = phase;
-    let frame = &mut stack.frames[level];
-    frame.walked = walked;
-    frame.next = 0;
 }
 
 /// Walks in the trie of the phase, counted from 0, along the letters that the rule before supplies to a form at the place and then along
@@ -166,6 +123,7 @@ pub(crate) fn walk_place<L>(
     requires room { NODES_OF_FRAME ≤ length nodes.old.items }
     ensures room { length nodes.new.items ≡ length nodes.old.items }
     ensures few { result ≤ NODES_OF_FRAME }
+    ensures within { result ≤ most + 1 }
     ensures walked { (taken : ℕ) → taken < result → IsNodeAmong lexicon.now line.now (numbered_of lexicon.now place.now) phase (take result nodes.new.items) taken }
     ensures all { (taken node : ℕ) → taken ≤ most → place.now.at + taken ≤ length line.now.letters → IsNodeAt lexicon.now line.now (numbered_of lexicon.now place.now) phase taken node → taken < result }
     ensures steps { steps.new + result + 1 ≤ steps.old + 2 * NODES_OF_FRAME }
@@ -181,7 +139,6 @@ pub(crate) fn walk_place<L>(
         lead,
         &letters[at..end],
         nodes,
-        0,
         steps,
     )
 }

@@ -16,7 +16,6 @@ use super::search_space::SearchSpace;
 use super::way::{MOST_WAYS, Way};
 use derivation::Key;
 use outside::Steps;
-use std::cmp::Ordering;
 
 /// The first key of the ways that does not come before `from`, and what it does. The ways are from the place, and each path from there
 /// begins with one of them.
@@ -40,7 +39,7 @@ pub(crate) fn turn_among_ways<D: SearchGuide, L>(
 {
     for way in ways {
         steps.tick();
-        if way.key.compare(&from) == Ordering::Less {
+        if way.key.compare(&from).is_lt() {
             continue;
         }
         match judge_way(space, place, way, steps) {

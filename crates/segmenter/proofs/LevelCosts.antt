@@ -11,7 +11,7 @@ use Rattle.segmentation_definitions.specs.StepBounds.{looks_at_one, advance_boun
 use Rattle.derivation.specs.declared.entrance.Entrance.{Entrance}
 use Rattle.annotated_trie.specs.Searched.{SearchedLexicon, IsSearchedLexicon}
 use Rattle.search_frames.specs.declared.resumption.Resumption.{Resumption}
-use Rattle.search_frames.specs.Configurations.{NumberedConfiguration, after, opening, rules_in}
+use Rattle.search_frames.specs.Configurations.{NumberedConfiguration, after, opening}
 use Rattle.search_frames.specs.Frames.{here_of}
 use Rattle.search_frames.specs.Reached.{rank}
 use Rattle.search_frames.specs.Costs.{HasAtMostRules, steps_of_frame}

@@ -8,7 +8,6 @@ use Rattle.listing_laws.specs.Ways.{IsPath}
 use Rattle.derivation.specs.Steps.{steps_of}
 use Rattle.annotated_trie.specs.Searched.{SearchedLexicon}
 use Rattle.search_frames.specs.Copies.{IsCopyOf}
-use Rattle.search_frames.specs.declared.frame.TheConstants.{NODES_OF_FRAME}
 use Rattle.search_frames.specs.declared.cursor.Cursor.{Cursor as StackCursor}
 use Rattle.search_frames.specs.declared.cursor.Cursor.TheVariants as cursor
 use Rattle.search_frames.specs.declared.resumption.Resumption.{Resumption}
@@ -60,7 +59,7 @@ copy_keeps level old new is copy = record {
   room = ap length copy.frames;
   is_stack = record {
     steps = ap length copy.steps ∙ is.steps ∙ sym (ap length copy.frames);
-    nodes = ap length copy.nodes ∙ is.nodes ∙ ap (λ n. n * NODES_OF_FRAME) (sym (ap length copy.frames));
+    nodes = ap length copy.nodes ∙ is.nodes;
   };
   steps = ap (take level) copy.steps;
   frames = ap (take level) copy.frames;

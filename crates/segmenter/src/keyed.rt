@@ -13,9 +13,8 @@ ghost use Rattle.derivation.specs.Steps.{key_meant, keys_meant};
 ghost use Rattle.segmenter.specs.GivenKeys.{StandsUnlessRefused};
 
 use derivation::Key;
-use outside::Steps;
 use search_frames::{
-    Configuration, Resumption, SearchGuide, SearchSpace, Test, begin_walk, seek, test_key,
+    Configuration, Resumption, SearchGuide, SearchSpace, Test, open_frame, seek, test_key,
 };
 
 /// Makes the frame at the level, counted from 0, one that stands at the configuration and at the key, and tells what the key does
@@ -36,8 +35,7 @@ fn stand_at_key<D: SearchGuide>(
     ensures stands { StandsUnlessRefused space.now.lexicon.now space.now.line.now stack.new level (numbered_of space.now.lexicon.now place) (key_meant key) result }
     ensures changes { KeepsBefore level stack.old stack.new }
 {
-    let mut steps = Steps::<()>::new();
-    begin_walk(space.lexicon, space.line, stack, level, place, &mut steps);
+    open_frame(space.lexicon, space.line, stack, level, place);
     if !seek(space.lexicon, space.line, stack, level, key) {
         return Test::Refused;
     }

@@ -1,6 +1,6 @@
 -- A key adds its item where some state goes further by it; so after each rule, front and phase the items of those so far are there, and
 -- at the end those of all keys. A rule whose u was seen after a front adds nothing there, since its item is that of the rule with the same u.
-use Rattle.std.proofs.Common.{◌≡◌, ◌≢◌, ◌⊎◌, ℕ, zero, suc, ◌+◌, ◌<◌, ◌≤◌, inl, inr, IsSome, Option, Some, None, true, List, [], ◌∷◌, ◌++◌, length, take, drop, get_or, All, Contains, sym, ap, subst, ◌∙◌, refl, arith}
+use Rattle.std.proofs.Common.{◌≡◌, ◌≢◌, ◌⊎◌, ℕ, zero, suc, ◌+◌, ◌<◌, ◌≤◌, inl, inr, IsSome, Option, Some, None, List, [], ◌∷◌, ◌++◌, length, take, drop, get_or, All, Contains, sym, ap, subst, ◌∙◌, refl, arith}
 use Rattle.std.specs.Prelude.{IsTrue}
 use Rattle.std.proofs.lemmas.Bool.{cases_lt}
 use Rattle.std.proofs.lemmas.List.{take_more}
@@ -10,7 +10,7 @@ use Rattle.lexicon_definitions.specs.Lexicons.{rule_of}
 use Rattle.lexicon_definitions.specs.Tries.{row_of}
 use Rattle.segmentation_definitions.specs.Items.{Item, Choice, item_of}
 use Rattle.segmentation_definitions.specs.Listings.{Key}
-use Rattle.phase_automaton.specs.Automata.{StateMachine, next_state, is_accepting}
+use Rattle.phase_automaton.specs.Automata.{next_state, is_accepting}
 use Rattle.answer_paths.specs.Fronts.{supplied}
 use Rattle.answer_paths.specs.Following.{MayStand}
 use Rattle.annotated_trie.specs.Choices.{choices_with}
@@ -27,7 +27,7 @@ use Rattle.summary_chart.specs.declared.state_set.StateSet.{StateSet}
 use Rattle.summary_chart.specs.declared.table.Table.{Table}
 use Rattle.summary_chart.specs.StateSets.{HasState, IsStateOf, IsLedTo}
 use Rattle.summary_chart.specs.Fronts.{IsFrontAt, AreFronts}
-use Rattle.summary_chart.specs.Spreading.{AreGoingFurther, GoesFurtherBy, OnlyKey, leads_in, standing_with, place_with}
+use Rattle.summary_chart.specs.Spreading.{AreGoingFurther, GoesFurtherBy, OnlyKey, leads_in, standing_with}
 use Rattle.summary_chart.specs.Summaries.{IsItemBy, IsItemFrom, IsItemInPhase, IsItemAtFront, IsItemByRule, AddsItems, HasSeen, item_with, key_with, made_of}
 use Rattle.summary_chart.proofs.FurtherKeys.{possible_if_further}
 use Rattle.summary_chart.proofs.FrontKeys.{ends_if_unchanged, among_written, letters_left}

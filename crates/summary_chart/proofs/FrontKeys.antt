@@ -1,17 +1,16 @@
 -- The keys with a front: no change where a form ends at its node, and the node's choices; of these only those whose w begins with the
 -- letter of the line after the front can be written there.
-use Rattle.std.proofs.Common.{◌≡◌, ◌≢◌, ℕ, zero, suc, ◌+◌, ◌-◌, ◌<◌, ◌≤◌, ◌==◌, inl, inr, Bool, true, false, cond, List, [], ◌∷◌, length, map, take, drop, get_or, All, Contains, sym, ap, subst, ◌∙◌, refl, arith}
+use Rattle.std.proofs.Common.{◌≡◌, ◌≢◌, ℕ, zero, suc, ◌+◌, ◌-◌, ◌<◌, ◌≤◌, ◌==◌, inl, inr, Bool, true, false, cond, List, [], ◌∷◌, length, map, drop, get_or, All, Contains, sym, ap, subst, ◌∙◌, refl, arith}
 use Rattle.std.specs.List.{filter}
 use Rattle.std.proofs.lemmas.Bool.{eq-eqb, false≢true}
 use Rattle.std.proofs.lemmas.List.{get_or-take, get_or-drop, get_or-map, get_or_default}
 use Rattle.std.proofs.lemmas.List.Elements.{All-filter}
 use Rattle.std.proofs.lemmas.List.Sums.{length-filter, count_by-le-length}
 use Rattle.text_definitions.specs.Lines.{Line}
-use Rattle.lexicon_definitions.specs.Rules.{Rule, no_change}
+use Rattle.lexicon_definitions.specs.Rules.{no_change}
 use Rattle.lexicon_definitions.specs.Lexicons.{rule_of}
-use Rattle.lexicon_definitions.specs.Tries.{row_of, walk}
+use Rattle.lexicon_definitions.specs.Tries.{row_of}
 use Rattle.segmentation_definitions.specs.Items.{Choice}
-use Rattle.segmentation_definitions.specs.Listings.{Key}
 use Rattle.segmentation_definitions.proofs.Coverings.{some_letters, rule_at_number}
 use Rattle.list_laws.proofs.Elements.{written_within}
 use Rattle.list_laws.proofs.Sorted.{All-from_Contains, Contains-cons_cases, Contains-first, Contains-later, not_Contains-nil}
@@ -24,7 +23,7 @@ use Rattle.summary_chart.specs.Fronts.{IsFrontAt, front_after}
 use Rattle.summary_chart.specs.Summaries.{key_with}
 
 -- an element that passes a filter stays
-filter_keeps : (p : ℕ → Bool) (xs : List ℕ) (x : ℕ) → Contains xs x → p x ≡ true → Contains (filter p xs) x
+pub filter_keeps : (p : ℕ → Bool) (xs : List ℕ) (x : ℕ) → Contains xs x → p x ≡ true → Contains (filter p xs) x
 filter_keeps p [] x among passes = absurd (not_Contains-nil x among)
 filter_keeps p (y ∷ ys) x among passes =
     let go : (b : Bool) → p y ≡ b → Contains (cond b (y ∷ filter p ys) (filter p ys)) x =

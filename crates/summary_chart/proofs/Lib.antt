@@ -21,7 +21,13 @@ mod RisingItems
 mod SameU
 mod Walks
 mod FrontKeys
+mod AppendedWays
+mod OrderedKeys
+mod WayKeys
 mod CollectedItems
 mod AnswerItems
 mod TableItems
+mod WaysElsewhere
+mod KeptWays
+mod ChartWays
 mod SummarySteps

@@ -13,7 +13,6 @@ use Rattle.search_frames.specs.Configurations.{NumberedConfiguration, ways_in}
 use Rattle.search_frames.specs.Frames.{IsConfigurationIn, numbered_of}
 use Rattle.search_frames.specs.Tests.{LeadsTo}
 use Rattle.search_frames.specs.Reached.{IsReached}
-use Rattle.search_frames.proofs.ReachedConfigurations.{reached_after}
 use Rattle.summary_chart.specs.declared.state_set.StateSet.{StateSet}
 use Rattle.summary_chart.specs.declared.table.Table.{Table}
 use Rattle.summary_chart.specs.StateSets.{HasState}
@@ -21,7 +20,7 @@ use Rattle.summary_chart.specs.Tables.{IsTable, IsIn, IsIndexed, AreEntrances, C
 use Rattle.summary_chart.specs.Spreading.{AreGoingFurther, GoesFurther, EveryKey, leads_in}
 use Rattle.summary_chart.specs.Charts.{HasReached, IsAliveFrom, IsChartTable, IsAlive, index_of_place, set_count}
 use Rattle.summary_chart.proofs.TableStates.{stands_in, at_index, same_configuration, index_within}
-use Rattle.summary_chart.proofs.ProgramPlaces.{place_of_reached}
+use Rattle.summary_chart.proofs.ProgramPlaces.{led_place}
 use Rattle.summary_chart.proofs.ReachedPlaces.{later_if_led}
 
 -- ---- going further and paths
@@ -41,21 +40,13 @@ module _ (searched : SearchedLexicon) (line : Line) (choices : List Choice) (tab
       → GoesFurther searched line choices table here EveryKey
   further_if_path [] here reached path = absurd path
   further_if_path (key ∷ []) here reached path = (key, tt, inl path)
-  further_if_path (key ∷ later ∷ keys) here reached (next, (leads, next_is), path) =
-      let there = subst (IsReached searched line choices) (sym next_is) (reached_after searched line choices here key is reached leads) in
-      let found = place_of_reached searched line choices next is there in
-      let alive : IsAlive searched line choices found.place = record {
-        reached = subst (IsReached searched line choices) (sym found.is) there;
-        path = subst (HasPath (ways_in searched line choices)) (sym found.is) (later ∷ keys, path);
-      } in (
-        key,
-        tt,
-        inr (
-          found.place,
-          record { leads_on = leads; is = found.is ∙ next_is; within = found.within },
-          has.living found.place found.within alive,
-        ),
-      )
+  further_if_path (key ∷ later ∷ keys) here reached (next, leads, path) =
+      let led = led_place searched line choices here next key is reached leads in
+      let alive : IsAlive searched line choices led.place = record {
+        reached = led.reached;
+        path = subst (HasPath (ways_in searched line choices)) (sym led.is) (later ∷ keys, path);
+      } in
+      (key, tt, inr (led.place, led.leads, has.living led.place led.leads.within alive))
 
 module _ (searched : SearchedLexicon) (line : Line) (choices : List Choice) (index at : ℕ) (entrance : Entrance) (old : Table)
     (is : IsSearchedLexicon searched) (from : IsAliveFrom searched line choices (index + 1) old)

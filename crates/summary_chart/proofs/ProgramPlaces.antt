@@ -13,6 +13,7 @@ use Rattle.segmentation_definitions.specs.Derivations.{Step, rule_after, phases_
 use Rattle.segmentation_definitions.specs.Items.{Choice}
 use Rattle.segmentation_definitions.specs.Configurations.{Entrance, entrance_after, entrance_after_step, GoesOn, last_letter}
 use Rattle.segmentation_definitions.specs.Configurations as defined
+use Rattle.segmentation_definitions.specs.Listings.{Key}
 use Rattle.answer_paths.proofs.AnswerFronts.{led_lawful}
 use Rattle.answer_paths.proofs.FrontParts.{left_after}
 use Rattle.phase_automaton.specs.Automata.{IsStateIn}
@@ -21,9 +22,11 @@ use Rattle.derivation.specs.declared.entrance.Entrance.{Entrance as ProgramEntra
 use Rattle.derivation.specs.declared.entrance.Entrance.TheVariants as program
 use Rattle.annotated_trie.specs.Searched.{SearchedLexicon, IsSearchedLexicon}
 use Rattle.search_frames.specs.declared.configuration.Configuration.{Configuration}
-use Rattle.search_frames.specs.Configurations.{NumberedConfiguration, rules_in}
+use Rattle.search_frames.specs.Configurations.{NumberedConfiguration, rules_in, ways_in}
 use Rattle.search_frames.specs.Frames.{IsConfigurationIn, numbered_of}
+use Rattle.search_frames.specs.Tests.{LeadsTo}
 use Rattle.search_frames.specs.Reached.{IsReached}
+use Rattle.search_frames.proofs.ReachedConfigurations.{reached_after}
 
 -- an entrance of the program that stands for this one
 pub record HasEntrance (leads : List Lead) (entrance : Entrance) : Type 0 where
@@ -87,4 +90,23 @@ place_of_reached searched line choices here is reached =
         state_in = subst (IsStateIn searched.machine) (sym reached.state) (is.recognizes.within (phases_of reached.front));
       };
       is = λ i. record { at = here.at; entrance = entrance_is i; state = here.state };
+    }
+
+-- where a key leads on to is such a place, which a search comes to
+pub record HasLed (searched : SearchedLexicon) (line : Line) (choices : List Choice) (here next : NumberedConfiguration) (key : Key) : Type 0 where
+  pub place : Configuration
+  pub is : numbered_of searched place ≡ next
+  pub leads : LeadsTo searched line choices here key place
+  pub reached : IsReached searched line choices (numbered_of searched place)
+
+pub led_place : (searched : SearchedLexicon) (line : Line) (choices : List Choice) (here next : NumberedConfiguration) (key : Key) → IsSearchedLexicon searched
+    → IsReached searched line choices here → (ways_in searched line choices).leads here key next → HasLed searched line choices here next key
+led_place searched line choices here next key is reached (leads, next_is) =
+    let there = subst (IsReached searched line choices) (sym next_is) (reached_after searched line choices here key is reached leads) in
+    let found = place_of_reached searched line choices next is there in
+    record {
+      place = found.place;
+      is = found.is;
+      leads = record { leads_on = leads; is = found.is ∙ next_is; within = found.within };
+      reached = subst (IsReached searched line choices) (sym found.is) there;
     }

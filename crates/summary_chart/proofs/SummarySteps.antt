@@ -1,31 +1,32 @@
--- A pass takes as many steps for each set of the table at most, which is within the bound, since two such passes are.
+-- A pass takes as many steps for each set of the table at most, which is within the bound, since four such passes are.
 use Rattle.std.proofs.Common.{◌≡◌, ℕ, ◌+◌, ◌*◌, ◌≤◌, length, ap, sym, subst, arith}
 use Rattle.std.proofs.Math.Nat.{mul-le-mul_left, mul-le-mul_right}
 use Rattle.text_definitions.specs.Lines.{Line}
 use Rattle.segmentation_definitions.specs.StepBounds.{chart_bound, configuration_count}
 use Rattle.annotated_trie.specs.Searched.{SearchedLexicon, IsSearchedLexicon}
+use Rattle.search_frames.specs.declared.way.TheConstants.{MOST_WAYS}
 use Rattle.search_frames.specs.Configurations.{rules_in}
 use Rattle.summary_chart.specs.Spreading.{leads_in}
 use Rattle.summary_chart.specs.Charts.{set_count}
 use Rattle.summary_chart.specs.Summaries.{steps_of_items, steps_of_summary}
 use Rattle.summary_chart.proofs.PassCosts.{frame_and_skip, one_frame_more}
 
--- twice what a place takes is at most 96 steps for each look
-place_within : (phases most : ℕ) → 2 * (phases * (1 + (8 + 65 + 65 * (3 * most + 4)))) ≤ 96 * (phases * 65 * (most + 1))
+-- four times what a place takes is at most 96 steps for each look
+place_within : (phases most : ℕ) → 4 * (phases * (1 + (8 + 65 + 65 * (3 * most + 4)))) ≤ 96 * (phases * 65 * (most + 1))
 place_within phases most =
-    let each : 2 * (1 + (8 + 65 + 65 * (3 * most + 4))) ≤ 96 * (65 * (most + 1)) = omega arith in
+    let each : 4 * (1 + (8 + 65 + 65 * (3 * most + 4))) ≤ 96 * (65 * (most + 1)) = omega arith in
     let all = mul-le-mul_left phases each in
-    let twice : phases * (2 * (1 + (8 + 65 + 65 * (3 * most + 4)))) ≡ 2 * (phases * (1 + (8 + 65 + 65 * (3 * most + 4)))) = omega arith in
+    let four : phases * (4 * (1 + (8 + 65 + 65 * (3 * most + 4)))) ≡ 4 * (phases * (1 + (8 + 65 + 65 * (3 * most + 4)))) = omega arith in
     let looks : phases * (96 * (65 * (most + 1))) ≡ 96 * (phases * 65 * (most + 1)) = omega arith in
-    omega (arith, all, twice, looks)
+    omega (arith, all, four, looks)
 
-all_within : (sets place looks : ℕ) → 2 * place ≤ 96 * looks → 2 * (sets * place) ≤ 3 * looks * (sets * 32)
+all_within : (sets place looks : ℕ) → 4 * place ≤ 96 * looks → 4 * (sets * place) ≤ 3 * looks * (sets * 32)
 all_within sets place looks few =
     let all = mul-le-mul_left sets few in
-    let twice : sets * (2 * place) ≡ 2 * (sets * place) = omega arith in
+    let four : sets * (4 * place) ≡ 4 * (sets * place) = omega arith in
     let same : sets * (96 * looks) ≡ 96 * (looks * sets) = omega arith in
     let bound : 3 * looks * (sets * 32) ≡ 96 * (looks * sets) = omega arith in
-    omega (arith, all, twice, same, bound)
+    omega (arith, all, four, same, bound)
 
 -- one front more, and one phase more
 pub one_more_within : (start count each now then : ℕ) → now ≤ start + count * each → then ≤ now + each → then ≤ start + (count + 1) * each
@@ -34,6 +35,14 @@ one_more_within start count each now then spent more = one_frame_more start coun
 -- fewer fronts, or phases, than there are take no more
 pub fewer_within : (count all each : ℕ) → count ≤ all → count * each ≤ all * each
 fewer_within count all each few = mul-le-mul_right each few
+
+-- a place takes more than three steps for each of as many ways as are kept from one, since there is a phase
+pub ways_within : (searched : SearchedLexicon) (most count : ℕ) → IsSearchedLexicon searched → count ≤ MOST_WAYS → 3 * count ≤ steps_of_items searched most
+ways_within searched most count is few =
+    let one : 1 ≤ length (rules_in searched).names = is.limits.some_phase in
+    let all : 1 * (1 + (8 + 65 + 65 * (3 * most + 4))) ≤ length (rules_in searched).names * (1 + (8 + 65 + 65 * (3 * most + 4))) =
+    mul-le-mul_right (1 + (8 + 65 + 65 * (3 * most + 4))) one in
+    omega (arith, all, few)
 
 module _ (searched : SearchedLexicon) (line : Line) (most : ℕ) where
   -- one place more
@@ -48,10 +57,19 @@ module _ (searched : SearchedLexicon) (line : Line) (most : ℕ) where
       let all : index * steps_of_items searched most ≤ set_count searched line * steps_of_items searched most = mul-le-mul_right (steps_of_items searched most) low in
       omega (arith, spent, all)
 
-  -- two passes take less than all looks
-  twice_within : IsSearchedLexicon searched
-      → 2 * steps_of_summary searched line most ≤ chart_bound searched.lexicon most (length line.letters) (length (leads_in searched))
-  twice_within is =
+  -- and where each place is gone over twice
+  pub places_twice : (index start now : ℕ) → index ≤ set_count searched line → now ≤ start + index * (2 * steps_of_items searched most)
+      → now ≤ start + 2 * steps_of_summary searched line most
+  places_twice index start now low spent =
+      let all : index * (2 * steps_of_items searched most) ≤ set_count searched line * (2 * steps_of_items searched most) =
+      mul-le-mul_right (2 * steps_of_items searched most) low in
+      let twice : set_count searched line * (2 * steps_of_items searched most) ≡ 2 * (set_count searched line * steps_of_items searched most) = omega arith in
+      omega (arith, spent, all, twice)
+
+  -- four passes take less than all looks
+  four_within : IsSearchedLexicon searched
+      → 4 * steps_of_summary searched line most ≤ chart_bound searched.lexicon most (length line.letters) (length (leads_in searched))
+  four_within is =
       let phases = length (rules_in searched).names in
       let leads = length (leads_in searched) in
       let looks = phases * 65 * (most + 1) in
@@ -60,13 +78,13 @@ module _ (searched : SearchedLexicon) (line : Line) (most : ℕ) where
       let count : length searched.lexicon.phases ≡ phases = is.lexicon.count in
       let same_looks = ap (λ (n : ℕ). n * 65 * (most + 1)) count in
       let width : leads + 51 ≡ 51 + leads = omega arith in
-      subst (λ (n : ℕ). 2 * steps_of_summary searched line most ≤ 3 * n * configuration_count (length line.letters) leads) (sym same_looks)
-      (subst (λ (n : ℕ). 2 * steps_of_summary searched line most ≤ 3 * looks * ((length line.letters + 1) * n * 32)) width all)
+      subst (λ (n : ℕ). 4 * steps_of_summary searched line most ≤ 3 * n * configuration_count (length line.letters) leads) (sym same_looks)
+      (subst (λ (n : ℕ). 4 * steps_of_summary searched line most ≤ 3 * looks * ((length line.letters + 1) * n * 32)) width all)
 
-  pub passes_within : (start now : ℕ) → IsSearchedLexicon searched → now ≤ start + 2 * steps_of_summary searched line most
+  pub passes_within : (start now : ℕ) → IsSearchedLexicon searched → now ≤ start + 4 * steps_of_summary searched line most
       → now ≤ start + chart_bound searched.lexicon most (length line.letters) (length (leads_in searched))
-  passes_within start now is spent = (let bound = twice_within is in omega (arith, spent, bound))
+  passes_within start now is spent = (let bound = four_within is in omega (arith, spent, bound))
 
   pub summary_within : (start now : ℕ) → IsSearchedLexicon searched → now ≤ start + steps_of_summary searched line most
       → now ≤ start + chart_bound searched.lexicon most (length line.letters) (length (leads_in searched))
-  summary_within start now is spent = (let bound = twice_within is in omega (arith, spent, bound))
+  summary_within start now is spent = (let bound = four_within is in omega (arith, spent, bound))

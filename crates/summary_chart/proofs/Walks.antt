@@ -1,19 +1,18 @@
 -- The nodes of fronts: each number of letters more leads from where the letters so far lead; where they lead nowhere, more of them
 -- lead nowhere, so no possible key takes as many.
-use Rattle.std.proofs.Common.{◌≡◌, ℕ, ◌+◌, ◌<◌, ◌≤◌, inl, inr, Option, Some, None, List, [], ◌∷◌, ◌++◌, length, take, drop, get_or, sym, ap, subst, ◌∙◌, refl, arith, length-append, length-drop}
-use Rattle.std.specs.Prelude.{IsSome, is_some}
+use Rattle.std.proofs.Common.{◌≡◌, ℕ, ◌<◌, ◌≤◌, inl, inr, Some, None, List, [], ◌∷◌, ◌++◌, length, take, drop, get_or, sym, ap, subst, ◌∙◌, refl, arith, length-append, length-drop}
+use Rattle.std.specs.Prelude.{is_some}
 use Rattle.std.proofs.lemmas.Bool.{cases_lt}
 use Rattle.std.proofs.lemmas.List.{get_or_append_left, get_or_at}
 use Rattle.text_definitions.specs.Lines.{Line}
 use Rattle.lexicon_definitions.specs.Tries.{Row, walk}
 use Rattle.lexicon_definitions.proofs.TrieWalks.{walk-two}
-use Rattle.segmentation_definitions.specs.Listings.{Key}
 use Rattle.answer_paths.specs.Fronts.{supplied}
 use Rattle.annotated_trie.specs.Searched.{SearchedLexicon, IsSearchedLexicon}
-use Rattle.search_frames.specs.Configurations.{NumberedConfiguration, IsPossible, rules_in}
+use Rattle.search_frames.specs.Configurations.{NumberedConfiguration, rules_in}
 use Rattle.search_frames.proofs.PossibleKeys.{root_in, possible_walks}
 use Rattle.search_frames.proofs.WalkLemmas.{nowhere_after}
-use Rattle.summary_chart.specs.Fronts.{AreWalkedFrom, AreFronts, IsFrontAt, front_after}
+use Rattle.summary_chart.specs.Fronts.{AreWalkedFrom, AreFronts, front_after}
 
 -- each number of first letters below that of the nodes leads from the node to the one there
 pub record AreWalkedBelow (rows : List Row) (node : ℕ) (letters nodes : List ℕ) : Type 0 where

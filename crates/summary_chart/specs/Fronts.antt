@@ -26,8 +26,10 @@ pub record IsFrontAt (searched : SearchedLexicon) (line : Line) (here : Numbered
   pub within : here.at + taken ≤ length line.letters
   pub walked : walk searched.tries.trie.rows (slice_index_or searched.tries.trie.roots phase 0) (front_after line here taken) ≡ Some node
 
--- for each number of letters below that of the nodes the front leads to the one there, and no possible key takes more
-pub record AreFronts (searched : SearchedLexicon) (line : Line) (here : NumberedConfiguration) (phase : ℕ) (nodes : List ℕ) : Type 0 where
+-- for each number of letters below that of the nodes the front leads to the one there and goes no further than the limit, and no possible
+-- key that goes no further takes more
+pub record AreFronts (searched : SearchedLexicon) (line : Line) (here : NumberedConfiguration) (phase limit : ℕ) (nodes : List ℕ) : Type 0 where
   pub few : length nodes ≤ NODES_OF_FRAME
   pub each : (taken : ℕ) → taken < length nodes → IsFrontAt searched line here phase taken (slice_index_or nodes taken 0)
-  pub all : (key : Key) → IsPossible searched line here key → key.phase ≡ phase → key.taken < length nodes
+  pub near : (taken : ℕ) → taken < length nodes → here.at + taken ≤ limit
+  pub all : (key : Key) → IsPossible searched line here key → key.phase ≡ phase → here.at + key.taken ≤ limit → key.taken < length nodes

@@ -5,3 +5,4 @@ pub mod Fronts
 pub mod Charts
 pub mod Summaries
 pub mod PlaceWays
+pub mod Memos

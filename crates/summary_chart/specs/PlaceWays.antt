@@ -1,5 +1,5 @@
 -- The ways from places of a table, kept one after another (own).
-use Rattle.std.specs.Prelude.{◌≡◌, ℕ, ◌+◌, ◌-◌, ◌*◌, ◌<◌, ◌≤◌, ◌⊎◌, List, ◌++◌, length, take, drop, map, All, Contains}
+use Rattle.std.specs.Prelude.{◌≡◌, ℕ, ◌+◌, ◌-◌, ◌*◌, ◌<◌, ◌≤◌, ◌⊎◌, Option, Some, None, List, [], ◌∷◌, ◌++◌, length, take, drop, map, All, Contains}
 use Rattle.std.specs.declared.cmp.Ordering.{Ordering}
 use Rattle.std.specs.Ordering.{nat_cmp}
 use Rattle.std.specs.List.Sorted.{IsStrictlySortedBy}
@@ -16,12 +16,13 @@ use Rattle.search_frames.specs.LetterTests.{MayNeither}
 use Rattle.search_frames.specs.Tests.{LeadsTo}
 use Rattle.search_frames.specs.WaysFrom.{IsWayFrom, key_of_way}
 use Rattle.derivation.specs.declared.entrance.Entrance.{Entrance}
+use Rattle.summary_chart.specs.declared.place_ways.PlaceWays.{PlaceWays}
 use Rattle.summary_chart.specs.declared.place_ways.Stop.{Stop}
 use Rattle.summary_chart.specs.declared.state_set.StateSet.{StateSet}
 use Rattle.summary_chart.specs.declared.table.Table.{Table}
 use Rattle.summary_chart.specs.declared.passes.TheConstants.{SETS_FOR_A_WAY}
 use Rattle.summary_chart.specs.StateSets.{IsStateOf}
-use Rattle.summary_chart.specs.Spreading.{standing_with}
+use Rattle.summary_chart.specs.Spreading.{IsLedByPhase, standing_with}
 use Rattle.summary_chart.specs.Tables.{IsIn, IsEntrance}
 use Rattle.summary_chart.specs.Charts.{IsChartTable, index_of_place, set_count}
 
@@ -49,7 +50,8 @@ LeadsOnOrEnds searched line choices here key =
     Ends searched line choices here key ⊎ ((next : Configuration) × LeadsTo searched line choices here key next)
 
 -- ways from here were appended, in the order of their keys: those of the keys that are told by this
-pub record AppendsWays (searched : SearchedLexicon) (line : Line) (choices : List Choice) (here : NumberedConfiguration) (IsTold : Key → Type 0) (old new : List Way) : Type 0 where
+pub record AppendsWays (searched : SearchedLexicon) (line : Line) (choices : List Choice) (here : NumberedConfiguration)
+    (IsTold : Key → Type 0) (old new : List Way) : Type 0 where
   pub ways : List Way
   pub appended : new ≡ old ++ ways
   pub each : All (IsWayFrom searched line choices here) ways
@@ -57,6 +59,22 @@ pub record AppendsWays (searched : SearchedLexicon) (line : Line) (choices : Lis
   pub rising : IsStrictlySortedBy compare_keys (map key_of_way ways)
   pub all : (key : Key) → IsTold key → IsPossible searched line here key → (MayNeither searched line choices here key → ⊥)
       → Contains (map key_of_way ways) key
+
+-- a stop for the index was put in, with ways from here: those by phases to which some state of the set leads, no more than are kept from one
+-- place, and stops and ways no more than this together
+pub record AddsStop (searched : SearchedLexicon) (line : Line) (choices : List Choice) (here : NumberedConfiguration) (set : StateSet)
+    (index most : ℕ) (old new : PlaceWays) (stop : Stop) : Type 0 where
+  pub appends : AppendsWays searched line choices here (IsLedByPhase searched.machine set) old.ways.items new.ways.items
+  pub few : length new.ways.items ≤ length old.ways.items + MOST_WAYS
+  pub is : stop ≡ record { index = index; first = length old.ways.items; end = length new.ways.items }
+  pub added : new.stops.items ≡ old.stops.items ++ stop ∷ []
+  pub room : length new.stops.items + length new.ways.items ≤ most
+
+-- such a stop was put in, or all stays as it was
+abbrev pub HasKept : SearchedLexicon → Line → List Choice → NumberedConfiguration → StateSet → ℕ → ℕ → PlaceWays → PlaceWays → Option Stop
+    → Type 0
+HasKept searched line choices here set index most old new None = (new.stops.items ≡ old.stops.items) × (new.ways.items ≡ old.ways.items)
+HasKept searched line choices here set index most old new (Some stop) = AddsStop searched line choices here set index most old new stop
 
 -- each key that leads on from a place with one of these states, or ends the line, is that of a way
 abbrev pub HasEachKey : SearchedLexicon → Line → List Choice → ℕ → Entrance → StateSet → List Way → Type 0
@@ -66,7 +84,8 @@ HasEachKey searched line choices at entrance set ways =
 
 -- these are ways from the place in the order of their keys, no more than are kept from one place; and where the table has the place, each
 -- key that leads on from there or ends the line is that of one
-pub record AreWaysOf (searched : SearchedLexicon) (line : Line) (choices : List Choice) (table : Table) (place : Configuration) (ways : List Way) : Type 0 where
+pub record AreWaysOf (searched : SearchedLexicon) (line : Line) (choices : List Choice) (table : Table) (place : Configuration)
+    (ways : List Way) : Type 0 where
   pub each : All (IsWayFrom searched line choices (numbered_of searched place)) ways
   pub all : IsIn table place → (key : Key) → LeadsOnOrEnds searched line choices (numbered_of searched place) key
       → Contains (map key_of_way ways) key
@@ -87,12 +106,14 @@ abbrev pub AreWaysAt : List Stop → List Way → ℕ → List Way → Type 0
 AreWaysAt stops ways index found = (stop : Stop) × Contains stops stop × (stop.index ≡ index) × (found ≡ ways_of ways stop)
 
 -- each stop has the ways of its places
-pub record HaveWays (searched : SearchedLexicon) (line : Line) (choices : List Choice) (table : Table) (stops : List Stop) (ways : List Way) : Type 0 where
+pub record HaveWays (searched : SearchedLexicon) (line : Line) (choices : List Choice) (table : Table) (stops : List Stop)
+    (ways : List Way) : Type 0 where
   pub are : AreStops stops (length ways)
   pub each : All (HasWays searched line choices table ways) stops
 
 -- and the stops stand before the index
-pub record HaveWaysBefore (searched : SearchedLexicon) (line : Line) (choices : List Choice) (index : ℕ) (table : Table) (stops : List Stop) (ways : List Way) : Type 0 where
+pub record HaveWaysBefore (searched : SearchedLexicon) (line : Line) (choices : List Choice) (index : ℕ) (table : Table)
+    (stops : List Stop) (ways : List Way) : Type 0 where
   pub have : HaveWays searched line choices table stops ways
   pub before : All (λ stop. stop.index < index) stops
 

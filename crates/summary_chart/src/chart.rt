@@ -8,6 +8,7 @@ ghost use Rattle.summary_chart.specs.Charts.{IsOpenTable, CoversPlace, says_of, 
 ghost use Rattle.summary_chart.specs.Summaries.{steps_of_summary};
 ghost use Rattle.summary_chart.specs.Spreading.{leads_in};
 
+use super::memo::Memo;
 use super::passes::{keep_living, reach};
 use super::place_ways::PlaceWays;
 use super::state_set::StateSet;
@@ -81,8 +82,14 @@ impl Chart {
             stops: Vec::with_capacity(alloc, letters)?,
             ways: Vec::with_capacity(alloc, letters)?,
         };
-        reach(lexicon, line, choices, &mut nodes, &mut table, &mut kept, steps)?;
-        keep_living(lexicon, line, choices, &kept, &mut nodes, &mut table, steps)?;
+        let mut memo = Memo::new(alloc);
+        reach(
+            lexicon, line, choices, &mut nodes, &mut table, &mut kept, &mut memo, steps,
+        )?;
+        memo.clear();
+        keep_living(
+            lexicon, line, choices, &kept, &mut nodes, &mut table, &mut memo, steps,
+        )?;
         Ok(Chart { table, kept })
     }
 }

@@ -1,7 +1,9 @@
-ghost use Rattle.std.specs.Prelude.{◌≡◌, ◌++◌, ◌∷◌, [], ◌+◌, ◌*◌, ◌<◌, ◌≤◌, ℕ, length, All, OnOk};
+ghost use Rattle.std.specs.Prelude.{◌≡◌, ◌⊎◌, ◌++◌, ◌∷◌, [], ◌+◌, ◌*◌, ◌<◌, ◌≤◌, ℕ, length, All, OnOk};
 ghost use Rattle.text_definitions.specs.Lines.{IsLine};
+ghost use Rattle.lexicon_definitions.specs.Lexicons.{rule_of};
 ghost use Rattle.derivation.specs.Steps.{key_meant};
 ghost use Rattle.annotated_trie.specs.Searched.{IsSearchedLexicon};
+ghost use Rattle.search_frames.specs.Ahead.{IsAhead, MayBegin};
 ghost use Rattle.search_frames.specs.Frames.{IsConfigurationIn, numbered_of};
 ghost use Rattle.search_frames.specs.Configurations.{IsPossible};
 ghost use Rattle.search_frames.specs.Costs.{HasAtMostRules};
@@ -10,7 +12,7 @@ ghost use Rattle.summary_chart.specs.Fronts.{IsFrontAt};
 ghost use Rattle.summary_chart.specs.PlaceWays.{HasEachKey};
 ghost use Rattle.summary_chart.specs.Tables.{IsTable};
 ghost use Rattle.summary_chart.specs.Spreading.{leads_in};
-ghost use Rattle.summary_chart.specs.Summaries.{item_with, AddsItems, HasSeen, IsCollected, IsItemBy, IsItemByRule, IsItemAtFront, IsItemInPhase, IsItemFrom, steps_of_front, steps_of_fronts, steps_of_items};
+ghost use Rattle.summary_chart.specs.Summaries.{item_with, made_of, AddsItems, HasSeen, IsCollected, IsItemBy, IsItemByRule, IsItemAtFront, IsItemInPhase, IsItemFrom, steps_of_front, steps_of_fronts, steps_of_items};
 
 use super::collected::Collected;
 use super::gathering::{states_by_key, states_by_way};
@@ -24,7 +26,7 @@ use derivation::{Key, Step};
 use outside::Steps;
 use phoneme::{Line, Memory};
 use reader_choices::Choices;
-use search_frames::{Configuration, Way, supplied_letters};
+use search_frames::{Ahead, Configuration, Way, may_begin, supplied_letters};
 use shared_trie::Node;
 use std::alloc::Global;
 
@@ -110,6 +112,8 @@ fn put_item<L>(
     requires collected { IsCollected lexicon.now.lexicon.rules collected.old }
     ensures collected { OnOk result (IsCollected lexicon.now.lexicon.rules collected.new) }
     ensures items { OnOk result (collected.new.items.items ≡ collected.old.items.items ++ item_with lexicon.now line.now place.now.at place.now.entrance (key_meant key) ∷ []) }
+    ensures made { OnOk result ((other : ℕ) → other ≤ length lexicon.now.lexicon.rules.rules
+        → (made_of collected.new other ≡ made_of collected.old other) ⊎ ((rule_of lexicon.now.lexicon.rules other).u ≡ (rule_of lexicon.now.lexicon.rules key.rule).u)) }
     ensures steps { steps.new ≡ steps.old + 2 }
 {
     let rules = lexicon.rules();
@@ -135,6 +139,7 @@ fn collect_key<L>(
     line: &Line,
     choices: &Choices,
     place: &Configuration,
+    ahead: Ahead,
     states: StateSet,
     key: Key,
     table: &Table,
@@ -144,6 +149,9 @@ fn collect_key<L>(
     requires searched { IsSearchedLexicon lexicon.now }
     requires line { IsLine line.now }
     requires place { IsConfigurationIn lexicon.now line.now place.now }
+    requires ahead { IsAhead lexicon.now.lexicon.rules line.now place.now.at (numbered_of lexicon.now place.now).entrance ahead }
+    requires limit { place.now.at + key.taken ≤ ahead.limit }
+    requires begins { MayBegin (numbered_of lexicon.now place.now).entrance key.phase }
     requires possible { IsPossible lexicon.now line.now (numbered_of lexicon.now place.now) (key_meant key) }
     requires table { IsTable (leads_in lexicon.now) (length line.now.letters) table.now }
     requires collected { IsCollected lexicon.now.lexicon.rules collected.old }
@@ -153,21 +161,10 @@ fn collect_key<L>(
         → HasSeen lexicon.now line.now place.now.at place.now.entrance key.phase key.taken since collected.new) }
     ensures steps { steps.new ≤ steps.old + 2 }
 {
-    let rules = lexicon.rules();
-    let step = Step {
-        phase: key.phase,
-        rule: key.rule,
-        at: place.at,
-        lead: supplied_letters(rules, place.entrance).len() as u32,
-        taken: key.taken,
-    };
-    if states_by_key(lexicon, line, choices, place, states, &step, table).is_empty() {
+    if states_by_key(lexicon, line, choices, place, ahead, states, key, table).is_empty() {
         return Ok(());
     }
-    steps.tick();
-    steps.tick();
-    let item = item_of_step(alloc, rules, line, place.entrance, &step)?;
-    collected.put(rules, key.rule, item)
+    put_item(alloc, lexicon, line, place, key, collected, steps)
 }
 
 /// Puts in the items of the rules, each of which is possible after this front, by which some state of the set goes further; where there are
@@ -178,6 +175,7 @@ fn collect_rules<L>(
     line: &Line,
     choices: &Choices,
     place: &Configuration,
+    ahead: Ahead,
     states: StateSet,
     phase: u32,
     taken: u32,
@@ -189,6 +187,9 @@ fn collect_rules<L>(
     requires searched { IsSearchedLexicon lexicon.now }
     requires line { IsLine line.now }
     requires place { IsConfigurationIn lexicon.now line.now place.now }
+    requires ahead { IsAhead lexicon.now.lexicon.rules line.now place.now.at (numbered_of lexicon.now place.now).entrance ahead }
+    requires limit { place.now.at + taken ≤ ahead.limit }
+    requires begins { MayBegin (numbered_of lexicon.now place.now).entrance phase }
     requires possible { All (λ rule. IsPossible lexicon.now line.now (numbered_of lexicon.now place.now) (record { phase = phase; taken = taken; rule = rule })) rules.now }
     requires table { IsTable (leads_in lexicon.now) (length line.now.letters) table.now }
     requires collected { IsCollected lexicon.now.lexicon.rules collected.old }
@@ -209,7 +210,7 @@ fn collect_rules<L>(
             rule: *rule,
         };
         collect_key(
-            alloc, lexicon, line, choices, place, states, key, table, collected, steps,
+            alloc, lexicon, line, choices, place, ahead, states, key, table, collected, steps,
         )?;
     }
     Ok(())
@@ -223,6 +224,7 @@ fn collect_front<L>(
     line: &Line,
     choices: &Choices,
     place: &Configuration,
+    ahead: Ahead,
     states: StateSet,
     phase: u32,
     taken: u32,
@@ -234,6 +236,9 @@ fn collect_front<L>(
     requires searched { IsSearchedLexicon lexicon.now }
     requires line { IsLine line.now }
     requires place { IsConfigurationIn lexicon.now line.now place.now }
+    requires ahead { IsAhead lexicon.now.lexicon.rules line.now place.now.at (numbered_of lexicon.now place.now).entrance ahead }
+    requires limit { place.now.at + taken ≤ ahead.limit }
+    requires begins { MayBegin (numbered_of lexicon.now place.now).entrance phase }
     requires front { IsFrontAt lexicon.now line.now (numbered_of lexicon.now place.now) phase taken node }
     requires table { IsTable (leads_in lexicon.now) (length line.now.letters) table.now }
     requires collected { IsCollected lexicon.now.lexicon.rules collected.old }
@@ -250,7 +255,7 @@ fn collect_front<L>(
             rule: 0,
         };
         collect_key(
-            alloc, lexicon, line, choices, place, states, key, table, collected, steps,
+            alloc, lexicon, line, choices, place, ahead, states, key, table, collected, steps,
         )?;
     }
     let end = place.at as usize + taken as usize;
@@ -259,7 +264,8 @@ fn collect_front<L>(
     };
     let rules = tries.choices_with(node, *letter, steps);
     collect_rules(
-        alloc, lexicon, line, choices, place, states, phase, taken, rules, table, collected, steps,
+        alloc, lexicon, line, choices, place, ahead, states, phase, taken, rules, table, collected,
+        steps,
     )
 }
 
@@ -271,6 +277,7 @@ fn collect_phase<L>(
     line: &Line,
     choices: &Choices,
     place: &Configuration,
+    ahead: Ahead,
     states: StateSet,
     phase: u32,
     nodes: &mut Vec<Node>,
@@ -281,6 +288,8 @@ fn collect_phase<L>(
     requires searched { IsSearchedLexicon lexicon.now }
     requires line { IsLine line.now }
     requires place { IsConfigurationIn lexicon.now line.now place.now }
+    requires ahead { IsAhead lexicon.now.lexicon.rules line.now place.now.at (numbered_of lexicon.now place.now).entrance ahead }
+    requires begins { MayBegin (numbered_of lexicon.now place.now).entrance phase }
     requires phase { phase < length lexicon.now.lexicon.rules.names }
     requires table { IsTable (leads_in lexicon.now) (length line.now.letters) table.now }
     requires collected { IsCollected lexicon.now.lexicon.rules collected.old }
@@ -288,7 +297,7 @@ fn collect_phase<L>(
     ensures adds { OnOk result (AddsItems (IsItemInPhase lexicon.now line.now choices.now table.now place.now.at place.now.entrance states phase) collected.old.items.items collected.new.items.items) }
     ensures steps { (most : ℕ) → HasAtMostRules lexicon.now.tries most → steps.new ≤ steps.old + steps_of_fronts most }
 {
-    walk_fronts(lexicon, line, place, phase, nodes, steps)?;
+    walk_fronts(lexicon, line, place, phase, ahead.limit, nodes, steps)?;
     for taken in 0..nodes.len() {
         collect_front(
             alloc,
@@ -296,6 +305,7 @@ fn collect_phase<L>(
             line,
             choices,
             place,
+            ahead,
             states,
             phase,
             taken as u32,
@@ -331,14 +341,19 @@ pub(crate) fn collect<L>(
     ensures adds { OnOk result (AddsItems (IsItemFrom lexicon.now line.now choices.now table.now place.now.at place.now.entrance states) collected.old.items.items collected.new.items.items) }
     ensures steps { (most : ℕ) → HasAtMostRules lexicon.now.tries most → steps.new ≤ steps.old + steps_of_items lexicon.now most }
 {
-    let phases = lexicon.rules().phases().len();
+    let rules = lexicon.rules();
+    let ahead = Ahead::of(rules, line, place);
+    let phases = rules.phases().len();
     for phase in 0..phases as u32 {
         steps.tick();
-        if states_after(lexicon.automaton(), states, phase).is_empty() {
+        if states_after(lexicon.automaton(), states, phase).is_empty()
+            || !may_begin(rules, place, phase)
+        {
             continue;
         }
         collect_phase(
-            alloc, lexicon, line, choices, place, states, phase, nodes, table, collected, steps,
+            alloc, lexicon, line, choices, place, ahead, states, phase, nodes, table, collected,
+            steps,
         )?;
     }
     Ok(())

@@ -3,54 +3,61 @@ ghost use Rattle.text_definitions.specs.Lines.{IsLine};
 ghost use Rattle.derivation.specs.Steps.{key_meant, key_of};
 ghost use Rattle.answer_paths.specs.Fronts.{supplied};
 ghost use Rattle.annotated_trie.specs.Searched.{IsSearchedLexicon};
+ghost use Rattle.annotated_trie.specs.Choices.{choices_of};
+ghost use Rattle.search_frames.specs.Ahead.{IsAhead, MayBegin};
 ghost use Rattle.search_frames.specs.Frames.{IsConfigurationIn, numbered_of};
 ghost use Rattle.search_frames.specs.Configurations.{IsPossible};
 ghost use Rattle.search_frames.specs.Costs.{HasAtMostRules};
 ghost use Rattle.search_frames.specs.WaysFrom.{IsWayFrom, key_of_way};
 ghost use Rattle.summary_chart.specs.Fronts.{IsFrontAt};
 ghost use Rattle.summary_chart.specs.PlaceWays.{HasEachKey};
+ghost use Rattle.summary_chart.specs.Memos.{AreLiving, LivesBy};
+ghost use Rattle.summary_chart.specs.StateSets.{HasState};
 ghost use Rattle.summary_chart.specs.Tables.{IsTable};
 ghost use Rattle.summary_chart.specs.Spreading.{AreGoingFurther, GathersMore, EveryKey, OnlyKey, IsByRule, IsAtFront, IsInPhase, leads_in};
 ghost use Rattle.summary_chart.specs.Summaries.{steps_of_front, steps_of_fronts, steps_of_items};
 
+use super::memo::{Memo, Work};
 use super::state_set::StateSet;
-use super::state_steps::{accepted_states, states_after, states_into};
+use super::state_steps::{accepted_states, accepting_states, states_after, states_into};
 use super::table::Table;
 use super::walking::walk_fronts;
 use annotated_trie::Lexicon;
-use derivation::{Key, Step};
+use derivation::Key;
 use outside::Steps;
-use phoneme::{Line, Memory};
+use phoneme::{Letter, Line, Memory};
 use reader_choices::Choices;
-use search_frames::{Configuration, LetterTest, Way, supplied_letters, test_letters};
+use search_frames::{Ahead, Configuration, LetterTest, Way, may_begin, rule_test};
 use shared_trie::Node;
 
-/// The states of the set from which the step, whose key is possible at the place, ends the line or leads on to a place of the table.
-/// The place's own state is not looked at.
+/// The states of the set from which the key, which is possible at the place, ends the line or leads on to a place of the table. The
+/// place's own state is not looked at.
 pub(crate) fn states_by_key(
     lexicon: &Lexicon,
     line: &Line,
     choices: &Choices,
     place: &Configuration,
+    ahead: Ahead,
     states: StateSet,
-    step: &Step,
+    key: Key,
     table: &Table,
 ) -> StateSet
     requires searched { IsSearchedLexicon lexicon.now }
     requires line { IsLine line.now }
     requires place { IsConfigurationIn lexicon.now line.now place.now }
-    requires at { step.now.at ≡ place.now.at }
-    requires lead { step.now.lead ≡ length (supplied (numbered_of lexicon.now place.now).entrance) }
-    requires possible { IsPossible lexicon.now line.now (numbered_of lexicon.now place.now) (key_of step.now) }
+    requires ahead { IsAhead lexicon.now.lexicon.rules line.now place.now.at (numbered_of lexicon.now place.now).entrance ahead }
+    requires limit { place.now.at + key.taken ≤ ahead.limit }
+    requires begins { MayBegin (numbered_of lexicon.now place.now).entrance key.phase }
+    requires possible { IsPossible lexicon.now line.now (numbered_of lexicon.now place.now) (key_meant key) }
     requires table { IsTable (leads_in lexicon.now) (length line.now.letters) table.now }
-    ensures { AreGoingFurther lexicon.now line.now choices.now table.now place.now.at place.now.entrance states (OnlyKey (key_of step.now)) result }
+    ensures { AreGoingFurther lexicon.now line.now choices.now table.now place.now.at place.now.entrance states (OnlyKey (key_meant key)) result }
 {
     let automaton = lexicon.automaton();
-    match test_letters(lexicon, line, choices, place, step) {
+    match ahead.test(lexicon, line, choices, place, key) {
         LetterTest::Refused => StateSet::empty(),
-        LetterTest::Ends => accepted_states(automaton, states, step.phase),
+        LetterTest::Ends => accepted_states(automaton, states, key.phase),
         LetterTest::LeadsOn { at, entrance } => {
-            states_into(automaton, states, step.phase, table.get(at, entrance))
+            states_into(automaton, states, key.phase, table.get(at, entrance))
         }
     }
 }
@@ -62,6 +69,7 @@ fn gather_key(
     line: &Line,
     choices: &Choices,
     place: &Configuration,
+    ahead: Ahead,
     states: StateSet,
     key: Key,
     table: &Table,
@@ -70,18 +78,14 @@ fn gather_key(
     requires searched { IsSearchedLexicon lexicon.now }
     requires line { IsLine line.now }
     requires place { IsConfigurationIn lexicon.now line.now place.now }
+    requires ahead { IsAhead lexicon.now.lexicon.rules line.now place.now.at (numbered_of lexicon.now place.now).entrance ahead }
+    requires limit { place.now.at + key.taken ≤ ahead.limit }
+    requires begins { MayBegin (numbered_of lexicon.now place.now).entrance key.phase }
     requires possible { IsPossible lexicon.now line.now (numbered_of lexicon.now place.now) (key_meant key) }
     requires table { IsTable (leads_in lexicon.now) (length line.now.letters) table.now }
     ensures { GathersMore lexicon.now line.now choices.now table.now place.now.at place.now.entrance states (OnlyKey (key_meant key)) further result }
 {
-    let step = Step {
-        phase: key.phase,
-        rule: key.rule,
-        at: place.at,
-        lead: supplied_letters(lexicon.rules(), place.entrance).len() as u32,
-        taken: key.taken,
-    };
-    further.union(states_by_key(lexicon, line, choices, place, states, &step, table))
+    further.union(states_by_key(lexicon, line, choices, place, ahead, states, key, table))
 }
 
 /// The same for the keys with these rules, each of which is possible after this front.
@@ -90,6 +94,7 @@ fn gather_rules<L>(
     line: &Line,
     choices: &Choices,
     place: &Configuration,
+    ahead: Ahead,
     states: StateSet,
     phase: u32,
     taken: u32,
@@ -101,6 +106,9 @@ fn gather_rules<L>(
     requires searched { IsSearchedLexicon lexicon.now }
     requires line { IsLine line.now }
     requires place { IsConfigurationIn lexicon.now line.now place.now }
+    requires ahead { IsAhead lexicon.now.lexicon.rules line.now place.now.at (numbered_of lexicon.now place.now).entrance ahead }
+    requires limit { place.now.at + taken ≤ ahead.limit }
+    requires begins { MayBegin (numbered_of lexicon.now place.now).entrance phase }
     requires possible { All (λ rule. IsPossible lexicon.now line.now (numbered_of lexicon.now place.now) (record { phase = phase; taken = taken; rule = rule })) rules.now }
     requires table { IsTable (leads_in lexicon.now) (length line.now.letters) table.now }
     ensures gathers { GathersMore lexicon.now line.now choices.now table.now place.now.at place.now.entrance states (IsByRule phase taken rules.now) further result }
@@ -114,7 +122,9 @@ fn gather_rules<L>(
             taken,
             rule: *rule,
         };
-        gathered = gather_key(lexicon, line, choices, place, states, key, table, gathered);
+        gathered = gather_key(
+            lexicon, line, choices, place, ahead, states, key, table, gathered,
+        );
     }
     gathered
 }
@@ -125,6 +135,7 @@ fn gather_unchanged(
     line: &Line,
     choices: &Choices,
     place: &Configuration,
+    ahead: Ahead,
     states: StateSet,
     phase: u32,
     taken: u32,
@@ -135,6 +146,9 @@ fn gather_unchanged(
     requires searched { IsSearchedLexicon lexicon.now }
     requires line { IsLine line.now }
     requires place { IsConfigurationIn lexicon.now line.now place.now }
+    requires ahead { IsAhead lexicon.now.lexicon.rules line.now place.now.at (numbered_of lexicon.now place.now).entrance ahead }
+    requires limit { place.now.at + taken ≤ ahead.limit }
+    requires begins { MayBegin (numbered_of lexicon.now place.now).entrance phase }
     requires front { IsFrontAt lexicon.now line.now (numbered_of lexicon.now place.now) phase taken node }
     requires table { IsTable (leads_in lexicon.now) (length line.now.letters) table.now }
     ensures { GathersMore lexicon.now line.now choices.now table.now place.now.at place.now.entrance states (OnlyKey (record { phase = phase; taken = taken; rule = 0 })) further result }
@@ -147,45 +161,130 @@ fn gather_unchanged(
         taken,
         rule: 0,
     };
-    gather_key(lexicon, line, choices, place, states, key, table, further)
+    gather_key(
+        lexicon, line, choices, place, ahead, states, key, table, further,
+    )
 }
 
-/// The same for the keys with this front.
+/// The states after the phase from which one of these rules ends the line or leads on to a place of the table, after a form that ends as the
+/// work tells, wherever it begins.
+fn living_by_rules<L>(
+    lexicon: &Lexicon,
+    line: &Line,
+    work: Work,
+    rules: &[u32],
+    table: &Table,
+    steps: &mut Steps<L>,
+) -> StateSet
+    requires searched { IsSearchedLexicon lexicon.now }
+    requires line { IsLine line.now }
+    requires end { work.end ≤ length line.now.letters }
+    requires rules { All (λ rule. (0 < rule) × (rule ≤ length lexicon.now.lexicon.rules.rules)) rules.now }
+    requires table { IsTable (leads_in lexicon.now) (length line.now.letters) table.now }
+    ensures living { (number : ℕ) → HasState result number ↔ LivesBy lexicon.now line.now table.now work (Contains rules.now) number }
+    ensures steps { steps.new ≡ steps.old + length rules.now }
+{
+    let mut living = StateSet::empty();
+    for rule in rules {
+        steps.tick();
+        let end = work.end as usize;
+        match rule_test(lexicon.rules(), line, end, work.may_end, work.phase, *rule) {
+            LetterTest::Refused => {}
+            LetterTest::Ends => living = living.union(accepting_states(lexicon.automaton())),
+            LetterTest::LeadsOn { at, entrance } => living = living.union(table.get(at, entrance)),
+        }
+    }
+    living
+}
+
+/// The states after the phase from which a rule that is a choice at the node and whose `w` begins with the next letter, which is this, ends
+/// the line or leads on to a place of the table, after a form that ends as the work tells, wherever it begins. It is looked for in the
+/// memo first, and put there. Refused only for want of memory.
+fn living_after<L>(
+    lexicon: &Lexicon,
+    line: &Line,
+    work: Work,
+    letter: Letter,
+    table: &Table,
+    memo: &mut Memo,
+    steps: &mut Steps<L>,
+) -> Result<StateSet, Memory>
+    requires searched { IsSearchedLexicon lexicon.now }
+    requires line { IsLine line.now }
+    requires node { work.node < length lexicon.now.tries.trie.rows }
+    requires end { work.end < length line.now.letters }
+    requires letter { letter ≡ slice_index line.now.letters work.end }
+    requires table { IsTable (leads_in lexicon.now) (length line.now.letters) table.now }
+    requires memo { AreLiving lexicon.now line.now table.now memo.old }
+    ensures memo { OnOk result (AreLiving lexicon.now line.now table.now memo.new) }
+    ensures living { IfOk result (λ living. (number : ℕ) → HasState living number ↔ LivesBy lexicon.now line.now table.now work (Contains (choices_of lexicon.now.tries work.node)) number) }
+    ensures steps { (most : ℕ) → HasAtMostRules lexicon.now.tries most → steps.new ≤ steps.old + (2 + most) }
+{
+    steps.tick();
+    let tries = lexicon.tries();
+    if let Some(states) = memo.get(tries, work) {
+        return Ok(states);
+    }
+    let rules = tries.choices_with(work.node, letter, steps);
+    let living = living_by_rules(lexicon, line, work, rules, table, steps);
+    memo.keep(tries, work, living)?;
+    Ok(living)
+}
+
+/// The same for the keys with this front. Refused only for want of memory.
 fn gather_front<L>(
     lexicon: &Lexicon,
     line: &Line,
     choices: &Choices,
     place: &Configuration,
+    ahead: Ahead,
     states: StateSet,
     phase: u32,
     taken: u32,
     node: Node,
     table: &Table,
+    memo: &mut Memo,
     further: StateSet,
     steps: &mut Steps<L>,
-) -> StateSet
+) -> Result<StateSet, Memory>
     requires searched { IsSearchedLexicon lexicon.now }
     requires line { IsLine line.now }
     requires place { IsConfigurationIn lexicon.now line.now place.now }
+    requires ahead { IsAhead lexicon.now.lexicon.rules line.now place.now.at (numbered_of lexicon.now place.now).entrance ahead }
+    requires limit { place.now.at + taken ≤ ahead.limit }
+    requires begins { MayBegin (numbered_of lexicon.now place.now).entrance phase }
     requires front { IsFrontAt lexicon.now line.now (numbered_of lexicon.now place.now) phase taken node }
     requires table { IsTable (leads_in lexicon.now) (length line.now.letters) table.now }
-    ensures gathers { GathersMore lexicon.now line.now choices.now table.now place.now.at place.now.entrance states (IsAtFront phase taken) further result }
+    requires memo { AreLiving lexicon.now line.now table.now memo.old }
+    ensures memo { OnOk result (AreLiving lexicon.now line.now table.now memo.new) }
+    ensures gathers { IfOk result (λ gathered. GathersMore lexicon.now line.now choices.now table.now place.now.at place.now.entrance states (IsAtFront phase taken) further gathered) }
     ensures steps { (most : ℕ) → HasAtMostRules lexicon.now.tries most → steps.new ≤ steps.old + steps_of_front most }
 {
     steps.tick();
+    let tries = lexicon.tries();
     let gathered = gather_unchanged(
-        lexicon, line, choices, place, states, phase, taken, node, table, further,
+        lexicon, line, choices, place, ahead, states, phase, taken, node, table, further,
     );
-    let end = place.at as usize + taken as usize;
-    match line.letters.as_slice().get(end) {
-        None => gathered,
-        Some(letter) => {
-            let rules = lexicon.tries().choices_with(node, *letter, steps);
-            gather_rules(
-                lexicon, line, choices, place, states, phase, taken, rules, table, gathered, steps,
-            )
-        }
+    let end = place.at + taken;
+    let Some(letter) = line.letters.as_slice().get(end as usize) else {
+        return Ok(gathered);
+    };
+    if !ahead.fits_all(lexicon, line, choices, place, taken) {
+        let rules = tries.choices_with(node, *letter, steps);
+        return Ok(gather_rules(
+            lexicon, line, choices, place, ahead, states, phase, taken, rules, table, gathered,
+            steps,
+        ));
     }
+    let work = Work {
+        node,
+        end,
+        may_end: ahead.may_end,
+        phase,
+    };
+    let living = living_after(lexicon, line, work, *letter, table, memo, steps)?;
+    let automaton = lexicon.automaton();
+    Ok(gathered.union(states_into(automaton, states, phase, living)))
 }
 
 /// The same for the keys of the phase. Refused only for want of memory.
@@ -194,22 +293,28 @@ fn gather_phase<L>(
     line: &Line,
     choices: &Choices,
     place: &Configuration,
+    ahead: Ahead,
     states: StateSet,
     phase: u32,
     nodes: &mut Vec<Node>,
     table: &Table,
+    memo: &mut Memo,
     further: StateSet,
     steps: &mut Steps<L>,
 ) -> Result<StateSet, Memory>
     requires searched { IsSearchedLexicon lexicon.now }
     requires line { IsLine line.now }
     requires place { IsConfigurationIn lexicon.now line.now place.now }
+    requires ahead { IsAhead lexicon.now.lexicon.rules line.now place.now.at (numbered_of lexicon.now place.now).entrance ahead }
+    requires begins { MayBegin (numbered_of lexicon.now place.now).entrance phase }
     requires phase { phase < length lexicon.now.lexicon.rules.names }
     requires table { IsTable (leads_in lexicon.now) (length line.now.letters) table.now }
+    requires memo { AreLiving lexicon.now line.now table.now memo.old }
+    ensures memo { OnOk result (AreLiving lexicon.now line.now table.now memo.new) }
     ensures gathers { IfOk result (λ gathered. GathersMore lexicon.now line.now choices.now table.now place.now.at place.now.entrance states (IsInPhase phase) further gathered) }
     ensures steps { (most : ℕ) → HasAtMostRules lexicon.now.tries most → steps.new ≤ steps.old + steps_of_fronts most }
 {
-    walk_fronts(lexicon, line, place, phase, nodes, steps)?;
+    walk_fronts(lexicon, line, place, phase, ahead.limit, nodes, steps)?;
     let mut gathered = further;
     for taken in 0..nodes.len() {
         gathered = gather_front(
@@ -217,14 +322,16 @@ fn gather_phase<L>(
             line,
             choices,
             place,
+            ahead,
             states,
             phase,
             taken as u32,
             nodes[taken],
             table,
+            memo,
             gathered,
             steps,
-        );
+        )?;
     }
     Ok(gathered)
 }
@@ -239,24 +346,32 @@ pub(crate) fn gather<L>(
     states: StateSet,
     nodes: &mut Vec<Node>,
     table: &Table,
+    memo: &mut Memo,
     steps: &mut Steps<L>,
 ) -> Result<StateSet, Memory>
     requires searched { IsSearchedLexicon lexicon.now }
     requires line { IsLine line.now }
     requires place { IsConfigurationIn lexicon.now line.now place.now }
     requires table { IsTable (leads_in lexicon.now) (length line.now.letters) table.now }
+    requires memo { AreLiving lexicon.now line.now table.now memo.old }
+    ensures memo { OnOk result (AreLiving lexicon.now line.now table.now memo.new) }
     ensures gathers { IfOk result (λ gathered. AreGoingFurther lexicon.now line.now choices.now table.now place.now.at place.now.entrance states EveryKey gathered) }
     ensures steps { (most : ℕ) → HasAtMostRules lexicon.now.tries most → steps.new ≤ steps.old + steps_of_items lexicon.now most }
 {
-    let phases = lexicon.rules().phases().len();
+    let rules = lexicon.rules();
+    let ahead = Ahead::of(rules, line, place);
+    let phases = rules.phases().len();
     let mut gathered = StateSet::empty();
     for phase in 0..phases as u32 {
         steps.tick();
-        if states_after(lexicon.automaton(), states, phase).is_empty() {
+        if states_after(lexicon.automaton(), states, phase).is_empty()
+            || !may_begin(rules, place, phase)
+        {
             continue;
         }
         gathered = gather_phase(
-            lexicon, line, choices, place, states, phase, nodes, table, gathered, steps,
+            lexicon, line, choices, place, ahead, states, phase, nodes, table, memo, gathered,
+            steps,
         )?;
     }
     Ok(gathered)
@@ -312,9 +427,7 @@ pub(crate) fn gather_ways<L>(
     let mut further = StateSet::empty();
     for way in ways {
         steps.tick();
-        further = further.union(states_by_way(
-            lexicon, line, choices, place, states, way, table,
-        ));
+        further = further.union(states_by_way(lexicon, line, choices, place, states, way, table));
     }
     further
 }

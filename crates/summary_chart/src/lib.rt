@@ -1,13 +1,19 @@
 //! The chart of a line (own; for the summary of Goyal and Huet 2016): of each configuration of a search, whether it stands in an
-//! answer, as a set of the grammar's states for each number of letters derived and each entrance, and nothing besides. One walk along
-//! the trie in a phase, at a number of letters and an entrance, serves all states there.
+//! answer, as a set of the grammar's states for each number of letters derived and each entrance; and besides, from places that have
+//! few of them, the ways on from there, while there is room. One walk along the trie in a phase, at a number of letters and an entrance,
+//! serves all states there; where its ways are kept it is not made again, neither for the chart, nor for its summary, nor by a search
+//! that the chart guides.
 //!
 //! Proved: a chart is a guide of a search that never says false of what stands in an answer (`guide` of `Chart::build`), and says
-//! true of nothing else (`exact`), made within the stated number of steps (`steps`), of which each phase, node and rule that is looked at
-//! takes one; it keeps one set, of four bytes, for each number of letters and entrance (`stored`). What is known of it as a `SearchGuide` makes
-//! it exact (`charts_are_exact`). Its summary has the item of each step of some answer, once and in order,
-//! and nothing else (`ok` of `Chart::summary`), in a stated number of steps, of which each item takes two (`steps`, and `bound`, which is that of
-//! the chart). Threads may share a chart (`charts_are_shared`).
+//! true of nothing else (`exact`). Its table has just the places that a search comes to and from which there is a path to an answer, and
+//! what it keeps for places of the table are ways from there, among which is each that leads on or ends the line (`chart`). It is made within
+//! the stated number of steps (`steps`, and `bound`), of which each phase, node, rule and way that is looked at or kept takes one. It keeps
+//! one set, of four bytes, for each number of letters and entrance (`stored`), and at most one way or stop, of 24 bytes, for each six of
+//! these sets and each phase (`few`); for which places it keeps ways is in no clause. As a `SearchGuide` it tells those that it keeps: in the
+//! order of their keys, with one of which each path to an answer begins (its `ways`); and what is known of it makes it exact
+//! (`charts_are_exact`). Its summary has the item of each step of some answer, once and in order, and nothing else (`ok` of
+//! `Chart::summary`), in a stated number of steps, of which each item takes two (`steps`, and `bound`, which is that of the chart). Threads
+//! may share a chart (`charts_are_shared`).
 #![tactic(auto)]
 
 mod chart;
@@ -18,6 +24,7 @@ mod guiding;
 mod items;
 mod laws;
 mod listing;
+mod memo;
 mod passes;
 mod place_ways;
 mod same_u;

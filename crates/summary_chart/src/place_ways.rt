@@ -1,4 +1,4 @@
-ghost use Rattle.std.specs.Prelude.{◌≡◌, length, MatchOption};
+ghost use Rattle.std.specs.Prelude.{◌≡◌, ◌+◌, ◌<◌, ◌↔◌, length, IsTrue, MatchOption};
 ghost use Rattle.summary_chart.specs.PlaceWays.{AreStops, AreWaysAt, HasStopAt, IsStopWithin, ways_of};
 
 use search_frames::Way;
@@ -19,6 +19,13 @@ pub(crate) struct PlaceWays {
 }
 
 impl PlaceWays {
+    /// Whether there are fewer stops and ways together than this.
+    pub fn has_room(&self, most: usize) -> bool
+        ensures { IsTrue result ↔ (length self.now.stops.items + length self.now.ways.items < most) }
+    {
+        self.stops.len() + self.ways.len() < most
+    }
+
     /// The ways of the stop.
     pub fn of(&self, stop: Stop) -> &[Way]
         requires within { IsStopWithin (length self.now.ways.items) stop }

@@ -2,6 +2,7 @@ ghost use Rattle.std.specs.Prelude.{◌≡◌, ◌+◌, ◌*◌, ◌<◌, ◌≤
 ghost use Rattle.text_definitions.specs.Lines.{IsLine};
 ghost use Rattle.derivation.specs.Steps.{key_meant};
 ghost use Rattle.annotated_trie.specs.Searched.{IsSearchedLexicon};
+ghost use Rattle.search_frames.specs.Ahead.{IsAhead, MayBegin};
 ghost use Rattle.search_frames.specs.Frames.{IsConfigurationIn, numbered_of};
 ghost use Rattle.search_frames.specs.Configurations.{IsPossible};
 ghost use Rattle.search_frames.specs.Costs.{HasAtMostRules};
@@ -9,20 +10,22 @@ ghost use Rattle.search_frames.specs.WaysFrom.{IsWayFrom, key_of_way};
 ghost use Rattle.summary_chart.specs.Fronts.{IsFrontAt};
 ghost use Rattle.summary_chart.specs.PlaceWays.{HasEachKey};
 ghost use Rattle.summary_chart.specs.StateSets.{HasState, IsLedTo};
+ghost use Rattle.summary_chart.specs.Memos.{AreSpread};
 ghost use Rattle.summary_chart.specs.Tables.{IsTable};
 ghost use Rattle.summary_chart.specs.Spreading.{Spreads, EveryKey, OnlyKey, IsByRule, IsAtFront, IsInPhase, leads_in};
 ghost use Rattle.summary_chart.specs.Summaries.{steps_of_front, steps_of_fronts, steps_of_items};
 
+use super::memo::{Memo, Work};
 use super::state_set::StateSet;
 use super::state_steps::states_after;
 use super::table::Table;
 use super::walking::walk_fronts;
 use annotated_trie::Lexicon;
-use derivation::{Key, Step};
+use derivation::Key;
 use outside::Steps;
 use phoneme::{Line, Memory};
 use reader_choices::Choices;
-use search_frames::{Configuration, LetterTest, Way, supplied_letters, test_letters};
+use search_frames::{Ahead, Configuration, LetterTest, Way, may_begin};
 use shared_trie::Node;
 
 /// Puts into the table where the key, which is possible at the place, leads on to from the states of the set: these lead by its phase to
@@ -32,6 +35,7 @@ fn spread_key(
     line: &Line,
     choices: &Choices,
     place: &Configuration,
+    ahead: Ahead,
     states: StateSet,
     after: StateSet,
     key: Key,
@@ -40,22 +44,16 @@ fn spread_key(
     requires searched { IsSearchedLexicon lexicon.now }
     requires line { IsLine line.now }
     requires place { IsConfigurationIn lexicon.now line.now place.now }
+    requires ahead { IsAhead lexicon.now.lexicon.rules line.now place.now.at (numbered_of lexicon.now place.now).entrance ahead }
+    requires limit { place.now.at + key.taken ≤ ahead.limit }
+    requires begins { MayBegin (numbered_of lexicon.now place.now).entrance key.phase }
     requires after { (number : ℕ) → HasState after number ↔ IsLedTo lexicon.now.machine states key.phase number }
     requires possible { IsPossible lexicon.now line.now (numbered_of lexicon.now place.now) (key_meant key) }
     requires table { IsTable (leads_in lexicon.now) (length line.now.letters) table.old }
     ensures table { IsTable (leads_in lexicon.now) (length line.now.letters) table.new }
     ensures spreads { Spreads lexicon.now line.now choices.now place.now.at place.now.entrance states (OnlyKey (key_meant key)) table.old table.new }
 {
-    let step = Step {
-        phase: key.phase,
-        rule: key.rule,
-        at: place.at,
-        lead: supplied_letters(lexicon.rules(), place.entrance).len() as u32,
-        taken: key.taken,
-    };
-    if let LetterTest::LeadsOn { at, entrance } = test_letters(
-        lexicon, line, choices, place, &step,
-    ) {
+    if let LetterTest::LeadsOn { at, entrance } = ahead.test(lexicon, line, choices, place, key) {
         table.add(at, entrance, after);
     }
 }
@@ -66,6 +64,7 @@ fn spread_rules<L>(
     line: &Line,
     choices: &Choices,
     place: &Configuration,
+    ahead: Ahead,
     states: StateSet,
     after: StateSet,
     phase: u32,
@@ -77,6 +76,9 @@ fn spread_rules<L>(
     requires searched { IsSearchedLexicon lexicon.now }
     requires line { IsLine line.now }
     requires place { IsConfigurationIn lexicon.now line.now place.now }
+    requires ahead { IsAhead lexicon.now.lexicon.rules line.now place.now.at (numbered_of lexicon.now place.now).entrance ahead }
+    requires limit { place.now.at + taken ≤ ahead.limit }
+    requires begins { MayBegin (numbered_of lexicon.now place.now).entrance phase }
     requires after { (number : ℕ) → HasState after number ↔ IsLedTo lexicon.now.machine states phase number }
     requires possible { All (λ rule. IsPossible lexicon.now line.now (numbered_of lexicon.now place.now) (record { phase = phase; taken = taken; rule = rule })) rules.now }
     requires table { IsTable (leads_in lexicon.now) (length line.now.letters) table.old }
@@ -91,32 +93,42 @@ fn spread_rules<L>(
             taken,
             rule: *rule,
         };
-        spread_key(lexicon, line, choices, place, states, after, key, table);
+        spread_key(
+            lexicon, line, choices, place, ahead, states, after, key, table,
+        );
     }
 }
 
-/// Puts into the table where the keys with this front lead on to from the states of the set.
+/// Puts into the table where the keys with this front lead on to from the states of the set. What its rules put there is not put there once
+/// more where the memo has it already. Refused only for want of memory.
 fn spread_front<L>(
     lexicon: &Lexicon,
     line: &Line,
     choices: &Choices,
     place: &Configuration,
+    ahead: Ahead,
     states: StateSet,
     after: StateSet,
     phase: u32,
     taken: u32,
     node: Node,
     table: &mut Table,
+    memo: &mut Memo,
     steps: &mut Steps<L>,
-)
+) -> Result<(), Memory>
     requires searched { IsSearchedLexicon lexicon.now }
     requires line { IsLine line.now }
     requires place { IsConfigurationIn lexicon.now line.now place.now }
+    requires ahead { IsAhead lexicon.now.lexicon.rules line.now place.now.at (numbered_of lexicon.now place.now).entrance ahead }
+    requires limit { place.now.at + taken ≤ ahead.limit }
+    requires begins { MayBegin (numbered_of lexicon.now place.now).entrance phase }
     requires after { (number : ℕ) → HasState after number ↔ IsLedTo lexicon.now.machine states phase number }
     requires front { IsFrontAt lexicon.now line.now (numbered_of lexicon.now place.now) phase taken node }
     requires table { IsTable (leads_in lexicon.now) (length line.now.letters) table.old }
-    ensures table { IsTable (leads_in lexicon.now) (length line.now.letters) table.new }
-    ensures spreads { Spreads lexicon.now line.now choices.now place.now.at place.now.entrance states (IsAtFront phase taken) table.old table.new }
+    requires memo { AreSpread lexicon.now line.now table.old memo.old }
+    ensures memo { OnOk result (AreSpread lexicon.now line.now table.new memo.new) }
+    ensures table { OnOk result (IsTable (leads_in lexicon.now) (length line.now.letters) table.new) }
+    ensures spreads { OnOk result (Spreads lexicon.now line.now choices.now place.now.at place.now.entrance states (IsAtFront phase taken) table.old table.new) }
     ensures steps { (most : ℕ) → HasAtMostRules lexicon.now.tries most → steps.new ≤ steps.old + steps_of_front most }
 {
     let tries = lexicon.tries();
@@ -127,16 +139,39 @@ fn spread_front<L>(
             taken,
             rule: 0,
         };
-        spread_key(lexicon, line, choices, place, states, after, key, table);
+        spread_key(
+            lexicon, line, choices, place, ahead, states, after, key, table,
+        );
     }
-    let end = place.at as usize + taken as usize;
-    let Some(letter) = line.letters.as_slice().get(end) else {
-        return;
+    let end = place.at + taken;
+    let Some(letter) = line.letters.as_slice().get(end as usize) else {
+        return Ok(());
     };
+    let work = Work {
+        node,
+        end,
+        may_end: ahead.may_end,
+        phase,
+    };
+    steps.tick();
+    let shares = ahead.fits_all(lexicon, line, choices, place, taken);
+    let known = if shares {
+        memo.get(tries, work).unwrap_or(StateSet::empty())
+    } else {
+        StateSet::empty()
+    };
+    let all = known.union(after);
+    if all == known {
+        return Ok(());
+    }
     let rules = tries.choices_with(node, *letter, steps);
     spread_rules(
-        lexicon, line, choices, place, states, after, phase, taken, rules, table, steps,
+        lexicon, line, choices, place, ahead, states, after, phase, taken, rules, table, steps,
     );
+    if shares {
+        memo.keep(tries, work, all)?;
+    }
+    Ok(())
 }
 
 /// Puts into the table where the keys of the phase lead on to from the states of the set. Refused only for want of memory.
@@ -145,38 +180,46 @@ fn spread_phase<L>(
     line: &Line,
     choices: &Choices,
     place: &Configuration,
+    ahead: Ahead,
     states: StateSet,
     after: StateSet,
     phase: u32,
     nodes: &mut Vec<Node>,
     table: &mut Table,
+    memo: &mut Memo,
     steps: &mut Steps<L>,
 ) -> Result<(), Memory>
     requires searched { IsSearchedLexicon lexicon.now }
     requires line { IsLine line.now }
     requires place { IsConfigurationIn lexicon.now line.now place.now }
+    requires ahead { IsAhead lexicon.now.lexicon.rules line.now place.now.at (numbered_of lexicon.now place.now).entrance ahead }
+    requires begins { MayBegin (numbered_of lexicon.now place.now).entrance phase }
     requires after { (number : ℕ) → HasState after number ↔ IsLedTo lexicon.now.machine states phase number }
     requires phase { phase < length lexicon.now.lexicon.rules.names }
     requires table { IsTable (leads_in lexicon.now) (length line.now.letters) table.old }
+    requires memo { AreSpread lexicon.now line.now table.old memo.old }
+    ensures memo { OnOk result (AreSpread lexicon.now line.now table.new memo.new) }
     ensures table { OnOk result (IsTable (leads_in lexicon.now) (length line.now.letters) table.new) }
     ensures spreads { OnOk result (Spreads lexicon.now line.now choices.now place.now.at place.now.entrance states (IsInPhase phase) table.old table.new) }
     ensures steps { (most : ℕ) → HasAtMostRules lexicon.now.tries most → steps.new ≤ steps.old + steps_of_fronts most }
 {
-    walk_fronts(lexicon, line, place, phase, nodes, steps)?;
+    walk_fronts(lexicon, line, place, phase, ahead.limit, nodes, steps)?;
     for taken in 0..nodes.len() {
         spread_front(
             lexicon,
             line,
             choices,
             place,
+            ahead,
             states,
             after,
             phase,
             taken as u32,
             nodes[taken],
             table,
+            memo,
             steps,
-        );
+        )?;
     }
     Ok(())
 }
@@ -191,25 +234,30 @@ pub(crate) fn spread<L>(
     states: StateSet,
     nodes: &mut Vec<Node>,
     table: &mut Table,
+    memo: &mut Memo,
     steps: &mut Steps<L>,
 ) -> Result<(), Memory>
     requires searched { IsSearchedLexicon lexicon.now }
     requires line { IsLine line.now }
     requires place { IsConfigurationIn lexicon.now line.now place.now }
     requires table { IsTable (leads_in lexicon.now) (length line.now.letters) table.old }
+    requires memo { AreSpread lexicon.now line.now table.old memo.old }
+    ensures memo { OnOk result (AreSpread lexicon.now line.now table.new memo.new) }
     ensures table { OnOk result (IsTable (leads_in lexicon.now) (length line.now.letters) table.new) }
     ensures spreads { OnOk result (Spreads lexicon.now line.now choices.now place.now.at place.now.entrance states EveryKey table.old table.new) }
     ensures steps { (most : ℕ) → HasAtMostRules lexicon.now.tries most → steps.new ≤ steps.old + steps_of_items lexicon.now most }
 {
-    let phases = lexicon.rules().phases().len();
+    let rules = lexicon.rules();
+    let ahead = Ahead::of(rules, line, place);
+    let phases = rules.phases().len();
     for phase in 0..phases as u32 {
         steps.tick();
         let after = states_after(lexicon.automaton(), states, phase);
-        if after.is_empty() {
+        if after.is_empty() || !may_begin(rules, place, phase) {
             continue;
         }
         spread_phase(
-            lexicon, line, choices, place, states, after, phase, nodes, table, steps,
+            lexicon, line, choices, place, ahead, states, after, phase, nodes, table, memo, steps,
         )?;
     }
     Ok(())

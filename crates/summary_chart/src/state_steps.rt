@@ -76,3 +76,16 @@ pub(crate) fn states_into(
     }
     into
 }
+
+/// The states that end words.
+pub(crate) fn accepting_states(automaton: &Automaton) -> StateSet
+    ensures { (number : ℕ) → HasState result number ↔ IsTrue (is_accepting automaton.now (Some number)) }
+{
+    let mut accepting = StateSet::empty();
+    for number in 0..automaton.states() as u8 {
+        if automaton.accepts(automaton.state(number)) {
+            accepting = accepting.with(number);
+        }
+    }
+    accepting
+}

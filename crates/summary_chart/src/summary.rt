@@ -1,13 +1,15 @@
-ghost use Rattle.std.specs.Prelude.{◌≡◌, ◌+◌, ◌≤◌, ◌<◌, ℕ, length, IfOk};
+ghost use Rattle.std.specs.Prelude.{◌+◌, ◌≤◌, ◌<◌, ℕ, length, IfOk, OnOk};
 ghost use Rattle.text_definitions.specs.Lines.{IsLine};
 ghost use Rattle.segmentation_definitions.specs.Listings.{IsSummary};
 ghost use Rattle.segmentation_definitions.specs.StepBounds.{chart_bound};
 ghost use Rattle.annotated_trie.specs.Searched.{IsSearchedLexicon};
 ghost use Rattle.search_frames.specs.Costs.{HasAtMostRules};
+ghost use Rattle.search_frames.specs.Frames.{IsConfigurationIn};
 ghost use Rattle.summary_chart.specs.Charts.{IsChartTable};
-ghost use Rattle.summary_chart.specs.PlaceWays.{IsChartOf};
+ghost use Rattle.summary_chart.specs.PlaceWays.{HaveWays, IsChartOf};
 ghost use Rattle.summary_chart.specs.Spreading.{leads_in};
-ghost use Rattle.summary_chart.specs.Summaries.{HasItemsBefore, steps_of_summary};
+ghost use Rattle.summary_chart.specs.Tables.{IsTable, IsIndexed, set_of};
+ghost use Rattle.summary_chart.specs.Summaries.{AddsItems, HasItemsBefore, IsCollected, IsItemFrom, steps_of_items, steps_of_summary};
 
 use super::Chart;
 use super::collected::Collected;
@@ -21,7 +23,46 @@ use outside::Steps;
 use phoneme::{Line, Memory};
 use reader_choices::Choices;
 use search_frames::{Configuration, NODES_OF_FRAME};
+use shared_trie::Node;
 use std::alloc::Global;
+
+/// Puts in the items of the keys by which places at the index, of which this is one, go further: of the ways that are kept from there, or
+/// else of all that the lexicon has. The place's own state is not looked at. Refused only for want of memory.
+fn collect_from<L>(
+    alloc: Global,
+    lexicon: &Lexicon,
+    line: &Line,
+    choices: &Choices,
+    place: &Configuration,
+    index: usize,
+    kept: &PlaceWays,
+    nodes: &mut Vec<Node>,
+    table: &Table,
+    collected: &mut Collected,
+    steps: &mut Steps<L>,
+) -> Result<(), Memory>
+    requires searched { IsSearchedLexicon lexicon.now }
+    requires line { IsLine line.now }
+    requires place { IsConfigurationIn lexicon.now line.now place.now }
+    requires there { index < length table.now.sets.items }
+    requires indexed { IsIndexed (leads_in lexicon.now) (length line.now.letters) index place.now.at place.now.entrance }
+    requires table { IsTable (leads_in lexicon.now) (length line.now.letters) table.now }
+    requires kept { HaveWays lexicon.now line.now choices.now table.now kept.now.stops.items kept.now.ways.items }
+    requires collected { IsCollected lexicon.now.lexicon.rules collected.old }
+    ensures collected { OnOk result (IsCollected lexicon.now.lexicon.rules collected.new) }
+    ensures adds { OnOk result (AddsItems (IsItemFrom lexicon.now line.now choices.now table.now place.now.at place.now.entrance (set_of table.now index)) collected.old.items.items collected.new.items.items) }
+    ensures steps { (most : ℕ) → HasAtMostRules lexicon.now.tries most → steps.new ≤ steps.old + steps_of_items lexicon.now most }
+{
+    let states = table.sets[index];
+    let Some(ways) = kept.at(index) else {
+        return collect(
+            alloc, lexicon, line, choices, place, states, nodes, table, collected, steps,
+        );
+    };
+    collect_ways(
+        alloc, lexicon, line, choices, place, states, ways, table, collected, steps,
+    )
+}
 
 /// The items of the keys by which places of the table go further, in any order. Refused only for want of memory.
 fn items_of_table<L>(
@@ -36,6 +77,7 @@ fn items_of_table<L>(
     requires searched { IsSearchedLexicon lexicon.now }
     requires line { IsLine line.now }
     requires chart { IsChartTable lexicon.now line.now choices.now table.now }
+    requires kept { HaveWays lexicon.now line.now choices.now table.now kept.now.stops.items kept.now.ways.items }
     ensures items { IfOk result (λ items. HasItemsBefore lexicon.now line.now choices.now table.now (length table.now.sets.items) items.items) }
     ensures steps { (most : ℕ) → HasAtMostRules lexicon.now.tries most → steps.new ≤ steps.old + steps_of_summary lexicon.now line.now most }
 {
@@ -44,39 +86,25 @@ fn items_of_table<L>(
     let state = lexicon.automaton().start();
     let mut index = table.next_filled(0);
     while index < table.sets.len() {
-        let states = table.sets[index];
         let (at, entrance) = table.place(index);
         let place = Configuration {
             at,
             entrance,
             state,
         };
-        match kept.at(index) {
-            Some(ways) => collect_ways(
-                alloc,
-                lexicon,
-                line,
-                choices,
-                &place,
-                states,
-                ways,
-                table,
-                &mut collected,
-                steps,
-            )?,
-            None => collect(
-                alloc,
-                lexicon,
-                line,
-                choices,
-                &place,
-                states,
-                &mut nodes,
-                table,
-                &mut collected,
-                steps,
-            )?,
-        }
+        collect_from(
+            alloc,
+            lexicon,
+            line,
+            choices,
+            &place,
+            index,
+            kept,
+            &mut nodes,
+            table,
+            &mut collected,
+            steps,
+        )?;
         index = table.next_filled(index + 1);
     }
     Ok(collected.items)
@@ -104,7 +132,15 @@ impl Chart {
         // The proof knows what holds of a line and of a lexicon only of those that are read.
         let _letters = &line.letters;
         let _rules = lexicon.rules();
-        let mut items = items_of_table(alloc, lexicon, line, choices, &self.table, &self.kept, steps)?;
+        let mut items = items_of_table(
+            alloc,
+            lexicon,
+            line,
+            choices,
+            &self.table,
+            &self.kept,
+            steps,
+        )?;
         sort_items(&mut items);
         Ok(items)
     }

@@ -54,20 +54,24 @@ fn walk_letters<L>(
 }
 
 /// Walks from the root of the phase, counted from 0, along the letters that the rule before supplies at the place, and then along
-/// those of the line as far as they lead: the list has then the node after each number of letters of the line, from none on.
+/// those of the line up to the limit as far as they lead: the list has then the node after each number of letters of the line, from none
+/// on.
 /// Refused only for want of memory.
 pub(crate) fn walk_fronts<L>(
     lexicon: &Lexicon,
     line: &Line,
     place: &Configuration,
     phase: u32,
+    limit: u32,
     nodes: &mut Vec<Node>,
     steps: &mut Steps<L>,
 ) -> Result<(), Memory>
     requires searched { IsSearchedLexicon lexicon.now }
     requires place { IsConfigurationIn lexicon.now line.now place.now }
     requires phase { phase < length lexicon.now.lexicon.rules.names }
-    ensures fronts { OnOk result (AreFronts lexicon.now line.now (numbered_of lexicon.now place.now) phase nodes.new.items) }
+    requires low { place.now.at ≤ limit }
+    requires within { limit ≤ length line.now.letters }
+    ensures fronts { OnOk result (AreFronts lexicon.now line.now (numbered_of lexicon.now place.now) phase limit nodes.new.items) }
     ensures steps { steps.new ≤ steps.old + MOST_RULE_LETTERS + NODES_OF_FRAME }
 {
     nodes.clear();
@@ -76,6 +80,6 @@ pub(crate) fn walk_fronts<L>(
     let Some(entered) = walk_word(store, store.root(phase), lead, steps) else {
         return Ok(());
     };
-    let letters = &line.letters.as_slice()[place.at as usize..];
+    let letters = &line.letters.as_slice()[place.at as usize..limit as usize];
     walk_letters(store, entered, letters, nodes, steps)
 }

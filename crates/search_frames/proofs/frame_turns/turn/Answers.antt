@@ -8,8 +8,8 @@ use Rattle.search_frames.specs.FirstKeys.{IsFirstOf, IsFrom}
 use Rattle.search_frames.specs.Frames.{IsConfigurationIn, key_at, numbered_of}
 use Rattle.search_frames.specs.Reached.{IsReached}
 use Rattle.search_frames.specs.Turns.{first_to_try}
-use Rattle.search_frames.proofs.StepFrames.{step_read}
-use Rattle.search_frames.proofs.TurnedFrames.{first_phase, first_taken, few_rules, no_turn, is_turn, has_fallen, changes_old, room_for_nodes}
+use Rattle.search_frames.proofs.SetFrames.{step_read, set_changes}
+use Rattle.search_frames.proofs.TurnedFrames.{first_phase, first_taken, few_rules, no_turn, is_turn, has_fallen, room_for_nodes}
 use Rattle.search_frames.proofs.frame_turns.turn.Given as given
 use Rattle.search_frames.proofs.frame_turns.turn.Goals as goal
 use Rattle.search_frames.proofs.frame_turns.turn.Goals.{After-first_to_try-from}
@@ -47,7 +47,7 @@ turn_from-requires-clause-reached g c =
     subst (λ (p : Configuration). IsReached c.args.space.now.lexicon.now c.args.space.now.line.now c.args.space.now.choices.now (numbered_of c.args.space.now.lexicon.now p)) (sym c.of_frame-place.ensures) c.requires.reached
 
 pub turn_from-requires-clause-room : goal.turn_from-requires-clause-room
-turn_from-requires-clause-room g c = room_for_nodes c.args.stack.now c.args.level c.requires.placed.is_stack c.requires.placed.there
+turn_from-requires-clause-room g c = room_for_nodes c.args.stack.now c.requires.placed.is_stack
 
 pub returns-in_default-clause-turn : goal.returns-in_default-clause-turn
 returns-in_default-clause-turn g c =
@@ -74,7 +74,6 @@ returns-clause-falls g c =
 
 pub returns-clause-changes : goal.returns-clause-changes
 returns-clause-changes g c =
-    changes_old c.args.space.now.lexicon.now c.args.space.now.line.now c.requires.searched c.args.space.now.choices.now (g.D.Guide.says c.args.space.now.guide.now) c.args.level c.args.to_try c.args.stack.now (key_meant c.first_to_try-from.result)
-    (from_is g (goal.at.returns-clause-changes g c).After-first_to_try-from)
+    set_changes c.args.level c.args.stack.now
     (record { cursor = c.args.stack.now.cursor; depth = c.args.stack.now.depth; steps = c.args.stack.now.steps; frames = c.args.stack.now.frames; nodes = c.turn_from.new.nodes })
-    c.stand_at.new.stack c.in-Some.key c.requires.placed refl refl c.stand_at.ensures refl refl
+    c.stand_at.new.stack c.in-Some.key refl refl c.stand_at.ensures refl refl

@@ -33,7 +33,7 @@ returns-in_default g c =
     let is = ap key_of c.step_with.ensures in
     record {
       first = first_of_choice c.args.space.now.lexicon.now c.args.space.now.line.now c.args.space.now.choices.now here (key_meant c.args.from) c.requires.searched c.requires.phase c.requires.letters c.args.node c.requires.node
-          (g.D.Guide.says c.args.space.now.guide.now) c.args.rule c.judge.result c.requires.rule (omega (arith, c.if-rule-from.false))
+          (g.D.Guide.says c.args.space.now.guide.now) c.args.rule c.judge.result c.requires.rule c.requires.order
           (subst (λ (k : Key). IsJudged c.args.space.now.lexicon.now c.args.space.now.line.now c.args.space.now.choices.now (g.D.Guide.says c.args.space.now.guide.now) here k c.judge.result) is c.judge.ensures.judged)
           c.in_default.not-Nothing;
       steps = omega (arith, c.judge.ensures.steps, c.tick.ensures);

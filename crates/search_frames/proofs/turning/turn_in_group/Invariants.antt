@@ -8,6 +8,6 @@ use Rattle.search_frames.proofs.turning.turn_in_group.Given as goal
 
 abbrev pub invariant-loop-rule : goal.invariant-loop-rule
 invariant-loop-rule g l = record {
-  none : HasNoneOf l.space.lexicon.now l.space.line.now l.space.choices.now (numbered_of l.space.lexicon.now l.place) (IsTriedRule (key_meant l.from) l.group l.rule-index);
+  none : HasNoneOf l.space.lexicon.now l.space.line.now l.space.choices.now (numbered_of l.space.lexicon.now l.place) (IsTriedRule (key_meant l.from) l.rules l.rule-index);
   spent : l.steps ≤ l.fn.steps + 1 + 2 * l.rule-index;
 }

@@ -5,7 +5,6 @@ use Rattle.std.proofs.lemmas.List.{length-take-le}
 use Rattle.lexicon_definitions.proofs.TrieWalks.{walk-two}
 use Rattle.search_frames.specs.declared.frame.TheConstants.{NODES_OF_FRAME}
 use Rattle.search_frames.proofs.WalkLemmas.{nowhere_after, short_after}
-use Rattle.search_frames.proofs.FrameCosts.{fronts_cost}
 use Rattle.search_frames.proofs.walking.walk_fronts.Goals as goal
 
 pub walk_letters-requires-clause-short : goal.walk_letters-requires-clause-short
@@ -32,17 +31,8 @@ returns-in-Some-clause-steps g c =
     let some = c.walk_letters.ensures.some in
     let walked = walk-two c.args.store.now.rows c.args.lead.now (take taken c.args.letters.now) c.args.root c.in-Some.node (sym c.in-Some.ensures.value)
     ∙ c.walk_letters.ensures.walked taken (omega (arith, some)) in
-    fronts_cost c.args.store.now.rows c.args.root _ c.args.lead.now c.args.letters.now c.walk_letters.result c.args.steps.now c.walk_word.new.steps c.walk_letters.new.steps
-    c.requires.short c.in-Some.ensures.steps c.walk_letters.ensures.steps some c.walk_letters.ensures.within walked
-
-pub returns-in-Some-clause-both : goal.returns-in-Some-clause-both
-returns-in-Some-clause-both g c =
-    let taken = c.walk_letters.result - 1 in
-    let some = c.walk_letters.ensures.some in
-    let walked = walk-two c.args.store.now.rows c.args.lead.now (take taken c.args.letters.now) c.args.root c.in-Some.node (sym c.in-Some.ensures.value)
-    ∙ c.walk_letters.ensures.walked taken (omega (arith, some)) in
     let low = c.requires.short (c.args.lead.now ++ take taken c.args.letters.now) (ap is_some walked) in
     let both = length-append c.args.lead.now (take taken c.args.letters.now) in
     let within = c.walk_letters.ensures.within in
     let count = length-take-le taken c.args.letters.now (omega (arith, within)) in
-    omega (arith, low, both, count, some, c.in-Some.ensures.steps, c.walk_letters.ensures.few_steps)
+    omega (arith, low, both, count, some, c.in-Some.ensures.steps, c.walk_letters.ensures.steps)

@@ -1,6 +1,5 @@
 -- The letter after those so far leads from the node that is reached to its child, or nowhere; then no more letters lead anywhere.
 use Rattle.std.proofs.Common.{◌≡◌, ℕ, ◌+◌, ◌<◌, length, take, Some, None, sym, ◌∙◌, ap, arith, length-set}
-use Rattle.std.proofs.lemmas.List.{take-set-le}
 use Rattle.lexicon_definitions.specs.Tries.{walk}
 use Rattle.search_frames.specs.declared.frame.TheConstants.{NODES_OF_FRAME}
 use Rattle.search_frames.proofs.WalkLemmas.{walk_next, has_place, walked_below, more_walked}
@@ -29,15 +28,14 @@ loop-letter-preserved g c =
     let room = c.requires.room in
     let long = inv.long in
     let count = inv.count in
-    let place : c.args.base + c.loop-letter.walked < length c.loop-letter.nodes.items = omega (arith, there, room, long, count) in
+    let place : c.loop-letter.walked < length c.loop-letter.nodes.items = omega (arith, there, room, long, count) in
     let before = c.in-Some.ensures.before in
     record {
       count = omega (arith, count);
       there = omega (arith, inv.there, before);
       reached = walked;
-      long = length-set c.loop-letter.nodes.items (c.args.base + c.loop-letter.walked) c.in-Some.child ∙ long;
-      before = take-set-le c.args.base c.loop-letter.nodes.items (c.args.base + c.loop-letter.walked) c.in-Some.child (omega arith) ∙ inv.before;
-      walked = more_walked rows c.args.node c.in-Some.child c.args.letters.now c.loop-letter.nodes.items c.args.base c.loop-letter.walked inv.walked place
+      long = length-set c.loop-letter.nodes.items c.loop-letter.walked c.in-Some.child ∙ long;
+      walked = more_walked rows c.args.node c.in-Some.child c.args.letters.now c.loop-letter.nodes.items c.loop-letter.walked inv.walked place
           (ap (λ (n : ℕ). walk rows c.args.node (take n c.args.letters.now)) count ∙ walked);
       spent = omega (arith, inv.spent, c.in-Some.ensures.steps);
     }

@@ -10,7 +10,6 @@ invariant-loop-letter g l = record {
   there : l.reached < length l.store.rows;
   reached : walk l.store.rows l.fn.node (take l.letter-index l.letters) ≡ Some l.reached;
   long : length l.nodes.items ≡ length l.fn.nodes.items;
-  before : take l.base l.nodes.items ≡ take l.base l.fn.nodes.items;
-  walked : AreWalked l.store.rows l.fn.node l.letters l.nodes.items l.base l.walked;
+  walked : AreWalked l.store.rows l.fn.node l.letters l.nodes.items l.walked;
   spent : l.steps ≤ l.fn.steps + l.letter-index;
 }

@@ -1,6 +1,5 @@
 -- A key that ends the line is the first path; one that leads on begins the first path where one is found after it.
-use Rattle.std.proofs.Common.{◌≡◌, ◌+◌, ◌*◌, ◌<◌, ◌≤◌, true, false, length, arith, refl, sym, ap, ◌∙◌, subst}
-use Rattle.std.specs.Bool.{OnFalse}
+use Rattle.std.proofs.Common.{◌≡◌, ◌+◌, ◌*◌, ◌<◌, ◌≤◌, length, arith, refl, sym, ap, ◌∙◌, subst}
 use Rattle.search_frames.specs.declared.guiding.ToTry.TheVariants.{Later}
 use Rattle.search_frames.specs.Frames.{numbered_of, here_of, key_at}
 use Rattle.search_frames.specs.Reached.{rank}

@@ -1,5 +1,5 @@
 -- The frames of the first keys stand as those of the answer do, and what comes after these keys is past them.
-use Rattle.std.proofs.Common.{◌≡◌, ℕ, ◌+◌, ◌-◌, ◌*◌, ◌<◌, ◌≤◌, List, length, take, min, arith, ap, sym, ◌∙◌, subst}
+use Rattle.std.proofs.Common.{◌+◌, ◌-◌, ◌*◌, ◌<◌, ◌≤◌, List, length, take, min, arith, ap, sym, ◌∙◌, subst}
 use Rattle.std.specs.Bool.{OnTrue, OnFalse}
 use Rattle.segmentation_definitions.specs.Listings.{Key}
 use Rattle.search_frames.specs.Stacks.{IsStack, KeepsBefore, depth_of}

@@ -1,5 +1,5 @@
 -- What is found from the opening is the first answer; where the guide says that no answer goes on from there, there is none.
-use Rattle.std.proofs.Common.{◌≡◌, ◌≤◌, ◌+◌, sym, ◌∙◌, subst, arith}
+use Rattle.std.proofs.Common.{sym, ◌∙◌, subst, arith}
 use Rattle.listing_laws.specs.Ways.{IsPath}
 use Rattle.search_frames.specs.Configurations.{ways_in}
 use Rattle.segmenter.specs.Chains.{HasFound, HasNone, Every}

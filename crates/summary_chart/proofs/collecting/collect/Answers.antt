@@ -1,5 +1,5 @@
 -- One phase more adds its items; one to which no state leads has none.
-use Rattle.std.proofs.Common.{◌≡◌, ℕ, ◌+◌, ◌*◌, ◌≤◌, length, sym, subst, arith}
+use Rattle.std.proofs.Common.{◌+◌, length, sym, subst, arith}
 use Rattle.phase_automaton.specs.Automata.{StateMachine}
 use Rattle.search_frames.specs.Configurations.{rules_in}
 use Rattle.summary_chart.specs.StateSets.{IsLedTo}

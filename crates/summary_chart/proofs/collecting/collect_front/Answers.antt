@@ -1,11 +1,10 @@
 -- What may stand after the front is no change, where a form ends there, and the choices that begin with the next letter (`FrontKeys`).
-use Rattle.std.proofs.Common.{◌≡◌, ◌≢◌, ℕ, ◌+◌, ◌*◌, ◌<◌, ◌≤◌, [], List, length, All, get_or, sym, ap, subst, ◌∙◌, arith}
+use Rattle.std.proofs.Common.{◌≡◌, ◌≢◌, ℕ, ◌+◌, ◌<◌, ◌≤◌, [], List, length, All, get_or, sym, ap, subst, ◌∙◌, arith}
 use Rattle.std.proofs.lemmas.Result.{on_ok_weaker}
 use Rattle.lexicon_definitions.specs.Tries.{Trie, row_of}
 use Rattle.annotated_trie.specs.Choices.{AnnotatedTrie, choices_with}
 use Rattle.search_frames.specs.Configurations.{IsPossible}
 use Rattle.search_frames.specs.Frames.{numbered_of}
-use Rattle.segmentation_definitions.specs.Items.{Item}
 use Rattle.phoneme.specs.declared.line.Line.{Line}
 use Rattle.summary_chart.specs.Summaries.{AddsItems, IsItemBy, IsItemByRule, key_with}
 use Rattle.summary_chart.specs.declared.collected.Collected.{Collected}

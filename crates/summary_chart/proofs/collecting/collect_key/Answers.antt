@@ -1,16 +1,14 @@
 -- Where no state goes further, nothing is added; else the step's item is, whose form is supplied few letters.
-use Rattle.std.proofs.Common.{◌≡◌, ◌⊎◌, ◌≤◌, ℕ, length, ap, subst, ◌∙◌, arith, Result, Ok, Err}
+use Rattle.std.proofs.Common.{◌≡◌, length, refl, ap, ◌∙◌, arith, Result, Ok, Err}
 use Rattle.std.specs.Prelude.{OnOk}
 use Rattle.std.proofs.lemmas.Result.{on_ok_weaker}
-use Rattle.lexicon_definitions.specs.Lexicons.{RuleSet, rule_of}
+use Rattle.lexicon_definitions.specs.Lexicons.{RuleSet}
 use Rattle.lexicon_definitions.specs.Leads.{leads_of}
-use Rattle.segmentation_definitions.specs.Items.{Item, item_of}
 use Rattle.derivation.specs.Guides.{entrance_of}
 use Rattle.derivation.specs.Steps.{key_meant}
 use Rattle.answer_paths.specs.Fronts.{supplied}
-use Rattle.answer_paths.specs.Following.{placed_at}
 use Rattle.search_frames.proofs.WalkLeads.{short_supplied}
-use Rattle.summary_chart.specs.Summaries.{item_with, made_of}
+use Rattle.summary_chart.specs.Summaries.{item_with}
 use Rattle.summary_chart.proofs.CollectedItems.{one_added, seen_more}
 use Rattle.summary_chart.proofs.collecting.collect_key.Goals as goal
 
@@ -25,7 +23,7 @@ overflow_cast-step g c =
     let entrance = c.args.place.now.entrance in
     let short = short_supplied rules entrance c.requires.searched.limits c.requires.place.over in
     let is : c.supplied_letters.result.now ≡ supplied (entrance_of (leads_of rules.rules) entrance) =
-    c.supplied_letters.ensures ∙ ap (λ (r : RuleSet). supplied (entrance_of (leads_of r.rules) entrance)) c.rules-rules.ensures.value in
+    c.supplied_letters.ensures ∙ ap (λ (r : RuleSet). supplied (entrance_of (leads_of r.rules) entrance)) c.rules.ensures.value in
     let same = ap length is in
     omega (arith, short, same)
 
@@ -35,13 +33,11 @@ returns-clause-adds g c =
     let line = c.args.line.now in
     let place = c.args.place.now in
     let key = key_meant c.args.key in
-    let with_rules : RuleSet → Item = λ rules. item_of (placed_at rules line place.at (entrance_of (leads_of rules.rules) place.entrance) key) in
-    let is : c.in_ok-item.item ≡ item_with searched line place.at place.entrance key = c.in_ok-item.ensures.ok ∙ ap with_rules c.rules-rules.ensures.value in
-    on_ok_weaker c.put.result
+    on_ok_weaker c.put_item.result
     (λ put. one_added searched line c.args.choices.now c.args.table.now place.at place.entrance c.args.states key
-    c.states_by_key.result c.states_by_key.ensures c.args.collected.now.items.items c.put.new.self.items.items c.in_ok-item.item
-    c.if-is_empty.ensures is put)
-    c.put.ensures.items
+    c.states_by_key.result c.states_by_key.ensures c.args.collected.now.items.items c.put_item.new.collected.items.items
+    (item_with searched line place.at place.entrance key) c.if-is_empty.ensures refl put)
+    c.put_item.ensures.items
 
 pub returns-clause-seen : goal.returns-clause-seen
 returns-clause-seen g c =
@@ -49,12 +45,7 @@ returns-clause-seen g c =
     let line = c.args.line.now in
     let place = c.args.place.now in
     let key = key_meant c.args.key in
-    let with_rules : RuleSet → Item = λ rules. item_of (placed_at rules line place.at (entrance_of (leads_of rules.rules) place.entrance) key) in
-    let is : c.in_ok-item.item ≡ item_with searched line place.at place.entrance key = c.in_ok-item.ensures.ok ∙ ap with_rules c.rules-rules.ensures.value in
-    let made = subst (λ (rules : RuleSet). OnOk c.put.result ((other : ℕ) → other ≤ length rules.rules
-    → (made_of c.put.new.self other ≡ made_of c.args.collected.now other) ⊎ ((rule_of rules other).u ≡ (rule_of rules c.args.key.rule).u)))
-    c.rules-rules.ensures.value c.put.ensures.made in
-    both_ok c.put.result
-    (λ put made since seen. seen_more searched line place.at place.entrance c.args.key.phase c.args.key.taken since c.args.key.rule c.args.collected.now c.put.new.self
-    c.in_ok-item.item is put made seen)
-    c.put.ensures.items made
+    both_ok c.put_item.result
+    (λ put made since seen. seen_more searched line place.at place.entrance c.args.key.phase c.args.key.taken since c.args.key.rule c.args.collected.now c.put_item.new.collected
+    (item_with searched line place.at place.entrance key) refl put made seen)
+    c.put_item.ensures.items c.put_item.ensures.made

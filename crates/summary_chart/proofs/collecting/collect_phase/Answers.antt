@@ -1,5 +1,5 @@
 -- One front more adds its items; no possible key of the phase takes more letters than the fronts do.
-use Rattle.std.proofs.Common.{◌≡◌, ℕ, ◌+◌, ◌*◌, ◌≤◌, length, arith}
+use Rattle.std.proofs.Common.{◌+◌, arith}
 use Rattle.lexicon_definitions.specs.declared.limits.TheConstants.{MOST_RULE_LETTERS}
 use Rattle.search_frames.specs.declared.frame.TheConstants.{NODES_OF_FRAME}
 use Rattle.summary_chart.specs.Summaries.{steps_of_front}

@@ -1,5 +1,5 @@
 -- No change is possible where a form ends at the node, and only there.
-use Rattle.std.proofs.Common.{◌≡◌, ◌≢◌, ℕ, ◌<◌, [], length, sym, ap, subst, ◌∙◌}
+use Rattle.std.proofs.Common.{◌≡◌, ◌≢◌, ◌<◌, [], length, sym, ap, subst, ◌∙◌}
 use Rattle.lexicon_definitions.specs.Tries.{Trie, row_of}
 use Rattle.annotated_trie.specs.Choices.{AnnotatedTrie}
 use Rattle.search_frames.specs.Frames.{numbered_of}

@@ -1,13 +1,11 @@
 -- One turn by the lemmas on turns, from an index to the last one before it whose set is not empty; before the pass the table has only
 -- places that are reached, and every living one.
-use Rattle.std.proofs.Common.{◌≡◌, ◌<◌, ◌≤◌, ◌+◌, ◌-◌, ◌*◌, ℕ, length, sym, ap, subst, refl, ◌∙◌, arith}
-use Rattle.std.proofs.lemmas.List.{get_or_read_under}
-use Rattle.summary_chart.specs.declared.state_set.StateSet.{StateSet}
-use Rattle.summary_chart.specs.Tables.{set_of}
-use Rattle.summary_chart.specs.Spreading.{AreGoingFurther, EveryKey, leads_in}
+use Rattle.std.proofs.Common.{◌≡◌, ◌+◌, ◌-◌, ◌*◌, ℕ, length, sym, ap, subst, arith}
+use Rattle.summary_chart.specs.Spreading.{leads_in}
 use Rattle.summary_chart.specs.Charts.{IsAliveFrom, set_count}
 use Rattle.summary_chart.specs.Summaries.{steps_of_items, steps_of_summary}
-use Rattle.summary_chart.proofs.LivingPlaces.{gather_back, living_down, reached_back, chart_if_alive}
+use Rattle.summary_chart.proofs.LivingPlaces.{gather_back, old_if_new, living_down, reached_back, chart_if_alive}
+use Rattle.summary_chart.proofs.KeptWays.{fewer_places}
 use Rattle.summary_chart.proofs.TableItems.{none_in_empty}
 use Rattle.summary_chart.proofs.PassCosts.{one_frame_less, fewer_left}
 use Rattle.summary_chart.proofs.passes.keep_living.Goals as goal
@@ -26,6 +24,7 @@ loop-until-init g c =
     record {
       from = living_down searched line choices first c.len.result table from (none_in_empty searched line choices table lawful first c.len.result empty);
       low = (let rises = empty.rises in let within = empty.within in omega (arith, rises, within));
+      kept = c.requires.kept;
       steps = λ most few.
           let less = fewer_left (c.args.steps.now + steps_of_summary searched line most) c.len.result first (steps_of_items searched most) c.args.steps.now empty.rises
           (let same = ap (λ (n : ℕ). n * steps_of_items searched most) all in omega (arith, same)) in
@@ -43,25 +42,24 @@ loop-until-preserved g c =
     let inv = c.loop-until.invariant in
     let replace = c.replace.ensures in
     let living = c.in_ok-living.living in
-    let low : index < length old.sets.items = omega (arith, c.loop-until-test.true, inv.low) in
-    let read : c.index-states.result.now ≡ set_of old index =
-    get_or_read_under old.sets.items index (length old.sets.items) c.index-states.result.now (record { bits = 0 }) c.index-states.ensures low refl in
     let here : c.loop-until.until ≡ index + 1 = omega (arith, c.loop-until-test.true) in
     let from = subst (λ (n : ℕ). IsAliveFrom searched line choices n old) here inv.from in
     let indexed = c.place-at.ensures (leads_in searched) (length line.letters) from.has.lawful in
-    let gathers = subst (λ (set : StateSet). AreGoingFurther searched line choices old c.place-at.result.0 c.place-at.result.1 set EveryKey living)
-    read c.in_ok-living.ensures.gathers in
+    let gathers = c.in_ok-living.ensures.gathers in
     let back = gather_back searched line choices index c.place-at.result.0 c.place-at.result.1 old c.requires.searched from indexed
+    new living replace.changes replace.set gathers in
+    let fewer = old_if_new searched line choices index c.place-at.result.0 c.place-at.result.1 old c.requires.searched from indexed
     new living replace.changes replace.set gathers in
     let next = c.filled_until-until-in-loop-until.result in
     let empty = c.filled_until-until-in-loop-until.ensures in
     record {
       from = living_down searched line choices next index new back (none_in_empty searched line choices new back.has.lawful next index empty);
+      kept = fewer_places searched line choices old new c.args.kept.now.stops.items c.args.kept.now.ways.items fewer inv.kept;
       low = (let rises = empty.rises in let within = empty.within in omega (arith, rises, within));
       steps = λ most few.
-          fewer_left (c.args.steps.now + steps_of_summary searched line most) index next (steps_of_items searched most) c.gather.new.steps empty.rises
+          fewer_left (c.args.steps.now + steps_of_summary searched line most) index next (steps_of_items searched most) c.gather_from.new.steps empty.rises
           (one_frame_less (c.args.steps.now + steps_of_summary searched line most) c.loop-until.until (steps_of_items searched most)
-          c.loop-until.steps c.gather.new.steps (omega (arith, here)) (inv.steps most few) (c.gather.ensures.steps most few));
+          c.loop-until.steps c.gather_from.new.steps (omega (arith, here)) (inv.steps most few) (c.gather_from.ensures.steps most few));
     }
 
 pub returns-in_err-living-clause-steps : goal.returns-in_err-living-clause-steps
@@ -70,7 +68,7 @@ returns-in_err-living-clause-steps g c most few =
     let line = c.args.line.now in
     let inv = c.loop-until.invariant in
     let one = one_frame_less (c.args.steps.now + steps_of_summary searched line most) c.loop-until.until (steps_of_items searched most)
-    c.loop-until.steps c.gather.new.steps (omega (arith, c.loop-until-test.true)) (inv.steps most few) (c.gather.ensures.steps most few) in
+    c.loop-until.steps c.gather_from.new.steps (omega (arith, c.loop-until-test.true)) (inv.steps most few) (c.gather_from.ensures.steps most few) in
     omega (arith, one)
 
 pub returns-clause-living : goal.returns-clause-living

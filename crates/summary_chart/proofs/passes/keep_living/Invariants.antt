@@ -1,7 +1,9 @@
--- From each index on the table has only living places; each of these indices took its steps.
+-- From each index on the table has only living places, and the ways that are kept are those of its places; each of these indices took its
+-- steps.
 use Rattle.std.proofs.Common.{◌+◌, ◌*◌, ◌≤◌, ℕ, length}
 use Rattle.search_frames.specs.Costs.{HasAtMostRules}
 use Rattle.summary_chart.specs.Charts.{IsAliveFrom}
+use Rattle.summary_chart.specs.PlaceWays.{HaveWays}
 use Rattle.summary_chart.specs.Summaries.{steps_of_items, steps_of_summary}
 use Rattle.summary_chart.proofs.passes.keep_living.Given as goal
 
@@ -9,6 +11,7 @@ abbrev pub invariant-loop-until : goal.invariant-loop-until
 invariant-loop-until g l =
     record {
       from : IsAliveFrom l.lexicon l.line l.choices l.until l.table;
+      kept : HaveWays l.lexicon l.line l.choices l.table l.kept.stops.items l.kept.ways.items;
       low : l.until ≤ length l.table.sets.items;
       steps : (most : ℕ) → HasAtMostRules l.lexicon.tries most
           → l.steps + l.until * steps_of_items l.lexicon most ≤ l.fn.steps + steps_of_summary l.lexicon l.line most;

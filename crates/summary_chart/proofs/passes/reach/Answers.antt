@@ -1,13 +1,15 @@
--- One turn by the lemmas on turns (`ReachedPlaces`); at the end the table is closed everywhere.
-use Rattle.std.proofs.Common.{◌≡◌, ◌+◌, ◌-◌, ◌<◌, ◌≤◌, ℕ, length, sym, ap, subst, ◌∙◌, arith}
-use Rattle.std.proofs.lemmas.List.{get_or_read_under}
-use Rattle.summary_chart.specs.declared.state_set.StateSet.{StateSet}
-use Rattle.summary_chart.specs.Tables.{set_of}
-use Rattle.summary_chart.specs.Spreading.{Spreads, EveryKey, leads_in}
+-- The turn is that of `reach_from`, and where sets are empty nothing is to be done (`ReachedPlaces`, `KeptWays`); at the end the table is
+-- closed everywhere.
+use Rattle.std.proofs.Common.{◌≡◌, ◌+◌, ◌*◌, [], ℕ, List, sym, subst, arith}
+use Rattle.summary_chart.specs.declared.place_ways.Stop.{Stop}
 use Rattle.summary_chart.specs.Charts.{IsReachedBefore, set_count}
-use Rattle.summary_chart.proofs.ReachedPlaces.{spread_on, nothing_until, opened}
+use Rattle.summary_chart.specs.PlaceWays.{AreFew, HaveWaysBefore}
+use Rattle.summary_chart.specs.Summaries.{steps_of_items}
+use Rattle.summary_chart.proofs.ReachedPlaces.{nothing_until, opened}
 use Rattle.summary_chart.proofs.LivingReached.{has_reached}
-use Rattle.summary_chart.proofs.SummarySteps.{place_and_skip, places_within}
+use Rattle.summary_chart.proofs.KeptWays.{no_stops, none_few, until}
+use Rattle.summary_chart.proofs.PassCosts.{frame_and_skip, one_frame_more}
+use Rattle.summary_chart.proofs.SummarySteps.{places_twice}
 use Rattle.summary_chart.proofs.passes.reach.Goals as goal
 
 pub loop-index-init : goal.loop-index-init
@@ -16,24 +18,30 @@ loop-index-init g c =
     let line = c.args.line.now in
     let choices = c.args.choices.now in
     let table = c.args.table.now in
+    let stops = c.args.kept.now.stops.items in
+    let ways = c.args.kept.now.ways.items in
     let empty = c.next_filled-index.ensures in
-    let first = opened searched line choices table c.requires.opening in
+    let none = subst (λ (s : List Stop). HaveWaysBefore searched line choices 0 table s ways) (sym c.requires.stops)
+    (subst (HaveWaysBefore searched line choices 0 table []) (sym c.requires.ways) (no_stops searched line choices table)) in
     record {
-      before = nothing_until searched line choices 0 c.next_filled-index.result table first empty;
+      before = nothing_until searched line choices 0 c.next_filled-index.result table (opened searched line choices table c.requires.opening) empty;
+      kept = until searched line choices 0 c.next_filled-index.result table stops ways (omega arith) none;
+      few = subst (λ (s : List Stop). AreFew searched line s ways) (sym c.requires.stops)
+          (subst (AreFew searched line []) (sym c.requires.ways) (none_few searched line choices));
       within = empty.within;
       steps = λ most few. omega arith;
     }
 
-pub returns-in_err-spread-clause-steps : goal.returns-in_err-spread-clause-steps
-returns-in_err-spread-clause-steps g c most few =
+pub returns-in_err-reach_from-clause-steps : goal.returns-in_err-reach_from-clause-steps
+returns-in_err-reach_from-clause-steps g c most few =
     let searched = c.args.lexicon.now in
     let line = c.args.line.now in
     let index = c.loop-index.index in
     let inv = c.loop-index.invariant in
-    places_within searched line most (index + 1) c.args.steps.now c.spread.new.steps
+    places_twice searched line most (index + 1) c.args.steps.now c.reach_from.new.steps
     (omega (arith, c.loop-index-test.true, c.len.ensures, c.loop-index.table.sets.ok, inv.before.lawful.count))
-    (place_and_skip searched line most index (index + 1) c.args.steps.now c.loop-index.steps c.spread.new.steps (omega arith) (inv.steps most few)
-    (c.spread.ensures.steps most few))
+    (one_frame_more c.args.steps.now index (2 * steps_of_items searched most) c.loop-index.steps c.reach_from.new.steps (inv.steps most few)
+    (c.reach_from.ensures.steps most few))
 
 pub loop-index-preserved : goal.loop-index-preserved
 loop-index-preserved g c =
@@ -41,23 +49,18 @@ loop-index-preserved g c =
     let line = c.args.line.now in
     let choices = c.args.choices.now in
     let index = c.loop-index.index in
-    let old = c.loop-index.table in
     let inv = c.loop-index.invariant in
-    let read : c.index-states.result.now ≡ set_of old index =
-    get_or_read_under old.sets.items index c.len.result c.index-states.result.now (record { bits = 0 }) c.index-states.ensures c.loop-index-test.true
-    (omega (arith, c.len.ensures, old.sets.ok)) in
     let next = c.next_filled-index-in-loop-index.result in
     let empty = c.next_filled-index-in-loop-index.ensures in
-    let spread = c.in_ok-spread.ensures in
-    let new = c.spread.new.table in
-    let indexed = c.place-at.ensures (leads_in searched) (length line.letters) inv.before.lawful in
-    let spreads = subst (λ (set : StateSet). Spreads searched line choices c.place-at.result.0 c.place-at.result.1 set EveryKey old new) read spread.spreads in
-    let before = spread_on searched line choices index c.place-at.result.0 c.place-at.result.1 old c.requires.searched inv.before indexed new spread.table spreads in
+    let from = c.in_ok-reach_from.ensures in
+    let new = c.reach_from.new in
     record {
-      before = nothing_until searched line choices (index + 1) next new before empty;
+      before = nothing_until searched line choices (index + 1) next new.table from.before empty;
+      kept = until searched line choices (index + 1) next new.table new.kept.stops.items new.kept.ways.items empty.rises from.kept;
+      few = from.few;
       within = empty.within;
-      steps = λ most few. place_and_skip searched line most index next c.args.steps.now c.loop-index.steps c.spread.new.steps empty.rises (inv.steps most few)
-          (c.spread.ensures.steps most few);
+      steps = λ most few. frame_and_skip c.args.steps.now index next (2 * steps_of_items searched most) c.loop-index.steps new.steps empty.rises
+          (inv.steps most few) (c.reach_from.ensures.steps most few);
     }
 
 pub returns-clause-reached : goal.returns-clause-reached
@@ -67,3 +70,9 @@ returns-clause-reached g c =
     omega (arith, c.loop-index-test.false, c.len.ensures, c.loop-index.table.sets.ok, inv.within, inv.before.lawful.count) in
     has_reached c.args.lexicon.now c.args.line.now c.args.choices.now c.loop-index.table c.requires.searched
     (subst (λ (n : ℕ). IsReachedBefore c.args.lexicon.now c.args.line.now c.args.choices.now n c.loop-index.table) all inv.before) c.requires.line
+
+pub returns-clause-steps : goal.returns-clause-steps
+returns-clause-steps g c most few =
+    let inv = c.loop-index.invariant in
+    places_twice c.args.lexicon.now c.args.line.now most c.loop-index.index c.args.steps.now c.loop-index.steps
+    (let within = inv.within in let count = inv.before.lawful.count in omega (arith, within, count)) (inv.steps most few)

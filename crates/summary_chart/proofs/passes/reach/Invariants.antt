@@ -1,7 +1,9 @@
--- Before each index the table is closed, and each index took its steps.
-use Rattle.std.proofs.Common.{◌<◌, ◌+◌, ◌*◌, ◌≤◌, ◌-◌, ℕ, length}
+-- Before each index the table is closed, and the ways that are kept are those of its places, few as they are; each index took its steps
+-- twice at most.
+use Rattle.std.proofs.Common.{◌+◌, ◌*◌, ◌≤◌, ◌-◌, ℕ, length}
 use Rattle.search_frames.specs.Costs.{HasAtMostRules}
 use Rattle.summary_chart.specs.Charts.{IsReachedBefore}
+use Rattle.summary_chart.specs.PlaceWays.{AreFew, HaveWaysBefore}
 use Rattle.summary_chart.specs.Summaries.{steps_of_items}
 use Rattle.summary_chart.proofs.passes.reach.Given as goal
 
@@ -9,8 +11,10 @@ abbrev pub invariant-loop-index : goal.invariant-loop-index
 invariant-loop-index g l =
     record {
       before : IsReachedBefore l.lexicon l.line l.choices l.index l.table;
+      kept : HaveWaysBefore l.lexicon l.line l.choices l.index l.table l.kept.stops.items l.kept.ways.items;
+      few : AreFew l.lexicon l.line l.kept.stops.items l.kept.ways.items;
       within : l.index ≤ length l.table.sets.items;
-      steps : (most : ℕ) → HasAtMostRules l.lexicon.tries most → l.steps ≤ l.fn.steps + l.index * steps_of_items l.lexicon most;
+      steps : (most : ℕ) → HasAtMostRules l.lexicon.tries most → l.steps ≤ l.fn.steps + l.index * (2 * steps_of_items l.lexicon most);
     }
 
 abbrev pub decreases-loop-index : goal.decreases-loop-index

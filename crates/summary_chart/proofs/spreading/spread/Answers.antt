@@ -1,5 +1,5 @@
 -- One phase more; one to which no state leads does nothing.
-use Rattle.std.proofs.Common.{◌≡◌, ◌↔◌, ℕ, ◌+◌, ◌*◌, ◌≤◌, length, sym, subst, arith}
+use Rattle.std.proofs.Common.{◌↔◌, ℕ, ◌+◌, length, sym, subst, arith}
 use Rattle.phase_automaton.specs.Automata.{StateMachine}
 use Rattle.search_frames.specs.Configurations.{rules_in}
 use Rattle.summary_chart.specs.declared.table.Table.{Table}

@@ -1,5 +1,5 @@
 -- The items so far are those of the places before the index, and each index took its steps.
-use Rattle.std.proofs.Common.{◌<◌, ◌+◌, ◌*◌, ◌≤◌, ◌-◌, ℕ, length}
+use Rattle.std.proofs.Common.{◌+◌, ◌*◌, ◌≤◌, ◌-◌, ℕ, length}
 use Rattle.search_frames.specs.Costs.{HasAtMostRules}
 use Rattle.summary_chart.specs.Summaries.{HasItemsBefore, IsCollected, steps_of_items}
 use Rattle.summary_chart.proofs.summary.items_of_table.Given as goal

@@ -1,10 +1,7 @@
 -- The set before is empty too.
-use Rattle.std.proofs.Common.{◌≡◌, ◌+◌, ◌-◌, ◌<◌, ◌≤◌, ℕ, length, sym, subst, ◌∙◌, arith}
-use Rattle.std.proofs.lemmas.List.{get_or_default}
-use Rattle.summary_chart.specs.declared.state_set.StateSet.{StateSet}
-use Rattle.summary_chart.specs.StateSets.{HasState}
+use Rattle.std.proofs.Common.{◌≡◌, ◌+◌, ◌-◌, ◌<◌, ℕ, length, subst, arith}
 use Rattle.summary_chart.specs.Tables.{AreEmptyBetween}
-use Rattle.summary_chart.proofs.EmptySets.{set_at, one_before}
+use Rattle.summary_chart.proofs.EmptySets.{one_before}
 use Rattle.summary_chart.proofs.table.skip_empty_back.Goals as goal
 
 pub loop-end-preserved : goal.loop-end-preserved

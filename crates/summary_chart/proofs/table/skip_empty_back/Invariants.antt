@@ -1,5 +1,4 @@
 -- All sets from the index on are empty.
-use Rattle.std.proofs.Common.{length}
 use Rattle.summary_chart.specs.Tables.{AreEmptyBetween}
 use Rattle.summary_chart.proofs.table.skip_empty_back.Given as goal
 

@@ -1,5 +1,5 @@
 -- The letter after those so far leads from the node that is reached to its child, or nowhere; then no more letters lead anywhere.
-use Rattle.std.proofs.Common.{◌≡◌, ◌∷◌, [], ℕ, ◌+◌, ◌<◌, ◌≤◌, length, take, Some, None, sym, ◌∙◌, ap, arith, length-append}
+use Rattle.std.proofs.Common.{◌≡◌, ◌∷◌, [], ℕ, ◌+◌, length, take, Some, None, sym, ◌∙◌, ap, arith, length-append}
 use Rattle.lexicon_definitions.specs.Tries.{walk}
 use Rattle.search_frames.specs.declared.frame.TheConstants.{NODES_OF_FRAME}
 use Rattle.search_frames.proofs.WalkLemmas.{walk_next, has_place, walked_below}

@@ -1,0 +1,128 @@
+-- Ways that are appended key by key: of no key, of one, of some and then of others that come after them, and of keys that are told in
+-- another way. A key has a way where it is possible and may lead on or end the line as the letters tell.
+use Rattle.std.proofs.Common.{◌≡◌, ◌⊎◌, inl, inr, ◌≤◌, List, [], ◌∷◌, ◌++◌, length, take, drop, map, All, Contains, refl, sym, ◌∙◌, ap, subst, arith}
+use Rattle.std.specs.List.Sorted.{IsStrictlySortedBy}
+use Rattle.std.specs.declared.cmp.Ordering.TheVariants.{Less}
+use Rattle.std.proofs.lemmas.List.{append-nil, append_assoc, map-append, length-append, take-append-drop, take-append-le}
+use Rattle.std.proofs.lemmas.List.Elements.{All-nil, All-cons, All-append, All-map, All-contains, All-weaker, Contains-append_left, Contains-append_right}
+use Rattle.std.proofs.Math.Seq.{take-append_seam}
+use Rattle.list_laws.proofs.Sorted.{Contains-first}
+use Rattle.list_laws.proofs.FirstOnes.{sorted-append, sorted-cons}
+use Rattle.text_definitions.specs.Lines.{Line}
+use Rattle.segmentation_definitions.specs.Items.{Choice}
+use Rattle.segmentation_definitions.specs.Listings.{Key, compare_keys}
+use Rattle.annotated_trie.specs.Searched.{SearchedLexicon}
+use Rattle.search_frames.specs.declared.way.Way.{Way}
+use Rattle.search_frames.specs.Configurations.{NumberedConfiguration, IsPossible}
+use Rattle.search_frames.specs.LetterTests.{MayNeither}
+use Rattle.search_frames.specs.WaysFrom.{IsWayFrom, key_of_way}
+use Rattle.summary_chart.specs.PlaceWays.{AppendsWays}
+use Rattle.summary_chart.specs.Spreading.{OnlyKey}
+
+none_rise : IsStrictlySortedBy compare_keys []
+unfolding IsStrictlySortedBy
+none_rise = tt
+
+one_rises : (key : Key) → IsStrictlySortedBy compare_keys (key ∷ [])
+one_rises key = sorted-cons compare_keys key [] (All-nil (λ other. compare_keys key other ≡ Less)) none_rise
+
+-- the key of one of these ways is told as all of them are
+told_of_key : (IsTold : Key → Type 0) (ways : List Way) → All (λ way. IsTold (key_of_way way)) ways → (key : Key) → Contains (map key_of_way ways) key → IsTold key
+told_of_key IsTold ways told key among = All-contains IsTold (map key_of_way ways) key (All-map IsTold key_of_way ways told) among
+
+-- a list that was appended to, and then kept as it was at its begin, still begins with what it was
+pub still_begins : (old mid new more : List Way) → mid ≡ old ++ more → take (length mid) new ≡ mid → take (length old) new ≡ old
+still_begins old mid new more appended kept =
+    let rest = drop (length mid) new in
+    let whole : (old ++ more) ++ rest ≡ new = ap (λ (ways : List Way). ways ++ rest) (sym (kept ∙ appended)) ∙ take-append-drop (length mid) new in
+    sym (ap (take (length old)) whole) ∙ take-append-le (length old) (old ++ more) rest (omega (arith, length-append old more)) ∙ take-append_seam old more
+
+module _ (searched : SearchedLexicon) (line : Line) (choices : List Choice) (here : NumberedConfiguration) where
+  -- of no key
+  pub append_none : (IsTold : Key → Type 0) (ways : List Way)
+      → ((key : Key) → IsTold key → IsPossible searched line here key → (MayNeither searched line choices here key → ⊥) → ⊥)
+      → AppendsWays searched line choices here IsTold ways ways
+  append_none IsTold ways none = record {
+    ways = [];
+    appended = sym (append-nil ways);
+    each = All-nil (IsWayFrom searched line choices here);
+    told = All-nil (λ way. IsTold (key_of_way way));
+    rising = none_rise;
+    all = λ key told possible may. absurd (none key told possible may);
+  }
+
+  -- of one that may do neither
+  pub append_refused : (key : Key) (ways : List Way) → MayNeither searched line choices here key → AppendsWays searched line choices here (OnlyKey key) ways ways
+  append_refused key ways neither =
+      append_none (OnlyKey key) ways (λ other same possible may. may (subst (MayNeither searched line choices here) (sym same) neither))
+
+  -- of one that does something
+  pub append_one : (way : Way) (old new : List Way) → IsWayFrom searched line choices here way → new ≡ old ++ way ∷ []
+      → AppendsWays searched line choices here (OnlyKey (key_of_way way)) old new
+  append_one way old new is put = record {
+    ways = way ∷ [];
+    appended = put;
+    each = All-cons (IsWayFrom searched line choices here) way [] is (All-nil (IsWayFrom searched line choices here));
+    told = All-cons (λ other. OnlyKey (key_of_way way) (key_of_way other)) way [] refl (All-nil (λ other. OnlyKey (key_of_way way) (key_of_way other)));
+    rising = one_rises (key_of_way way);
+    all = λ key same possible may. subst (Contains (key_of_way way ∷ [])) (sym same) (Contains-first (key_of_way way) []);
+  }
+
+  -- of some and then of others that come after them
+  pub append_both : (IsFirst IsSecond : Key → Type 0) (old mid new : List Way)
+      → ((one other : Key) → IsFirst one → IsSecond other → compare_keys one other ≡ Less)
+      → AppendsWays searched line choices here IsFirst old mid → AppendsWays searched line choices here IsSecond mid new
+      → AppendsWays searched line choices here (λ key. IsFirst key ⊎ IsSecond key) old new
+  append_both IsFirst IsSecond old mid new before first second =
+      let both : map key_of_way (first.ways ++ second.ways) ≡ map key_of_way first.ways ++ map key_of_way second.ways = map-append key_of_way first.ways second.ways in
+      record {
+        ways = first.ways ++ second.ways;
+        appended = second.appended ∙ ap (λ (ways : List Way). ways ++ second.ways) first.appended ∙ append_assoc old first.ways second.ways;
+        each = All-append (IsWayFrom searched line choices here) first.ways second.ways first.each second.each;
+        told = All-append (λ way. IsFirst (key_of_way way) ⊎ IsSecond (key_of_way way)) first.ways second.ways
+            (All-weaker (λ way. IsFirst (key_of_way way)) (λ way. IsFirst (key_of_way way) ⊎ IsSecond (key_of_way way)) (λ way told. inl told) first.ways first.told)
+            (All-weaker (λ way. IsSecond (key_of_way way)) (λ way. IsFirst (key_of_way way) ⊎ IsSecond (key_of_way way)) (λ way told. inr told) second.ways second.told);
+        rising = subst (IsStrictlySortedBy compare_keys) (sym both)
+            (sorted-append compare_keys (map key_of_way first.ways) (map key_of_way second.ways) first.rising second.rising
+            (λ one other among later. before one other (told_of_key IsFirst first.ways first.told one among) (told_of_key IsSecond second.ways second.told other later)));
+        all = λ key told possible may. subst (λ (keys : List Key). Contains keys key) (sym both) (elim told [
+          | inl one ↦ Contains-append_left (map key_of_way first.ways) (map key_of_way second.ways) key (first.all key one possible may)
+          | inr other ↦ Contains-append_right (map key_of_way first.ways) (map key_of_way second.ways) key (second.all key other possible may)
+        ]);
+      }
+
+  -- of keys that are told in another way
+  pub append_same : (IsFirst IsSecond : Key → Type 0) (old new : List Way)
+      → ((key : Key) → IsSecond key → IsPossible searched line here key → (MayNeither searched line choices here key → ⊥) → IsFirst key)
+      → ((key : Key) → IsFirst key → IsSecond key)
+      → AppendsWays searched line choices here IsFirst old new → AppendsWays searched line choices here IsSecond old new
+  append_same IsFirst IsSecond old new back forth first = record {
+    ways = first.ways;
+    appended = first.appended;
+    each = first.each;
+    told = All-weaker (λ way. IsFirst (key_of_way way)) (λ way. IsSecond (key_of_way way)) (λ way told. forth (key_of_way way) told) first.ways first.told;
+    rising = first.rising;
+    all = λ key told possible may. first.all key (back key told possible may) possible may;
+  }
+
+  -- some and then others, told in another way
+  pub append_two : (IsFirst IsSecond IsTold : Key → Type 0) (old mid new : List Way)
+      → ((one other : Key) → IsFirst one → IsSecond other → compare_keys one other ≡ Less)
+      → ((key : Key) → IsTold key → IsPossible searched line here key → (MayNeither searched line choices here key → ⊥) → IsFirst key ⊎ IsSecond key)
+      → ((key : Key) → IsFirst key → IsTold key) → ((key : Key) → IsSecond key → IsTold key)
+      → AppendsWays searched line choices here IsFirst old mid → AppendsWays searched line choices here IsSecond mid new
+      → AppendsWays searched line choices here IsTold old new
+  append_two IsFirst IsSecond IsTold old mid new before either is_first is_second first second =
+      append_same (λ key. IsFirst key ⊎ IsSecond key) IsTold old new either
+      (λ key told. elim told [
+        | inl one ↦ is_first key one
+        | inr other ↦ is_second key other
+      ])
+      (append_both IsFirst IsSecond old mid new before first second)
+
+  -- what was there before stays, and the list does not become shorter
+  pub append_keeps : (IsTold : Key → Type 0) (old new : List Way) → AppendsWays searched line choices here IsTold old new → take (length old) new ≡ old
+  append_keeps IsTold old new appends = ap (take (length old)) appends.appended ∙ take-append_seam old appends.ways
+
+  pub append_longer : (IsTold : Key → Type 0) (old new : List Way) → AppendsWays searched line choices here IsTold old new → length old ≤ length new
+  append_longer IsTold old new appends = (let long = ap length appends.appended in omega (arith, long, length-append old appends.ways))

@@ -1,0 +1,12 @@
+-- The items of the ways so far are there.
+use Rattle.std.proofs.Common.{◌+◌, ◌*◌, ◌≤◌}
+use Rattle.summary_chart.specs.Summaries.{AddsItems, IsCollected}
+use Rattle.summary_chart.proofs.WayKeys.{IsItemAmongFirst}
+use Rattle.summary_chart.proofs.collecting.collect_ways.Given as goal
+
+abbrev pub invariant-loop-way : goal.invariant-loop-way
+invariant-loop-way g l = record {
+  collected : IsCollected l.lexicon.lexicon.rules l.collected;
+  adds : AddsItems (IsItemAmongFirst l.lexicon l.line l.choices l.table l.place l.states l.ways l.way-index) l.fn.collected.items.items l.collected.items.items;
+  spent : l.steps ≤ l.fn.steps + 3 * l.way-index;
+}

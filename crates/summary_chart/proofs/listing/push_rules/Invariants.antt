@@ -1,0 +1,12 @@
+-- The ways of the rules so far are appended.
+use Rattle.std.proofs.Common.{◌+◌, ◌*◌, ◌≤◌, take}
+use Rattle.search_frames.specs.Frames.{numbered_of}
+use Rattle.summary_chart.specs.PlaceWays.{AppendsWays}
+use Rattle.summary_chart.specs.Spreading.{IsByRule}
+use Rattle.summary_chart.proofs.listing.push_rules.Given as goal
+
+abbrev pub invariant-loop-rule : goal.invariant-loop-rule
+invariant-loop-rule g l = record {
+  appends : AppendsWays l.lexicon l.line l.choices (numbered_of l.lexicon l.place) (IsByRule l.phase l.taken (take l.rule-index l.rules)) l.fn.ways.items l.ways.items;
+  spent : l.steps ≤ l.fn.steps + 2 * l.rule-index;
+}

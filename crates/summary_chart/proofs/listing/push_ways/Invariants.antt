@@ -1,0 +1,19 @@
+-- The ways of the phases so far to which some state leads are appended, and are not too many; each phase took its steps.
+use Rattle.std.proofs.Common.{◌≡◌, ◌+◌, ◌*◌, ◌≤◌, ℕ, length}
+use Rattle.search_frames.specs.declared.way.TheConstants.{MOST_WAYS}
+use Rattle.search_frames.specs.Costs.{HasAtMostRules}
+use Rattle.search_frames.specs.Configurations.{rules_in}
+use Rattle.search_frames.specs.Frames.{numbered_of}
+use Rattle.summary_chart.specs.PlaceWays.{AppendsWays}
+use Rattle.summary_chart.specs.Summaries.{steps_of_fronts}
+use Rattle.summary_chart.proofs.OrderedKeys.{IsLedEarlier}
+use Rattle.summary_chart.proofs.listing.push_ways.Given as goal
+
+abbrev pub invariant-loop-phase : goal.invariant-loop-phase
+invariant-loop-phase g l = record {
+  end : l.phase-end ≡ length (rules_in l.lexicon).names;
+  low : l.phase ≤ length (rules_in l.lexicon).names;
+  appends : AppendsWays l.lexicon l.line l.choices (numbered_of l.lexicon l.place) (IsLedEarlier l.lexicon.machine l.states l.phase) l.fn.ways.items l.ways.items;
+  few : length l.ways.items ≤ length l.fn.ways.items + MOST_WAYS;
+  spent : (most : ℕ) → HasAtMostRules l.lexicon.tries most → l.steps ≤ l.fn.steps + l.phase * (1 + steps_of_fronts most);
+}

@@ -1,0 +1,110 @@
+ghost use Rattle.std.specs.Prelude.{◌≡◌, ◌<◌, length, IfSome, OnOk};
+ghost use Rattle.std.specs.Bool.{OnTrue};
+ghost use Rattle.summary_chart.specs.declared.memo.TheConstants.{MOST_DONE};
+ghost use Rattle.summary_chart.specs.declared.memo.Done.{Done as DoneValue};
+ghost use Rattle.summary_chart.specs.Memos.{HasNodes, IsKnown, IsSameWork, KeepsKnown};
+
+use super::state_set::StateSet;
+use annotated_trie::Annotated;
+use phoneme::Memory;
+use shared_trie::Node;
+use std::alloc::Global;
+
+/// So much is kept at most.
+const MOST_DONE: usize = 65_536;
+
+/// What rules do after a form: the node to which the letters before its `u` lead, after how many letters of the line these end, whether the
+/// line may end after it, and its phase, counted from 0. It is the same wherever the form begins.
+#[derive(Clone, Copy, Debug, PartialEq, Eq)]
+pub(crate) struct Work {
+    pub node: Node,
+    pub end: u32,
+    pub may_end: bool,
+    pub phase: u32,
+}
+
+/// Work that was done, and the states that it gave.
+#[derive(Clone, Copy, Debug, PartialEq, Eq)]
+pub(crate) struct Done {
+    pub work: Work,
+    pub states: StateSet,
+}
+
+/// Work that was done, so that it is not done once more (own). It may forget: each work has one place, where what was done last is kept.
+/// It takes no memory before something is kept.
+#[derive(Debug, Drop)]
+pub(crate) struct Memo {
+    places: Vec<Option<Done>>,
+}
+
+/// The place of the work, below `MOST_DONE`. Works of nodes with the same choices have the same place.
+fn place_of(tries: &Annotated, work: Work) -> usize
+    requires { work.node < length tries.now.trie.rows }
+    ensures { result < MOST_DONE }
+{
+    let list = u64::from(tries.list_number(work.node));
+    let mixed = list
+        .wrapping_mul(0x9E37_79B9_7F4A_7C15)
+        .wrapping_add(u64::from(work.end).wrapping_mul(0xC2B2_AE3D_27D4_EB4F))
+        .wrapping_add(u64::from(work.phase).wrapping_mul(0x1656_67B1_9E37_79F9));
+    (mixed >> 48) as usize
+}
+
+impl Memo {
+    /// A memo that keeps nothing yet.
+    pub fn new(alloc: Global) -> Memo
+        ensures { (done : DoneValue) → IsKnown result done → ⊥ }
+    {
+        Memo {
+            places: Vec::new(alloc),
+        }
+    }
+
+    /// The states that the work gave, if this is kept: it was done at this node, or at another with the same choices.
+    pub fn get(&self, tries: &Annotated, work: Work) -> Option<StateSet>
+        requires node { work.node < length tries.now.trie.rows }
+        requires nodes { HasNodes tries.now self.now }
+        ensures { IfSome result (λ states. (done : DoneValue) × IsKnown self.now done × IsSameWork tries.now done.work work × (done.states ≡ states)) }
+    {
+        if self.places.is_empty() {
+            return None;
+        }
+        match self.places[place_of(tries, work)] {
+            Some(done) if is_same_work(tries, done.work, work) => Some(done.states),
+            _ => None,
+        }
+    }
+
+    /// Keeps that the work gave these states, in place of what is kept at its place. Refused only for want of memory.
+    pub fn keep(&mut self, tries: &Annotated, work: Work, states: StateSet) -> Result<(), Memory>
+        requires { work.node < length tries.now.trie.rows }
+        ensures { OnOk result (KeepsKnown work states self.old self.new) }
+    {
+        if self.places.is_empty() {
+            self.places.resize(MOST_DONE, None)?;
+        }
+        self.places[place_of(tries, work)] = Some(Done { work, states });
+        Ok(())
+    }
+
+    /// Forgets all, and keeps its memory.
+    pub fn clear(&mut self)
+        ensures { (done : DoneValue) → IsKnown self.new done → ⊥ }
+    {
+        for place in self.places.iter_mut() {
+            *place = None;
+        }
+    }
+}
+
+/// Whether works give the same: their nodes have the same choices, and all else is the same.
+fn is_same_work(tries: &Annotated, one: Work, other: Work) -> bool
+    requires one { one.node < length tries.now.trie.rows }
+    requires other { other.node < length tries.now.trie.rows }
+    ensures { OnTrue result (IsSameWork tries.now one other) }
+{
+    one.end == other.end
+        && one.may_end == other.may_end
+        && one.phase == other.phase
+        && tries.have_same_choices(one.node, other.node)
+}
