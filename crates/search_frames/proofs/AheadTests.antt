@@ -10,13 +10,17 @@ use Rattle.segmentation_definitions.specs.Items.{Choice}
 use Rattle.segmentation_definitions.specs.Listings.{Key}
 use Rattle.segmentation_definitions.specs.Configurations.{Entrance, Start, Plain, Lead, entrance_after_step}
 use Rattle.segmentation_definitions.proofs.Coverings.{form_not_empty, unchanged_at_zero}
+use Rattle.lexicon_definitions.specs.Leads.{leads_of}
+use Rattle.derivation.specs.declared.entrance.Entrance.{Entrance as ProgramEntrance}
+use Rattle.derivation.specs.declared.entrance.Entrance.TheVariants as program
+use Rattle.derivation.specs.Guides.{entrance_of}
 use Rattle.annotated_trie.specs.Searched.{SearchedLexicon, IsSearchedLexicon}
 use Rattle.answer_paths.specs.Following.{MayEnter, MayStand, step_at}
 use Rattle.search_frames.specs.declared.ahead.Ahead.{Ahead}
 use Rattle.search_frames.specs.declared.letter_testing.LetterTest.{LetterTest}
 use Rattle.search_frames.specs.declared.letter_testing.LetterTest.TheVariants as test
-use Rattle.search_frames.specs.Ahead.{IsAhead, FitsPlace, LetsLetterIn, LetsRuleIn, MayBegin, RuleStands, RuleFails, IsRuleTest}
-use Rattle.search_frames.specs.Configurations.{NumberedConfiguration, rules_in}
+use Rattle.search_frames.specs.Ahead.{IsAhead, FitsPlace, LetsAllIn, LetsLetterIn, LetsRuleIn, MayBegin, RuleStands, RuleFails, IsRuleTest}
+use Rattle.search_frames.specs.Configurations.{NumberedConfiguration, IsPossible, rules_in}
 use Rattle.search_frames.specs.LetterTests.{MayNeither, IsLetterTestOf}
 use Rattle.list_laws.proofs.Elements.{written_within}
 
@@ -61,6 +65,16 @@ enters_with_rule rules line at (Plain letter) key enters none some begins says =
       λ h. says.1 (λ l. subst (λ (form : List ℕ). IsPlain rules letter (get_or form 0 0)) is h),
     )
 enters_with_rule rules line at (Lead v after) key enters none some begins says = (λ t. begins, λ h. says.1 tt)
+
+-- where every form that takes so many letters may be entered, that of a key that does may
+pub enters_with_all : (rules : RuleSet) (line : Line) (at : ℕ) (entrance : ProgramEntrance) (key : Key) (ahead : Ahead)
+    → IsAhead rules line at (entrance_of (leads_of rules.rules) entrance) ahead → LetsAllIn ahead entrance key.taken → at + key.taken ≤ length line.letters
+    → MayBegin (entrance_of (leads_of rules.rules) entrance) key.phase
+    → MayEnter rules (entrance_of (leads_of rules.rules) entrance) (step_at rules line at (entrance_of (leads_of rules.rules) entrance) key)
+enters_with_all rules line at program.Start key ahead is lets within begins = tt
+enters_with_all rules line at (program.Plain letter) key ahead is lets within begins =
+    (enters_with_letter rules line at (Plain letter) key ahead.enters within lets.0 begins is.entering).0 lets.1
+enters_with_all rules line at (program.Lead place) key ahead is lets within begins = begins
 
 -- after a step with a rule a form is entered by its v
 entrance_changed : (rules : RuleSet) (step : Step) → 0 < step.rule
@@ -133,6 +147,19 @@ module _ (searched : SearchedLexicon) (line : Line) (choices : List Choice) (her
   pub no_blank_inside : (ahead : Ahead) → IsAhead (rules_in searched) line here.at here.entrance ahead → here.at + key.taken ≤ ahead.limit
       → All (λ blank. here.at < blank → blank < here.at + key.taken → ⊥) line.blanks
   no_blank_inside ahead is within k d low above below = is.blanks k d low above (omega (arith, below, within))
+
+  -- where no choice is made, a possible key fits that goes no further than the limit and whose form may be entered
+  pub fits_unchosen : (ahead : Ahead) → IsAhead (rules_in searched) line here.at here.entrance ahead → here.at + key.taken ≤ ahead.limit
+      → IsPossible searched line here key → MayEnter (rules_in searched) here.entrance (step_at (rules_in searched) line here.at here.entrance key)
+      → length choices ≡ 0 → FitsPlace searched line choices here key
+  fits_unchosen ahead is within possible enters none = record {
+    number = possible.number;
+    within = possible.within;
+    form = possible.form;
+    enters = enters;
+    blanks = no_blank_inside ahead is within;
+    allowed = λ k d low. absurd (omega (arith, low, none));
+  }
 
   module _ (may_end : Bool) (says : IsTrue may_end ↔ All (λ blank. blank ≤ here.at) line.blanks) where
     -- where the rule fails after the letters of the key, the key does nothing

@@ -11,7 +11,7 @@ ghost use Rattle.derivation.specs.Guides.{IsEntranceOver, entrance_of};
 ghost use Rattle.derivation.specs.Steps.{key_meant};
 ghost use Rattle.answer_paths.specs.Fronts.{supplied};
 ghost use Rattle.answer_paths.specs.Following.{MayEnter, is_start, placed_at, step_at};
-ghost use Rattle.search_frames.specs.Ahead.{FitsPlace, IsAhead, IsNextBlank, IsRuleTest, LetsLetterIn, LetsRuleIn, MayBegin};
+ghost use Rattle.search_frames.specs.Ahead.{FitsPlace, IsAhead, IsNextBlank, IsRuleTest, LetsAllIn, LetsLetterIn, LetsRuleIn, MayBegin};
 ghost use Rattle.search_frames.specs.Configurations.{IsPossible};
 ghost use Rattle.search_frames.specs.Frames.{IsConfigurationIn, numbered_of};
 ghost use Rattle.search_frames.specs.LetterTests.{IsLetterTestOf};
@@ -231,6 +231,17 @@ impl Ahead {
         self.lets_in(rules, place, key) && is_allowed(rules, line, choices, place, key)
     }
 
+    /// Whether every form that takes so many letters may be entered at the place, as far as the line tells: nothing or a rule stands before
+    /// it, or it takes a letter that may be entered.
+    fn lets_all_in(self, place: &Configuration, taken: u32) -> bool
+        ensures { OnTrue result (LetsAllIn self place.now.entrance taken) }
+    {
+        match place.entrance {
+            Entrance::Plain(_) => taken > 0 && self.enters,
+            Entrance::Start | Entrance::Lead(_) => true,
+        }
+    }
+
     /// Whether every key that takes so many letters fits the place whichever its rule, as far as can be told without looking at rules: no
     /// choice is made, and a letter is taken before which a form may be entered, or nothing stands before the form but a rule.
     pub fn fits_all(
@@ -249,11 +260,7 @@ impl Ahead {
         // The line and the lexicon are those of which the contract speaks.
         let _letters = &line.letters;
         let _rules = lexicon.rules();
-        choices.list().is_empty()
-            && match place.entrance {
-                Entrance::Plain(_) => taken > 0 && self.enters,
-                Entrance::Start | Entrance::Lead(_) => true,
-            }
+        choices.list().is_empty() && self.lets_all_in(place, taken)
     }
 
     /// What the key does at the place as far as the letters of the line, the blanks and the choices tell. It has no rule, goes no further
