@@ -15,6 +15,7 @@ mod PassCosts
 mod OpenTables
 mod ChartAnswers
 mod ChartGuides
+mod KeysAhead
 mod VisitedKeys
 mod Visits
 mod RisingItems
