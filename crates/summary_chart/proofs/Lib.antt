@@ -15,7 +15,6 @@ mod PassCosts
 mod OpenTables
 mod ChartAnswers
 mod ChartGuides
-mod KeysAhead
 mod VisitedKeys
 mod Visits
 mod RisingItems

@@ -17,13 +17,13 @@ use Rattle.search_frames.specs.Ahead.{IsAhead, MayBegin}
 use Rattle.search_frames.specs.Configurations.{IsPossible, rules_in}
 use Rattle.search_frames.specs.Frames.{numbered_of}
 use Rattle.search_frames.proofs.PossibleKeys.{possible_phase}
+use Rattle.search_frames.proofs.AheadTests.{near_if_stands, begins_if_stands}
 use Rattle.list_laws.proofs.Sorted.{not_Contains-nil}
 use Rattle.summary_chart.specs.declared.state_set.StateSet.{StateSet}
 use Rattle.summary_chart.specs.StateSets.{HasState, IsLedTo}
 use Rattle.summary_chart.specs.Fronts.{IsFrontAt, AreFronts}
 use Rattle.summary_chart.specs.Summaries.{key_with}
 use Rattle.summary_chart.specs.Spreading.{OnlyKey, EveryKey, IsByRule, IsAtFront, IsInPhase}
-use Rattle.summary_chart.proofs.KeysAhead.{near_if_stands, begun_if_stands}
 use Rattle.summary_chart.proofs.FrontKeys.{ends_if_unchanged, among_written, letters_left}
 
 -- what keys of the place do to a value, and which keys do something
@@ -175,10 +175,10 @@ module _ (searched : SearchedLexicon) (line : Line) (choices : List Choice) (pla
         (λ key does told. (
           told,
           (
-            let near = near_if_stands searched line choices (numbered_of searched place) key (visit.stands key does) ahead is in
-            let low = fronts.all key (visit.possible key does) told near in
-            omega (arith, low, enough)
-          ),
+              let near = near_if_stands searched line choices (numbered_of searched place) key ahead is (visit.stands key does) in
+              let low = fronts.all key (visit.possible key does) told near in
+              omega (arith, low, enough)
+              ),
         ))
         (λ key told. told.0)
         so_far
@@ -215,7 +215,7 @@ module _ (searched : SearchedLexicon) (line : Line) (choices : List Choice) (pla
       → visit.Adds (IsEarlier phase) s t → visit.Adds (IsEarlier (phase + 1)) s t
   visit_unbegun_phase phase unbegun =
       visit_empty_phase phase (λ key does told.
-      unbegun (subst (MayBegin (numbered_of searched place).entrance) told (begun_if_stands searched line choices (numbered_of searched place) key (visit.stands key does))))
+      unbegun (subst (MayBegin (numbered_of searched place).entrance) told (begins_if_stands searched line choices (numbered_of searched place) key (visit.stands key does))))
 
   pub visit_all_phases : (count : ℕ) → IsSearchedLexicon searched → length (rules_in searched).names ≤ count → (s t : S)
       → visit.Adds (IsEarlier count) s t → visit.Adds EveryKey s t
