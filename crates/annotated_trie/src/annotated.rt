@@ -1,4 +1,5 @@
 ghost use Rattle.std.specs.Prelude.{◌≡◌, ◌+◌, ◌≤◌, ◌<◌, ◌^◌, ◌⊎◌, ℕ, length, slice_get};
+ghost use Rattle.std.specs.Bool.{OnTrue};
 ghost use Rattle.annotated_trie.specs.Choices.{choices_of, choices_with};
 ghost use Rattle.annotated_trie.specs.RuleGroups.{AreGroupedBy};
 ghost use Rattle.annotated_trie.specs.Views.{annotated_with, ArePlaces};

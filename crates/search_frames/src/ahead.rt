@@ -231,8 +231,19 @@ impl Ahead {
         self.lets_in(rules, place, key) && is_allowed(rules, line, choices, place, key)
     }
 
+    /// Whether every form that takes so many letters may be entered at the place whichever its rule, as far as can be told without looking
+    /// at rules: a letter is taken before which a form may be entered, or no letter stands before the form.
+    fn lets_all_in(self, place: &Configuration, taken: u32) -> bool
+        ensures { OnTrue result ((rules : RuleSetValue) (line : LineValue) (key : KeyValue) → let entrance = entrance_of (leads_of rules.rules) place.now.entrance in IsAhead rules line place.now.at entrance self → key.taken ≡ taken → place.now.at + key.taken ≤ length line.letters → MayBegin entrance key.phase → MayEnter rules entrance (step_at rules line place.now.at entrance key)) }
+    {
+        match place.entrance {
+            Entrance::Plain(_) => taken > 0 && self.enters,
+            Entrance::Start | Entrance::Lead(_) => true,
+        }
+    }
+
     /// Whether every key that takes so many letters fits the place whichever its rule, as far as can be told without looking at rules: no
-    /// choice is made, and a letter is taken before which a form may be entered, or nothing stands before the form but a rule.
+    /// choice is made, and every form that takes so many letters may be entered there.
     pub fn fits_all(
         self,
         lexicon: &Lexicon,
@@ -249,11 +260,7 @@ impl Ahead {
         // The line and the lexicon are those of which the contract speaks.
         let _letters = &line.letters;
         let _rules = lexicon.rules();
-        choices.list().is_empty()
-            && match place.entrance {
-                Entrance::Plain(_) => taken > 0 && self.enters,
-                Entrance::Start | Entrance::Lead(_) => true,
-            }
+        choices.list().is_empty() && self.lets_all_in(place, taken)
     }
 
     /// What the key does at the place as far as the letters of the line, the blanks and the choices tell. It has no rule, goes no further
