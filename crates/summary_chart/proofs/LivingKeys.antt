@@ -1,7 +1,7 @@
 -- Which states live after a phase by rules, wherever the form before them begins: by one rule, as its test tells, by some, and by those
 -- that begin with the next letter. And which states of a set go further by these, since a key that fits its place does what its rule does.
-use Rattle.std.proofs.Common.{◌≡◌, ◌⊎◌, inl, inr, ℕ, zero, suc, ◌+◌, ◌-◌, ◌<◌, ◌≤◌, ◌↔◌, ◌==◌, IsTrue, Bool, true, Option, Some, None, List, [], ◌∷◌, ◌++◌, length, map, take, drop, get_or, Contains, refl, sym, ap, subst, ◌∙◌, arith}
-use Rattle.std.proofs.lemmas.Bool.{cases_lt, eq-eqb, ne_eqb}
+use Rattle.std.proofs.Common.{◌≡◌, ◌⊎◌, inl, inr, ℕ, zero, suc, ◌+◌, ◌-◌, ◌<◌, ◌≤◌, ◌↔◌, ◌==◌, IsTrue, Bool, true, false, Option, Some, None, List, [], ◌∷◌, ◌++◌, length, map, take, drop, get_or, Contains, refl, sym, ap, subst, ◌∙◌, arith}
+use Rattle.std.proofs.lemmas.Bool.{cases_lt, eq-eqb}
 use Rattle.std.proofs.lemmas.List.{take_more, take_all, get_or-take, get_or-drop, get_or-map, get_or_default, get_or_past}
 use Rattle.std.proofs.lemmas.List.Elements.{All-contains, All-filter, Contains-append_left, Contains-push, Contains-push_cases}
 use Rattle.list_laws.proofs.Elements.{written_within}
@@ -9,10 +9,8 @@ use Rattle.list_laws.proofs.Sorted.{All-from_Contains, not_Contains-nil}
 use Rattle.text_definitions.specs.Lines.{Line}
 use Rattle.lexicon_definitions.specs.Rules.{no_change}
 use Rattle.lexicon_definitions.specs.Leads.{leads_of}
-use Rattle.lexicon_definitions.specs.Lexicons.{RuleSet, rule_of}
+use Rattle.lexicon_definitions.specs.Lexicons.{rule_of}
 use Rattle.lexicon_definitions.proofs.LeadLaws.{leads_rise}
-use Rattle.segmentation_definitions.specs.Derivations.{Step, rule_after}
-use Rattle.segmentation_definitions.specs.Configurations.{Lead, entrance_after_step}
 use Rattle.segmentation_definitions.specs.Items.{Choice}
 use Rattle.segmentation_definitions.specs.Listings.{Key}
 use Rattle.segmentation_definitions.proofs.Coverings.{some_letters, rule_at_number}
@@ -29,7 +27,7 @@ use Rattle.search_frames.specs.Configurations.{NumberedConfiguration, Ends, IsPo
 use Rattle.search_frames.specs.Frames.{IsConfigurationIn, numbered_of}
 use Rattle.search_frames.specs.LetterTests.{MayEndLine, MayLeadTo}
 use Rattle.search_frames.specs.Tests.{LeadsTo}
-use Rattle.search_frames.proofs.AheadTests.{rule_does}
+use Rattle.search_frames.proofs.AheadTests.{entrance_changed, rule_does}
 use Rattle.summary_chart.specs.declared.memo.Done.{Done}
 use Rattle.summary_chart.specs.declared.memo.Memo.{Memo}
 use Rattle.summary_chart.specs.declared.memo.Work.{Work}
@@ -92,13 +90,6 @@ written_choice searched line node end phase letter rule is there left next stand
     first_kept searched rule is number.0 number.1 ∙ first_next ∙ get_or_default line.letters end 0 letter left ∙ sym next in
     filter_keeps (λ (n : ℕ). get_or searched.tries.firsts (n - 1) 0 == letter) (choices_of searched.tries node) rule among
     (eq-eqb (get_or searched.tries.firsts (rule - 1) 0) letter same)
-
--- after a step with a rule a form is entered by its v
-entered_by_rule : (rules : RuleSet) (step : Step) → 0 < step.rule
-    → entrance_after_step rules step ≡ Lead (rule_after rules step).v (rule_after rules step).after
-entered_by_rule rules step some =
-    let e : step.rule ≡ 0 → ⊥ = λ z. omega arith in
-    rw (ne_eqb step.rule 0 e)
 
 -- a state that ends words is one of the machine
 pub accepting_within : (machine : StateMachine) (number : ℕ) → IsTrue (is_accepting machine (Some number)) → number < length machine.states
@@ -222,7 +213,7 @@ module _ (searched : SearchedLexicon) (line : Line) (table : Table) (work : Work
       → ((number : ℕ) → HasState living number ↔ LivesBy searched line table work (Contains (take count rules)) number)
       → (number : ℕ) → HasState living number ↔ LivesBy searched line table work (Contains rules) number
   lives_all rules count enough living are =
-      subst (λ (some : List ℕ). (number : ℕ) → HasState living number ↔ LivesBy searched line table work (Contains some) number) (take_all rules count enough) are
+      subst (λ (some : List ℕ). (number : ℕ) → HasState living number ↔ LivesBy searched line table work (Contains some) number) (take_all count rules enough) are
 
   -- the rules that begin with the next letter are all choices that can stand
   pub lives_written : (letter : ℕ) → IsSearchedLexicon searched → work.node < length searched.tries.trie.rows → work.end < length line.letters
@@ -407,7 +398,7 @@ module _ (searched : SearchedLexicon) (line : Line) (choices : List Choice) (pla
           inner = may.inner some;
           at_is = ap (λ (s : NumberedConfiguration). s.at) leads.is;
           entrance_is = ap (λ (s : NumberedConfiguration). s.entrance) leads.is
-              ∙ entered_by_rule (rules_in searched) (step_at (rules_in searched) line here.at here.entrance key) some;
+              ∙ entrance_changed (rules_in searched) (step_at (rules_in searched) line here.at here.entrance key) some;
           over = leads.within.over;
         } in
         led_to number rule next among leads led there (next_state searched.machine (Some number) phase) refl

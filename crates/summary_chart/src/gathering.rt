@@ -171,17 +171,17 @@ fn gather_unchanged(
 fn living_by_rule(
     lexicon: &Lexicon,
     line: &Line,
-    work: Work,
+    work: &Work,
     rule: u32,
     table: &Table,
 ) -> StateSet
     requires searched { IsSearchedLexicon lexicon.now }
     requires line { IsLine line.now }
-    requires end { work.end ≤ length line.now.letters }
+    requires end { work.now.end ≤ length line.now.letters }
     requires some { 0 < rule }
     requires rule { rule ≤ length lexicon.now.lexicon.rules.rules }
     requires table { IsTable (leads_in lexicon.now) (length line.now.letters) table.now }
-    ensures { (number : ℕ) → HasState result number ↔ LivesBy lexicon.now line.now table.now work (λ one. one ≡ rule) number }
+    ensures { (number : ℕ) → HasState result number ↔ LivesBy lexicon.now line.now table.now work.now (λ one. one ≡ rule) number }
 {
     let end = work.end as usize;
     match rule_test(lexicon.rules(), line, end, work.may_end, work.phase, rule) {
@@ -195,17 +195,17 @@ fn living_by_rule(
 fn living_by_rules<L>(
     lexicon: &Lexicon,
     line: &Line,
-    work: Work,
+    work: &Work,
     rules: &[u32],
     table: &Table,
     steps: &mut Steps<L>,
 ) -> StateSet
     requires searched { IsSearchedLexicon lexicon.now }
     requires line { IsLine line.now }
-    requires end { work.end ≤ length line.now.letters }
+    requires end { work.now.end ≤ length line.now.letters }
     requires rules { All (λ rule. (0 < rule) × (rule ≤ length lexicon.now.lexicon.rules.rules)) rules.now }
     requires table { IsTable (leads_in lexicon.now) (length line.now.letters) table.now }
-    ensures living { (number : ℕ) → HasState result number ↔ LivesBy lexicon.now line.now table.now work (Contains rules.now) number }
+    ensures living { (number : ℕ) → HasState result number ↔ LivesBy lexicon.now line.now table.now work.now (Contains rules.now) number }
     ensures steps { steps.new ≡ steps.old + length rules.now }
 {
     let mut living = StateSet::empty();
@@ -246,7 +246,7 @@ fn living_after<L>(
         return Ok(states);
     }
     let rules = tries.choices_with(work.node, letter, steps);
-    let living = living_by_rules(lexicon, line, work, rules, table, steps);
+    let living = living_by_rules(lexicon, line, &work, rules, table, steps);
     memo.keep(tries, work, living)?;
     Ok(living)
 }
