@@ -31,6 +31,10 @@ pub record IsSameWork (tries : AnnotatedTrie) (one other : Work) : Type 0 where
   pub may_end : one.may_end ≡ other.may_end
   pub phase : one.phase ≡ other.phase
 
+-- the memo keeps that a work which gives the same gave a state
+abbrev pub IsKnownWith : AnnotatedTrie → Memo → Work → ℕ → Type 0
+IsKnownWith tries memo work number = (done : Done) × IsKnown memo done × IsSameWork tries done.work work × HasState done.states number
+
 -- what is kept was kept before, or is that the work gave these states
 abbrev pub KeepsKnown : Work → StateSet → Memo → Memo → Type 0
 KeepsKnown work states old new = (done : Done) → IsKnown new done → IsKnown old done ⊎ (done ≡ record { work = work; states = states })
