@@ -27,7 +27,7 @@ loop-taken-init g c =
       low = omega (arith, end);
       appends = subst (λ (n : ℕ). AppendsWays searched c.args.line.now c.args.choices.now (numbered_of searched c.args.place.now) (IsFromFront c.args.phase n) c.args.ways.now.items c.args.ways.now.items)
           (sym end)
-          (append_no_front searched c.args.line.now c.args.choices.now (numbered_of searched c.args.place.now) c.args.phase nodes c.args.ways.now.items
+          (append_no_front searched c.args.line.now c.args.choices.now (numbered_of searched c.args.place.now) c.args.phase c.args.ahead c.requires.ahead nodes c.args.ways.now.items
           c.in_ok-walk_fronts.ensures.fronts);
       above = c.requires.first;
       few = c.requires.few;
