@@ -1,6 +1,6 @@
 -- What a key does at a place, told by what the line tells of all forms that begin there and by what its rule does after its letters.
-use Rattle.std.proofs.Common.{◌≡◌, ℕ, ◌+◌, ◌<◌, ◌≤◌, ◌↔◌, inl, inr, IsTrue, Bool, List, [], ◌++◌, All, length, take, drop, get_or, refl, sym, ap, subst, ◌∙◌, add-zero, arith, length-drop, length-append}
-use Rattle.std.proofs.lemmas.Bool.{ne_eqb, cases_lt}
+use Rattle.std.proofs.Common.{◌≡◌, ℕ, ◌+◌, ◌<◌, ◌≤◌, ◌↔◌, IsTrue, Bool, List, [], ◌++◌, All, length, take, drop, get_or, refl, sym, ap, subst, ◌∙◌, add-zero, arith, length-drop, length-append}
+use Rattle.std.proofs.lemmas.Bool.{ne_eqb}
 use Rattle.std.proofs.lemmas.List.{get_or_append_left, get_or-take, get_or-drop, length-take-le}
 use Rattle.std.proofs.lemmas.List.Elements.{All-contains}
 use Rattle.text_definitions.specs.Lines.{Line}
@@ -77,7 +77,7 @@ enters_with_all rules line at (program.Plain letter) key ahead is lets within be
 enters_with_all rules line at (program.Lead place) key ahead is lets within begins = begins
 
 -- after a step with a rule a form is entered by its v
-pub entrance_changed : (rules : RuleSet) (step : Step) → 0 < step.rule
+entrance_changed : (rules : RuleSet) (step : Step) → 0 < step.rule
     → entrance_after_step rules step ≡ Lead (rule_after rules step).v (rule_after rules step).after
 entrance_changed rules step some =
     let e : step.rule ≡ 0 → ⊥ = λ z. omega arith in
@@ -126,34 +126,22 @@ module _ (searched : SearchedLexicon) (line : Line) (choices : List Choice) (her
   pub not_fitting : (FitsPlace searched line choices here key → ⊥) → MayNeither searched line choices here key
   not_fitting not = not_standing (λ stands. not (stands_fits stands))
 
-  -- a key that may stand takes no letter past the limit
-  pub near_if_stands : (ahead : Ahead) → IsAhead (rules_in searched) line here.at here.entrance ahead
-      → MayStand searched.lexicon line choices here.at here.entrance key → here.at + key.taken ≤ ahead.limit
-  near_if_stands ahead is stands = elim (cases_lt ahead.limit (here.at + key.taken)) [
-    | inl past ↦
-        let within = stands.within in
-        let stop = is.stop (omega (arith, past, within)) in
-        absurd (All-contains (λ blank. here.at < blank → blank < here.at + key.taken → ⊥) line.blanks ahead.limit stands.blanks stop.0 stop.1 past)
-    | inr near ↦ near
-  ]
-
   -- no key takes a letter past the limit
   pub past_limit : (ahead : Ahead) → IsAhead (rules_in searched) line here.at here.entrance ahead → ahead.limit < here.at + key.taken
       → MayNeither searched line choices here key
-  past_limit ahead is past = not_standing (λ stands. (let near = near_if_stands ahead is stands in omega (arith, near, past)))
+  past_limit ahead is past = not_standing (λ stands.
+      let within = stands.within in
+      let stop = is.stop (omega (arith, past, within)) in
+      All-contains (λ blank. here.at < blank → blank < here.at + key.taken → ⊥) line.blanks ahead.limit stands.blanks stop.0 stop.1 past)
 
-  -- the phase of a key that may stand may begin
-  pub begins_if_stands : MayStand searched.lexicon line choices here.at here.entrance key → MayBegin here.entrance key.phase
-  begins_if_stands stands = begun here.entrance refl stands.enters where
+  -- where the phase of a key may not begin, it does nothing
+  pub not_begun : (MayBegin here.entrance key.phase → ⊥) → MayNeither searched line choices here key
+  not_begun not = not_standing (λ stands. not (begun here.entrance refl stands.enters)) where
     begun : (entrance : Entrance) → here.entrance ≡ entrance → MayEnter (rules_in searched) entrance (step_at (rules_in searched) line here.at here.entrance key)
         → MayBegin entrance key.phase
     begun Start is enters = tt
     begun (Plain letter) is enters = tt
     begun (Lead v after) is enters = enters
-
-  -- where the phase of a key may not begin, it does nothing
-  pub not_begun : (MayBegin here.entrance key.phase → ⊥) → MayNeither searched line choices here key
-  not_begun not = not_standing (λ stands. not (begins_if_stands stands))
 
   -- no blank stands inside what goes no further than the limit
   pub no_blank_inside : (ahead : Ahead) → IsAhead (rules_in searched) line here.at here.entrance ahead → here.at + key.taken ≤ ahead.limit

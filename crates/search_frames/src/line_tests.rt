@@ -1,5 +1,4 @@
 ghost use Rattle.std.specs.Prelude.{◌≡◌, ◌≤◌, ◌↔◌, length, take, IsTrue};
-ghost use Rattle.lexicon_definitions.specs.declared.limits.TheConstants.{MOST_RULE_LETTERS};
 ghost use Rattle.lexicon_definitions.specs.Lexicons.{rule_of};
 
 use phoneme::Letter;
@@ -13,18 +12,6 @@ pub(crate) fn u_of(rules: &RuleSet, rule: u32) -> &[Letter]
     match rules.rule(rule) {
         None => &[],
         Some(rule) => rule.u.as_slice(),
-    }
-}
-
-/// The `w` of the rule with this number, empty for no change.
-pub(crate) fn w_of(rules: &RuleSet, rule: u32) -> &[Letter]
-    requires { rule ≤ length rules.now.rules }
-    ensures value { result.now ≡ (rule_of rules.now rule).w }
-    ensures short { length result.now ≤ MOST_RULE_LETTERS }
-{
-    match rules.rule(rule) {
-        None => &[],
-        Some(rule) => rule.w.as_slice(),
     }
 }
 
