@@ -1,12 +1,12 @@
 -- What the memo of a pass keeps of rules that were spread: it stays so while the table grows, what it has is there already, and what was
 -- spread at a place that every key fits serves wherever a form ends so.
-use Rattle.std.proofs.Common.{◌≡◌, ◌⊎◌, inl, inr, ℕ, ◌+◌, ◌<◌, ◌≤◌, ◌↔◌, Bool, IsTrue, IsSome, Option, Some, None, List, [], ◌∷◌, ◌++◌, length, get_or, All, Contains, refl, sym, ap, subst, ◌∙◌, arith}
+use Rattle.std.proofs.Common.{◌≡◌, ◌⊎◌, inl, inr, ℕ, ◌+◌, ◌<◌, ◌≤◌, ◌↔◌, Bool, IsTrue, IsSome, Option, Some, None, List, [], ◌∷◌, ◌++◌, length, get_or, All, Contains, refl, sym, ap, subst, ◌∙◌}
 use Rattle.std.proofs.lemmas.List.Elements.{All-contains, All-filter}
 use Rattle.list_laws.proofs.Sorted.{All-from_Contains}
 use Rattle.text_definitions.specs.Lines.{Line}
 use Rattle.segmentation_definitions.specs.Items.{Choice}
 use Rattle.segmentation_definitions.specs.Listings.{Key}
-use Rattle.phase_automaton.specs.Automata.{StateMachine, IsStateIn, Recognizes, next_state, state_after}
+use Rattle.phase_automaton.specs.Automata.{StateMachine, IsStateIn, Recognizes, next_state}
 use Rattle.phase_automaton.proofs.NumberedStates.{state_after-push}
 use Rattle.lexicon_definitions.specs.Grammars.{Grammar}
 use Rattle.derivation.specs.declared.entrance.Entrance.{Entrance}
@@ -27,9 +27,9 @@ use Rattle.summary_chart.specs.declared.memo.Work.{Work}
 use Rattle.summary_chart.specs.declared.state_set.StateSet.{StateSet}
 use Rattle.summary_chart.specs.declared.table.Table.{Table}
 use Rattle.summary_chart.specs.Fronts.{IsFrontAt}
-use Rattle.summary_chart.specs.Memos.{AreSpread, HasNodes, IsKnown, IsKnownWith, IsSameWork, IsSpread, KeepsKnown}
+use Rattle.summary_chart.specs.Memos.{AreSpread, IsKnownWith, IsSameWork, IsSpread, KeepsKnown}
 use Rattle.summary_chart.specs.Spreading.{Spreads, IsByRule, IsLedOnTo, place_with, standing_with}
-use Rattle.summary_chart.specs.StateSets.{HasState, IsLedTo, IsStateOf}
+use Rattle.summary_chart.specs.StateSets.{HasState, IsLedTo}
 use Rattle.summary_chart.specs.Summaries.{key_with}
 use Rattle.summary_chart.specs.Tables.{IsIn}
 use Rattle.summary_chart.proofs.FrontKeys.{among_written, choice_possible, front_node}

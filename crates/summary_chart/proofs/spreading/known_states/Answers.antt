@@ -1,5 +1,5 @@
 -- The states are those of what the memo keeps.
-use Rattle.std.proofs.Common.{ℕ, sym, subst}
+use Rattle.std.proofs.Common.{sym, subst}
 use Rattle.summary_chart.specs.declared.state_set.StateSet.{StateSet}
 use Rattle.summary_chart.specs.StateSets.{HasState}
 use Rattle.summary_chart.proofs.spreading.known_states.Goals as goal

@@ -1,5 +1,5 @@
 -- What the memo has is in the table already; what is put there serves wherever a form ends so, if every key fits the place (`SpreadMemos`).
-use Rattle.std.proofs.Common.{◌≡◌, ℕ, ◌+◌, ◌<◌, inr, List, length, All, ap, sym, subst, ◌∙◌, arith, rules}
+use Rattle.std.proofs.Common.{◌≡◌, ℕ, ◌<◌, inr, List, length, All, ap, sym, subst, ◌∙◌, arith, rules}
 use Rattle.annotated_trie.specs.Choices.{AnnotatedTrie, choices_with}
 use Rattle.search_frames.specs.Configurations.{IsPossible}
 use Rattle.search_frames.specs.Frames.{numbered_of}

@@ -2,7 +2,6 @@
 use Rattle.std.proofs.Common.{◌≡◌, ◌+◌, List, ℕ, length, get_or, ap, ◌∙◌, arith}
 use Rattle.std.proofs.lemmas.Result.{on_ok_weaker}
 use Rattle.phoneme.specs.declared.line.Line.{Line}
-use Rattle.search_frames.specs.Frames.{numbered_of}
 use Rattle.summary_chart.specs.declared.table.Table.{Table}
 use Rattle.summary_chart.proofs.VisitedKeys.{visit_without_letter, visit_with_letter}
 use Rattle.summary_chart.proofs.Visits.{spread_visit}
