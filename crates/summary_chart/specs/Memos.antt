@@ -1,5 +1,5 @@
 -- What rules do after a form that ends at a node and after so many letters of a line, wherever it begins; and what is kept of this (own).
-use Rattle.std.specs.Prelude.{◌≡◌, ℕ, ◌<◌, ◌⊎◌, ◌↔◌, IsTrue, Some, List, length, Contains}
+use Rattle.std.specs.Prelude.{◌≡◌, ℕ, ◌<◌, ◌≤◌, ◌⊎◌, ◌↔◌, IsTrue, Some, List, length, Contains}
 use Rattle.text_definitions.specs.Lines.{Line}
 use Rattle.derivation.specs.declared.entrance.Entrance.{Entrance}
 use Rattle.phase_automaton.specs.Automata.{is_accepting}
@@ -31,6 +31,10 @@ pub record IsSameWork (tries : AnnotatedTrie) (one other : Work) : Type 0 where
   pub may_end : one.may_end ≡ other.may_end
   pub phase : one.phase ≡ other.phase
 
+-- the memo keeps that a work which gives the same gave a state
+abbrev pub IsKnownWith : AnnotatedTrie → Memo → Work → ℕ → Type 0
+IsKnownWith tries memo work number = (done : Done) × IsKnown memo done × IsSameWork tries done.work work × HasState done.states number
+
 -- what is kept was kept before, or is that the work gave these states
 abbrev pub KeepsKnown : Work → StateSet → Memo → Memo → Type 0
 KeepsKnown work states old new = (done : Done) → IsKnown new done → IsKnown old done ⊎ (done ≡ record { work = work; states = states })
@@ -61,3 +65,7 @@ IsLiving searched line table done = (number : ℕ)
 pub record AreLiving (searched : SearchedLexicon) (line : Line) (table : Table) (memo : Memo) : Type 0 where
   pub nodes : HasNodes searched.tries memo
   pub living : (done : Done) → IsKnown memo done → IsLiving searched line table done
+
+-- each form whose work the memo keeps ends after so many letters at least
+abbrev pub EndFrom : ℕ → Memo → Type 0
+EndFrom at memo = (done : Done) → IsKnown memo done → at ≤ done.work.end

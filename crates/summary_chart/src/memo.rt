@@ -38,8 +38,8 @@ pub(crate) struct Memo {
 }
 
 /// The place of the work, below `MOST_DONE`. Works of nodes with the same choices have the same place.
-fn place_of(tries: &Annotated, work: Work) -> usize
-    requires { work.node < length tries.now.trie.rows }
+fn place_of(tries: &Annotated, work: &Work) -> usize
+    requires { work.now.node < length tries.now.trie.rows }
     ensures { result < MOST_DONE }
 {
     let list = u64::from(tries.list_number(work.node));
@@ -61,29 +61,43 @@ impl Memo {
     }
 
     /// The states that the work gave, if this is kept: it was done at this node, or at another with the same choices.
-    pub fn get(&self, tries: &Annotated, work: Work) -> Option<StateSet>
-        requires node { work.node < length tries.now.trie.rows }
+    pub fn get(&self, tries: &Annotated, work: &Work) -> Option<StateSet>
+        requires node { work.now.node < length tries.now.trie.rows }
         requires nodes { HasNodes tries.now self.now }
-        ensures { IfSome result (λ states. (done : DoneValue) × IsKnown self.now done × IsSameWork tries.now done.work work × (done.states ≡ states)) }
+        ensures { IfSome result (λ states. (done : DoneValue) × IsKnown self.now done × IsSameWork tries.now done.work work.now × (done.states ≡ states)) }
     {
-        if self.places.is_empty() {
+        let Some(Some(done)) = self.places.get(place_of(tries, work)) else {
             return None;
-        }
-        match self.places[place_of(tries, work)] {
-            Some(done) if is_same_work(tries, done.work, work) => Some(done.states),
-            _ => None,
+        };
+        if is_same_work(tries, &done.work, work) {
+            Some(done.states)
+        } else {
+            None
         }
     }
 
-    /// Keeps that the work gave these states, in place of what is kept at its place. Refused only for want of memory.
-    pub fn keep(&mut self, tries: &Annotated, work: Work, states: StateSet) -> Result<(), Memory>
-        requires { work.node < length tries.now.trie.rows }
-        ensures { OnOk result (KeepsKnown work states self.old self.new) }
+    /// Makes the places, where there are none yet. Refused only for want of memory.
+    fn make_places(&mut self) -> Result<(), Memory>
+        ensures { OnOk result ((done : DoneValue) → IsKnown self.new done → IsKnown self.old done) }
     {
         if self.places.is_empty() {
             self.places.resize(MOST_DONE, None)?;
         }
-        self.places[place_of(tries, work)] = Some(Done { work, states });
+        Ok(())
+    }
+
+    /// Keeps that the work gave these states, in place of what is kept at its place. Refused only for want of memory.
+    pub fn keep(&mut self, tries: &Annotated, work: &Work, states: StateSet) -> Result<(), Memory>
+        requires { work.now.node < length tries.now.trie.rows }
+        ensures { OnOk result (KeepsKnown work.now states self.old self.new) }
+    {
+        self.make_places()?;
+        if let Some(place) = self.places.get_mut(place_of(tries, work)) {
+            *place = Some(Done {
+                work: *work,
+                states,
+            });
+        }
         Ok(())
     }
 
@@ -91,17 +105,15 @@ impl Memo {
     pub fn clear(&mut self)
         ensures { (done : DoneValue) → IsKnown self.new done → ⊥ }
     {
-        for place in self.places.iter_mut() {
-            *place = None;
-        }
+        self.places.clear();
     }
 }
 
 /// Whether works give the same: their nodes have the same choices, and all else is the same.
-fn is_same_work(tries: &Annotated, one: Work, other: Work) -> bool
-    requires one { one.node < length tries.now.trie.rows }
-    requires other { other.node < length tries.now.trie.rows }
-    ensures { OnTrue result (IsSameWork tries.now one other) }
+fn is_same_work(tries: &Annotated, one: &Work, other: &Work) -> bool
+    requires one { one.now.node < length tries.now.trie.rows }
+    requires other { other.now.node < length tries.now.trie.rows }
+    ensures { OnTrue result (IsSameWork tries.now one.now other.now) }
 {
     one.end == other.end
         && one.may_end == other.may_end

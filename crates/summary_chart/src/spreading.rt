@@ -1,4 +1,4 @@
-ghost use Rattle.std.specs.Prelude.{◌≡◌, ◌+◌, ◌*◌, ◌<◌, ◌≤◌, ◌↔◌, ℕ, length, All, OnOk};
+ghost use Rattle.std.specs.Prelude.{◌≡◌, ◌+◌, ◌*◌, ◌<◌, ◌≤◌, ◌↔◌, ℕ, length, slice_index_or, All, OnOk, IsTrue};
 ghost use Rattle.text_definitions.specs.Lines.{IsLine};
 ghost use Rattle.derivation.specs.Steps.{key_meant};
 ghost use Rattle.annotated_trie.specs.Searched.{IsSearchedLexicon};
@@ -10,7 +10,8 @@ ghost use Rattle.search_frames.specs.WaysFrom.{IsWayFrom, key_of_way};
 ghost use Rattle.summary_chart.specs.Fronts.{IsFrontAt};
 ghost use Rattle.summary_chart.specs.PlaceWays.{HasEachKey};
 ghost use Rattle.summary_chart.specs.StateSets.{HasState, IsLedTo};
-ghost use Rattle.summary_chart.specs.Memos.{AreSpread};
+ghost use Rattle.annotated_trie.specs.Choices.{choices_with};
+ghost use Rattle.summary_chart.specs.Memos.{AreSpread, HasNodes, IsKnownWith};
 ghost use Rattle.summary_chart.specs.Tables.{IsTable};
 ghost use Rattle.summary_chart.specs.Spreading.{Spreads, EveryKey, OnlyKey, IsByRule, IsAtFront, IsInPhase, leads_in};
 ghost use Rattle.summary_chart.specs.Summaries.{steps_of_front, steps_of_fronts, steps_of_items};
@@ -20,10 +21,10 @@ use super::state_set::StateSet;
 use super::state_steps::states_after;
 use super::table::Table;
 use super::walking::walk_fronts;
-use annotated_trie::Lexicon;
+use annotated_trie::{Annotated, Lexicon};
 use derivation::Key;
 use outside::Steps;
-use phoneme::{Line, Memory};
+use phoneme::{Letter, Line, Memory};
 use reader_choices::Choices;
 use search_frames::{Ahead, Configuration, LetterTest, Way, may_begin};
 use shared_trie::Node;
@@ -99,6 +100,114 @@ fn spread_rules<L>(
     }
 }
 
+/// Puts into the table where the key with this front that has no change leads on to from the states of the set, if a form ends at its node.
+fn spread_unchanged(
+    lexicon: &Lexicon,
+    line: &Line,
+    choices: &Choices,
+    place: &Configuration,
+    ahead: Ahead,
+    states: StateSet,
+    after: StateSet,
+    phase: u32,
+    taken: u32,
+    node: Node,
+    table: &mut Table,
+)
+    requires searched { IsSearchedLexicon lexicon.now }
+    requires line { IsLine line.now }
+    requires place { IsConfigurationIn lexicon.now line.now place.now }
+    requires ahead { IsAhead lexicon.now.lexicon.rules line.now place.now.at (numbered_of lexicon.now place.now).entrance ahead }
+    requires limit { place.now.at + taken ≤ ahead.limit }
+    requires begins { MayBegin (numbered_of lexicon.now place.now).entrance phase }
+    requires after { (number : ℕ) → HasState after number ↔ IsLedTo lexicon.now.machine states phase number }
+    requires front { IsFrontAt lexicon.now line.now (numbered_of lexicon.now place.now) phase taken node }
+    requires table { IsTable (leads_in lexicon.now) (length line.now.letters) table.old }
+    ensures table { IsTable (leads_in lexicon.now) (length line.now.letters) table.new }
+    ensures spreads { Spreads lexicon.now line.now choices.now place.now.at place.now.entrance states (OnlyKey (record { phase = phase; taken = taken; rule = 0 })) table.old table.new }
+{
+    if !lexicon.tries().store().accepts(node) {
+        return;
+    }
+    let key = Key {
+        phase,
+        taken,
+        rule: 0,
+    };
+    spread_key(
+        lexicon, line, choices, place, ahead, states, after, key, table,
+    );
+}
+
+/// The states that the work gave, if the memo keeps this and it serves here; else none.
+fn known_states(tries: &Annotated, memo: &Memo, work: &Work, serves: bool) -> StateSet
+    requires node { work.now.node < length tries.now.trie.rows }
+    requires nodes { HasNodes tries.now memo.now }
+    ensures { (number : ℕ) → HasState result number → IsKnownWith tries.now memo.now work.now number }
+{
+    if !serves {
+        return StateSet::empty();
+    }
+    match memo.get(tries, work) {
+        Some(states) => states,
+        None => StateSet::empty(),
+    }
+}
+
+/// Puts into the table where the keys with this front and with a rule whose `w` begins with this letter, the next one of the line, lead on
+/// to from the states of the set; the front ends as the work tells. What the memo has already is not put there once more. Refused only for
+/// want of memory.
+fn spread_changed<L>(
+    lexicon: &Lexicon,
+    line: &Line,
+    choices: &Choices,
+    place: &Configuration,
+    ahead: Ahead,
+    states: StateSet,
+    after: StateSet,
+    taken: u32,
+    work: &Work,
+    letter: Letter,
+    table: &mut Table,
+    memo: &mut Memo,
+    steps: &mut Steps<L>,
+) -> Result<(), Memory>
+    requires searched { IsSearchedLexicon lexicon.now }
+    requires line { IsLine line.now }
+    requires place { IsConfigurationIn lexicon.now line.now place.now }
+    requires ahead { IsAhead lexicon.now.lexicon.rules line.now place.now.at (numbered_of lexicon.now place.now).entrance ahead }
+    requires limit { place.now.at + taken ≤ ahead.limit }
+    requires begins { MayBegin (numbered_of lexicon.now place.now).entrance work.now.phase }
+    requires after { (number : ℕ) → HasState after number ↔ IsLedTo lexicon.now.machine states work.now.phase number }
+    requires front { IsFrontAt lexicon.now line.now (numbered_of lexicon.now place.now) work.now.phase taken work.now.node }
+    requires end { work.now.end ≡ place.now.at + taken }
+    requires letter { letter ≡ slice_index_or line.now.letters (place.now.at + taken) letter }
+    requires table { IsTable (leads_in lexicon.now) (length line.now.letters) table.old }
+    requires memo { AreSpread lexicon.now line.now table.old memo.old }
+    ensures memo { OnOk result (AreSpread lexicon.now line.now table.new memo.new) }
+    ensures table { OnOk result (IsTable (leads_in lexicon.now) (length line.now.letters) table.new) }
+    ensures spreads { OnOk result (Spreads lexicon.now line.now choices.now place.now.at place.now.entrance states (IsByRule work.now.phase taken (choices_with lexicon.now.tries work.now.node letter)) table.old table.new) }
+    ensures steps { (most : ℕ) → HasAtMostRules lexicon.now.tries most → steps.new ≤ steps.old + (2 + most) }
+{
+    steps.tick();
+    let tries = lexicon.tries();
+    let shares = ahead.fits_all(lexicon, line, choices, place, taken);
+    let known = known_states(tries, memo, work, shares);
+    let all = known.union(after);
+    if all == known {
+        return Ok(());
+    }
+    let rules = tries.choices_with(work.node, letter, steps);
+    spread_rules(
+        lexicon, line, choices, place, ahead, states, after, work.phase, taken, rules, table, steps,
+    );
+    if !shares {
+        return Ok(());
+    }
+    memo.keep(tries, work, all)?;
+    Ok(())
+}
+
 /// Puts into the table where the keys with this front lead on to from the states of the set. What its rules put there is not put there once
 /// more where the memo has it already. Refused only for want of memory.
 fn spread_front<L>(
@@ -131,18 +240,10 @@ fn spread_front<L>(
     ensures spreads { OnOk result (Spreads lexicon.now line.now choices.now place.now.at place.now.entrance states (IsAtFront phase taken) table.old table.new) }
     ensures steps { (most : ℕ) → HasAtMostRules lexicon.now.tries most → steps.new ≤ steps.old + steps_of_front most }
 {
-    let tries = lexicon.tries();
     steps.tick();
-    if tries.store().accepts(node) {
-        let key = Key {
-            phase,
-            taken,
-            rule: 0,
-        };
-        spread_key(
-            lexicon, line, choices, place, ahead, states, after, key, table,
-        );
-    }
+    spread_unchanged(
+        lexicon, line, choices, place, ahead, states, after, phase, taken, node, table,
+    );
     let end = place.at + taken;
     let Some(letter) = line.letters.as_slice().get(end as usize) else {
         return Ok(());
@@ -153,25 +254,10 @@ fn spread_front<L>(
         may_end: ahead.may_end,
         phase,
     };
-    steps.tick();
-    let shares = ahead.fits_all(lexicon, line, choices, place, taken);
-    let known = if shares {
-        memo.get(tries, work).unwrap_or(StateSet::empty())
-    } else {
-        StateSet::empty()
-    };
-    let all = known.union(after);
-    if all == known {
-        return Ok(());
-    }
-    let rules = tries.choices_with(node, *letter, steps);
-    spread_rules(
-        lexicon, line, choices, place, ahead, states, after, phase, taken, rules, table, steps,
-    );
-    if shares {
-        memo.keep(tries, work, all)?;
-    }
-    Ok(())
+    spread_changed(
+        lexicon, line, choices, place, ahead, states, after, taken, &work, *letter, table, memo,
+        steps,
+    )
 }
 
 /// Puts into the table where the keys of the phase lead on to from the states of the set. Refused only for want of memory.
@@ -252,8 +338,11 @@ pub(crate) fn spread<L>(
     let phases = rules.phases().len();
     for phase in 0..phases as u32 {
         steps.tick();
+        if !may_begin(rules, place, phase) {
+            continue;
+        }
         let after = states_after(lexicon.automaton(), states, phase);
-        if after.is_empty() || !may_begin(rules, place, phase) {
+        if after.is_empty() {
             continue;
         }
         spread_phase(
