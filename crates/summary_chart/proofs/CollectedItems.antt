@@ -1,7 +1,6 @@
 -- A key adds its item where some state goes further by it; so after each rule, front and phase the items of those so far are there, and
 -- at the end those of all keys. A rule whose u was seen after a front adds nothing there, since its item is that of the rule with the same u.
-use Rattle.std.proofs.Common.{◌≡◌, ◌≢◌, ◌⊎◌, ℕ, zero, suc, ◌+◌, ◌<◌, ◌≤◌, inl, inr, IsSome, Option, Some, None, List, [], ◌∷◌, ◌++◌, length, take, drop, get_or, All, Contains, sym, ap, subst, ◌∙◌, refl, arith}
-use Rattle.std.specs.Prelude.{IsTrue}
+use Rattle.std.proofs.Common.{◌≡◌, ◌≢◌, ◌⊎◌, ℕ, zero, suc, ◌+◌, ◌<◌, ◌≤◌, inl, inr, List, [], ◌∷◌, ◌++◌, length, take, drop, get_or, All, Contains, sym, ap, subst, ◌∙◌, refl, arith}
 use Rattle.std.proofs.lemmas.Bool.{cases_lt}
 use Rattle.std.proofs.lemmas.List.{take_more}
 use Rattle.std.proofs.lemmas.List.Elements.{All-get_or, Contains-push, Contains-push_cases, Contains-append_left}
@@ -10,17 +9,19 @@ use Rattle.lexicon_definitions.specs.Lexicons.{rule_of}
 use Rattle.lexicon_definitions.specs.Tries.{row_of}
 use Rattle.segmentation_definitions.specs.Items.{Item, Choice, item_of}
 use Rattle.segmentation_definitions.specs.Listings.{Key}
-use Rattle.phase_automaton.specs.Automata.{next_state, is_accepting}
 use Rattle.answer_paths.specs.Fronts.{supplied}
 use Rattle.answer_paths.specs.Following.{MayStand}
 use Rattle.annotated_trie.specs.Choices.{choices_with}
 use Rattle.annotated_trie.specs.Searched.{SearchedLexicon, IsSearchedLexicon}
 use Rattle.derivation.specs.Guides.{entrance_of}
 use Rattle.derivation.specs.declared.entrance.Entrance.{Entrance}
+use Rattle.search_frames.specs.declared.ahead.Ahead.{Ahead}
 use Rattle.search_frames.specs.declared.configuration.Configuration.{Configuration}
+use Rattle.search_frames.specs.Ahead.{IsAhead, MayBegin}
 use Rattle.search_frames.specs.Configurations.{NumberedConfiguration, IsPossible, rules_in}
 use Rattle.search_frames.specs.Frames.{numbered_of}
 use Rattle.search_frames.proofs.PossibleKeys.{possible_phase}
+use Rattle.search_frames.proofs.AheadTests.{near_if_stands, begins_if_stands}
 use Rattle.list_laws.proofs.Sorted.{not_Contains-nil}
 use Rattle.summary_chart.specs.declared.collected.Collected.{Collected}
 use Rattle.summary_chart.specs.declared.state_set.StateSet.{StateSet}
@@ -30,6 +31,7 @@ use Rattle.summary_chart.specs.Fronts.{IsFrontAt, AreFronts}
 use Rattle.summary_chart.specs.Spreading.{AreGoingFurther, GoesFurtherBy, OnlyKey, leads_in, standing_with}
 use Rattle.summary_chart.specs.Summaries.{IsItemBy, IsItemFrom, IsItemInPhase, IsItemAtFront, IsItemByRule, AddsItems, HasSeen, item_with, key_with, made_of}
 use Rattle.summary_chart.proofs.FurtherKeys.{possible_if_further}
+use Rattle.summary_chart.proofs.Visits.{further_stands, further_leads}
 use Rattle.summary_chart.proofs.FrontKeys.{ends_if_unchanged, among_written, letters_left}
 use Rattle.summary_chart.proofs.RisingItems.{adds_one, adds_none, adds_both, adds_same}
 
@@ -167,10 +169,7 @@ module _ (searched : SearchedLexicon) (is : IsSearchedLexicon searched) (line : 
 
   stands_by : (item : Item) (rule : ℕ) → IsOfKey rule item
       → MayStand searched.lexicon line choices place.at (numbered_of searched place).entrance (key_with phase taken rule)
-  stands_by item rule by = elim by.further [
-    | inl ends ↦ ends.stands
-    | inr (next, leads, there) ↦ leads.leads_on.stands
-  ]
+  stands_by item rule by = further_stands searched line choices place set table (key_with phase taken rule) by.number by.further
 
   -- no letter is left, so only no change is there
   pub front_without_letter : (old items : List Item) → length line.letters ≤ place.at + taken
@@ -266,13 +265,17 @@ module _ (searched : SearchedLexicon) (line : Line) (choices : List Choice) (tab
         (λ item (key, same, at, by). (key, same, omega (arith, at), by))
         so_far one
 
-    pub fronts_at_last : (count : ℕ) (nodes : List ℕ) → length nodes ≤ count → AreFronts searched line (numbered_of searched place) phase nodes
+    -- no key with an item goes further than the limit
+    pub fronts_at_last : (ahead : Ahead) → IsAhead (rules_in searched) line place.at (numbered_of searched place).entrance ahead
+        → (count : ℕ) (nodes : List ℕ) → length nodes ≤ count → AreFronts searched line (numbered_of searched place) phase ahead.limit nodes
         → (old items : List Item) → AddsItems (IsItemBelow searched line choices table place set phase count) old items
         → AddsItems (IsItemInPhase searched line choices table place.at place.entrance set phase) old items
-    fronts_at_last count nodes enough fronts old items so_far =
+    fronts_at_last ahead is count nodes enough fronts old items so_far =
         adds_same (IsItemBelow searched line choices table place set phase count) (IsItemInPhase searched line choices table place.at place.entrance set phase) old items
         (λ item (key, same, by).
-        let low = fronts.all key (possible_if_further searched line choices table place set key by.number by.further) same in
+        let near = near_if_stands searched line choices (numbered_of searched place) key ahead is
+        (further_stands searched line choices place set table key by.number by.further) in
+        let low = fronts.all key (possible_if_further searched line choices table place set key by.number by.further) same near in
         (key, same, omega (arith, low, enough), by))
         (λ item (key, same, low, by). (key, same, by))
         so_far
@@ -295,15 +298,6 @@ module _ (searched : SearchedLexicon) (line : Line) (choices : List Choice) (tab
       so_far one
 
   -- a phase to which no state of the set leads has no item
-  leads_somewhere : (phase number : ℕ) (known : Option ℕ) → next_state searched.machine (Some number) phase ≡ known → IsStateOf searched.machine set number
-      → IsTrue (is_accepting searched.machine (next_state searched.machine (Some number) phase)) ⊎ IsSome (next_state searched.machine (Some number) phase)
-      → (to : ℕ) × IsLedTo searched.machine set phase to
-  leads_somewhere phase number None same state (inl accepted) =
-      let none : IsTrue (is_accepting searched.machine None) = subst (λ (s : Option ℕ). IsTrue (is_accepting searched.machine s)) same accepted in
-      absurd (cc none)
-  leads_somewhere phase number None same state (inr live) = (let none : IsSome {T = ℕ} None = subst IsSome same live in absurd (cc none))
-  leads_somewhere phase number (Some to) same state either = (to, (number, state, same))
-
   pub phase_without_state : (phase : ℕ) (after : StateSet) → ((number : ℕ) → HasState after number → ⊥)
       → ((number : ℕ) → IsLedTo searched.machine set phase number → HasState after number) → (old items : List Item)
       → AddsItems (IsItemEarlier searched line choices table place set phase) old items
@@ -311,11 +305,18 @@ module _ (searched : SearchedLexicon) (line : Line) (choices : List Choice) (tab
   phase_without_state phase after none led old items so_far =
       phase_more phase old items items so_far
       (adds_none (IsItemInPhase searched line choices table place.at place.entrance set phase) items (λ item (key, same, by).
-      let somewhere : (to : ℕ) × IsLedTo searched.machine set key.phase to = elim by.further [
-        | inl ends ↦ leads_somewhere key.phase by.number (next_state searched.machine (Some by.number) key.phase) refl by.state (inl ends.accepted)
-        | inr (next, leads, there) ↦ leads_somewhere key.phase by.number (next_state searched.machine (Some by.number) key.phase) refl by.state (inr leads.leads_on.live)
-      ] in
+      let somewhere = further_leads searched line choices place set table key by.number by.state by.further in
       absurd (none somewhere.0 (led somewhere.0 (subst (λ (p : ℕ). IsLedTo searched.machine set p somewhere.0) same somewhere.1)))))
+
+  -- nor has one that may not begin
+  pub phase_not_begun : (phase : ℕ) → (MayBegin (numbered_of searched place).entrance phase → ⊥) → (old items : List Item)
+      → AddsItems (IsItemEarlier searched line choices table place set phase) old items
+      → AddsItems (IsItemEarlier searched line choices table place set (phase + 1)) old items
+  phase_not_begun phase unbegun old items so_far =
+      phase_more phase old items items so_far
+      (adds_none (IsItemInPhase searched line choices table place.at place.entrance set phase) items (λ item (key, same, by).
+      absurd (unbegun (subst (MayBegin (numbered_of searched place).entrance) same
+      (begins_if_stands searched line choices (numbered_of searched place) key (further_stands searched line choices place set table key by.number by.further))))))
 
   pub phases_at_last : (count : ℕ) → IsSearchedLexicon searched → length (rules_in searched).names ≤ count → (old items : List Item)
       → AddsItems (IsItemEarlier searched line choices table place set count) old items

@@ -73,13 +73,13 @@ module _ (searched : SearchedLexicon) (line : Line) (choices : List Choice) (tab
       record { number = possible.number; within = possible.within; form = possible.form }
 
   -- what a state does it may do as the letters tell, whatever the place's state
-  may_lead : (key : Key) (number : ℕ) (next : Configuration) → LeadsTo searched line choices (standing_with searched place.at place.entrance number) key next
+  pub may_lead : (key : Key) (number : ℕ) (next : Configuration) → LeadsTo searched line choices (standing_with searched place.at place.entrance number) key next
       → MayLeadOn searched line choices (numbered_of searched place) key
   may_lead key number next leads =
       let may = may_if_leads searched line choices (standing_with searched place.at place.entrance number) key leads.leads_on in
       record { stands = may.stands; inner = may.inner; left = may.left }
 
-  may_end : (key : Key) (number : ℕ) → Ends searched line choices (standing_with searched place.at place.entrance number) key
+  pub may_end : (key : Key) (number : ℕ) → Ends searched line choices (standing_with searched place.at place.entrance number) key
       → MayEndLine searched line choices (numbered_of searched place) key
   may_end key number ends =
       let may = may_if_ends searched line choices (standing_with searched place.at place.entrance number) key ends in

@@ -11,6 +11,7 @@ mod ReachedPlaces
 mod LivingReached
 mod EmptySets
 mod LivingPlaces
+mod LivingMemos
 mod PassCosts
 mod OpenTables
 mod ChartAnswers
@@ -22,6 +23,7 @@ mod RisingItems
 mod SameU
 mod Walks
 mod FrontKeys
+mod LivingKeys
 mod AppendedWays
 mod OrderedKeys
 mod WayKeys

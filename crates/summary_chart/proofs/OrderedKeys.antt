@@ -18,12 +18,15 @@ use Rattle.answer_paths.specs.Following.{MayStand}
 use Rattle.phase_automaton.specs.Automata.{StateMachine}
 use Rattle.annotated_trie.specs.Choices.{choices_of, choices_with, with_first}
 use Rattle.annotated_trie.specs.Searched.{SearchedLexicon, IsSearchedLexicon}
+use Rattle.search_frames.specs.declared.ahead.Ahead.{Ahead}
 use Rattle.search_frames.specs.declared.way.Way.{Way}
+use Rattle.search_frames.specs.Ahead.{IsAhead, MayBegin}
 use Rattle.search_frames.specs.Configurations.{NumberedConfiguration, IsPossible, rules_in}
 use Rattle.search_frames.specs.LetterTests.{MayNeither}
 use Rattle.search_frames.proofs.StepKeys.{less_from_before}
 use Rattle.search_frames.proofs.GroupedRules.{choice_of_group}
 use Rattle.search_frames.proofs.PossibleKeys.{possible_phase}
+use Rattle.search_frames.proofs.AheadTests.{past_limit, not_begun}
 use Rattle.summary_chart.specs.declared.state_set.StateSet.{StateSet}
 use Rattle.summary_chart.specs.StateSets.{IsLedTo}
 use Rattle.summary_chart.specs.Fronts.{IsFrontAt, AreFronts}
@@ -182,11 +185,16 @@ module _ (searched : SearchedLexicon) (line : Line) (choices : List Choice) (her
   -- ---- one front after another, the longest first
 
   module _ (phase : ℕ) where
-    pub append_no_front : (nodes : List ℕ) (ways : List Way) → AreFronts searched line here phase nodes
+    -- no key that may do something goes further than the limit
+    pub append_no_front : (ahead : Ahead) → IsAhead (rules_in searched) line here.at here.entrance ahead → (nodes : List ℕ) (ways : List Way)
+        → AreFronts searched line here phase ahead.limit nodes
         → AppendsWays searched line choices here (IsFromFront phase (length nodes)) ways ways
-    append_no_front nodes ways fronts =
+    append_no_front ahead is nodes ways fronts =
         append_none searched line choices here (IsFromFront phase (length nodes)) ways
-        (λ key told possible may. (let low = fronts.all key possible told.0 in omega (arith, low, told.1)))
+        (λ key told possible may. elim (cases_lt ahead.limit (here.at + key.taken)) [
+          | inl past ↦ may (past_limit searched line choices here key ahead is past)
+          | inr near ↦ let low = fronts.all key possible told.0 near in omega (arith, low, told.1)
+        ])
 
     pub append_front : (taken : ℕ) (old mid new : List Way) → AppendsWays searched line choices here (IsFromFront phase (taken + 1)) old mid
         → AppendsWays searched line choices here (IsAtFront phase taken) mid new
@@ -230,18 +238,32 @@ module _ (searched : SearchedLexicon) (line : Line) (choices : List Choice) (her
         (λ key same. (omega (arith, same), (to, subst (λ (p : ℕ). IsLedTo searched.machine set p to) (sym same) led)))
         so_far one
 
+    -- a phase with no key that is asked for and may do something
+    append_empty_phase : (phase : ℕ) → ((key : Key) → key.phase ≡ phase → IsLedByPhase searched.machine set key → (MayNeither searched line choices here key → ⊥) → ⊥)
+        → (old new : List Way) → AppendsWays searched line choices here (IsLedEarlier searched.machine set phase) old new
+        → AppendsWays searched line choices here (IsLedEarlier searched.machine set (phase + 1)) old new
+    append_empty_phase phase nothing old new so_far =
+        append_same searched line choices here (IsLedEarlier searched.machine set phase) (IsLedEarlier searched.machine set (phase + 1)) old new
+        (λ key told possible may. elim (below_or_at key.phase phase told.0) [
+          | inl below ↦ (below, told.1)
+          | inr at ↦ absurd (nothing key at told.1 may)
+        ])
+        (λ key told. (omega (arith, told.0), told.1))
+        so_far
+
     -- a phase to which none does
     pub append_dead_phase : (phase : ℕ) → ((number : ℕ) → IsLedTo searched.machine set phase number → ⊥) → (old new : List Way)
         → AppendsWays searched line choices here (IsLedEarlier searched.machine set phase) old new
         → AppendsWays searched line choices here (IsLedEarlier searched.machine set (phase + 1)) old new
-    append_dead_phase phase dead old new so_far =
-        append_same searched line choices here (IsLedEarlier searched.machine set phase) (IsLedEarlier searched.machine set (phase + 1)) old new
-        (λ key told possible may. elim (below_or_at key.phase phase told.0) [
-          | inl below ↦ (below, told.1)
-          | inr at ↦ absurd (dead told.1.0 (subst (λ (p : ℕ). IsLedTo searched.machine set p told.1.0) at told.1.1))
-        ])
-        (λ key told. (omega (arith, told.0), told.1))
-        so_far
+    append_dead_phase phase dead =
+        append_empty_phase phase (λ key at led may. dead led.0 (subst (λ (p : ℕ). IsLedTo searched.machine set p led.0) at led.1))
+
+    -- a phase that may not begin
+    pub append_unbegun_phase : (phase : ℕ) → (MayBegin here.entrance phase → ⊥) → (old new : List Way)
+        → AppendsWays searched line choices here (IsLedEarlier searched.machine set phase) old new
+        → AppendsWays searched line choices here (IsLedEarlier searched.machine set (phase + 1)) old new
+    append_unbegun_phase phase unbegun =
+        append_empty_phase phase (λ key at led may. may (not_begun searched line choices here key (λ begins. unbegun (subst (MayBegin here.entrance) at begins))))
 
     pub append_all_phases : (count : ℕ) → IsSearchedLexicon searched → length (rules_in searched).names ≤ count → (old new : List Way)
         → AppendsWays searched line choices here (IsLedEarlier searched.machine set count) old new

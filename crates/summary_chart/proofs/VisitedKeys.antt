@@ -11,10 +11,13 @@ use Rattle.segmentation_definitions.specs.Listings.{Key}
 use Rattle.answer_paths.specs.Following.{MayStand}
 use Rattle.annotated_trie.specs.Choices.{choices_with}
 use Rattle.annotated_trie.specs.Searched.{SearchedLexicon, IsSearchedLexicon}
+use Rattle.search_frames.specs.declared.ahead.Ahead.{Ahead}
 use Rattle.search_frames.specs.declared.configuration.Configuration.{Configuration}
+use Rattle.search_frames.specs.Ahead.{IsAhead, MayBegin}
 use Rattle.search_frames.specs.Configurations.{IsPossible, rules_in}
 use Rattle.search_frames.specs.Frames.{numbered_of}
 use Rattle.search_frames.proofs.PossibleKeys.{possible_phase}
+use Rattle.search_frames.proofs.AheadTests.{near_if_stands, begins_if_stands}
 use Rattle.list_laws.proofs.Sorted.{not_Contains-nil}
 use Rattle.summary_chart.specs.declared.state_set.StateSet.{StateSet}
 use Rattle.summary_chart.specs.StateSets.{HasState, IsLedTo}
@@ -163,11 +166,20 @@ module _ (searched : SearchedLexicon) (line : Line) (choices : List Choice) (pla
         (λ key told. (told.0, omega (arith, told.1)))
         so_far one
 
-    pub visit_all_fronts : (count : ℕ) (nodes : List ℕ) → length nodes ≤ count → AreFronts searched line (numbered_of searched place) phase nodes
+    -- no key that does something goes further than the limit
+    pub visit_all_fronts : (ahead : Ahead) → IsAhead (rules_in searched) line place.at (numbered_of searched place).entrance ahead
+        → (count : ℕ) (nodes : List ℕ) → length nodes ≤ count → AreFronts searched line (numbered_of searched place) phase ahead.limit nodes
         → (s t : S) → visit.Adds (IsBelow phase count) s t → visit.Adds (IsInPhase phase) s t
-    visit_all_fronts count nodes enough fronts s t so_far =
+    visit_all_fronts ahead is count nodes enough fronts s t so_far =
         visit.same (IsBelow phase count) (IsInPhase phase) s t
-        (λ key does told. (told, (let low = fronts.all key (visit.possible key does) told in omega (arith, low, enough))))
+        (λ key does told. (
+          told,
+          (
+              let near = near_if_stands searched line choices (numbered_of searched place) key ahead is (visit.stands key does) in
+              let low = fronts.all key (visit.possible key does) told near in
+              omega (arith, low, enough)
+              ),
+        ))
         (λ key told. told.0)
         so_far
 
@@ -184,15 +196,26 @@ module _ (searched : SearchedLexicon) (line : Line) (choices : List Choice) (pla
       (λ key told. omega (arith, told))
       so_far one
 
+  -- a phase of which no key does something
+  pub visit_empty_phase : (phase : ℕ) → ((key : Key) → visit.Does key → IsInPhase phase key → ⊥) → (s t : S)
+      → visit.Adds (IsEarlier phase) s t → visit.Adds (IsEarlier (phase + 1)) s t
+  visit_empty_phase phase nothing s t so_far = visit_phase phase s t t so_far (visit.none (IsInPhase phase) t nothing)
+
   -- a phase to which no state leads
   pub visit_dead_phase : (phase : ℕ) (after : StateSet) → ((number : ℕ) → HasState after number → ⊥)
       → ((number : ℕ) → IsLedTo searched.machine set phase number → HasState after number) → (s t : S)
       → visit.Adds (IsEarlier phase) s t → visit.Adds (IsEarlier (phase + 1)) s t
-  visit_dead_phase phase after nothing led s t so_far =
-      visit_phase phase s t t so_far
-      (visit.none (IsInPhase phase) t (λ key does told.
+  visit_dead_phase phase after nothing led =
+      visit_empty_phase phase (λ key does told.
       let somewhere = visit.leads key does in
-      nothing somewhere.0 (led somewhere.0 (subst (λ (p : ℕ). IsLedTo searched.machine set p somewhere.0) told somewhere.1))))
+      nothing somewhere.0 (led somewhere.0 (subst (λ (p : ℕ). IsLedTo searched.machine set p somewhere.0) told somewhere.1)))
+
+  -- a phase that may not begin
+  pub visit_unbegun_phase : (phase : ℕ) → (MayBegin (numbered_of searched place).entrance phase → ⊥) → (s t : S)
+      → visit.Adds (IsEarlier phase) s t → visit.Adds (IsEarlier (phase + 1)) s t
+  visit_unbegun_phase phase unbegun =
+      visit_empty_phase phase (λ key does told.
+      unbegun (subst (MayBegin (numbered_of searched place).entrance) told (begins_if_stands searched line choices (numbered_of searched place) key (visit.stands key does))))
 
   pub visit_all_phases : (count : ℕ) → IsSearchedLexicon searched → length (rules_in searched).names ≤ count → (s t : S)
       → visit.Adds (IsEarlier count) s t → visit.Adds EveryKey s t

@@ -1,9 +1,9 @@
--- The nodes of fronts: each number of letters more leads from where the letters so far lead; where they lead nowhere, more of them
--- lead nowhere, so no possible key takes as many.
-use Rattle.std.proofs.Common.{◌≡◌, ℕ, ◌<◌, ◌≤◌, inl, inr, Some, None, List, [], ◌∷◌, ◌++◌, length, take, drop, get_or, sym, ap, subst, ◌∙◌, refl, arith, length-append, length-drop}
+-- The nodes of fronts up to a limit: each number of letters more leads from where the letters so far lead; where they lead nowhere, more of
+-- them lead nowhere, so no possible key takes as many.
+use Rattle.std.proofs.Common.{◌≡◌, ℕ, ◌-◌, ◌<◌, ◌≤◌, inl, inr, Some, None, List, [], ◌∷◌, ◌++◌, length, take, drop, get_or, sym, ap, subst, ◌∙◌, refl, arith, length-append, length-drop}
 use Rattle.std.specs.Prelude.{is_some}
 use Rattle.std.proofs.lemmas.Bool.{cases_lt}
-use Rattle.std.proofs.lemmas.List.{get_or_append_left, get_or_at}
+use Rattle.std.proofs.lemmas.List.{get_or_append_left, get_or_at, length-take-le, take-take}
 use Rattle.text_definitions.specs.Lines.{Line}
 use Rattle.lexicon_definitions.specs.Tries.{Row, walk}
 use Rattle.lexicon_definitions.proofs.TrieWalks.{walk-two}
@@ -37,35 +37,48 @@ more_walked rows node child letters nodes more are walked is = subst (AreWalkedB
   ];
 })
 
-module _ (searched : SearchedLexicon) (is : IsSearchedLexicon searched) (line : Line) (here : NumberedConfiguration) (phase : ℕ) where
-  -- what is walked from where the lead leads
-  pub fronts_from : (entered : ℕ) (nodes : List ℕ) → phase < length (rules_in searched).names → here.at ≤ length line.letters
+module _ (searched : SearchedLexicon) (is : IsSearchedLexicon searched) (line : Line) (here : NumberedConfiguration) (phase limit : ℕ) where
+  -- what is walked from where the lead leads, up to the limit
+  pub fronts_from : (entered : ℕ) (nodes : List ℕ) → phase < length (rules_in searched).names → here.at ≤ limit → limit ≤ length line.letters
       → walk searched.tries.trie.rows (root_in searched phase) (supplied here.entrance) ≡ Some entered
-      → AreWalkedFrom searched.tries.trie.rows entered (drop here.at line.letters) nodes → AreFronts searched line here phase nodes
-  fronts_from entered nodes low within walked from = record {
-    few = from.few;
-    each = λ taken l. record {
-      named = low;
-      within = (let long = length-drop here.at line.letters in let few = from.within in omega (arith, long, few, l, within));
-      walked = walk-two searched.tries.trie.rows (supplied here.entrance) (take taken (drop here.at line.letters)) (root_in searched phase) entered walked
-          ∙ from.walked taken l;
-    };
-    all = λ key possible same.
-        let (node, reached) = possible_walks searched is line here key possible in
-        let there : walk searched.tries.trie.rows (root_in searched phase) (front_after line here key.taken) ≡ Some node =
-        subst (λ (p : ℕ). walk searched.tries.trie.rows (root_in searched p) (front_after line here key.taken) ≡ Some node) same reached in
-        let rest = sym (walk-two searched.tries.trie.rows (supplied here.entrance) (take key.taken (drop here.at line.letters)) (root_in searched phase) entered walked) ∙ there in
-        let long = length-drop here.at line.letters in
-        from.all key.taken (omega (arith, long, possible.within)) (ap is_some rest);
-  }
+      → AreWalkedFrom searched.tries.trie.rows entered (take (limit - here.at) (drop here.at line.letters)) nodes
+      → AreFronts searched line here phase limit nodes
+  fronts_from entered nodes low order within walked from =
+      let left = length-drop here.at line.letters in
+      let long : length (take (limit - here.at) (drop here.at line.letters)) ≡ limit - here.at =
+      length-take-le (limit - here.at) (drop here.at line.letters) (omega (arith, left, order, within)) in
+      record {
+        few = from.few;
+        each = λ taken l.
+            let few : taken ≤ limit - here.at = (let count = from.within in omega (arith, long, count, l)) in
+            record {
+              named = low;
+              within = omega (arith, few, order, within);
+              walked = walk-two searched.tries.trie.rows (supplied here.entrance) (take taken (drop here.at line.letters)) (root_in searched phase) entered walked
+                  ∙ ap (walk searched.tries.trie.rows entered) (sym (take-take taken (limit - here.at) (drop here.at line.letters) few))
+                  ∙ from.walked taken l;
+            };
+        near = λ taken l. (let count = from.within in omega (arith, long, count, l, order));
+        all = λ key possible same near.
+            let few : key.taken ≤ limit - here.at = omega (arith, near, order) in
+            let (node, reached) = possible_walks searched is line here key possible in
+            let there : walk searched.tries.trie.rows (root_in searched phase) (front_after line here key.taken) ≡ Some node =
+            subst (λ (p : ℕ). walk searched.tries.trie.rows (root_in searched p) (front_after line here key.taken) ≡ Some node) same reached in
+            let rest : walk searched.tries.trie.rows entered (take key.taken (take (limit - here.at) (drop here.at line.letters))) ≡ Some node =
+            ap (walk searched.tries.trie.rows entered) (take-take key.taken (limit - here.at) (drop here.at line.letters) few)
+            ∙ sym (walk-two searched.tries.trie.rows (supplied here.entrance) (take key.taken (drop here.at line.letters)) (root_in searched phase) entered walked)
+            ∙ there in
+            from.all key.taken (omega (arith, long, few)) (ap is_some rest);
+      }
 
   -- where the lead leads nowhere, there is no front
   pub no_fronts : (nodes : List ℕ) → nodes ≡ [] → walk searched.tries.trie.rows (root_in searched phase) (supplied here.entrance) ≡ None
-      → AreFronts searched line here phase nodes
-  no_fronts nodes none nowhere = subst (AreFronts searched line here phase) (sym none) (record {
+      → AreFronts searched line here phase limit nodes
+  no_fronts nodes none nowhere = subst (AreFronts searched line here phase limit) (sym none) (record {
     few = omega arith;
     each = λ taken low. absurd (omega (arith, low));
-    all = λ key possible same.
+    near = λ taken low. absurd (omega (arith, low));
+    all = λ key possible same near.
         let (node, reached) = possible_walks searched is line here key possible in
         let there : walk searched.tries.trie.rows (root_in searched phase) (front_after line here key.taken) ≡ Some node =
         subst (λ (p : ℕ). walk searched.tries.trie.rows (root_in searched p) (front_after line here key.taken) ≡ Some node) same reached in

@@ -1,5 +1,5 @@
 -- What rules do after a form that ends at a node and after so many letters of a line, wherever it begins; and what is kept of this (own).
-use Rattle.std.specs.Prelude.{◌≡◌, ℕ, ◌<◌, ◌⊎◌, ◌↔◌, IsTrue, Some, List, length, Contains}
+use Rattle.std.specs.Prelude.{◌≡◌, ℕ, ◌<◌, ◌≤◌, ◌⊎◌, ◌↔◌, IsTrue, Some, List, length, Contains}
 use Rattle.text_definitions.specs.Lines.{Line}
 use Rattle.derivation.specs.declared.entrance.Entrance.{Entrance}
 use Rattle.phase_automaton.specs.Automata.{is_accepting}
@@ -65,3 +65,7 @@ IsLiving searched line table done = (number : ℕ)
 pub record AreLiving (searched : SearchedLexicon) (line : Line) (table : Table) (memo : Memo) : Type 0 where
   pub nodes : HasNodes searched.tries memo
   pub living : (done : Done) → IsKnown memo done → IsLiving searched line table done
+
+-- each form whose work the memo keeps ends after so many letters at least
+abbrev pub EndFrom : ℕ → Memo → Type 0
+EndFrom at memo = (done : Done) → IsKnown memo done → at ≤ done.work.end

@@ -1,4 +1,4 @@
-ghost use Rattle.std.specs.Prelude.{◌≡◌, ◌+◌, ◌*◌, ◌<◌, ◌≤◌, ℕ, length, All, IfOk};
+ghost use Rattle.std.specs.Prelude.{◌≡◌, ◌+◌, ◌*◌, ◌<◌, ◌≤◌, ◌↔◌, ℕ, length, slice_index, All, Contains, IfOk, OnOk};
 ghost use Rattle.text_definitions.specs.Lines.{IsLine};
 ghost use Rattle.derivation.specs.Steps.{key_meant, key_of};
 ghost use Rattle.answer_paths.specs.Fronts.{supplied};
@@ -11,7 +11,7 @@ ghost use Rattle.search_frames.specs.Costs.{HasAtMostRules};
 ghost use Rattle.search_frames.specs.WaysFrom.{IsWayFrom, key_of_way};
 ghost use Rattle.summary_chart.specs.Fronts.{IsFrontAt};
 ghost use Rattle.summary_chart.specs.PlaceWays.{HasEachKey};
-ghost use Rattle.summary_chart.specs.Memos.{AreLiving, LivesBy};
+ghost use Rattle.summary_chart.specs.Memos.{AreLiving, EndFrom, LivesBy};
 ghost use Rattle.summary_chart.specs.StateSets.{HasState};
 ghost use Rattle.summary_chart.specs.Tables.{IsTable};
 ghost use Rattle.summary_chart.specs.Spreading.{AreGoingFurther, GathersMore, EveryKey, OnlyKey, IsByRule, IsAtFront, IsInPhase, leads_in};
@@ -166,33 +166,52 @@ fn gather_unchanged(
     )
 }
 
-/// The states after the phase from which one of these rules ends the line or leads on to a place of the table, after a form that ends as the
-/// work tells, wherever it begins.
+/// The states after the phase from which the rule ends the line or leads on to a place of the table, after a form that ends as the work
+/// tells, wherever it begins.
+fn living_by_rule(
+    lexicon: &Lexicon,
+    line: &Line,
+    work: &Work,
+    rule: u32,
+    table: &Table,
+) -> StateSet
+    requires searched { IsSearchedLexicon lexicon.now }
+    requires line { IsLine line.now }
+    requires end { work.now.end ≤ length line.now.letters }
+    requires some { 0 < rule }
+    requires rule { rule ≤ length lexicon.now.lexicon.rules.rules }
+    requires table { IsTable (leads_in lexicon.now) (length line.now.letters) table.now }
+    ensures { (number : ℕ) → HasState result number ↔ LivesBy lexicon.now line.now table.now work.now (λ one. one ≡ rule) number }
+{
+    let end = work.end as usize;
+    match rule_test(lexicon.rules(), line, end, work.may_end, work.phase, rule) {
+        LetterTest::Refused => StateSet::empty(),
+        LetterTest::Ends => accepting_states(lexicon.automaton()),
+        LetterTest::LeadsOn { at, entrance } => table.get(at, entrance),
+    }
+}
+
+/// The same for each of these rules.
 fn living_by_rules<L>(
     lexicon: &Lexicon,
     line: &Line,
-    work: Work,
+    work: &Work,
     rules: &[u32],
     table: &Table,
     steps: &mut Steps<L>,
 ) -> StateSet
     requires searched { IsSearchedLexicon lexicon.now }
     requires line { IsLine line.now }
-    requires end { work.end ≤ length line.now.letters }
+    requires end { work.now.end ≤ length line.now.letters }
     requires rules { All (λ rule. (0 < rule) × (rule ≤ length lexicon.now.lexicon.rules.rules)) rules.now }
     requires table { IsTable (leads_in lexicon.now) (length line.now.letters) table.now }
-    ensures living { (number : ℕ) → HasState result number ↔ LivesBy lexicon.now line.now table.now work (Contains rules.now) number }
+    ensures living { (number : ℕ) → HasState result number ↔ LivesBy lexicon.now line.now table.now work.now (Contains rules.now) number }
     ensures steps { steps.new ≡ steps.old + length rules.now }
 {
     let mut living = StateSet::empty();
     for rule in rules {
         steps.tick();
-        let end = work.end as usize;
-        match rule_test(lexicon.rules(), line, end, work.may_end, work.phase, *rule) {
-            LetterTest::Refused => {}
-            LetterTest::Ends => living = living.union(accepting_states(lexicon.automaton())),
-            LetterTest::LeadsOn { at, entrance } => living = living.union(table.get(at, entrance)),
-        }
+        living = living.union(living_by_rule(lexicon, line, work, *rule, table));
     }
     living
 }
@@ -217,6 +236,7 @@ fn living_after<L>(
     requires table { IsTable (leads_in lexicon.now) (length line.now.letters) table.now }
     requires memo { AreLiving lexicon.now line.now table.now memo.old }
     ensures memo { OnOk result (AreLiving lexicon.now line.now table.now memo.new) }
+    ensures ends { OnOk result ((at : ℕ) → at ≤ work.end → EndFrom at memo.old → EndFrom at memo.new) }
     ensures living { IfOk result (λ living. (number : ℕ) → HasState living number ↔ LivesBy lexicon.now line.now table.now work (Contains (choices_of lexicon.now.tries work.node)) number) }
     ensures steps { (most : ℕ) → HasAtMostRules lexicon.now.tries most → steps.new ≤ steps.old + (2 + most) }
 {
@@ -226,7 +246,7 @@ fn living_after<L>(
         return Ok(states);
     }
     let rules = tries.choices_with(work.node, letter, steps);
-    let living = living_by_rules(lexicon, line, work, rules, table, steps);
+    let living = living_by_rules(lexicon, line, &work, rules, table, steps);
     memo.keep(tries, work, living)?;
     Ok(living)
 }
@@ -257,6 +277,7 @@ fn gather_front<L>(
     requires table { IsTable (leads_in lexicon.now) (length line.now.letters) table.now }
     requires memo { AreLiving lexicon.now line.now table.now memo.old }
     ensures memo { OnOk result (AreLiving lexicon.now line.now table.now memo.new) }
+    ensures ends { OnOk result (EndFrom place.now.at memo.old → EndFrom place.now.at memo.new) }
     ensures gathers { IfOk result (λ gathered. GathersMore lexicon.now line.now choices.now table.now place.now.at place.now.entrance states (IsAtFront phase taken) further gathered) }
     ensures steps { (most : ℕ) → HasAtMostRules lexicon.now.tries most → steps.new ≤ steps.old + steps_of_front most }
 {
@@ -311,6 +332,7 @@ fn gather_phase<L>(
     requires table { IsTable (leads_in lexicon.now) (length line.now.letters) table.now }
     requires memo { AreLiving lexicon.now line.now table.now memo.old }
     ensures memo { OnOk result (AreLiving lexicon.now line.now table.now memo.new) }
+    ensures ends { OnOk result (EndFrom place.now.at memo.old → EndFrom place.now.at memo.new) }
     ensures gathers { IfOk result (λ gathered. GathersMore lexicon.now line.now choices.now table.now place.now.at place.now.entrance states (IsInPhase phase) further gathered) }
     ensures steps { (most : ℕ) → HasAtMostRules lexicon.now.tries most → steps.new ≤ steps.old + steps_of_fronts most }
 {
@@ -355,6 +377,7 @@ pub(crate) fn gather<L>(
     requires table { IsTable (leads_in lexicon.now) (length line.now.letters) table.now }
     requires memo { AreLiving lexicon.now line.now table.now memo.old }
     ensures memo { OnOk result (AreLiving lexicon.now line.now table.now memo.new) }
+    ensures ends { OnOk result (EndFrom place.now.at memo.old → EndFrom place.now.at memo.new) }
     ensures gathers { IfOk result (λ gathered. AreGoingFurther lexicon.now line.now choices.now table.now place.now.at place.now.entrance states EveryKey gathered) }
     ensures steps { (most : ℕ) → HasAtMostRules lexicon.now.tries most → steps.new ≤ steps.old + steps_of_items lexicon.now most }
 {

@@ -4,6 +4,8 @@ ghost use Rattle.annotated_trie.specs.Searched.{IsSearchedLexicon};
 ghost use Rattle.search_frames.specs.Costs.{HasAtMostRules};
 ghost use Rattle.search_frames.specs.Frames.{IsConfigurationIn, numbered_of};
 ghost use Rattle.summary_chart.specs.declared.passes.TheConstants.{SETS_FOR_A_WAY};
+ghost use Rattle.summary_chart.specs.declared.memo.Done.{Done as DoneValue};
+ghost use Rattle.summary_chart.specs.Memos.{AreLiving, AreSpread, EndFrom, IsKnown};
 ghost use Rattle.summary_chart.specs.Tables.{IsTable, IsIndexed, set_of};
 ghost use Rattle.summary_chart.specs.Spreading.{AreGoingFurther, EveryKey, leads_in};
 ghost use Rattle.summary_chart.specs.Charts.{HasReached, IsChartTable, IsOpenTable, IsReachedBefore};
@@ -107,6 +109,8 @@ fn reach_from<L>(
     requires before { IsReachedBefore lexicon.now line.now choices.now index table.old }
     requires kept { HaveWaysBefore lexicon.now line.now choices.now index table.old kept.old.stops.items kept.old.ways.items }
     requires few { AreFew lexicon.now line.now kept.old.stops.items kept.old.ways.items }
+    requires memo { AreSpread lexicon.now line.now table.old memo.old }
+    ensures memo { OnOk result (AreSpread lexicon.now line.now table.new memo.new) }
     ensures before { OnOk result (IsReachedBefore lexicon.now line.now choices.now (index + 1) table.new) }
     ensures kept { OnOk result (HaveWaysBefore lexicon.now line.now choices.now (index + 1) table.new kept.new.stops.items kept.new.ways.items) }
     ensures few { OnOk result (AreFew lexicon.now line.now kept.new.stops.items kept.new.ways.items) }
@@ -145,6 +149,7 @@ pub(crate) fn reach<L>(
     requires opening { IsOpenTable lexicon.now line.now table.old }
     requires stops { kept.old.stops.items ≡ [] }
     requires ways { kept.old.ways.items ≡ [] }
+    requires memo { (done : DoneValue) → IsKnown memo.old done → ⊥ }
     ensures reached { OnOk result (HasReached lexicon.now line.now choices.now table.new) }
     ensures kept { OnOk result (HaveWays lexicon.now line.now choices.now table.new kept.new.stops.items kept.new.ways.items) }
     ensures few { OnOk result (AreFew lexicon.now line.now kept.new.stops.items kept.new.ways.items) }
@@ -189,6 +194,9 @@ fn gather_from<L>(
     requires indexed { IsIndexed (leads_in lexicon.now) (length line.now.letters) index place.now.at place.now.entrance }
     requires table { IsTable (leads_in lexicon.now) (length line.now.letters) table.now }
     requires kept { HaveWays lexicon.now line.now choices.now table.now kept.now.stops.items kept.now.ways.items }
+    requires memo { AreLiving lexicon.now line.now table.now memo.old }
+    ensures memo { OnOk result (AreLiving lexicon.now line.now table.now memo.new) }
+    ensures ends { OnOk result (EndFrom place.now.at memo.old → EndFrom place.now.at memo.new) }
     ensures gathers { IfOk result (λ gathered. AreGoingFurther lexicon.now line.now choices.now table.now place.now.at place.now.entrance (set_of table.now index) EveryKey gathered) }
     ensures steps { (most : ℕ) → HasAtMostRules lexicon.now.tries most → steps.new ≤ steps.old + steps_of_items lexicon.now most }
 {
@@ -217,6 +225,7 @@ pub(crate) fn keep_living<L>(
     requires line { IsLine line.now }
     requires reached { HasReached lexicon.now line.now choices.now table.old }
     requires kept { HaveWays lexicon.now line.now choices.now table.old kept.now.stops.items kept.now.ways.items }
+    requires memo { (done : DoneValue) → IsKnown memo.old done → ⊥ }
     ensures living { OnOk result (IsChartTable lexicon.now line.now choices.now table.new) }
     ensures kept { OnOk result (HaveWays lexicon.now line.now choices.now table.new kept.now.stops.items kept.now.ways.items) }
     ensures steps { (most : ℕ) → HasAtMostRules lexicon.now.tries most → steps.new ≤ steps.old + steps_of_summary lexicon.now line.now most }

@@ -1,5 +1,5 @@
 ghost use Rattle.std.specs.Prelude.{◌≡◌, ◌<◌, ◌≤◌, ◌↔◌, ℕ, Some, length, IsTrue};
-ghost use Rattle.phase_automaton.specs.Automata.{next_state};
+ghost use Rattle.phase_automaton.specs.Automata.{next_state, is_accepting};
 ghost use Rattle.summary_chart.specs.StateSets.{HasState, IsStateOf, IsLedTo, IsAcceptedBy, LeadsInto};
 
 use super::state_set::{SET_BITS, StateSet};

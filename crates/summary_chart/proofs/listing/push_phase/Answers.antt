@@ -27,12 +27,19 @@ loop-taken-init g c =
       low = omega (arith, end);
       appends = subst (λ (n : ℕ). AppendsWays searched c.args.line.now c.args.choices.now (numbered_of searched c.args.place.now) (IsFromFront c.args.phase n) c.args.ways.now.items c.args.ways.now.items)
           (sym end)
-          (append_no_front searched c.args.line.now c.args.choices.now (numbered_of searched c.args.place.now) c.args.phase nodes c.args.ways.now.items
+          (append_no_front searched c.args.line.now c.args.choices.now (numbered_of searched c.args.place.now) c.args.phase c.args.ahead c.requires.ahead nodes c.args.ways.now.items
           c.in_ok-walk_fronts.ensures.fronts);
       above = c.requires.first;
       few = c.requires.few;
       spent = λ most few. (let same = ap (λ (n : ℕ). n * steps_of_front most) end in omega (arith, c.walk_fronts.ensures.steps, same));
     }
+
+pub push_front-requires-clause-limit : goal.push_front-requires-clause-limit
+push_front-requires-clause-limit g c =
+    let inv = c.loop-taken.invariant in
+    let low = inv.low in
+    let near = inv.fronts.near (c.loop-taken.taken - 1) (omega (arith, low, c.loop-taken-test.true)) in
+    omega (arith, near)
 
 pub loop-taken-preserved : goal.loop-taken-preserved
 loop-taken-preserved g c =

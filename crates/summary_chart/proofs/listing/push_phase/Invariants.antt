@@ -13,7 +13,7 @@ use Rattle.summary_chart.proofs.listing.push_phase.Given as goal
 
 abbrev pub invariant-loop-taken : goal.invariant-loop-taken
 invariant-loop-taken g l = record {
-  fronts : AreFronts l.lexicon l.line (numbered_of l.lexicon l.place) l.phase l.nodes.items;
+  fronts : AreFronts l.lexicon l.line (numbered_of l.lexicon l.place) l.phase l.ahead.limit l.nodes.items;
   low : l.taken ≤ length l.nodes.items;
   appends : AppendsWays l.lexicon l.line l.choices (numbered_of l.lexicon l.place) (IsFromFront l.phase l.taken) l.fn.ways.items l.ways.items;
   above : l.first ≤ length l.ways.items;

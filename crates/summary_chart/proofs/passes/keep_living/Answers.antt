@@ -6,6 +6,7 @@ use Rattle.summary_chart.specs.Charts.{IsAliveFrom, set_count}
 use Rattle.summary_chart.specs.Summaries.{steps_of_items, steps_of_summary}
 use Rattle.summary_chart.proofs.LivingPlaces.{gather_back, old_if_new, living_down, reached_back, chart_if_alive}
 use Rattle.summary_chart.proofs.KeptWays.{fewer_places}
+use Rattle.summary_chart.proofs.LivingMemos.{LeadPast, nothing_living, nothing_past, past_down, ends_if_past, past_if_ends, living_stays}
 use Rattle.summary_chart.proofs.TableItems.{none_in_empty}
 use Rattle.summary_chart.proofs.PassCosts.{one_frame_less, fewer_left}
 use Rattle.summary_chart.proofs.passes.keep_living.Goals as goal
@@ -25,6 +26,8 @@ loop-until-init g c =
       from = living_down searched line choices first c.len.result table from (none_in_empty searched line choices table lawful first c.len.result empty);
       low = (let rises = empty.rises in let within = empty.within in omega (arith, rises, within));
       kept = c.requires.kept;
+      memo = nothing_living searched line table c.args.memo.now c.requires.memo;
+      past = nothing_past searched first c.args.memo.now c.requires.memo;
       steps = λ most few.
           let less = fewer_left (c.args.steps.now + steps_of_summary searched line most) c.len.result first (steps_of_items searched most) c.args.steps.now empty.rises
           (let same = ap (λ (n : ℕ). n * steps_of_items searched most) all in omega (arith, same)) in
@@ -50,11 +53,17 @@ loop-until-preserved g c =
     new living replace.changes replace.set gathers in
     let fewer = old_if_new searched line choices index c.place-at.result.0 c.place-at.result.1 old c.requires.searched from indexed
     new living replace.changes replace.set gathers in
+    let past : LeadPast searched (index + 1) c.gather_from.new.memo =
+    past_if_ends searched line index c.place-at.result.0 c.place-at.result.1 indexed c.gather_from.new.memo
+    (c.in_ok-living.ensures.ends (ends_if_past searched line index c.place-at.result.0 c.place-at.result.1 indexed c.loop-until.memo
+    (subst (λ (n : ℕ). LeadPast searched n c.loop-until.memo) here inv.past))) in
     let next = c.filled_until-until-in-loop-until.result in
     let empty = c.filled_until-until-in-loop-until.ensures in
     record {
       from = living_down searched line choices next index new back (none_in_empty searched line choices new back.has.lawful next index empty);
       kept = fewer_places searched line choices old new c.args.kept.now.stops.items c.args.kept.now.ways.items fewer inv.kept;
+      memo = living_stays searched line index old new c.requires.searched from.has.lawful replace.changes c.gather_from.new.memo past c.in_ok-living.ensures.memo;
+      past = past_down searched next (index + 1) c.gather_from.new.memo (let rises = empty.rises in omega (arith, rises)) past;
       low = (let rises = empty.rises in let within = empty.within in omega (arith, rises, within));
       steps = λ most few.
           fewer_left (c.args.steps.now + steps_of_summary searched line most) index next (steps_of_items searched most) c.gather_from.new.steps empty.rises

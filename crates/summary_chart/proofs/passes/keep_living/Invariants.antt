@@ -3,8 +3,10 @@
 use Rattle.std.proofs.Common.{◌+◌, ◌*◌, ◌≤◌, ℕ, length}
 use Rattle.search_frames.specs.Costs.{HasAtMostRules}
 use Rattle.summary_chart.specs.Charts.{IsAliveFrom}
+use Rattle.summary_chart.specs.Memos.{AreLiving}
 use Rattle.summary_chart.specs.PlaceWays.{HaveWays}
 use Rattle.summary_chart.specs.Summaries.{steps_of_items, steps_of_summary}
+use Rattle.summary_chart.proofs.LivingMemos.{LeadPast}
 use Rattle.summary_chart.proofs.passes.keep_living.Given as goal
 
 abbrev pub invariant-loop-until : goal.invariant-loop-until
@@ -12,6 +14,8 @@ invariant-loop-until g l =
     record {
       from : IsAliveFrom l.lexicon l.line l.choices l.until l.table;
       kept : HaveWays l.lexicon l.line l.choices l.table l.kept.stops.items l.kept.ways.items;
+      memo : AreLiving l.lexicon l.line l.table l.memo;
+      past : LeadPast l.lexicon l.until l.memo;
       low : l.until ≤ length l.table.sets.items;
       steps : (most : ℕ) → HasAtMostRules l.lexicon.tries most
           → l.steps + l.until * steps_of_items l.lexicon most ≤ l.fn.steps + steps_of_summary l.lexicon l.line most;

@@ -3,6 +3,7 @@
 use Rattle.std.proofs.Common.{◌+◌, ◌*◌, ◌≤◌, ◌-◌, ℕ, length}
 use Rattle.search_frames.specs.Costs.{HasAtMostRules}
 use Rattle.summary_chart.specs.Charts.{IsReachedBefore}
+use Rattle.summary_chart.specs.Memos.{AreSpread}
 use Rattle.summary_chart.specs.PlaceWays.{AreFew, HaveWaysBefore}
 use Rattle.summary_chart.specs.Summaries.{steps_of_items}
 use Rattle.summary_chart.proofs.passes.reach.Given as goal
@@ -13,6 +14,7 @@ invariant-loop-index g l =
       before : IsReachedBefore l.lexicon l.line l.choices l.index l.table;
       kept : HaveWaysBefore l.lexicon l.line l.choices l.index l.table l.kept.stops.items l.kept.ways.items;
       few : AreFew l.lexicon l.line l.kept.stops.items l.kept.ways.items;
+      memo : AreSpread l.lexicon l.line l.table l.memo;
       within : l.index ≤ length l.table.sets.items;
       steps : (most : ℕ) → HasAtMostRules l.lexicon.tries most → l.steps ≤ l.fn.steps + l.index * (2 * steps_of_items l.lexicon most);
     }

@@ -1,6 +1,5 @@
 -- A walk along the lead and then letters of the line is one along the letters from where the lead leads (`Walks`).
 use Rattle.std.proofs.Common.{◌≡◌, ℕ, ◌-◌, List, length, take, drop, get_or, Some, IsSome, sym, ap, subst, ◌∙◌, arith}
-use Rattle.std.proofs.lemmas.List.{take_rest}
 use Rattle.std.proofs.lemmas.Result.{on_ok_weaker}
 use Rattle.phoneme.specs.declared.line.Line.{Line}
 use Rattle.lexicon_definitions.specs.Leads.{leads_of}
@@ -26,7 +25,7 @@ returns-in_default-clause-fronts g c =
     let root : c.root.result ≡ root_in searched c.args.phase = c.root.ensures.value ∙ ap (λ (t : Trie). get_or t.roots c.args.phase 0) trie in
     let lead : c.supplied_letters-lead.result.now ≡ supplied here.entrance =
     c.supplied_letters-lead.ensures ∙ ap (λ (r : RuleSet). supplied (entrance_of (leads_of r.rules) c.args.place.now.entrance)) c.rules.ensures.value in
-    no_fronts searched c.requires.searched c.args.line.now here c.args.phase c.clear.new.self.items c.clear.ensures.items
+    no_fronts searched c.requires.searched c.args.line.now here c.args.phase c.args.limit c.clear.new.self.items c.clear.ensures.items
     (sym (λ i. walk (trie i).rows (root i) (lead i)) ∙ sym c.in_default.ensures.value)
 
 pub returns-in_default-clause-steps : goal.returns-in_default-clause-steps
@@ -68,12 +67,12 @@ returns-clause-fronts g c =
     let walked : walk searched.tries.trie.rows (root_in searched c.args.phase) (supplied here.entrance) ≡ Some entered =
     sym (λ i. walk (trie i).rows (root i) (lead i)) ∙ sym c.in-Some.ensures.value in
     let whole : c.as_slice.result.now ≡ line.letters = c.as_slice.ensures.value ∙ ap (λ (l : Line). l.letters) c.line.view_is in
-    let letters : take (length c.as_slice.result.now - c.args.place.now.at) (drop c.args.place.now.at c.as_slice.result.now) ≡ drop here.at line.letters =
-    take_rest c.as_slice.result.now c.args.place.now.at ∙ ap (drop c.args.place.now.at) whole in
+    let letters : take (c.args.limit - here.at) (drop here.at c.as_slice.result.now) ≡ take (c.args.limit - here.at) (drop here.at line.letters) =
+    ap (λ (l : List ℕ). take (c.args.limit - here.at) (drop here.at l)) whole in
     on_ok_weaker c.walk_letters.result
-    (λ from. fronts_from searched c.requires.searched line here c.args.phase entered nodes c.requires.phase c.requires.place.letters walked
+    (λ from. fronts_from searched c.requires.searched line here c.args.phase c.args.limit entered nodes c.requires.phase c.requires.low c.requires.within walked
     (subst (λ (some : List ℕ). AreWalkedFrom searched.tries.trie.rows entered some nodes) letters
-    (subst (λ (t : Trie). AreWalkedFrom t.rows entered (take (length c.as_slice.result.now - c.args.place.now.at) (drop c.args.place.now.at c.as_slice.result.now)) nodes) trie from)))
+    (subst (λ (t : Trie). AreWalkedFrom t.rows entered (take (c.args.limit - here.at) (drop here.at c.as_slice.result.now)) nodes) trie from)))
     c.walk_letters.ensures.walked
 
 pub returns-clause-steps : goal.returns-clause-steps

@@ -1,0 +1,12 @@
+-- The states that live by the rules so far were found, and each rule took a step.
+use Rattle.std.proofs.Common.{◌≡◌, ◌+◌, ◌≤◌, ◌↔◌, ℕ, length, take, Contains}
+use Rattle.summary_chart.specs.Memos.{LivesBy}
+use Rattle.summary_chart.specs.StateSets.{HasState}
+use Rattle.summary_chart.proofs.gathering.living_by_rules.Given as goal
+
+abbrev pub invariant-loop-rule : goal.invariant-loop-rule
+invariant-loop-rule g l = record {
+  low : l.rule-index ≤ length l.rules;
+  living : (number : ℕ) → HasState l.living number ↔ LivesBy l.lexicon l.line l.table l.work (Contains (take l.rule-index l.rules)) number;
+  spent : l.steps ≡ l.fn.steps + l.rule-index;
+}
