@@ -387,9 +387,10 @@ pub(crate) fn gather<L>(
     let mut gathered = StateSet::empty();
     for phase in 0..phases as u32 {
         steps.tick();
-        if states_after(lexicon.automaton(), states, phase).is_empty()
-            || !may_begin(rules, place, phase)
-        {
+        if !may_begin(rules, place, phase) {
+            continue;
+        }
+        if states_after(lexicon.automaton(), states, phase).is_empty() {
             continue;
         }
         gathered = gather_phase(
