@@ -26,8 +26,8 @@ use reader_choices::Choices;
 use search_frames::{Ahead, Configuration, LetterTest, MOST_WAYS, Way, may_begin};
 use shared_trie::Node;
 
-/// Appends the key, which is possible at the place, if it leads on or ends the line there; a step is counted where it does. The place's own state is not looked at.
-/// Refused only for want of memory.
+/// Appends the key, which is possible at the place, if it leads on or ends the line there; a step is counted where it does. The place's own
+/// state is not looked at. Refused only for want of memory.
 fn push_key<L>(
     lexicon: &Lexicon,
     line: &Line,

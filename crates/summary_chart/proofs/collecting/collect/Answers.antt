@@ -1,12 +1,17 @@
--- One phase more adds its items; one to which no state leads has none.
+-- One phase more adds its items; one to which no state leads has none, and neither has one that may not begin.
 use Rattle.std.proofs.Common.{◌+◌, length, sym, subst, arith}
+use Rattle.lexicon_definitions.specs.Lexicons.{RuleSet}
+use Rattle.lexicon_definitions.specs.Leads.{leads_of}
+use Rattle.derivation.specs.Guides.{entrance_of}
 use Rattle.phase_automaton.specs.Automata.{StateMachine}
+use Rattle.search_frames.specs.Ahead.{MayBegin}
 use Rattle.search_frames.specs.Configurations.{rules_in}
 use Rattle.summary_chart.specs.StateSets.{IsLedTo}
 use Rattle.summary_chart.specs.Summaries.{steps_of_fronts}
-use Rattle.summary_chart.proofs.CollectedItems.{phase_more, phase_without_state, phases_at_last}
+use Rattle.summary_chart.proofs.CollectedItems.{phase_more, phase_without_state, phase_not_begun, phases_at_last}
 use Rattle.summary_chart.proofs.SummarySteps.{one_more_within, fewer_within}
 use Rattle.summary_chart.proofs.collecting.collect.Goals as goal
+use Rattle.summary_chart.proofs.collecting.collect.Goals.{then-is_empty-via-then-is_empty, then-is_empty-via-else-is_empty+then-not-may_begin}
 
 pub loop-phase-preserved-then-is_empty : goal.loop-phase-preserved-then-is_empty
 loop-phase-preserved-then-is_empty g c =
@@ -16,11 +21,22 @@ loop-phase-preserved-then-is_empty g c =
       end = inv.end;
       low = omega (arith, c.loop-phase-test.true, inv.end);
       collected = inv.collected;
-      adds = phase_without_state searched c.args.line.now c.args.choices.now c.args.table.now c.args.place.now c.args.states c.loop-phase.phase c.states_after.result
-          c.if-is_empty.ensures
-          (λ number led. (c.states_after.ensures number).1
-          (subst (λ (machine : StateMachine). IsLedTo machine c.args.states c.loop-phase.phase number) (sym c.automaton.ensures.value) led))
-          c.args.collected.now.items.items c.loop-phase.collected.items.items inv.adds;
+      adds = elim c.then-is_empty.branch [
+        | then-is_empty-via-then-is_empty w ↦
+            phase_without_state searched c.args.line.now c.args.choices.now c.args.table.now c.args.place.now c.args.states c.loop-phase.phase c.states_after.result
+            w.if-is_empty.ensures
+            (λ number led. (c.states_after.ensures number).1
+            (subst (λ (machine : StateMachine). IsLedTo machine c.args.states c.loop-phase.phase number) (sym c.automaton.ensures.value) led))
+            c.args.collected.now.items.items c.loop-phase.collected.items.items inv.adds
+        | then-is_empty-via-else-is_empty+then-not-may_begin w ↦
+            phase_not_begun searched c.args.line.now c.args.choices.now c.args.table.now c.args.place.now c.args.states c.loop-phase.phase
+            (λ begins.
+            let yes = w.may_begin.ensures.1 (subst (λ (r : RuleSet). MayBegin (entrance_of (leads_of r.rules) c.args.place.now.entrance) c.loop-phase.phase)
+            (sym c.rules-rules.ensures.value) begins) in
+            let no = w.if-not-may_begin.true in
+            cc (yes, no))
+            c.args.collected.now.items.items c.loop-phase.collected.items.items inv.adds
+      ];
       spent = λ most few. one_more_within c.args.steps.now c.loop-phase.phase (1 + steps_of_fronts most) c.loop-phase.steps c.tick.new.self
           (inv.spent most few) (omega (arith, c.tick.ensures));
     }

@@ -1,13 +1,8 @@
--- Where no state goes further, nothing is added; else the step's item is, whose form is supplied few letters.
-use Rattle.std.proofs.Common.{◌≡◌, length, refl, ap, ◌∙◌, arith, Result, Ok, Err}
+-- Where no state goes further, nothing is added; else the step's item is.
+use Rattle.std.proofs.Common.{refl, Result, Ok, Err}
 use Rattle.std.specs.Prelude.{OnOk}
 use Rattle.std.proofs.lemmas.Result.{on_ok_weaker}
-use Rattle.lexicon_definitions.specs.Lexicons.{RuleSet}
-use Rattle.lexicon_definitions.specs.Leads.{leads_of}
-use Rattle.derivation.specs.Guides.{entrance_of}
 use Rattle.derivation.specs.Steps.{key_meant}
-use Rattle.answer_paths.specs.Fronts.{supplied}
-use Rattle.search_frames.proofs.WalkLeads.{short_supplied}
 use Rattle.summary_chart.specs.Summaries.{item_with}
 use Rattle.summary_chart.proofs.CollectedItems.{one_added, seen_more}
 use Rattle.summary_chart.proofs.collecting.collect_key.Goals as goal
@@ -16,16 +11,6 @@ use Rattle.summary_chart.proofs.collecting.collect_key.Goals as goal
 both_ok : {A E P Q R : Type 0} (r : Result A E) → (P → Q → R) → OnOk r P → OnOk r Q → OnOk r R
 both_ok (Ok v) f p q = f p q
 both_ok (Err e) f p q = tt
-
-pub overflow_cast-step : goal.overflow_cast-step
-overflow_cast-step g c =
-    let rules = c.args.lexicon.now.lexicon.rules in
-    let entrance = c.args.place.now.entrance in
-    let short = short_supplied rules entrance c.requires.searched.limits c.requires.place.over in
-    let is : c.supplied_letters.result.now ≡ supplied (entrance_of (leads_of rules.rules) entrance) =
-    c.supplied_letters.ensures ∙ ap (λ (r : RuleSet). supplied (entrance_of (leads_of r.rules) entrance)) c.rules.ensures.value in
-    let same = ap length is in
-    omega (arith, short, same)
 
 pub returns-clause-adds : goal.returns-clause-adds
 returns-clause-adds g c =

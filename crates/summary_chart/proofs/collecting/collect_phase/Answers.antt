@@ -7,6 +7,12 @@ use Rattle.summary_chart.proofs.CollectedItems.{front_more, fronts_at_last}
 use Rattle.summary_chart.proofs.SummarySteps.{one_more_within, fewer_within}
 use Rattle.summary_chart.proofs.collecting.collect_phase.Goals as goal
 
+pub collect_front-requires-clause-limit : goal.collect_front-requires-clause-limit
+collect_front-requires-clause-limit g c =
+    let inv = c.loop-taken.invariant in
+    let near = inv.fronts.near c.loop-taken.taken (omega (arith, c.loop-taken-test.true, inv.end)) in
+    omega (arith, near)
+
 pub loop-taken-preserved : goal.loop-taken-preserved
 loop-taken-preserved g c =
     let inv = c.loop-taken.invariant in
@@ -33,7 +39,7 @@ returns-in_err-collect_front-clause-steps g c most few =
 pub returns-clause-adds : goal.returns-clause-adds
 returns-clause-adds g c =
     let inv = c.loop-taken.invariant in
-    fronts_at_last c.args.lexicon.now c.args.line.now c.args.choices.now c.args.table.now c.args.place.now c.args.states c.args.phase c.loop-taken.taken
+    fronts_at_last c.args.lexicon.now c.args.line.now c.args.choices.now c.args.table.now c.args.place.now c.args.states c.args.phase c.args.ahead c.requires.ahead c.loop-taken.taken
     c.walk_fronts.new.nodes.items (omega (arith, c.loop-taken-test.false, inv.end)) inv.fronts c.args.collected.now.items.items c.loop-taken.collected.items.items inv.adds
 
 pub returns-clause-steps : goal.returns-clause-steps

@@ -11,7 +11,7 @@ use Rattle.summary_chart.proofs.collecting.collect_phase.Given as goal
 
 abbrev pub invariant-loop-taken : goal.invariant-loop-taken
 invariant-loop-taken g l = record {
-  fronts : AreFronts l.lexicon l.line (numbered_of l.lexicon l.place) l.phase l.nodes.items;
+  fronts : AreFronts l.lexicon l.line (numbered_of l.lexicon l.place) l.phase l.ahead.limit l.nodes.items;
   end : l.taken-end ≡ length l.nodes.items;
   low : l.taken ≤ length l.nodes.items;
   collected : IsCollected l.lexicon.lexicon.rules l.collected;

@@ -34,6 +34,13 @@ loop-taken-init g c =
       spent = λ most few. (let same = ap (λ (n : ℕ). n * steps_of_front most) end in omega (arith, c.walk_fronts.ensures.steps, same));
     }
 
+pub push_front-requires-clause-limit : goal.push_front-requires-clause-limit
+push_front-requires-clause-limit g c =
+    let inv = c.loop-taken.invariant in
+    let low = inv.low in
+    let near = inv.fronts.near (c.loop-taken.taken - 1) (omega (arith, low, c.loop-taken-test.true)) in
+    omega (arith, near)
+
 pub loop-taken-preserved : goal.loop-taken-preserved
 loop-taken-preserved g c =
     let inv = c.loop-taken.invariant in

@@ -1,10 +1,14 @@
--- One phase more, which comes after those before it; one to which no state leads has no key that is asked for.
+-- One phase more, which comes after those before it; one to which no state leads has no key that is asked for, and of one that may not begin no
+-- key does anything.
 use Rattle.std.proofs.Common.{◌+◌, length, sym, ap, ◌∙◌, subst, arith}
 use Rattle.std.specs.Prelude.{string_bytes}
 use Rattle.std.proofs.lemmas.Bool.{OnTrue_at}
 use Rattle.std.proofs.lemmas.List.{length-map}
 use Rattle.lexicon_definitions.specs.Lexicons.{RuleSet}
+use Rattle.lexicon_definitions.specs.Leads.{leads_of}
+use Rattle.derivation.specs.Guides.{entrance_of}
 use Rattle.phase_automaton.specs.Automata.{StateMachine}
+use Rattle.search_frames.specs.Ahead.{MayBegin}
 use Rattle.search_frames.specs.Configurations.{rules_in}
 use Rattle.search_frames.specs.Frames.{numbered_of}
 use Rattle.summary_chart.specs.StateSets.{IsLedTo}
@@ -12,15 +16,16 @@ use Rattle.summary_chart.specs.PlaceWays.{AppendsWays}
 use Rattle.summary_chart.specs.Spreading.{IsInPhase}
 use Rattle.summary_chart.specs.Summaries.{steps_of_fronts}
 use Rattle.summary_chart.proofs.AppendedWays.{still_begins}
-use Rattle.summary_chart.proofs.OrderedKeys.{append_no_phase, append_phase, append_dead_phase, append_all_phases}
+use Rattle.summary_chart.proofs.OrderedKeys.{append_no_phase, append_phase, append_dead_phase, append_unbegun_phase, append_all_phases}
 use Rattle.summary_chart.proofs.SummarySteps.{one_more_within, fewer_within}
 use Rattle.summary_chart.proofs.listing.push_ways.Goals as goal
+use Rattle.summary_chart.proofs.listing.push_ways.Goals.{then-is_empty-via-then-is_empty, then-is_empty-via-else-is_empty+then-not-may_begin}
 
 pub loop-phase-init : goal.loop-phase-init
 loop-phase-init g c =
     let searched = c.args.lexicon.now in
     record {
-      end = sym (length-map c.phases-phases.result.now string_bytes) ∙ ap length c.phases-phases.ensures ∙ ap (λ (r : RuleSet). length r.names) c.rules.ensures.value;
+      end = sym (length-map c.phases-phases.result.now string_bytes) ∙ ap length c.phases-phases.ensures ∙ ap (λ (r : RuleSet). length r.names) c.rules-rules.ensures.value;
       low = omega arith;
       appends = append_no_phase searched c.args.line.now c.args.choices.now (numbered_of searched c.args.place.now) c.args.states c.args.ways.now.items;
       few = omega arith;
@@ -34,10 +39,21 @@ loop-phase-preserved-then-is_empty g c =
     record {
       end = inv.end;
       low = omega (arith, c.loop-phase-test.true, inv.end);
-      appends = append_dead_phase searched c.args.line.now c.args.choices.now (numbered_of searched c.args.place.now) c.args.states c.loop-phase.phase
-          (λ number led. c.if-is_empty.ensures number ((c.states_after.ensures number).1
-          (subst (λ (machine : StateMachine). IsLedTo machine c.args.states c.loop-phase.phase number) (sym c.automaton.ensures.value) led)))
-          c.args.ways.now.items c.loop-phase.ways.items inv.appends;
+      appends = elim c.then-is_empty.branch [
+        | then-is_empty-via-then-is_empty w ↦
+            append_dead_phase searched c.args.line.now c.args.choices.now (numbered_of searched c.args.place.now) c.args.states c.loop-phase.phase
+            (λ number led. w.if-is_empty.ensures number ((c.states_after.ensures number).1
+            (subst (λ (machine : StateMachine). IsLedTo machine c.args.states c.loop-phase.phase number) (sym c.automaton.ensures.value) led)))
+            c.args.ways.now.items c.loop-phase.ways.items inv.appends
+        | then-is_empty-via-else-is_empty+then-not-may_begin w ↦
+            append_unbegun_phase searched c.args.line.now c.args.choices.now (numbered_of searched c.args.place.now) c.args.states c.loop-phase.phase
+            (λ begins.
+            let yes = w.may_begin.ensures.1 (subst (λ (r : RuleSet). MayBegin (entrance_of (leads_of r.rules) c.args.place.now.entrance) c.loop-phase.phase)
+            (sym c.rules-rules.ensures.value) begins) in
+            let no = w.if-not-may_begin.true in
+            cc (yes, no))
+            c.args.ways.now.items c.loop-phase.ways.items inv.appends
+      ];
       few = inv.few;
       spent = λ most few. one_more_within c.args.steps.now c.loop-phase.phase (1 + steps_of_fronts most) c.loop-phase.steps c.tick.new.self
           (inv.spent most few) (omega (arith, c.tick.ensures));
