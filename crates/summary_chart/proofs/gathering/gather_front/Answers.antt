@@ -1,6 +1,7 @@
 -- What may stand after the front is no change, and the choices that begin with the next letter (`VisitedKeys`); where each key fits the
 -- place, these go further just as they do wherever the form begins (`LivingKeys`).
 use Rattle.std.proofs.Common.{◌≡◌, ℕ, ◌+◌, ◌<◌, ◌↔◌, List, length, All, get_or, sym, ap, subst, ◌∙◌, arith}
+use Rattle.std.proofs.lemmas.Bool.{OnTrue_at}
 use Rattle.phoneme.specs.declared.line.Line.{Line}
 use Rattle.phase_automaton.specs.Automata.{StateMachine}
 use Rattle.annotated_trie.specs.Choices.{AnnotatedTrie, choices_with}
@@ -97,5 +98,5 @@ returns-clause-gathers g c =
     front_shared searched line choices place c.args.states table c.requires.searched c.args.phase c.args.taken c.args.node c.requires.front
     c.args.further c.gather_unchanged-gathered.result c.states_into.result c.union.result c.gather_unchanged-gathered.ensures
     (further_shared searched line choices place c.args.states table c.requires.searched c.args.phase c.args.taken c.args.node c.requires.front
-    c.args.ahead c.requires.ahead living c.in_ok-living.ensures.living (c.fits_all.ensures c.if-not-fits_all.false) c.requires.begins c.states_into.result into)
+    c.args.ahead c.requires.ahead living c.in_ok-living.ensures.living (OnTrue_at c.if-not-fits_all.false c.fits_all.ensures) c.requires.begins c.states_into.result into)
     c.union.ensures
