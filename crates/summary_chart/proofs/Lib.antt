@@ -18,6 +18,7 @@ mod ChartAnswers
 mod ChartGuides
 mod VisitedKeys
 mod Visits
+mod SpreadMemos
 mod RisingItems
 mod SameU
 mod Walks

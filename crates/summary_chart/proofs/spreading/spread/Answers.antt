@@ -1,11 +1,15 @@
 -- One phase more; one to which no state leads does nothing.
 use Rattle.std.proofs.Common.{◌↔◌, ℕ, ◌+◌, length, sym, subst, arith}
+use Rattle.lexicon_definitions.specs.Leads.{leads_of}
+use Rattle.lexicon_definitions.specs.Lexicons.{RuleSet}
 use Rattle.phase_automaton.specs.Automata.{StateMachine}
+use Rattle.derivation.specs.Guides.{entrance_of}
+use Rattle.search_frames.specs.Ahead.{MayBegin}
 use Rattle.search_frames.specs.Configurations.{rules_in}
 use Rattle.summary_chart.specs.declared.table.Table.{Table}
 use Rattle.summary_chart.specs.StateSets.{HasState, IsLedTo}
 use Rattle.summary_chart.specs.Summaries.{steps_of_fronts}
-use Rattle.summary_chart.proofs.VisitedKeys.{visit_phase, visit_dead_phase, visit_all_phases}
+use Rattle.summary_chart.proofs.VisitedKeys.{visit_phase, visit_dead_phase, visit_unbegun_phase, visit_all_phases}
 use Rattle.summary_chart.proofs.Visits.{spread_visit}
 use Rattle.summary_chart.proofs.SummarySteps.{one_more_within, fewer_within}
 use Rattle.summary_chart.proofs.spreading.spread.Goals as goal
@@ -15,6 +19,23 @@ spread_phase-requires-clause-after g c =
     subst (λ (machine : StateMachine). (number : ℕ) → HasState c.states_after-after.result number ↔ IsLedTo machine c.args.states c.loop-phase.phase number)
     c.automaton.ensures.value c.states_after-after.ensures
 
+pub loop-phase-preserved-then-not-may_begin : goal.loop-phase-preserved-then-not-may_begin
+loop-phase-preserved-then-not-may_begin g c =
+    let inv = c.loop-phase.invariant in
+    record {
+      end = inv.end;
+      low = omega (arith, c.loop-phase-test.true, inv.end);
+      lawful = inv.lawful;
+      memo = inv.memo;
+      spreads = visit_unbegun_phase c.args.lexicon.now c.args.line.now c.args.choices.now c.args.place.now c.args.states Table
+          (spread_visit c.args.lexicon.now c.args.line.now c.args.choices.now c.args.place.now c.args.states) c.loop-phase.phase
+          (λ begins. (let yes = c.may_begin.ensures.1 (subst (λ (r : RuleSet). MayBegin (entrance_of (leads_of r.rules) c.args.place.now.entrance) c.loop-phase.phase) (sym c.rules-rules.ensures.value) begins) in
+          let no = c.if-not-may_begin.true in cc (yes, no)))
+          c.args.table.now c.loop-phase.table inv.spreads;
+      spent = λ most few. one_more_within c.args.steps.now c.loop-phase.phase (1 + steps_of_fronts most) c.loop-phase.steps c.tick.new.self
+          (inv.spent most few) (omega (arith, c.tick.ensures));
+    }
+
 pub loop-phase-preserved-then-is_empty : goal.loop-phase-preserved-then-is_empty
 loop-phase-preserved-then-is_empty g c =
     let inv = c.loop-phase.invariant in
@@ -22,6 +43,7 @@ loop-phase-preserved-then-is_empty g c =
       end = inv.end;
       low = omega (arith, c.loop-phase-test.true, inv.end);
       lawful = inv.lawful;
+      memo = inv.memo;
       spreads = visit_dead_phase c.args.lexicon.now c.args.line.now c.args.choices.now c.args.place.now c.args.states Table
           (spread_visit c.args.lexicon.now c.args.line.now c.args.choices.now c.args.place.now c.args.states) c.loop-phase.phase c.states_after-after.result
           c.if-is_empty.ensures
@@ -39,6 +61,7 @@ loop-phase-preserved g c =
       end = inv.end;
       low = omega (arith, c.loop-phase-test.true, inv.end);
       lawful = c.in_ok-spread_phase.ensures.table;
+      memo = c.in_ok-spread_phase.ensures.memo;
       spreads = visit_phase c.args.lexicon.now c.args.line.now c.args.choices.now c.args.place.now c.args.states Table
           (spread_visit c.args.lexicon.now c.args.line.now c.args.choices.now c.args.place.now c.args.states) c.loop-phase.phase
           c.args.table.now c.loop-phase.table c.spread_phase.new.table inv.spreads c.in_ok-spread_phase.ensures.spreads;

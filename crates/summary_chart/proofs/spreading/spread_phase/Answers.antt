@@ -2,6 +2,8 @@
 use Rattle.std.proofs.Common.{◌+◌, arith}
 use Rattle.lexicon_definitions.specs.declared.limits.TheConstants.{MOST_RULE_LETTERS}
 use Rattle.search_frames.specs.declared.frame.TheConstants.{NODES_OF_FRAME}
+use Rattle.search_frames.specs.Frames.{numbered_of}
+use Rattle.search_frames.proofs.AheadTests.{near_if_stands}
 use Rattle.summary_chart.specs.declared.table.Table.{Table}
 use Rattle.summary_chart.specs.Summaries.{steps_of_front}
 use Rattle.summary_chart.proofs.VisitedKeys.{visit_no_front, visit_front, visit_all_fronts}
@@ -16,6 +18,7 @@ loop-taken-init g c =
       end = omega (arith, c.len-taken-end.ensures, c.walk_fronts.new.nodes.ok);
       low = omega arith;
       lawful = c.requires.table;
+      memo = c.requires.memo;
       spreads = visit_no_front c.args.lexicon.now c.args.line.now c.args.choices.now c.args.place.now c.args.states Table
           (spread_visit c.args.lexicon.now c.args.line.now c.args.choices.now c.args.place.now c.args.states) c.args.phase c.args.table.now;
       spent = λ most few. omega (arith, c.walk_fronts.ensures.steps);
@@ -28,20 +31,38 @@ loop-taken-preserved g c =
       fronts = inv.fronts;
       end = inv.end;
       low = omega (arith, c.loop-taken-test.true, inv.end);
-      lawful = c.spread_front.ensures.table;
+      lawful = c.in_ok-spread_front.ensures.table;
+      memo = c.in_ok-spread_front.ensures.memo;
       spreads = visit_front c.args.lexicon.now c.args.line.now c.args.choices.now c.args.place.now c.args.states Table
           (spread_visit c.args.lexicon.now c.args.line.now c.args.choices.now c.args.place.now c.args.states) c.args.phase c.loop-taken.taken
-          c.args.table.now c.loop-taken.table c.spread_front.new.table inv.spreads c.spread_front.ensures.spreads;
+          c.args.table.now c.loop-taken.table c.spread_front.new.table inv.spreads c.in_ok-spread_front.ensures.spreads;
       spent = λ most few. one_more_within (c.args.steps.now + MOST_RULE_LETTERS + NODES_OF_FRAME) c.loop-taken.taken (steps_of_front most) c.loop-taken.steps c.spread_front.new.steps
           (inv.spent most few) (c.spread_front.ensures.steps most few);
     }
+
+pub spread_front-requires-clause-limit : goal.spread_front-requires-clause-limit
+spread_front-requires-clause-limit g c =
+    let inv = c.loop-taken.invariant in
+    inv.fronts.near c.loop-taken.taken (omega (arith, c.loop-taken-test.true, inv.end))
+
+pub returns-in_err-spread_front-clause-steps : goal.returns-in_err-spread_front-clause-steps
+returns-in_err-spread_front-clause-steps g c most few =
+    let inv = c.loop-taken.invariant in
+    let spent = c.spread_front.ensures.steps most few in
+    let one = one_more_within (c.args.steps.now + MOST_RULE_LETTERS + NODES_OF_FRAME) c.loop-taken.taken (steps_of_front most) c.loop-taken.steps c.spread_front.new.steps
+    (inv.spent most few) spent in
+    let short = inv.fronts.few in
+    let all = fewer_within (c.loop-taken.taken + 1) NODES_OF_FRAME (steps_of_front most) (omega (arith, c.loop-taken-test.true, inv.end, short)) in
+    omega (arith, one, all)
 
 pub returns-clause-spreads : goal.returns-clause-spreads
 returns-clause-spreads g c =
     let inv = c.loop-taken.invariant in
     visit_all_fronts c.args.lexicon.now c.args.line.now c.args.choices.now c.args.place.now c.args.states Table
     (spread_visit c.args.lexicon.now c.args.line.now c.args.choices.now c.args.place.now c.args.states) c.args.phase c.loop-taken.taken
-    c.walk_fronts.new.nodes.items (omega (arith, c.loop-taken-test.false, inv.end)) inv.fronts c.args.table.now c.loop-taken.table inv.spreads
+    c.args.ahead.limit c.walk_fronts.new.nodes.items (omega (arith, c.loop-taken-test.false, inv.end)) inv.fronts
+    (λ key does. near_if_stands c.args.lexicon.now c.args.line.now c.args.choices.now (numbered_of c.args.lexicon.now c.args.place.now) key c.args.ahead c.requires.ahead does.1.2.leads_on.stands)
+    c.args.table.now c.loop-taken.table inv.spreads
 
 pub returns-clause-steps : goal.returns-clause-steps
 returns-clause-steps g c most few =
