@@ -16,7 +16,7 @@ use Rattle.search_frames.specs.LetterTests.{MayLeadOn, MayEndLine, MayNeither, M
 use Rattle.search_frames.proofs.ConfigurationRanks.{possible_if_leads, possible_if_ends, may_if_leads, may_if_ends, not_both_ways}
 use Rattle.summary_chart.specs.declared.state_set.StateSet.{StateSet}
 use Rattle.summary_chart.specs.declared.table.Table.{Table}
-use Rattle.summary_chart.specs.StateSets.{HasState, IsStateOf, LeadsInto}
+use Rattle.summary_chart.specs.StateSets.{HasState, IsStateOf, IsAcceptedBy, LeadsInto}
 use Rattle.summary_chart.specs.Tables.{IsEntrance, set_at}
 use Rattle.summary_chart.specs.Spreading.{AreGoingFurther, GoesFurtherBy, OnlyKey, standing_with}
 use Rattle.summary_chart.proofs.TableStates.{numbered_in}
@@ -132,3 +132,31 @@ module _ (searched : SearchedLexicon) (line : Line) (choices : List Choice) (tab
           (are number).1 (goes.0, (to, there.2.1, (state_in, in_targets)))
     ],
   ))
+
+  -- where a key ends the line as the letters tell, the states go further that its phase leads to one that ends words
+  pub further_ends : (key : Key) (result : StateSet) → MayEndLine searched line choices (numbered_of searched place) key
+      → ((number : ℕ) → HasState result number ↔ IsAcceptedBy searched.machine set key.phase number)
+      → AreGoingFurther searched line choices table place.at place.entrance set (OnlyKey key) result
+  further_ends key result may are = only_one key result (λ number. (
+    λ has.
+        let accepted = (are number).0 has in
+        (accepted.0, inl (record {
+          stands = may.stands;
+          final_rule = may.final_rule;
+          all = may.all;
+          blanks_before = may.blanks_before;
+          accepted = accepted.1;
+        })),
+    λ goes. elim goes.1 [
+      | inl ends ↦ (are number).1 (goes.0, ends.accepted)
+      | inr (next, leads, is) ↦ absurd (not_both_ways searched line choices (numbered_of searched place) key may (may_lead key number next leads))
+    ],
+  ))
+
+  -- and none goes further by a key that may do neither
+  pub further_neither : (key : Key) (result : StateSet) → MayNeither searched line choices (numbered_of searched place) key
+      → ((number : ℕ) → HasState result number → ⊥)
+      → AreGoingFurther searched line choices table place.at place.entrance set (OnlyKey key) result
+  further_neither key result neither none =
+      further_nothing (OnlyKey key) result none
+      (λ other number told by. not_neither other number by (subst (MayNeither searched line choices (numbered_of searched place)) (sym told) neither))

@@ -15,7 +15,7 @@ use Rattle.summary_chart.specs.declared.memo.Done.{Done}
 use Rattle.summary_chart.specs.declared.memo.Memo.{Memo}
 use Rattle.summary_chart.specs.declared.state_set.StateSet.{StateSet}
 use Rattle.summary_chart.specs.declared.table.Table.{Table}
-use Rattle.summary_chart.specs.Memos.{AreLiving, EndFrom, IsKnown, IsLiving, LivesBy}
+use Rattle.summary_chart.specs.Memos.{AreLiving, AreSpread, EndFrom, IsKnown}
 use Rattle.summary_chart.specs.Spreading.{leads_in, place_with}
 use Rattle.summary_chart.specs.StateSets.{HasState}
 use Rattle.summary_chart.specs.Tables.{ChangesAt, IsEntrance, IsIn, IsIndexed, IsTable, column_of, index_in, index_of, set_at, set_of, width_over}
@@ -34,6 +34,13 @@ pub nothing_living : (searched : SearchedLexicon) (line : Line) (table : Table) 
 nothing_living searched line table memo none = record {
   nodes = λ done known. absurd (none done known);
   living = λ done known. absurd (none done known);
+}
+
+pub nothing_spread : (searched : SearchedLexicon) (line : Line) (table : Table) (memo : Memo) → ((done : Done) → IsKnown memo done → ⊥)
+    → AreSpread searched line table memo
+nothing_spread searched line table memo none = record {
+  nodes = λ done known. absurd (none done known);
+  spread = λ done known. absurd (none done known);
 }
 
 pub nothing_past : (searched : SearchedLexicon) (index : ℕ) (memo : Memo) → ((done : Done) → IsKnown memo done → ⊥) → LeadPast searched index memo

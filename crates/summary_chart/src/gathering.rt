@@ -1,4 +1,4 @@
-ghost use Rattle.std.specs.Prelude.{◌≡◌, ◌+◌, ◌*◌, ◌<◌, ◌≤◌, ◌↔◌, ℕ, length, slice_index, All, Contains, IfOk, OnOk};
+ghost use Rattle.std.specs.Prelude.{◌≡◌, ◌+◌, ◌*◌, ◌<◌, ◌≤◌, ◌↔◌, ℕ, length, slice_index_or, All, Contains, IfOk, OnOk};
 ghost use Rattle.text_definitions.specs.Lines.{IsLine};
 ghost use Rattle.derivation.specs.Steps.{key_meant, key_of};
 ghost use Rattle.answer_paths.specs.Fronts.{supplied};
@@ -222,7 +222,7 @@ fn living_by_rules<L>(
 fn living_after<L>(
     lexicon: &Lexicon,
     line: &Line,
-    work: Work,
+    work: &Work,
     letter: Letter,
     table: &Table,
     memo: &mut Memo,
@@ -230,14 +230,14 @@ fn living_after<L>(
 ) -> Result<StateSet, Memory>
     requires searched { IsSearchedLexicon lexicon.now }
     requires line { IsLine line.now }
-    requires node { work.node < length lexicon.now.tries.trie.rows }
-    requires end { work.end < length line.now.letters }
-    requires letter { letter ≡ slice_index line.now.letters work.end }
+    requires node { work.now.node < length lexicon.now.tries.trie.rows }
+    requires end { work.now.end < length line.now.letters }
+    requires letter { letter ≡ slice_index_or line.now.letters work.now.end letter }
     requires table { IsTable (leads_in lexicon.now) (length line.now.letters) table.now }
     requires memo { AreLiving lexicon.now line.now table.now memo.old }
     ensures memo { OnOk result (AreLiving lexicon.now line.now table.now memo.new) }
-    ensures ends { OnOk result ((at : ℕ) → at ≤ work.end → EndFrom at memo.old → EndFrom at memo.new) }
-    ensures living { IfOk result (λ living. (number : ℕ) → HasState living number ↔ LivesBy lexicon.now line.now table.now work (Contains (choices_of lexicon.now.tries work.node)) number) }
+    ensures ends { OnOk result ((at : ℕ) → at ≤ work.now.end → EndFrom at memo.old → EndFrom at memo.new) }
+    ensures living { IfOk result (λ living. (number : ℕ) → HasState living number ↔ LivesBy lexicon.now line.now table.now work.now (Contains (choices_of lexicon.now.tries work.now.node)) number) }
     ensures steps { (most : ℕ) → HasAtMostRules lexicon.now.tries most → steps.new ≤ steps.old + (2 + most) }
 {
     steps.tick();
@@ -246,7 +246,7 @@ fn living_after<L>(
         return Ok(states);
     }
     let rules = tries.choices_with(work.node, letter, steps);
-    let living = living_by_rules(lexicon, line, &work, rules, table, steps);
+    let living = living_by_rules(lexicon, line, work, rules, table, steps);
     memo.keep(tries, work, living)?;
     Ok(living)
 }
@@ -303,7 +303,7 @@ fn gather_front<L>(
         may_end: ahead.may_end,
         phase,
     };
-    let living = living_after(lexicon, line, work, *letter, table, memo, steps)?;
+    let living = living_after(lexicon, line, &work, *letter, table, memo, steps)?;
     let automaton = lexicon.automaton();
     Ok(gathered.union(states_into(automaton, states, phase, living)))
 }
@@ -387,9 +387,10 @@ pub(crate) fn gather<L>(
     let mut gathered = StateSet::empty();
     for phase in 0..phases as u32 {
         steps.tick();
-        if states_after(lexicon.automaton(), states, phase).is_empty()
-            || !may_begin(rules, place, phase)
-        {
+        if !may_begin(rules, place, phase) {
+            continue;
+        }
+        if states_after(lexicon.automaton(), states, phase).is_empty() {
             continue;
         }
         gathered = gather_phase(

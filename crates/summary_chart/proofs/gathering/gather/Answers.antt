@@ -1,14 +1,17 @@
--- One phase more; one to which no state leads does nothing.
+-- One phase more; one that may not begin, or to which no state leads, does nothing.
 use Rattle.std.proofs.Common.{inl, inr, ◌+◌, length, sym, ap, subst, ◌∙◌, arith}
 use Rattle.std.proofs.lemmas.List.{length-map}
 use Rattle.std.specs.Prelude.{string_bytes}
+use Rattle.lexicon_definitions.specs.Leads.{leads_of}
 use Rattle.lexicon_definitions.specs.Lexicons.{RuleSet}
 use Rattle.phase_automaton.specs.Automata.{StateMachine}
+use Rattle.derivation.specs.Guides.{entrance_of}
+use Rattle.search_frames.specs.Ahead.{MayBegin}
 use Rattle.search_frames.specs.Configurations.{rules_in}
 use Rattle.summary_chart.specs.declared.state_set.StateSet.{StateSet}
 use Rattle.summary_chart.specs.StateSets.{IsLedTo}
 use Rattle.summary_chart.specs.Summaries.{steps_of_fronts}
-use Rattle.summary_chart.proofs.VisitedKeys.{visit_phase, visit_dead_phase, visit_all_phases}
+use Rattle.summary_chart.proofs.VisitedKeys.{visit_phase, visit_dead_phase, visit_unbegun_phase, visit_all_phases}
 use Rattle.summary_chart.proofs.Visits.{gather_visit, all_further}
 use Rattle.summary_chart.proofs.SummarySteps.{one_more_within, fewer_within}
 use Rattle.summary_chart.proofs.gathering.gather.Goals as goal
@@ -17,7 +20,7 @@ pub loop-phase-init : goal.loop-phase-init
 loop-phase-init g c =
     let none = c.empty-gathered.ensures.none in
     record {
-      end = sym (length-map c.phases-phases.result.now string_bytes) ∙ ap length c.phases-phases.ensures ∙ ap (λ (r : RuleSet). length r.names) c.rules.ensures.value;
+      end = sym (length-map c.phases-phases.result.now string_bytes) ∙ ap length c.phases-phases.ensures ∙ ap (λ (r : RuleSet). length r.names) c.rules-rules.ensures.value;
       low = omega arith;
       gathers = λ empty nothing number. (
         λ has. absurd (none number has),
@@ -26,7 +29,27 @@ loop-phase-init g c =
           | inr goes ↦ absurd (omega (arith, goes.1.1))
         ],
       );
+      memo = c.requires.memo;
+      ends = λ ends. ends;
       spent = λ most few. omega arith;
+    }
+
+pub loop-phase-preserved-then-not-may_begin : goal.loop-phase-preserved-then-not-may_begin
+loop-phase-preserved-then-not-may_begin g c =
+    let inv = c.loop-phase.invariant in
+    record {
+      end = inv.end;
+      low = omega (arith, c.loop-phase-test.true, inv.end);
+      gathers = λ empty nothing. visit_unbegun_phase c.args.lexicon.now c.args.line.now c.args.choices.now c.args.place.now c.args.states StateSet
+          (gather_visit c.args.lexicon.now c.args.line.now c.args.choices.now c.args.place.now c.args.states c.args.table.now) c.loop-phase.phase
+          (λ begins. (let yes = c.may_begin.ensures.1 (subst (λ (r : RuleSet). MayBegin (entrance_of (leads_of r.rules) c.args.place.now.entrance) c.loop-phase.phase)
+          (sym c.rules-rules.ensures.value) begins) in
+          let no = c.if-not-may_begin.true in cc (yes, no)))
+          empty c.loop-phase.gathered (inv.gathers empty nothing);
+      memo = inv.memo;
+      ends = inv.ends;
+      spent = λ most few. one_more_within c.args.steps.now c.loop-phase.phase (1 + steps_of_fronts most) c.loop-phase.steps c.tick.new.self
+          (inv.spent most few) (omega (arith, c.tick.ensures));
     }
 
 pub loop-phase-preserved-then-is_empty : goal.loop-phase-preserved-then-is_empty
@@ -41,6 +64,8 @@ loop-phase-preserved-then-is_empty g c =
           (λ number led. (c.states_after.ensures number).1
           (subst (λ (machine : StateMachine). IsLedTo machine c.args.states c.loop-phase.phase number) (sym c.automaton.ensures.value) led))
           empty c.loop-phase.gathered (inv.gathers empty nothing);
+      memo = inv.memo;
+      ends = inv.ends;
       spent = λ most few. one_more_within c.args.steps.now c.loop-phase.phase (1 + steps_of_fronts most) c.loop-phase.steps c.tick.new.self
           (inv.spent most few) (omega (arith, c.tick.ensures));
     }
@@ -54,6 +79,8 @@ loop-phase-preserved g c =
       gathers = λ empty nothing. visit_phase c.args.lexicon.now c.args.line.now c.args.choices.now c.args.place.now c.args.states StateSet
           (gather_visit c.args.lexicon.now c.args.line.now c.args.choices.now c.args.place.now c.args.states c.args.table.now) c.loop-phase.phase
           empty c.loop-phase.gathered c.in_ok-gathered.gathered (inv.gathers empty nothing) c.in_ok-gathered.ensures.gathers;
+      memo = c.in_ok-gathered.ensures.memo;
+      ends = λ ends. c.in_ok-gathered.ensures.ends (inv.ends ends);
       spent = λ most few. one_more_within c.args.steps.now c.loop-phase.phase (1 + steps_of_fronts most) c.loop-phase.steps c.gather_phase.new.steps
           (inv.spent most few) (let spent = c.gather_phase.ensures.steps most few in omega (arith, spent, c.tick.ensures));
     }

@@ -3,6 +3,7 @@ use Rattle.std.proofs.Common.{◌≡◌, ◌+◌, ◌*◌, ◌≤◌, ℕ, lengt
 use Rattle.search_frames.specs.Costs.{HasAtMostRules}
 use Rattle.search_frames.specs.Configurations.{rules_in}
 use Rattle.summary_chart.specs.declared.state_set.StateSet.{StateSet}
+use Rattle.summary_chart.specs.Memos.{AreLiving, EndFrom}
 use Rattle.summary_chart.specs.StateSets.{HasState}
 use Rattle.summary_chart.specs.Spreading.{GathersMore}
 use Rattle.summary_chart.specs.Summaries.{steps_of_fronts}
@@ -15,5 +16,7 @@ invariant-loop-phase g l = record {
   low : l.phase ≤ length (rules_in l.lexicon).names;
   gathers : (empty : StateSet) → ((number : ℕ) → HasState empty number → ⊥)
       → GathersMore l.lexicon l.line l.choices l.table l.place.at l.place.entrance l.states (IsEarlier l.phase) empty l.gathered;
+  memo : AreLiving l.lexicon l.line l.table l.memo;
+  ends : EndFrom l.place.at l.fn.memo → EndFrom l.place.at l.memo;
   spent : (most : ℕ) → HasAtMostRules l.lexicon.tries most → l.steps ≤ l.fn.steps + l.phase * (1 + steps_of_fronts most);
 }

@@ -17,6 +17,8 @@ loop-taken-init g c =
       low = omega arith;
       gathers = visit_no_front c.args.lexicon.now c.args.line.now c.args.choices.now c.args.place.now c.args.states StateSet
           (gather_visit c.args.lexicon.now c.args.line.now c.args.choices.now c.args.place.now c.args.states c.args.table.now) c.args.phase c.args.further;
+      memo = c.requires.memo;
+      ends = λ ends. ends;
       spent = λ most few. omega (arith, c.walk_fronts.ensures.steps);
     }
 
@@ -29,16 +31,18 @@ loop-taken-preserved g c =
       low = omega (arith, c.loop-taken-test.true, inv.end);
       gathers = visit_front c.args.lexicon.now c.args.line.now c.args.choices.now c.args.place.now c.args.states StateSet
           (gather_visit c.args.lexicon.now c.args.line.now c.args.choices.now c.args.place.now c.args.states c.args.table.now) c.args.phase c.loop-taken.taken
-          c.args.further c.loop-taken.gathered c.gather_front-gathered.result inv.gathers c.gather_front-gathered.ensures.gathers;
-      spent = λ most few. one_more_within (c.args.steps.now + MOST_RULE_LETTERS + NODES_OF_FRAME) c.loop-taken.taken (steps_of_front most) c.loop-taken.steps c.gather_front-gathered.new.steps
-          (inv.spent most few) (c.gather_front-gathered.ensures.steps most few);
+          c.args.further c.loop-taken.gathered c.in_ok-gathered.gathered inv.gathers c.in_ok-gathered.ensures.gathers;
+      memo = c.in_ok-gathered.ensures.memo;
+      ends = λ ends. c.in_ok-gathered.ensures.ends (inv.ends ends);
+      spent = λ most few. one_more_within (c.args.steps.now + MOST_RULE_LETTERS + NODES_OF_FRAME) c.loop-taken.taken (steps_of_front most) c.loop-taken.steps c.gather_front.new.steps
+          (inv.spent most few) (c.gather_front.ensures.steps most few);
     }
 
 pub returns-clause-gathers : goal.returns-clause-gathers
 returns-clause-gathers g c =
     let inv = c.loop-taken.invariant in
     visit_all_fronts c.args.lexicon.now c.args.line.now c.args.choices.now c.args.place.now c.args.states StateSet
-    (gather_visit c.args.lexicon.now c.args.line.now c.args.choices.now c.args.place.now c.args.states c.args.table.now) c.args.phase c.loop-taken.taken
+    (gather_visit c.args.lexicon.now c.args.line.now c.args.choices.now c.args.place.now c.args.states c.args.table.now) c.args.phase c.args.ahead c.requires.ahead c.loop-taken.taken
     c.walk_fronts.new.nodes.items (omega (arith, c.loop-taken-test.false, inv.end)) inv.fronts c.args.further c.loop-taken.gathered inv.gathers
 
 pub returns-clause-steps : goal.returns-clause-steps
@@ -49,3 +53,19 @@ returns-clause-steps g c most few =
     let low = inv.low in
     let all = fewer_within c.loop-taken.taken NODES_OF_FRAME (steps_of_front most) (omega (arith, low, short)) in
     omega (arith, spent, all)
+
+pub gather_front-requires-clause-limit : goal.gather_front-requires-clause-limit
+gather_front-requires-clause-limit g c =
+    let inv = c.loop-taken.invariant in
+    let end = inv.end in
+    inv.fronts.near c.loop-taken.taken (omega (arith, c.loop-taken-test.true, end))
+
+pub returns-in_err-gathered-clause-steps : goal.returns-in_err-gathered-clause-steps
+returns-in_err-gathered-clause-steps g c most few =
+    let inv = c.loop-taken.invariant in
+    let one = one_more_within (c.args.steps.now + MOST_RULE_LETTERS + NODES_OF_FRAME) c.loop-taken.taken (steps_of_front most) c.loop-taken.steps c.gather_front.new.steps
+    (inv.spent most few) (c.gather_front.ensures.steps most few) in
+    let short = inv.fronts.few in
+    let end = inv.end in
+    let all = fewer_within (c.loop-taken.taken + 1) NODES_OF_FRAME (steps_of_front most) (omega (arith, c.loop-taken-test.true, end, short)) in
+    omega (arith, one, all)

@@ -1,4 +1,83 @@
 -- What the memo keeps of a work with the same choices is right of this one; what is not kept is found by the rules that begin with the next
 -- letter, and kept (`LivingKeys`).
-use Rattle.std.proofs.Common.{Contains, sym, arith}
+use Rattle.std.proofs.Common.{◌≡◌, ℕ, ◌+◌, ◌<◌, ◌≤◌, ◌↔◌, List, length, All, Contains, sym, ap, subst, ◌∙◌, arith}
+use Rattle.list_laws.proofs.Sorted.{All-from_Contains}
+use Rattle.annotated_trie.specs.Choices.{AnnotatedTrie, choices_of, choices_with}
+use Rattle.search_frames.specs.Configurations.{rules_in}
+use Rattle.summary_chart.specs.Memos.{HasNodes, IsKnown, IsSameWork, LivesBy}
+use Rattle.summary_chart.specs.StateSets.{HasState}
+use Rattle.summary_chart.specs.declared.memo.Done.{Done}
+use Rattle.summary_chart.specs.declared.state_set.StateSet.{StateSet}
+use Rattle.summary_chart.proofs.FrontKeys.{few_written}
+use Rattle.summary_chart.proofs.LivingKeys.{choice_number, choice_with, ends_kept, lives_written, living_kept, same_work}
 use Rattle.summary_chart.proofs.gathering.living_after.Goals as goal
+
+pub get-requires-clause-nodes : goal.get-requires-clause-nodes
+get-requires-clause-nodes g c = subst (λ (t : AnnotatedTrie). HasNodes t c.args.memo.now) (sym c.tries-tries.ensures.value) c.requires.memo.nodes
+
+pub returns-in-Some-clause-living : goal.returns-in-Some-clause-living
+returns-in-Some-clause-living g c =
+    let searched = c.args.lexicon.now in
+    let (done, known, same, states) = c.in-Some.ensures in
+    same_work searched c.args.line.now c.args.table.now done c.args.work.now c.in-Some.states
+    (subst (λ (t : AnnotatedTrie). IsSameWork t done.work c.args.work.now) c.tries-tries.ensures.value same) states (c.requires.memo.living done known)
+
+pub living_by_rules-living-requires-clause-rules : goal.living_by_rules-living-requires-clause-rules
+living_by_rules-living-requires-clause-rules g c =
+    let searched = c.args.lexicon.now in
+    let node = c.args.work.now.node in
+    let Named = λ (rule : ℕ). (0 < rule) × (rule ≤ length (rules_in searched).rules) in
+    let rules : c.choices_with-rules.result.now ≡ choices_with searched.tries node c.args.letter =
+    c.choices_with-rules.ensures.value ∙ ap (λ (t : AnnotatedTrie). choices_with t node c.args.letter) c.tries-tries.ensures.value in
+    subst (All Named) (sym rules)
+    (All-from_Contains Named (choices_with searched.tries node c.args.letter)
+    (λ rule among. choice_number searched node rule c.requires.searched c.requires.node (choice_with searched.tries node c.args.letter rule among)))
+
+pub returns-in_err-keep-clause-steps : goal.returns-in_err-keep-clause-steps
+returns-in_err-keep-clause-steps g c most few =
+    let searched = c.args.lexicon.now in
+    let node = c.args.work.now.node in
+    let rules : c.choices_with-rules.result.now ≡ choices_with searched.tries node c.args.letter =
+    c.choices_with-rules.ensures.value ∙ ap (λ (t : AnnotatedTrie). choices_with t node c.args.letter) c.tries-tries.ensures.value in
+    let count = ap length rules in
+    let short = few_written searched.tries node c.args.letter in
+    let all = few node c.requires.node in
+    omega (arith, c.tick.ensures, c.choices_with-rules.ensures.steps, c.living_by_rules-living.ensures.steps, count, short, all)
+
+pub returns-clause-memo : goal.returns-clause-memo
+returns-clause-memo g c =
+    let searched = c.args.lexicon.now in
+    let work = c.args.work.now in
+    let living = c.living_by_rules-living.result in
+    let rules : c.choices_with-rules.result.now ≡ choices_with searched.tries work.node c.args.letter =
+    c.choices_with-rules.ensures.value ∙ ap (λ (t : AnnotatedTrie). choices_with t work.node c.args.letter) c.tries-tries.ensures.value in
+    let are = lives_written searched c.args.line.now c.args.table.now work c.args.letter c.requires.searched c.requires.node c.requires.end c.requires.letter living
+    (subst (λ (some : List ℕ). (number : ℕ) → HasState living number ↔ LivesBy searched c.args.line.now c.args.table.now work (Contains some) number)
+    rules c.living_by_rules-living.ensures.living) in
+    living_kept searched c.args.line.now c.args.table.now work living c.args.memo.now c.keep.new.self c.requires.memo c.requires.node are c.in_ok-keep.ensures
+
+pub returns-clause-ends : goal.returns-clause-ends
+returns-clause-ends g c at low ends =
+    ends_kept at c.args.work.now c.living_by_rules-living.result c.args.memo.now c.keep.new.self low ends c.in_ok-keep.ensures
+
+pub returns-clause-living : goal.returns-clause-living
+returns-clause-living g c =
+    let searched = c.args.lexicon.now in
+    let work = c.args.work.now in
+    let living = c.living_by_rules-living.result in
+    let rules : c.choices_with-rules.result.now ≡ choices_with searched.tries work.node c.args.letter =
+    c.choices_with-rules.ensures.value ∙ ap (λ (t : AnnotatedTrie). choices_with t work.node c.args.letter) c.tries-tries.ensures.value in
+    lives_written searched c.args.line.now c.args.table.now work c.args.letter c.requires.searched c.requires.node c.requires.end c.requires.letter living
+    (subst (λ (some : List ℕ). (number : ℕ) → HasState living number ↔ LivesBy searched c.args.line.now c.args.table.now work (Contains some) number)
+    rules c.living_by_rules-living.ensures.living)
+
+pub returns-clause-steps : goal.returns-clause-steps
+returns-clause-steps g c most few =
+    let searched = c.args.lexicon.now in
+    let node = c.args.work.now.node in
+    let rules : c.choices_with-rules.result.now ≡ choices_with searched.tries node c.args.letter =
+    c.choices_with-rules.ensures.value ∙ ap (λ (t : AnnotatedTrie). choices_with t node c.args.letter) c.tries-tries.ensures.value in
+    let count = ap length rules in
+    let short = few_written searched.tries node c.args.letter in
+    let all = few node c.requires.node in
+    omega (arith, c.tick.ensures, c.choices_with-rules.ensures.steps, c.living_by_rules-living.ensures.steps, count, short, all)

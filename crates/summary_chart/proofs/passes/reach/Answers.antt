@@ -6,6 +6,7 @@ use Rattle.summary_chart.specs.Charts.{IsReachedBefore, set_count}
 use Rattle.summary_chart.specs.PlaceWays.{AreFew, HaveWaysBefore}
 use Rattle.summary_chart.specs.Summaries.{steps_of_items}
 use Rattle.summary_chart.proofs.ReachedPlaces.{nothing_until, opened}
+use Rattle.summary_chart.proofs.LivingMemos.{nothing_spread}
 use Rattle.summary_chart.proofs.LivingReached.{has_reached}
 use Rattle.summary_chart.proofs.KeptWays.{no_stops, none_few, until}
 use Rattle.summary_chart.proofs.PassCosts.{frame_and_skip, one_frame_more}
@@ -28,6 +29,7 @@ loop-index-init g c =
       kept = until searched line choices 0 c.next_filled-index.result table stops ways (omega arith) none;
       few = subst (λ (s : List Stop). AreFew searched line s ways) (sym c.requires.stops)
           (subst (AreFew searched line []) (sym c.requires.ways) (none_few searched line choices));
+      memo = nothing_spread searched line table c.args.memo.now c.requires.memo;
       within = empty.within;
       steps = λ most few. omega arith;
     }
@@ -58,6 +60,7 @@ loop-index-preserved g c =
       before = nothing_until searched line choices (index + 1) next new.table from.before empty;
       kept = until searched line choices (index + 1) next new.table new.kept.stops.items new.kept.ways.items empty.rises from.kept;
       few = from.few;
+      memo = from.memo;
       within = empty.within;
       steps = λ most few. frame_and_skip c.args.steps.now index next (2 * steps_of_items searched most) c.loop-index.steps new.steps empty.rises
           (inv.steps most few) (c.reach_from.ensures.steps most few);

@@ -9,6 +9,7 @@ use Rattle.summary_chart.specs.Spreading.{Spreads, EveryKey}
 use Rattle.summary_chart.specs.PlaceWays.{HasEachKey, ways_of}
 use Rattle.summary_chart.proofs.ReachedPlaces.{spread_on, old_before}
 use Rattle.summary_chart.proofs.KeptWays.{each_added, keys_added, left, put_in, with_stop, without_stop}
+use Rattle.summary_chart.proofs.SpreadMemos.{all_grown}
 use Rattle.summary_chart.proofs.TableItems.{read_set}
 use Rattle.summary_chart.proofs.passes.reach_from.Goals as goal
 
@@ -128,3 +129,7 @@ returns-clause-kept g c =
     (old_before searched line choices index place.at place.entrance table c.requires.searched c.requires.before c.requires.indexed new c.spread_ways.ensures.table
     (subst (λ (set : StateSet). Spreads searched line choices place.at place.entrance set EveryKey table new) (sym read) c.spread_ways.ensures.spreads))
     c.requires.kept c.in-Some.stop adds
+
+pub returns-clause-memo : goal.returns-clause-memo
+returns-clause-memo g c =
+    all_grown c.args.lexicon.now c.args.line.now c.args.table.now c.spread_ways.new.table c.args.memo.now c.spread_ways.ensures.spreads.keeps c.requires.memo
