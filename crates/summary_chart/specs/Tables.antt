@@ -1,5 +1,6 @@
 -- A table of sets of states: one for each number of letters derived and each entrance (own).
-use Rattle.std.specs.Prelude.{◌≡◌, ◌≢◌, ℕ, ◌+◌, ◌-◌, ◌*◌, ◌<◌, ◌≤◌, Option, Some, None, List, length, slice_index_or}
+use Rattle.std.specs.Prelude.{◌≡◌, ◌≢◌, ℕ, ◌+◌, ◌-◌, ◌*◌, ◌/◌, ◌%◌, ◌<◌, ◌≤◌, Option, Some, None, List, length, slice_index_or}
+use Rattle.std.specs.Int.{IsBitSet}
 use Rattle.text_definitions.specs.Letters.{IsLetter}
 use Rattle.lexicon_definitions.specs.Leads.{Lead}
 use Rattle.derivation.specs.Guides.{IsEntranceOver}
@@ -73,10 +74,16 @@ pub record AreEntrances (leads : ℕ) (entrances : List Entrance) : Type 0 where
   pub each : (column : ℕ) → column < width_over leads → IsEntrance (slice_index_or entrances column Start)
   pub over : (column place : ℕ) → column < width_over leads → slice_index_or entrances column Start ≡ ByLead place → place < leads
 
+-- each set has a bit, and where it has a state its bit is set
+pub record HaveBits (sets : List StateSet) (filled : List ℕ) : Type 0 where
+  pub enough : length sets < 64 * length filled
+  pub each : (index number : ℕ) → HasState (slice_index_or sets index (record { bits = 0 })) number → IsBitSet (slice_index_or filled (index / 64) 0) (index % 64)
+
 -- the table has the entrances over the leads, and a row of sets for each number of letters up to all of them
 pub record IsTable (leads : List Lead) (letters : ℕ) (table : Table) : Type 0 where
   pub entrances : AreEntrances (length leads) table.entrances.items
   pub count : length table.sets.items ≡ (letters + 1) * width_over (length leads)
+  pub bits : HaveBits table.sets.items table.filled.items
 
 -- the set at the index is that after so many letters, at this entrance
 pub record IsIndexed (leads : List Lead) (letters index at : ℕ) (entrance : Entrance) : Type 0 where
