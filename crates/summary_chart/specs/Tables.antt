@@ -39,10 +39,16 @@ leads_of_table table = length table.entrances.items - 51
 abbrev pub index_in : Table → ℕ → Entrance → ℕ
 index_in table at entrance = index_of (leads_of_table table) at entrance
 
+-- each set has a bit, and where it has a state its bit is set
+pub record HaveBits (sets : List StateSet) (filled : List ℕ) : Type 0 where
+  pub enough : length sets < 64 * length filled
+  pub each : (index number : ℕ) → HasState (slice_index_or sets index (record { bits = 0 })) number → IsBitSet (slice_index_or filled (index / 64) 0) (index % 64)
+
 -- the table has a set there, where the entrance is one of the program's
 pub record HasSet (table : Table) (at : ℕ) (entrance : Entrance) : Type 0 where
   pub wide : 51 ≤ length table.entrances.items
   pub there : IsEntrance entrance → index_in table at entrance < length table.sets.items
+  pub bits : HaveBits table.sets.items table.filled.items
 
 -- the set at an index
 abbrev pub set_of : Table → ℕ → StateSet
@@ -74,11 +80,6 @@ pub record AreEntrances (leads : ℕ) (entrances : List Entrance) : Type 0 where
   pub each : (column : ℕ) → column < width_over leads → IsEntrance (slice_index_or entrances column Start)
   pub over : (column place : ℕ) → column < width_over leads → slice_index_or entrances column Start ≡ ByLead place → place < leads
 
--- each set has a bit, and where it has a state its bit is set
-pub record HaveBits (sets : List StateSet) (filled : List ℕ) : Type 0 where
-  pub enough : length sets < 64 * length filled
-  pub each : (index number : ℕ) → HasState (slice_index_or sets index (record { bits = 0 })) number → IsBitSet (slice_index_or filled (index / 64) 0) (index % 64)
-
 -- the table has the entrances over the leads, and a row of sets for each number of letters up to all of them
 pub record IsTable (leads : List Lead) (letters : ℕ) (table : Table) : Type 0 where
   pub entrances : AreEntrances (length leads) table.entrances.items
@@ -98,8 +99,9 @@ pub record AreEmptyBetween (sets : List StateSet) (from until : ℕ) : Type 0 wh
   pub within : until ≤ length sets
   pub empty : (index number : ℕ) → from ≤ index → index < until → HasState (slice_index_or sets index (record { bits = 0 })) number → ⊥
 
--- only the set at the index changes
+-- only the set at the index changes, and all sets still have their bits
 pub record ChangesAt (index : ℕ) (old new : Table) : Type 0 where
   pub entrances : new.entrances ≡ old.entrances
   pub count : length new.sets.items ≡ length old.sets.items
   pub others : (other : ℕ) → other ≢ index → set_of new other ≡ set_of old other
+  pub bits : HaveBits new.sets.items new.filled.items

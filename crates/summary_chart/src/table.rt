@@ -121,11 +121,18 @@ impl Table {
 
     /// Puts these states in place of those at the index.
     pub fn replace(&mut self, index: usize, states: StateSet)
-        requires { index < length self.old.sets.items }
+        requires bits { HaveBits self.old.sets.items self.old.filled.items }
+        requires there { index < length self.old.sets.items }
         ensures changes { ChangesAt index self.old self.new }
         ensures set { set_of self.new index ≡ states }
     {
+        let bit = 1 << (index % SETS_OF_WORD);
         self.sets[index] = states;
+        if states.is_empty() {
+            self.filled[index / SETS_OF_WORD] &= !bit;
+        } else {
+            self.filled[index / SETS_OF_WORD] |= bit;
+        }
     }
 
     /// An index from this one on before which all sets from there on are empty: that of the next set that may have a state, or the number of
@@ -136,15 +143,14 @@ impl Table {
         ensures { AreEmptyBetween self.now.sets.items from result }
     {
         let count = self.sets.len();
-        let first = from / SETS_OF_WORD;
-        for word in first..self.filled.len() {
-            let mut bits = self.filled[word];
-            if word == first {
-                bits &= u64::MAX << (from % SETS_OF_WORD);
-            }
+        let mut index = from;
+        while index < count {
+            let here = index % SETS_OF_WORD;
+            let bits = self.filled[index / SETS_OF_WORD] >> here;
             if bits != 0 {
-                return count.min(SETS_OF_WORD * word + bits.trailing_zeros() as usize);
+                return count.min(index + bits.trailing_zeros() as usize);
             }
+            index += SETS_OF_WORD - here;
         }
         count
     }
@@ -155,15 +161,14 @@ impl Table {
         requires until { until ≤ length self.now.sets.items }
         ensures { AreEmptyBetween self.now.sets.items result until }
     {
-        let last = until / SETS_OF_WORD;
-        for word in (0..last + 1).rev() {
-            let mut bits = self.filled[word];
-            if word == last {
-                bits &= (1 << (until % SETS_OF_WORD)) - 1;
-            }
+        let mut end = until;
+        while end > 0 {
+            let last = (end - 1) % SETS_OF_WORD;
+            let bits = self.filled[(end - 1) / SETS_OF_WORD] << (SETS_OF_WORD - 1 - last);
             if bits != 0 {
-                return SETS_OF_WORD * word + (64 - bits.leading_zeros() as usize);
+                return end - bits.leading_zeros() as usize;
             }
+            end -= last + 1;
         }
         0
     }
