@@ -10,9 +10,9 @@ returns-clause-changes c =
     let table = c.args.self.now in
     let index = c.index-index.result in
     let is : index ≡ index_in table c.args.at c.args.entrance = c.index-index.ensures.index in
-    let enough = c.requires.bits.enough in
+    let words = c.requires.bits.count in
     let below : index < length table.sets.items = subst (λ (n : ℕ). n < length table.sets.items) (sym is) (c.requires.there c.index-index.ensures.entrance) in
-    let there : index / 64 < length table.filled.items = omega (arith, enough, below) in
+    let there : index / 64 < length table.filled.items = omega (arith, words, below) in
     let read = get_or_read table.filled.items (index / 64) c.index_mut-2.result.now there c.index_mut-2.ensures.value 0 in
     record {
       entrances = refl;

@@ -9,8 +9,8 @@ returns-then-bits-ne0 c =
     let sets = c.args.self.now.sets.items in
     let filled = c.args.self.now.filled.items in
     let index = c.loop-index.index in
-    let enough = c.requires.bits.enough in
-    let there : index / 64 < length filled = omega (arith, enough, c.loop-index-test.true, c.len-count.ensures) in
+    let words = c.requires.bits.count in
+    let there : index / 64 < length filled = omega (arith, words, c.loop-index-test.true, c.len-count.ensures) in
     let read = get_or_read filled (index / 64) c.index.result.now there c.index.ensures 0 in
     let empty = next_bit sets filled c.requires.bits c.args.from index c.index.result.now read c.loop-index.invariant (omega arith)
     (λ e. omega (arith, e, c.if-bits-ne0.true)) in
@@ -22,7 +22,7 @@ loop-index-preserved c =
     let sets = c.args.self.now.sets.items in
     let filled = c.args.self.now.filled.items in
     let index = c.loop-index.index in
-    let enough = c.requires.bits.enough in
-    let there : index / 64 < length filled = omega (arith, enough, c.loop-index-test.true, c.len-count.ensures) in
+    let words = c.requires.bits.count in
+    let there : index / 64 < length filled = omega (arith, words, c.loop-index-test.true, c.len-count.ensures) in
     let read = get_or_read filled (index / 64) c.index.result.now there c.index.ensures 0 in
     word_passed sets filled c.requires.bits c.args.from index c.index.result.now read c.loop-index.invariant (omega (arith, c.if-bits-ne0.false))
