@@ -9,7 +9,7 @@ mod FurtherKeys
 mod ProgramPlaces
 mod ReachedPlaces
 mod LivingReached
-mod EmptySets
+mod FilledSets
 mod LivingPlaces
 mod LivingMemos
 mod PassCosts

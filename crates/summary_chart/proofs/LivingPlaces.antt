@@ -68,6 +68,7 @@ module _ (searched : SearchedLexicon) (line : Line) (choices : List Choice) (ind
     lawful_new = record {
       entrances = subst (λ entrances. AreEntrances (length (leads_in searched)) entrances) (ap (λ e. e.items) (sym changes.entrances)) from.has.lawful.entrances;
       count = changes.count ∙ from.has.lawful.count;
+      bits = changes.bits;
     }
 
     -- at another index the same stands in both

@@ -44,6 +44,7 @@ module _ (searched : SearchedLexicon) (line : Line) (old new : Table) (begun : I
   lawful_new = record {
     entrances = subst (λ entrances. AreEntrances (length (leads_in searched)) entrances) (ap (λ e. e.items) (sym begun.changes.entrances)) begun.lawful.entrances;
     count = begun.changes.count ∙ begun.lawful.count;
+    bits = begun.changes.bits;
   }
 
   start_index : index_in old 0 Start ≡ index_of (length (leads_in searched)) 0 Start

@@ -1,9 +1,10 @@
 -- Sets of states by the bits of a number, bit by bit: a bit is set where it is 1, and the lowest one that is set is the first state.
-use Rattle.std.proofs.Common.{◌≡◌, ◌≢◌, ◌⊎◌, inl, inr, ℕ, ◌*◌, ◌%◌, ◌^◌, ◌<◌, ◌≤◌, ◌/◌, ◌↔◌, Bool, true, false, nat_eq, MatchBool, IsTrue, bit_and, bit_or, refl, sym, ◌∙◌, ap, arith}
-use Rattle.std.specs.Int.{IsBitSet, bit_at, bit_not, trailing_zeros, w32}
+use Rattle.std.proofs.Common.{◌≡◌, ◌≢◌, ◌⊎◌, inl, inr, ℕ, ◌+◌, ◌-◌, ◌*◌, ◌%◌, ◌^◌, ◌<◌, ◌≤◌, ◌/◌, ◌↔◌, Bool, true, false, nat_eq, MatchBool, IsTrue, bit_and, bit_or, refl, sym, ◌∙◌, ap, arith}
+use Rattle.std.specs.Int.{IsBitSet, bit_at, bit_not, trailing_zeros, leading_zeros, w32, w64}
 use Rattle.std.proofs.lemmas.Bool.{cases_eq, cases_lt}
-use Rattle.std.proofs.lemmas.Nat.{bit_set_by_shift, and_le_l}
-use Rattle.std.proofs.lemmas.Nat.Bits.{shr_and_one, bit_at_above, bit_at-trailing_zeros, bit_at_clear_same, bit_at_clear_other}
+use Rattle.std.proofs.Math.Pow.{split}
+use Rattle.std.proofs.lemmas.Nat.{bit_set_by_shift, and_le_l, shr-shr, leading_length, pow_pos}
+use Rattle.std.proofs.lemmas.Nat.Bits.{shr_and_one, bit_at-zero, bit_at_above, bit_at_cat_low, bit_at_cat_high, same_from_bits, bit_at-trailing_zeros, bit_at_clear_same, bit_at_clear_other}
 use Rattle.phase_automaton.proofs.PositionSetBits.{or_has, and_has, empty_cases}
 use Rattle.sandhi_rules.proofs.PhaseBits.{bit_tested}
 use Rattle.summary_chart.specs.StateSets.{IsSplitInto}
@@ -68,3 +69,48 @@ split_at_first bits small some =
       );
       fewer = omega (arith, lower, differ);
     }
+
+-- ---- a word that is shifted
+
+-- bits move down
+pub bit_of_right_shift : (bits by number : ℕ) → bit_at (bits / 2 ^ by) number ≡ bit_at bits (by + number)
+bit_of_right_shift bits by number = ap (λ x. x % 2) (shr-shr bits by number)
+
+-- the lower bits of a number are those of what is left of it in a word
+low_bit : (bits number : ℕ) → number < 64 → bit_at (bits % 2 ^ 64) number ≡ bit_at bits number
+low_bit bits number low =
+    sym (bit_at_cat_low (bits / 2 ^ 64) 64 (bits % 2 ^ 64) number low) ∙ ap (λ n. bit_at n number) (split bits 64)
+
+-- bits move up
+pub bit_of_left_shift : (bits by number : ℕ) → by + number < 64 → bit_at (bits * 2 ^ by % 2 ^ 64) (by + number) ≡ bit_at bits number
+bit_of_left_shift bits by number low =
+    let same : bits * 2 ^ by ≡ bits * 2 ^ by + 0 = omega arith in
+    let back : by + number - by ≡ number = omega arith in
+    low_bit (bits * 2 ^ by) (by + number) low ∙ ap (λ n. bit_at n (by + number)) same
+    ∙ bit_at_cat_high bits by 0 (by + number) (pow_pos by) (omega arith) ∙ ap (bit_at bits) back
+
+-- and there are none below them
+none_moved_in : (bits by number : ℕ) → by ≤ 64 → number < by → bit_at (bits * 2 ^ by % 2 ^ 64) number ≡ 0
+none_moved_in bits by number short low =
+    let same : bits * 2 ^ by ≡ bits * 2 ^ by + 0 = omega arith in
+    low_bit (bits * 2 ^ by) number (omega (arith, short, low)) ∙ ap (λ n. bit_at n number) same
+    ∙ bit_at_cat_low bits by 0 number low ∙ bit_at-zero number
+
+-- from the leading zeros on no bit is set
+pub none_leading : (bits number : ℕ) → bits < 2 ^ 64 → 64 ≤ number + leading_zeros w64 bits → bit_at bits number ≡ 0
+none_leading bits number small high =
+    let (length, count, below, above) = leading_length 64 bits small in
+    bit_at_above bits length number below (omega (arith, count, high))
+
+-- a word that was shifted up has fewer leading zeros than it has room above the shift, where a bit is left
+pub leading_below : (bits by : ℕ) → by ≤ 64 → bits * 2 ^ by % 2 ^ 64 ≢ 0 → leading_zeros w64 (bits * 2 ^ by % 2 ^ 64) + by < 64
+leading_below bits by short some =
+    let moved = bits * 2 ^ by % 2 ^ 64 in
+    let small : moved < 2 ^ 64 = omega arith in
+    elim (cases_lt (leading_zeros w64 moved + by) 64) [
+      | inl below ↦ below
+      | inr high ↦ absurd (some (same_from_bits moved 0 (λ number. elim (cases_lt number by) [
+        | inl low ↦ none_moved_in bits by number short low ∙ sym (bit_at-zero number)
+        | inr above ↦ none_leading moved number small (omega (arith, high, above)) ∙ sym (bit_at-zero number)
+      ])))
+    ]

@@ -82,6 +82,7 @@ has_set leads letters table at entrance is within over =
           mul-add-lt at (width_over (length leads)) (column_of (length leads) entrance) (letters + 1) (omega arith) (column_within leads entrance proper over) in
           let turned : length table.sets.items ≡ width_over (length leads) * (letters + 1) = count ∙ mul_comm (letters + 1) (width_over (length leads)) in
           omega (arith, index, below, turned);
+      bits = is.bits;
     }
 
 -- a table is still one where a set changed
@@ -89,6 +90,7 @@ pub still_table : (leads : List Lead) (letters index : ℕ) (old new : Table) �
 still_table leads letters index old new changes is = record {
   entrances = subst (λ entrances. AreEntrances (length leads) entrances.items) (sym changes.entrances) is.entrances;
   count = changes.count ∙ is.count;
+  bits = changes.bits;
 }
 
 -- ---- states at an index

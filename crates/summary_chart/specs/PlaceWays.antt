@@ -117,7 +117,7 @@ pub record HaveWaysBefore (searched : SearchedLexicon) (line : Line) (choices : 
   pub have : HaveWays searched line choices table stops ways
   pub before : All (λ stop. stop.index < index) stops
 
--- the stops and ways together are no more than a sixth of the table's sets for each phase
+-- the stops and ways together are no more than a seventh of the table's sets for each phase
 abbrev pub AreFew : SearchedLexicon → Line → List Stop → List Way → Type 0
 AreFew searched line stops ways =
     SETS_FOR_A_WAY * (length stops + length ways) ≤ set_count searched line * length (rules_in searched).names

@@ -1,5 +1,6 @@
 -- A table of sets of states: one for each number of letters derived and each entrance (own).
-use Rattle.std.specs.Prelude.{◌≡◌, ◌≢◌, ℕ, ◌+◌, ◌-◌, ◌*◌, ◌<◌, ◌≤◌, Option, Some, None, List, length, slice_index_or}
+use Rattle.std.specs.Prelude.{◌≡◌, ◌≢◌, ℕ, ◌+◌, ◌-◌, ◌*◌, ◌/◌, ◌%◌, ◌<◌, ◌≤◌, Option, Some, None, List, length, slice_index_or}
+use Rattle.std.specs.Int.{IsBitSet}
 use Rattle.text_definitions.specs.Letters.{IsLetter}
 use Rattle.lexicon_definitions.specs.Leads.{Lead}
 use Rattle.derivation.specs.Guides.{IsEntranceOver}
@@ -38,10 +39,16 @@ leads_of_table table = length table.entrances.items - 51
 abbrev pub index_in : Table → ℕ → Entrance → ℕ
 index_in table at entrance = index_of (leads_of_table table) at entrance
 
+-- each set has a bit, in words of 64 of which at most one is not needed; and where a set has a state, its bit is set
+pub record HaveBits (sets : List StateSet) (filled : List ℕ) : Type 0 where
+  pub count : length filled ≡ length sets / 64 + 1
+  pub each : (index number : ℕ) → HasState (slice_index_or sets index (record { bits = 0 })) number → IsBitSet (slice_index_or filled (index / 64) 0) (index % 64)
+
 -- the table has a set there, where the entrance is one of the program's
 pub record HasSet (table : Table) (at : ℕ) (entrance : Entrance) : Type 0 where
   pub wide : 51 ≤ length table.entrances.items
   pub there : IsEntrance entrance → index_in table at entrance < length table.sets.items
+  pub bits : HaveBits table.sets.items table.filled.items
 
 -- the set at an index
 abbrev pub set_of : Table → ℕ → StateSet
@@ -77,6 +84,7 @@ pub record AreEntrances (leads : ℕ) (entrances : List Entrance) : Type 0 where
 pub record IsTable (leads : List Lead) (letters : ℕ) (table : Table) : Type 0 where
   pub entrances : AreEntrances (length leads) table.entrances.items
   pub count : length table.sets.items ≡ (letters + 1) * width_over (length leads)
+  pub bits : HaveBits table.sets.items table.filled.items
 
 -- the set at the index is that after so many letters, at this entrance
 pub record IsIndexed (leads : List Lead) (letters index at : ℕ) (entrance : Entrance) : Type 0 where
@@ -91,8 +99,9 @@ pub record AreEmptyBetween (sets : List StateSet) (from until : ℕ) : Type 0 wh
   pub within : until ≤ length sets
   pub empty : (index number : ℕ) → from ≤ index → index < until → HasState (slice_index_or sets index (record { bits = 0 })) number → ⊥
 
--- only the set at the index changes
+-- only the set at the index changes, and all sets still have their bits
 pub record ChangesAt (index : ℕ) (old new : Table) : Type 0 where
   pub entrances : new.entrances ≡ old.entrances
   pub count : length new.sets.items ≡ length old.sets.items
   pub others : (other : ℕ) → other ≢ index → set_of new other ≡ set_of old other
+  pub bits : HaveBits new.sets.items new.filled.items

@@ -8,9 +8,9 @@
 //! true of nothing else (`exact`). Its table has just the places that a search comes to and from which there is a path to an answer, and
 //! what it keeps for places of the table are ways from there, among which is each that leads on or ends the line (`chart`). It is made within
 //! the stated number of steps (`steps`, and `bound`), of which each phase, node, rule and way that is looked at or kept takes one. It keeps
-//! one set, of four bytes, for each number of letters and entrance (`stored`), and at most one way or stop, of 24 bytes, for each six of
-//! these sets and each phase (`few`); for which places it keeps ways is in no clause. As a `SearchGuide` it tells those that it keeps: in the
-//! order of their keys, with one of which each path to an answer begins (its `ways`); and what is known of it makes it exact
+//! one set, of four bytes and a bit, for each number of letters and entrance (`stored`), and at most one way or stop, of 24 bytes, for each
+//! seven of these sets and each phase (`few`); for which places it keeps ways is in no clause. As a `SearchGuide` it tells those that it
+//! keeps: in the order of their keys, with one of which each path to an answer begins (its `ways`); and what is known of it makes it exact
 //! (`charts_are_exact`). Its summary has the item of each step of some answer, once and in order, and nothing else (`ok` of
 //! `Chart::summary`), in a stated number of steps, of which each item takes two (`steps`, and `bound`, which is that of the chart). Threads
 //! may share a chart (`charts_are_shared`).

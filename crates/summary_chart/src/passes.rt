@@ -26,9 +26,9 @@ use reader_choices::Choices;
 use search_frames::Configuration;
 use shared_trie::Node;
 
-/// A way or a stop takes 24 bytes, as much as six sets of the table. So there is room for one for each six sets, where each set is counted
-/// once for each phase.
-const SETS_FOR_A_WAY: usize = 6;
+/// A way or a stop takes 24 bytes, as much as six sets of the table. There is room for one for each seven sets, where each set is counted
+/// once for each phase: so the sets, their bits, ways and stops take no more than eight bytes for each set and phase.
+const SETS_FOR_A_WAY: usize = 7;
 
 /// How many ways and stops there is room for beside the table.
 fn most_kept(lexicon: &Lexicon, line: &Line, table: &Table) -> usize

@@ -4,7 +4,7 @@ ghost use Rattle.text_definitions.specs.Lines.{IsLine};
 ghost use Rattle.lexicon_definitions.specs.Leads.{Lead, leads_of};
 ghost use Rattle.lexicon_definitions.specs.declared.limits.TheConstants.{MOST_LEADS};
 ghost use Rattle.summary_chart.specs.StateSets.{HasState};
-ghost use Rattle.summary_chart.specs.Tables.{IsTable, AreEntrances, IsEntrance, HasSet, HasThisState, ChangesAt, IsIndexed, IsStateNumber, AreEmptyBetween, index_in, set_of, set_at};
+ghost use Rattle.summary_chart.specs.Tables.{IsTable, AreEntrances, IsEntrance, HasSet, HasThisState, HaveBits, ChangesAt, IsIndexed, IsStateNumber, AreEmptyBetween, index_in, set_of, set_at};
 
 use super::state_set::StateSet;
 use derivation::Entrance;
@@ -16,8 +16,8 @@ use std::alloc::Global;
 /// How many entrances there are besides the leads: the start, and one for each letter.
 const OTHER_ENTRANCES: usize = 51;
 
-/// How many sets are looked at together where most of them are empty.
-const SETS_AT_ONCE: usize = 16;
+/// How many sets have their bits in one word.
+const SETS_OF_WORD: usize = 64;
 
 /// For each number of letters derived and each entrance a set of states. The entrances stand in their columns: the leads by their
 /// places, the start, and the letters by their codes.
@@ -25,6 +25,8 @@ const SETS_AT_ONCE: usize = 16;
 pub(crate) struct Table {
     pub entrances: Vec<Entrance>,
     pub sets: Vec<StateSet>,
+    /// A bit for each set, the lowest of a word first: where it is 0, the set is empty.
+    pub filled: Vec<u64>,
 }
 
 /// The entrances over so many leads, in the order of their columns.
@@ -45,76 +47,6 @@ fn entrances_over(alloc: Global, leads: usize) -> Result<Vec<Entrance>, Memory>
     Ok(entrances)
 }
 
-/// Whether the sets are all empty.
-fn are_empty(sets: &[StateSet]) -> bool
-    ensures { OnTrue result (AreEmptyBetween sets.now 0 (length sets.now)) }
-{
-    let mut states = StateSet::empty();
-    for set in sets {
-        states = states.union(*set);
-    }
-    states.is_empty()
-}
-
-/// An index from this one on up to which all sets are empty, and after which too few are left to be looked at together, or one
-/// of the next is not empty.
-fn skip_many(sets: &[StateSet], from: usize) -> usize
-    requires { from ≤ length sets.now }
-    ensures { AreEmptyBetween sets.now from result }
-{
-    let mut index = from;
-    while sets.len() - index >= SETS_AT_ONCE {
-        if !are_empty(&sets[index..index + SETS_AT_ONCE]) {
-            return index;
-        }
-        index += SETS_AT_ONCE;
-    }
-    index
-}
-
-/// The first index from this one on whose set is not empty, or the number of sets.
-fn skip_empty(sets: &[StateSet], from: usize) -> usize
-    requires { from ≤ length sets.now }
-    ensures { AreEmptyBetween sets.now from result }
-{
-    for index in from..sets.len() {
-        if !sets[index].is_empty() {
-            return index;
-        }
-    }
-    sets.len()
-}
-
-/// An index up to which all sets from there to before this one are empty, and before which too few are left to be looked at together, or
-/// one of the last is not empty.
-fn skip_many_back(sets: &[StateSet], until: usize) -> usize
-    requires { until ≤ length sets.now }
-    ensures { AreEmptyBetween sets.now result until }
-{
-    let mut end = until;
-    while end >= SETS_AT_ONCE {
-        let start = end - SETS_AT_ONCE;
-        if !are_empty(&sets[start..end]) {
-            return end;
-        }
-        end = start;
-    }
-    end
-}
-
-/// The index after the last one before this one whose set is not empty, or 0.
-fn skip_empty_back(sets: &[StateSet], until: usize) -> usize
-    requires { until ≤ length sets.now }
-    ensures { AreEmptyBetween sets.now result until }
-{
-    for end in (0..until).rev() {
-        if !sets[end].is_empty() {
-            return end + 1;
-        }
-    }
-    0
-}
-
 impl Table {
     /// A table for the rules and the line whose sets are empty. Refused only for want of memory.
     pub fn new(alloc: Global, rules: &RuleSet, line: &Line) -> Result<Table, Memory>
@@ -128,7 +60,13 @@ impl Table {
         let count = (line.letters.as_slice().len() + 1) * entrances.len();
         let mut sets = Vec::new(alloc);
         sets.resize(count, StateSet::empty())?;
-        Ok(Table { entrances, sets })
+        let mut filled = Vec::new(alloc);
+        filled.resize(count / SETS_OF_WORD + 1, 0)?;
+        Ok(Table {
+            entrances,
+            sets,
+            filled,
+        })
     }
 
     /// Where the set of an entrance stands, after so many letters.
@@ -178,34 +116,61 @@ impl Table {
     {
         let index = self.index(at, entrance);
         self.sets[index] = self.sets[index].union(states);
+        self.filled[index / SETS_OF_WORD] |= 1 << (index % SETS_OF_WORD);
     }
 
     /// Puts these states in place of those at the index.
     pub fn replace(&mut self, index: usize, states: StateSet)
-        requires { index < length self.old.sets.items }
+        requires bits { HaveBits self.old.sets.items self.old.filled.items }
+        requires there { index < length self.old.sets.items }
         ensures changes { ChangesAt index self.old self.new }
         ensures set { set_of self.new index ≡ states }
     {
+        let bit = 1 << (index % SETS_OF_WORD);
         self.sets[index] = states;
+        if states.is_empty() {
+            self.filled[index / SETS_OF_WORD] &= !bit;
+        } else {
+            self.filled[index / SETS_OF_WORD] |= bit;
+        }
     }
 
-    /// The first index from this one on whose set is not empty, or the number of sets. Most sets are empty, so many are looked at
-    /// together.
+    /// An index from this one on before which all sets from there on are empty: that of the next set that may have a state, or the number of
+    /// sets.
     pub fn next_filled(&self, from: usize) -> usize
-        requires { from ≤ length self.now.sets.items }
+        requires bits { HaveBits self.now.sets.items self.now.filled.items }
+        requires from { from ≤ length self.now.sets.items }
         ensures { AreEmptyBetween self.now.sets.items from result }
     {
-        let sets = self.sets.as_slice();
-        skip_empty(sets, skip_many(sets, from))
+        let count = self.sets.len();
+        let mut index = from;
+        while index < count {
+            let here = index % SETS_OF_WORD;
+            let bits = self.filled[index / SETS_OF_WORD] >> here;
+            if bits != 0 {
+                return count.min(index + bits.trailing_zeros() as usize);
+            }
+            index += SETS_OF_WORD - here;
+        }
+        count
     }
 
-    /// The index after the last one before this one whose set is not empty, or 0.
+    /// An index no greater than this one from which on all sets before this one are empty: that after the last set that may have a state, or 0.
     pub fn filled_until(&self, until: usize) -> usize
-        requires { until ≤ length self.now.sets.items }
+        requires bits { HaveBits self.now.sets.items self.now.filled.items }
+        requires until { until ≤ length self.now.sets.items }
         ensures { AreEmptyBetween self.now.sets.items result until }
     {
-        let sets = self.sets.as_slice();
-        skip_empty_back(sets, skip_many_back(sets, until))
+        let mut end = until;
+        while end > 0 {
+            let last = (end - 1) % SETS_OF_WORD;
+            let bits = self.filled[(end - 1) / SETS_OF_WORD] << (SETS_OF_WORD - 1 - last);
+            if bits != 0 {
+                return end - bits.leading_zeros() as usize;
+            }
+            end -= last + 1;
+        }
+        0
     }
 
     /// After how many letters and at which entrance the set at the index stands.

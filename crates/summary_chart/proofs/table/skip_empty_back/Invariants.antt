@@ -1,6 +1,0 @@
--- All sets from the index on are empty.
-use Rattle.summary_chart.specs.Tables.{AreEmptyBetween}
-use Rattle.summary_chart.proofs.table.skip_empty_back.Given as goal
-
-abbrev pub invariant-loop-end : goal.invariant-loop-end
-invariant-loop-end l = AreEmptyBetween l.sets l.end l.fn.until
