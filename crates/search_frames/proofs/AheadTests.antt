@@ -1,6 +1,6 @@
 -- What a key does at a place, told by what the line tells of all forms that begin there and by what its rule does after its letters.
-use Rattle.std.proofs.Common.{◌≡◌, ℕ, ◌+◌, ◌<◌, ◌≤◌, ◌↔◌, IsTrue, Bool, List, [], ◌++◌, All, length, take, drop, get_or, refl, sym, ap, subst, ◌∙◌, add-zero, arith, length-drop, length-append}
-use Rattle.std.proofs.lemmas.Bool.{ne_eqb}
+use Rattle.std.proofs.Common.{◌≡◌, ℕ, ◌+◌, ◌<◌, ◌≤◌, ◌↔◌, inl, inr, IsTrue, Bool, List, [], ◌++◌, All, length, take, drop, get_or, refl, sym, ap, subst, ◌∙◌, add-zero, arith, length-drop, length-append}
+use Rattle.std.proofs.lemmas.Bool.{ne_eqb, cases_lt}
 use Rattle.std.proofs.lemmas.List.{get_or_append_left, get_or-take, get_or-drop, length-take-le}
 use Rattle.std.proofs.lemmas.List.Elements.{All-contains}
 use Rattle.text_definitions.specs.Lines.{Line}
@@ -10,17 +10,13 @@ use Rattle.segmentation_definitions.specs.Items.{Choice}
 use Rattle.segmentation_definitions.specs.Listings.{Key}
 use Rattle.segmentation_definitions.specs.Configurations.{Entrance, Start, Plain, Lead, entrance_after_step}
 use Rattle.segmentation_definitions.proofs.Coverings.{form_not_empty, unchanged_at_zero}
-use Rattle.lexicon_definitions.specs.Leads.{leads_of}
-use Rattle.derivation.specs.declared.entrance.Entrance.{Entrance as ProgramEntrance}
-use Rattle.derivation.specs.declared.entrance.Entrance.TheVariants as program
-use Rattle.derivation.specs.Guides.{entrance_of}
 use Rattle.annotated_trie.specs.Searched.{SearchedLexicon, IsSearchedLexicon}
 use Rattle.answer_paths.specs.Following.{MayEnter, MayStand, step_at}
 use Rattle.search_frames.specs.declared.ahead.Ahead.{Ahead}
 use Rattle.search_frames.specs.declared.letter_testing.LetterTest.{LetterTest}
 use Rattle.search_frames.specs.declared.letter_testing.LetterTest.TheVariants as test
-use Rattle.search_frames.specs.Ahead.{IsAhead, FitsPlace, LetsAllIn, LetsLetterIn, LetsRuleIn, MayBegin, RuleStands, RuleFails, IsRuleTest}
-use Rattle.search_frames.specs.Configurations.{NumberedConfiguration, IsPossible, rules_in}
+use Rattle.search_frames.specs.Ahead.{IsAhead, FitsPlace, LetsLetterIn, LetsRuleIn, MayBegin, RuleStands, RuleFails, IsRuleTest}
+use Rattle.search_frames.specs.Configurations.{NumberedConfiguration, rules_in}
 use Rattle.search_frames.specs.LetterTests.{MayNeither, IsLetterTestOf}
 use Rattle.list_laws.proofs.Elements.{written_within}
 
@@ -66,18 +62,8 @@ enters_with_rule rules line at (Plain letter) key enters none some begins says =
     )
 enters_with_rule rules line at (Lead v after) key enters none some begins says = (λ t. begins, λ h. says.1 tt)
 
--- where every form that takes so many letters may be entered, that of a key that does may
-pub enters_with_all : (rules : RuleSet) (line : Line) (at : ℕ) (entrance : ProgramEntrance) (key : Key) (ahead : Ahead)
-    → IsAhead rules line at (entrance_of (leads_of rules.rules) entrance) ahead → LetsAllIn ahead entrance key.taken → at + key.taken ≤ length line.letters
-    → MayBegin (entrance_of (leads_of rules.rules) entrance) key.phase
-    → MayEnter rules (entrance_of (leads_of rules.rules) entrance) (step_at rules line at (entrance_of (leads_of rules.rules) entrance) key)
-enters_with_all rules line at program.Start key ahead is lets within begins = tt
-enters_with_all rules line at (program.Plain letter) key ahead is lets within begins =
-    (enters_with_letter rules line at (Plain letter) key ahead.enters within lets.0 begins is.entering).0 lets.1
-enters_with_all rules line at (program.Lead place) key ahead is lets within begins = begins
-
 -- after a step with a rule a form is entered by its v
-entrance_changed : (rules : RuleSet) (step : Step) → 0 < step.rule
+pub entrance_changed : (rules : RuleSet) (step : Step) → 0 < step.rule
     → entrance_after_step rules step ≡ Lead (rule_after rules step).v (rule_after rules step).after
 entrance_changed rules step some =
     let e : step.rule ≡ 0 → ⊥ = λ z. omega arith in
@@ -126,40 +112,39 @@ module _ (searched : SearchedLexicon) (line : Line) (choices : List Choice) (her
   pub not_fitting : (FitsPlace searched line choices here key → ⊥) → MayNeither searched line choices here key
   not_fitting not = not_standing (λ stands. not (stands_fits stands))
 
+  -- a key that may stand takes no letter past the limit
+  pub near_if_stands : (ahead : Ahead) → IsAhead (rules_in searched) line here.at here.entrance ahead
+      → MayStand searched.lexicon line choices here.at here.entrance key → here.at + key.taken ≤ ahead.limit
+  near_if_stands ahead is stands = elim (cases_lt ahead.limit (here.at + key.taken)) [
+    | inl past ↦
+        let within = stands.within in
+        let stop = is.stop (omega (arith, past, within)) in
+        absurd (All-contains (λ blank. here.at < blank → blank < here.at + key.taken → ⊥) line.blanks ahead.limit stands.blanks stop.0 stop.1 past)
+    | inr near ↦ near
+  ]
+
   -- no key takes a letter past the limit
   pub past_limit : (ahead : Ahead) → IsAhead (rules_in searched) line here.at here.entrance ahead → ahead.limit < here.at + key.taken
       → MayNeither searched line choices here key
-  past_limit ahead is past = not_standing (λ stands.
-      let within = stands.within in
-      let stop = is.stop (omega (arith, past, within)) in
-      All-contains (λ blank. here.at < blank → blank < here.at + key.taken → ⊥) line.blanks ahead.limit stands.blanks stop.0 stop.1 past)
+  past_limit ahead is past = not_standing (λ stands. (let near = near_if_stands ahead is stands in omega (arith, near, past)))
 
-  -- where the phase of a key may not begin, it does nothing
-  pub not_begun : (MayBegin here.entrance key.phase → ⊥) → MayNeither searched line choices here key
-  not_begun not = not_standing (λ stands. not (begun here.entrance refl stands.enters)) where
+  -- the phase of a key that may stand may begin
+  pub begins_if_stands : MayStand searched.lexicon line choices here.at here.entrance key → MayBegin here.entrance key.phase
+  begins_if_stands stands = begun here.entrance refl stands.enters where
     begun : (entrance : Entrance) → here.entrance ≡ entrance → MayEnter (rules_in searched) entrance (step_at (rules_in searched) line here.at here.entrance key)
         → MayBegin entrance key.phase
     begun Start is enters = tt
     begun (Plain letter) is enters = tt
     begun (Lead v after) is enters = enters
 
+  -- where the phase of a key may not begin, it does nothing
+  pub not_begun : (MayBegin here.entrance key.phase → ⊥) → MayNeither searched line choices here key
+  not_begun not = not_standing (λ stands. not (begins_if_stands stands))
+
   -- no blank stands inside what goes no further than the limit
   pub no_blank_inside : (ahead : Ahead) → IsAhead (rules_in searched) line here.at here.entrance ahead → here.at + key.taken ≤ ahead.limit
       → All (λ blank. here.at < blank → blank < here.at + key.taken → ⊥) line.blanks
   no_blank_inside ahead is within k d low above below = is.blanks k d low above (omega (arith, below, within))
-
-  -- where no choice is made, a possible key fits that goes no further than the limit and whose form may be entered
-  pub fits_unchosen : (ahead : Ahead) → IsAhead (rules_in searched) line here.at here.entrance ahead → here.at + key.taken ≤ ahead.limit
-      → IsPossible searched line here key → MayEnter (rules_in searched) here.entrance (step_at (rules_in searched) line here.at here.entrance key)
-      → length choices ≡ 0 → FitsPlace searched line choices here key
-  fits_unchosen ahead is within possible enters none = record {
-    number = possible.number;
-    within = possible.within;
-    form = possible.form;
-    enters = enters;
-    blanks = no_blank_inside ahead is within;
-    allowed = λ k d low. absurd (omega (arith, low, none));
-  }
 
   module _ (may_end : Bool) (says : IsTrue may_end ↔ All (λ blank. blank ≤ here.at) line.blanks) where
     -- where the rule fails after the letters of the key, the key does nothing

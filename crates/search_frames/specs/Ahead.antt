@@ -10,7 +10,6 @@ use Rattle.segmentation_definitions.specs.Listings.{Key}
 use Rattle.segmentation_definitions.specs.LocalTests.{Allows, HasNoBlankInside}
 use Rattle.segmentation_definitions.specs.Configurations.{Entrance, Start, Plain, Lead}
 use Rattle.derivation.specs.declared.entrance.Entrance.{Entrance as ProgramEntrance}
-use Rattle.derivation.specs.declared.entrance.Entrance.TheVariants as program
 use Rattle.derivation.specs.Guides.{IsEntranceOver, entrance_of}
 use Rattle.annotated_trie.specs.Searched.{SearchedLexicon}
 use Rattle.answer_paths.specs.Following.{MayEnter, is_start, step_at, placed_at}
@@ -52,12 +51,6 @@ pub record IsAhead (rules : RuleSet) (line : Line) (at : ℕ) (entrance : Entran
   pub stop : (ahead.limit < length line.letters) → Contains line.blanks ahead.limit × (at < ahead.limit)
   pub ending : IsTrue ahead.may_end ↔ All (λ blank. blank ≤ at) line.blanks
   pub entering : IsTrue ahead.enters ↔ LetsLetterIn rules line at entrance
-
--- every form that takes so many letters of the line may be entered so: after a letter, it takes one that may be entered
-abbrev pub LetsAllIn : Ahead → ProgramEntrance → ℕ → Type 0
-LetsAllIn ahead program.Start taken = Unit {0}
-LetsAllIn ahead (program.Plain letter) taken = (0 < taken) × IsTrue ahead.enters
-LetsAllIn ahead (program.Lead place) taken = Unit {0}
 
 -- all that is asked of a key at a place but what its rule asks: the form may be entered, no blank stands inside, and the choices allow it
 pub record FitsPlace (searched : SearchedLexicon) (line : Line) (choices : List Choice) (here : NumberedConfiguration) (key : Key) : Type 0 where

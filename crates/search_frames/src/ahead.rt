@@ -11,7 +11,7 @@ ghost use Rattle.derivation.specs.Guides.{IsEntranceOver, entrance_of};
 ghost use Rattle.derivation.specs.Steps.{key_meant};
 ghost use Rattle.answer_paths.specs.Fronts.{supplied};
 ghost use Rattle.answer_paths.specs.Following.{MayEnter, is_start, placed_at, step_at};
-ghost use Rattle.search_frames.specs.Ahead.{FitsPlace, IsAhead, IsNextBlank, IsRuleTest, LetsAllIn, LetsLetterIn, LetsRuleIn, MayBegin};
+ghost use Rattle.search_frames.specs.Ahead.{FitsPlace, IsAhead, IsNextBlank, IsRuleTest, LetsLetterIn, LetsRuleIn, MayBegin};
 ghost use Rattle.search_frames.specs.Configurations.{IsPossible};
 ghost use Rattle.search_frames.specs.Frames.{IsConfigurationIn, numbered_of};
 ghost use Rattle.search_frames.specs.LetterTests.{IsLetterTestOf};
@@ -231,10 +231,10 @@ impl Ahead {
         self.lets_in(rules, place, key) && is_allowed(rules, line, choices, place, key)
     }
 
-    /// Whether every form that takes so many letters may be entered at the place, as far as the line tells: nothing or a rule stands before
-    /// it, or it takes a letter that may be entered.
+    /// Whether every form that takes so many letters may be entered at the place whichever its rule, as far as can be told without looking
+    /// at rules: a letter is taken before which a form may be entered, or no letter stands before the form.
     fn lets_all_in(self, place: &Configuration, taken: u32) -> bool
-        ensures { OnTrue result (LetsAllIn self place.now.entrance taken) }
+        ensures { OnTrue result ((rules : RuleSetValue) (line : LineValue) (key : KeyValue) → let entrance = entrance_of (leads_of rules.rules) place.now.entrance in IsAhead rules line place.now.at entrance self → key.taken ≡ taken → place.now.at + key.taken ≤ length line.letters → MayBegin entrance key.phase → MayEnter rules entrance (step_at rules line place.now.at entrance key)) }
     {
         match place.entrance {
             Entrance::Plain(_) => taken > 0 && self.enters,
@@ -243,7 +243,7 @@ impl Ahead {
     }
 
     /// Whether every key that takes so many letters fits the place whichever its rule, as far as can be told without looking at rules: no
-    /// choice is made, and a letter is taken before which a form may be entered, or nothing stands before the form but a rule.
+    /// choice is made, and every form that takes so many letters may be entered there.
     pub fn fits_all(
         self,
         lexicon: &Lexicon,
