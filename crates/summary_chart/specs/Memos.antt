@@ -1,5 +1,5 @@
 -- What rules do after a form that ends at a node and after so many letters of a line, wherever it begins; and what is kept of this (own).
-use Rattle.std.specs.Prelude.{◌≡◌, ℕ, ◌<◌, ◌≤◌, ◌⊎◌, ◌↔◌, IsTrue, Some, List, length, Contains}
+use Rattle.std.specs.Prelude.{◌≡◌, ℕ, ◌<◌, ◌≤◌, ◌⊎◌, ◌↔◌, IsTrue, Some, length, Contains}
 use Rattle.text_definitions.specs.Lines.{Line}
 use Rattle.derivation.specs.declared.entrance.Entrance.{Entrance}
 use Rattle.phase_automaton.specs.Automata.{is_accepting}

@@ -2,8 +2,6 @@
 use Rattle.std.proofs.Common.{◌+◌, arith}
 use Rattle.lexicon_definitions.specs.declared.limits.TheConstants.{MOST_RULE_LETTERS}
 use Rattle.search_frames.specs.declared.frame.TheConstants.{NODES_OF_FRAME}
-use Rattle.search_frames.specs.Frames.{numbered_of}
-use Rattle.search_frames.proofs.AheadTests.{near_if_stands}
 use Rattle.summary_chart.specs.declared.table.Table.{Table}
 use Rattle.summary_chart.specs.Summaries.{steps_of_front}
 use Rattle.summary_chart.proofs.VisitedKeys.{visit_no_front, visit_front, visit_all_fronts}
@@ -59,10 +57,8 @@ pub returns-clause-spreads : goal.returns-clause-spreads
 returns-clause-spreads g c =
     let inv = c.loop-taken.invariant in
     visit_all_fronts c.args.lexicon.now c.args.line.now c.args.choices.now c.args.place.now c.args.states Table
-    (spread_visit c.args.lexicon.now c.args.line.now c.args.choices.now c.args.place.now c.args.states) c.args.phase c.loop-taken.taken
-    c.args.ahead.limit c.walk_fronts.new.nodes.items (omega (arith, c.loop-taken-test.false, inv.end)) inv.fronts
-    (λ key does. near_if_stands c.args.lexicon.now c.args.line.now c.args.choices.now (numbered_of c.args.lexicon.now c.args.place.now) key c.args.ahead c.requires.ahead does.1.2.leads_on.stands)
-    c.args.table.now c.loop-taken.table inv.spreads
+    (spread_visit c.args.lexicon.now c.args.line.now c.args.choices.now c.args.place.now c.args.states) c.args.phase c.args.ahead c.requires.ahead
+    c.loop-taken.taken c.walk_fronts.new.nodes.items (omega (arith, c.loop-taken-test.false, inv.end)) inv.fronts c.args.table.now c.loop-taken.table inv.spreads
 
 pub returns-clause-steps : goal.returns-clause-steps
 returns-clause-steps g c most few =
