@@ -26,7 +26,7 @@ use Rattle.list_laws.proofs.Sorted.{not_Contains-nil}
 use Rattle.summary_chart.specs.declared.collected.Collected.{Collected}
 use Rattle.summary_chart.specs.declared.state_set.StateSet.{StateSet}
 use Rattle.summary_chart.specs.declared.table.Table.{Table}
-use Rattle.summary_chart.specs.StateSets.{HasState, IsStateOf, IsLedTo}
+use Rattle.summary_chart.specs.StateSets.{HasState, IsLedTo}
 use Rattle.summary_chart.specs.Fronts.{IsFrontAt, AreFronts}
 use Rattle.summary_chart.specs.Spreading.{AreGoingFurther, GoesFurtherBy, OnlyKey, leads_in, standing_with}
 use Rattle.summary_chart.specs.Summaries.{IsItemBy, IsItemFrom, IsItemInPhase, IsItemAtFront, IsItemByRule, AddsItems, HasSeen, item_with, key_with, made_of}
@@ -316,7 +316,8 @@ module _ (searched : SearchedLexicon) (line : Line) (choices : List Choice) (tab
       phase_more phase old items items so_far
       (adds_none (IsItemInPhase searched line choices table place.at place.entrance set phase) items (λ item (key, same, by).
       absurd (unbegun (subst (MayBegin (numbered_of searched place).entrance) same
-      (begins_if_stands searched line choices (numbered_of searched place) key (further_stands searched line choices place set table key by.number by.further))))))
+      (begins_if_stands searched line choices (numbered_of searched place) key
+      (further_stands searched line choices place set table key by.number by.further))))))
 
   pub phases_at_last : (count : ℕ) → IsSearchedLexicon searched → length (rules_in searched).names ≤ count → (old items : List Item)
       → AddsItems (IsItemEarlier searched line choices table place set count) old items

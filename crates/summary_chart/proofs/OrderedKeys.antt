@@ -186,8 +186,8 @@ module _ (searched : SearchedLexicon) (line : Line) (choices : List Choice) (her
 
   module _ (phase : ℕ) where
     -- no key that may do something goes further than the limit
-    pub append_no_front : (ahead : Ahead) → IsAhead (rules_in searched) line here.at here.entrance ahead → (nodes : List ℕ) (ways : List Way)
-        → AreFronts searched line here phase ahead.limit nodes
+    pub append_no_front : (ahead : Ahead) → IsAhead (rules_in searched) line here.at here.entrance ahead
+        → (nodes : List ℕ) (ways : List Way) → AreFronts searched line here phase ahead.limit nodes
         → AppendsWays searched line choices here (IsFromFront phase (length nodes)) ways ways
     append_no_front ahead is nodes ways fronts =
         append_none searched line choices here (IsFromFront phase (length nodes)) ways
@@ -239,7 +239,8 @@ module _ (searched : SearchedLexicon) (line : Line) (choices : List Choice) (her
         so_far one
 
     -- a phase with no key that is asked for and may do something
-    append_empty_phase : (phase : ℕ) → ((key : Key) → key.phase ≡ phase → IsLedByPhase searched.machine set key → (MayNeither searched line choices here key → ⊥) → ⊥)
+    append_empty_phase : (phase : ℕ)
+        → ((key : Key) → key.phase ≡ phase → IsLedByPhase searched.machine set key → (MayNeither searched line choices here key → ⊥) → ⊥)
         → (old new : List Way) → AppendsWays searched line choices here (IsLedEarlier searched.machine set phase) old new
         → AppendsWays searched line choices here (IsLedEarlier searched.machine set (phase + 1)) old new
     append_empty_phase phase nothing old new so_far =
@@ -263,7 +264,8 @@ module _ (searched : SearchedLexicon) (line : Line) (choices : List Choice) (her
         → AppendsWays searched line choices here (IsLedEarlier searched.machine set phase) old new
         → AppendsWays searched line choices here (IsLedEarlier searched.machine set (phase + 1)) old new
     append_unbegun_phase phase unbegun =
-        append_empty_phase phase (λ key at led may. may (not_begun searched line choices here key (λ begins. unbegun (subst (MayBegin here.entrance) at begins))))
+        append_empty_phase phase (λ key at led may.
+        may (not_begun searched line choices here key (λ begins. unbegun (subst (MayBegin here.entrance) at begins))))
 
     pub append_all_phases : (count : ℕ) → IsSearchedLexicon searched → length (rules_in searched).names ≤ count → (old new : List Way)
         → AppendsWays searched line choices here (IsLedEarlier searched.machine set count) old new

@@ -215,7 +215,8 @@ module _ (searched : SearchedLexicon) (line : Line) (choices : List Choice) (pla
       → visit.Adds (IsEarlier phase) s t → visit.Adds (IsEarlier (phase + 1)) s t
   visit_unbegun_phase phase unbegun =
       visit_empty_phase phase (λ key does told.
-      unbegun (subst (MayBegin (numbered_of searched place).entrance) told (begins_if_stands searched line choices (numbered_of searched place) key (visit.stands key does))))
+      unbegun (subst (MayBegin (numbered_of searched place).entrance) told
+      (begins_if_stands searched line choices (numbered_of searched place) key (visit.stands key does))))
 
   pub visit_all_phases : (count : ℕ) → IsSearchedLexicon searched → length (rules_in searched).names ≤ count → (s t : S)
       → visit.Adds (IsEarlier count) s t → visit.Adds EveryKey s t

@@ -39,7 +39,8 @@ more_walked rows node child letters nodes more are walked is = subst (AreWalkedB
 
 module _ (searched : SearchedLexicon) (is : IsSearchedLexicon searched) (line : Line) (here : NumberedConfiguration) (phase limit : ℕ) where
   -- what is walked from where the lead leads, up to the limit
-  pub fronts_from : (entered : ℕ) (nodes : List ℕ) → phase < length (rules_in searched).names → here.at ≤ limit → limit ≤ length line.letters
+  pub fronts_from : (entered : ℕ) (nodes : List ℕ) → phase < length (rules_in searched).names
+      → here.at ≤ limit → limit ≤ length line.letters
       → walk searched.tries.trie.rows (root_in searched phase) (supplied here.entrance) ≡ Some entered
       → AreWalkedFrom searched.tries.trie.rows entered (take (limit - here.at) (drop here.at line.letters)) nodes
       → AreFronts searched line here phase limit nodes

@@ -4,13 +4,19 @@ use Rattle.std.specs.Prelude.{OnOk}
 use Rattle.std.proofs.lemmas.Result.{on_ok_weaker}
 use Rattle.derivation.specs.Steps.{key_meant}
 use Rattle.summary_chart.specs.Summaries.{item_with}
-use Rattle.summary_chart.proofs.CollectedItems.{one_added, seen_more}
+use Rattle.summary_chart.proofs.CollectedItems.{none_added, one_added, seen_more}
 use Rattle.summary_chart.proofs.collecting.collect_key.Goals as goal
 
 -- what follows from both, where it went well
 both_ok : {A E P Q R : Type 0} (r : Result A E) → (P → Q → R) → OnOk r P → OnOk r Q → OnOk r R
 both_ok (Ok v) f p q = f p q
 both_ok (Err e) f p q = tt
+
+pub returns-then-is_empty-clause-adds : goal.returns-then-is_empty-clause-adds
+returns-then-is_empty-clause-adds g c =
+    let place = c.args.place.now in
+    none_added c.args.lexicon.now c.args.line.now c.args.choices.now c.args.table.now place.at place.entrance c.args.states (key_meant c.args.key)
+    c.states_by_key.result c.states_by_key.ensures c.args.collected.now.items.items c.if-is_empty.ensures
 
 pub returns-clause-adds : goal.returns-clause-adds
 returns-clause-adds g c =

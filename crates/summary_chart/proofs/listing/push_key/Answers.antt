@@ -1,5 +1,5 @@
 -- The key is refused, or its way is appended.
-use Rattle.std.proofs.Common.{◌≡◌, arith}
+use Rattle.std.proofs.Common.{arith}
 use Rattle.derivation.specs.Steps.{key_meant}
 use Rattle.search_frames.specs.declared.way.Way.{Way}
 use Rattle.search_frames.specs.Frames.{numbered_of}

@@ -1,5 +1,5 @@
--- One phase more, which comes after those before it; one to which no state leads has no key that is asked for, and of one that may not begin no
--- key does anything.
+-- One phase more, which comes after those before it; one to which no state leads has no key that is asked for, and no key of one that may
+-- not begin does anything.
 use Rattle.std.proofs.Common.{◌+◌, length, sym, ap, ◌∙◌, subst, arith}
 use Rattle.std.specs.Prelude.{string_bytes}
 use Rattle.std.proofs.lemmas.Bool.{OnTrue_at}
