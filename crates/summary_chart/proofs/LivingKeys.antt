@@ -1,6 +1,6 @@
 -- Which states live after a phase by rules, wherever the form before them begins: by one rule, as its test tells, by some, and by those
 -- that begin with the next letter. And which states of a set go further by these, since a key that fits its place does what its rule does.
-use Rattle.std.proofs.Common.{◌≡◌, ◌⊎◌, inl, inr, ℕ, zero, suc, ◌+◌, ◌-◌, ◌<◌, ◌≤◌, ◌↔◌, ◌==◌, IsTrue, Bool, true, false, Option, Some, None, List, [], ◌∷◌, ◌++◌, length, map, take, drop, get_or, Contains, refl, sym, ap, subst, ◌∙◌, arith}
+use Rattle.std.proofs.Common.{◌≡◌, ◌⊎◌, inl, inr, ℕ, zero, suc, ◌+◌, ◌-◌, ◌<◌, ◌≤◌, ◌↔◌, ◌==◌, IsTrue, Bool, false, Option, Some, None, List, [], ◌∷◌, ◌++◌, length, map, take, drop, get_or, Contains, refl, sym, ap, subst, ◌∙◌, arith}
 use Rattle.std.proofs.lemmas.Bool.{cases_lt, eq-eqb}
 use Rattle.std.proofs.lemmas.List.{take_more, take_all, get_or-take, get_or-drop, get_or-map, get_or_default, get_or_past}
 use Rattle.std.proofs.lemmas.List.Elements.{All-contains, All-filter, Contains-append_left, Contains-push, Contains-push_cases}
@@ -23,7 +23,7 @@ use Rattle.search_frames.specs.declared.ahead.Ahead.{Ahead}
 use Rattle.search_frames.specs.declared.configuration.Configuration.{Configuration}
 use Rattle.search_frames.specs.declared.letter_testing.LetterTest.TheVariants as test
 use Rattle.search_frames.specs.Ahead.{IsAhead, FitsPlace, MayBegin, RuleStands, RuleLeadsTo, RuleEnds, RuleFails}
-use Rattle.search_frames.specs.Configurations.{NumberedConfiguration, Ends, IsPossible, rules_in}
+use Rattle.search_frames.specs.Configurations.{NumberedConfiguration, IsPossible, rules_in}
 use Rattle.search_frames.specs.Frames.{IsConfigurationIn, numbered_of}
 use Rattle.search_frames.specs.LetterTests.{MayEndLine, MayLeadTo}
 use Rattle.search_frames.specs.Tests.{LeadsTo}
@@ -34,13 +34,13 @@ use Rattle.summary_chart.specs.declared.memo.Work.{Work}
 use Rattle.summary_chart.specs.declared.state_set.StateSet.{StateSet}
 use Rattle.summary_chart.specs.declared.table.Table.{Table}
 use Rattle.summary_chart.specs.Fronts.{IsFrontAt}
-use Rattle.summary_chart.specs.Memos.{AreLiving, EndFrom, IsKnown, IsLiving, IsSameWork, KeepsKnown, LivesBy}
+use Rattle.summary_chart.specs.Memos.{AreLiving, EndFrom, IsLiving, IsSameWork, KeepsKnown, LivesBy}
 use Rattle.summary_chart.specs.StateSets.{HasState, IsStateOf, LeadsInto}
-use Rattle.summary_chart.specs.Spreading.{AreGoingFurther, GathersMore, GoesFurther, GoesFurtherBy, IsAtFront, IsByRule, OnlyKey, leads_in, place_with, standing_with}
+use Rattle.summary_chart.specs.Spreading.{AreGoingFurther, GathersMore, GoesFurther, GoesFurtherBy, IsAtFront, IsByRule, OnlyKey, place_with, standing_with}
 use Rattle.summary_chart.specs.Summaries.{key_with}
-use Rattle.summary_chart.specs.Tables.{HasSet, HasThisState, IsEntrance, IsIn, IsTable, set_at}
+use Rattle.summary_chart.specs.Tables.{HasThisState, IsEntrance, IsIn, set_at}
 use Rattle.summary_chart.proofs.FrontKeys.{choice_possible, choice_if_possible, filter_keeps, front_node}
-use Rattle.summary_chart.proofs.FurtherKeys.{may_end, may_lead, possible_if_further}
+use Rattle.summary_chart.proofs.FurtherKeys.{may_end, may_lead}
 use Rattle.summary_chart.proofs.SpreadKeys.{leads_to_place}
 use Rattle.summary_chart.proofs.TablePlaces.{same_entrance}
 use Rattle.summary_chart.proofs.Visits.{gather_visit}
@@ -188,15 +188,13 @@ module _ (searched : SearchedLexicon) (line : Line) (table : Table) (work : Work
       let more : take (count + 1) rules ≡ take count rules ++ rule ∷ [] = take_more rules count rule low ∙ ap (λ (r : ℕ). take count rules ++ r ∷ []) (sym is) in (
         λ has. elim ((both number).0 has) [
           | inl had ↦
-              let lives = (before number).0 had in
-              (
+              let lives = (before number).0 had in (
                 lives.0,
                 subst (λ (some : List ℕ). Contains some lives.0) (sym more) (Contains-append_left (take count rules) (rule ∷ []) lives.0 lives.1),
                 lives.2,
               )
           | inr now ↦
-              let lives = (this number).0 now in
-              (
+              let lives = (this number).0 now in (
                 lives.0,
                 subst (λ (some : List ℕ). Contains some lives.0) (sym more)
                     (subst (λ (r : ℕ). Contains (take count rules ++ rule ∷ []) r) (sym lives.1) (Contains-push (take count rules) rule)),
@@ -233,7 +231,7 @@ pub same_work : (searched : SearchedLexicon) (line : Line) (table : Table) (done
     → IsLiving searched line table (record { work = work; states = states })
 same_work searched line table done work states same same_states living =
     let Lives = λ (choices : List ℕ) (end phase : ℕ) (may_end : Bool) (s : StateSet). (number : ℕ)
-        → HasState s number ↔ LivesBy searched line table (record { node = work.node; end = end; may_end = may_end; phase = phase }) (Contains choices) number in
+    → HasState s number ↔ LivesBy searched line table (record { node = work.node; end = end; may_end = may_end; phase = phase }) (Contains choices) number in
     let one = choices_of searched.tries done.work.node in
     let other = choices_of searched.tries work.node in
     subst (Lives other work.end work.phase work.may_end) same_states
@@ -324,25 +322,28 @@ module _ (searched : SearchedLexicon) (line : Line) (choices : List Choice) (pla
         let rule = by.0 in
         let key = key_with phase taken rule in
         let some = (choice_number searched node rule is (front_node searched is line here phase taken node front) by.1).0 in
-        let fit = fits key refl (choice_possible searched is line here phase taken node front rule by.1) begins in
-        (key, (refl, refl, by.1), elim by.2 [
-          | inl led ↦
-              let may : MayLeadTo searched line choices here key led.0 led.1 =
-              rule_does searched line choices here key ahead.may_end is_ahead.ending (test.LeadsOn led.0 led.1) some fit led.2 in
-              let next = place_with led.0 led.1 to in
-              let within : IsConfigurationIn searched line next = record { letters = may.within; over = may.over; state_in = low } in
-              inr (next, leads_to_place searched line choices place set key led.0 led.1 may number to next within refl refl refl leads, led.3)
-          | inr ended ↦
-              let may : MayEndLine searched line choices here key =
-              rule_does searched line choices here key ahead.may_end is_ahead.ending test.Ends some fit ended.0 in
-              inl (record {
-                stands = may.stands;
-                final_rule = may.final_rule;
-                all = may.all;
-                blanks_before = may.blanks_before;
-                accepted = subst (λ (s : Option ℕ). IsTrue (is_accepting searched.machine s)) (sym leads) ended.1;
-              })
-        ])
+        let fit = fits key refl (choice_possible searched is line here phase taken node front rule by.1) begins in (
+          key,
+          (refl, refl, by.1),
+          elim by.2 [
+            | inl led ↦
+                let may : MayLeadTo searched line choices here key led.0 led.1 =
+                rule_does searched line choices here key ahead.may_end is_ahead.ending (test.LeadsOn led.0 led.1) some fit led.2 in
+                let next = place_with led.0 led.1 to in
+                let within : IsConfigurationIn searched line next = record { letters = may.within; over = may.over; state_in = low } in
+                inr (next, leads_to_place searched line choices place set key led.0 led.1 may number to next within refl refl refl leads, led.3)
+            | inr ended ↦
+                let may : MayEndLine searched line choices here key =
+                rule_does searched line choices here key ahead.may_end is_ahead.ending test.Ends some fit ended.0 in
+                inl (record {
+                  stands = may.stands;
+                  final_rule = may.final_rule;
+                  all = may.all;
+                  blanks_before = may.blanks_before;
+                  accepted = subst (λ (s : Option ℕ). IsTrue (is_accepting searched.machine s)) (sym leads) ended.1;
+                })
+          ],
+        )
 
     -- the other way, a state that goes further leads to one that lives
     ended_to : (number rule : ℕ) → Contains (choices_of searched.tries node) rule

@@ -1,13 +1,11 @@
 -- What the memo keeps of a work with the same choices is right of this one; what is not kept is found by the rules that begin with the next
 -- letter, and kept (`LivingKeys`).
-use Rattle.std.proofs.Common.{◌≡◌, ℕ, ◌+◌, ◌<◌, ◌≤◌, ◌↔◌, List, length, All, Contains, sym, ap, subst, ◌∙◌, arith}
+use Rattle.std.proofs.Common.{◌≡◌, ℕ, ◌<◌, ◌≤◌, ◌↔◌, List, length, All, Contains, sym, ap, subst, ◌∙◌, arith}
 use Rattle.list_laws.proofs.Sorted.{All-from_Contains}
-use Rattle.annotated_trie.specs.Choices.{AnnotatedTrie, choices_of, choices_with}
+use Rattle.annotated_trie.specs.Choices.{AnnotatedTrie, choices_with}
 use Rattle.search_frames.specs.Configurations.{rules_in}
-use Rattle.summary_chart.specs.Memos.{HasNodes, IsKnown, IsSameWork, LivesBy}
+use Rattle.summary_chart.specs.Memos.{HasNodes, IsSameWork, LivesBy}
 use Rattle.summary_chart.specs.StateSets.{HasState}
-use Rattle.summary_chart.specs.declared.memo.Done.{Done}
-use Rattle.summary_chart.specs.declared.state_set.StateSet.{StateSet}
 use Rattle.summary_chart.proofs.FrontKeys.{few_written}
 use Rattle.summary_chart.proofs.LivingKeys.{choice_number, choice_with, ends_kept, lives_written, living_kept, same_work}
 use Rattle.summary_chart.proofs.gathering.living_after.Goals as goal
