@@ -3,9 +3,8 @@
 use Rattle.std.proofs.Common.{◌≡◌, ◌⊎◌, inl, inr, ℕ, zero, suc, ◌+◌, ◌-◌, ◌<◌, ◌≤◌, ◌↔◌, ◌==◌, IsTrue, Bool, false, Option, Some, None, List, [], ◌∷◌, ◌++◌, length, map, take, drop, get_or, Contains, refl, sym, ap, subst, ◌∙◌, arith}
 use Rattle.std.proofs.lemmas.Bool.{cases_lt, eq-eqb}
 use Rattle.std.proofs.lemmas.List.{take_more, take_all, get_or-take, get_or-drop, get_or-map, get_or_default, get_or_past}
-use Rattle.std.proofs.lemmas.List.Elements.{All-contains, All-filter, Contains-append_left, Contains-push, Contains-push_cases}
-use Rattle.list_laws.proofs.Elements.{written_within}
-use Rattle.list_laws.proofs.Sorted.{All-from_Contains, not_Contains-nil}
+use Rattle.std.proofs.lemmas.List.Elements.{Contains-append_left, Contains-push, Contains-push_cases}
+use Rattle.list_laws.proofs.Sorted.{not_Contains-nil}
 use Rattle.text_definitions.specs.Lines.{Line}
 use Rattle.lexicon_definitions.specs.Rules.{no_change}
 use Rattle.lexicon_definitions.specs.Leads.{leads_of}
@@ -16,13 +15,13 @@ use Rattle.segmentation_definitions.specs.Listings.{Key}
 use Rattle.segmentation_definitions.proofs.Coverings.{some_letters, rule_at_number}
 use Rattle.phase_automaton.specs.Automata.{NumberedState, StateMachine, IsStateIn, is_accepting, next_state}
 use Rattle.derivation.specs.declared.entrance.Entrance.{Entrance}
-use Rattle.annotated_trie.specs.Choices.{AnnotatedTrie, choices_of, choices_with, first_letter}
+use Rattle.annotated_trie.specs.Choices.{choices_of, choices_with, first_letter}
 use Rattle.annotated_trie.specs.Searched.{SearchedLexicon, IsSearchedLexicon}
 use Rattle.answer_paths.specs.Following.{step_at}
 use Rattle.search_frames.specs.declared.ahead.Ahead.{Ahead}
 use Rattle.search_frames.specs.declared.configuration.Configuration.{Configuration}
 use Rattle.search_frames.specs.declared.letter_testing.LetterTest.TheVariants as test
-use Rattle.search_frames.specs.Ahead.{IsAhead, FitsPlace, MayBegin, RuleStands, RuleLeadsTo, RuleEnds, RuleFails}
+use Rattle.search_frames.specs.Ahead.{IsAhead, FitsPlace, MayBegin, RuleStands, RuleLeadsTo, RuleEnds}
 use Rattle.search_frames.specs.Configurations.{NumberedConfiguration, IsPossible, rules_in}
 use Rattle.search_frames.specs.Frames.{IsConfigurationIn, numbered_of}
 use Rattle.search_frames.specs.LetterTests.{MayEndLine, MayLeadTo}
@@ -42,6 +41,7 @@ use Rattle.summary_chart.specs.Tables.{HasThisState, IsEntrance, IsIn, set_at}
 use Rattle.summary_chart.proofs.FrontKeys.{choice_possible, choice_if_possible, filter_keeps, front_node}
 use Rattle.summary_chart.proofs.FurtherKeys.{may_end, may_lead}
 use Rattle.summary_chart.proofs.SpreadKeys.{leads_to_place}
+use Rattle.summary_chart.proofs.SpreadMemos.{choice_if_written}
 use Rattle.summary_chart.proofs.TablePlaces.{same_entrance}
 use Rattle.summary_chart.proofs.Visits.{gather_visit}
 
@@ -53,14 +53,6 @@ pub choice_number : (searched : SearchedLexicon) (node rule : ℕ) → IsSearche
 choice_number searched node rule is there among =
     let members = ((is.tries.each node there).members rule).0 among in
     (members.0, members.1)
-
--- those that begin with a letter are some of them
-pub choice_with : (tries : AnnotatedTrie) (node letter rule : ℕ) → Contains (choices_with tries node letter) rule → Contains (choices_of tries node) rule
-choice_with tries node letter rule among =
-    let all = choices_of tries node in
-    let begins : ℕ → Bool = λ number. get_or tries.firsts (number - 1) 0 == letter in
-    All-contains (Contains all) (choices_with tries node letter) rule
-    (All-filter begins (Contains all) all (All-from_Contains (Contains all) all (λ x h. h))) among
 
 -- the trie keeps the first letter of the w of a rule
 first_kept : (searched : SearchedLexicon) (rule : ℕ) → IsSearchedLexicon searched → 0 < rule → rule ≤ length (rules_in searched).rules
@@ -105,39 +97,7 @@ accepting_within machine number accepts = elim (cases_lt number (length machine.
 -- ---- which states live by them
 
 module _ (searched : SearchedLexicon) (line : Line) (table : Table) (work : Work) where
-  -- the table has a set where a rule leads on to
-  pub set_led : (rule at : ℕ) (entrance : Entrance) → work.end ≤ length line.letters → RuleLeadsTo (rules_in searched) line work.end work.phase rule at entrance
-      → at ≤ length line.letters
-  set_led rule at entrance within led =
-      omega (arith, led.at_is, written_within line.letters (rule_of (rules_in searched) rule).w work.end within led.stands.written)
-
-  -- by one rule, as its test tells
-  pub lives_refused : (rule : ℕ) (living : StateSet) → RuleFails (rules_in searched) line work.end work.may_end work.phase rule
-      → ((number : ℕ) → HasState living number → ⊥)
-      → (number : ℕ) → HasState living number ↔ LivesBy searched line table work (λ one. one ≡ rule) number
-  lives_refused rule living fails none number = (
-    λ has. absurd (none number has),
-    λ lives. absurd (elim lives.2 [
-      | inl leads ↦
-          let led = subst (λ (r : ℕ). RuleLeadsTo (rules_in searched) line work.end work.phase r leads.0 leads.1) lives.1 leads.2 in
-          fails.leads led.stands led.inner
-      | inr ends ↦ fails.ends (subst (RuleEnds (rules_in searched) line work.end work.may_end work.phase) lives.1 ends.0)
-    ]),
-  )
-
-  pub lives_ended : (rule : ℕ) (living : StateSet) → RuleEnds (rules_in searched) line work.end work.may_end work.phase rule
-      → ((number : ℕ) → HasState living number ↔ IsTrue (is_accepting searched.machine (Some number)))
-      → (number : ℕ) → HasState living number ↔ LivesBy searched line table work (λ one. one ≡ rule) number
-  lives_ended rule living ended are number = (
-    λ has. (rule, refl, inr (ended, (are number).0 has)),
-    λ lives. elim lives.2 [
-      | inl leads ↦
-          let led = subst (λ (r : ℕ). RuleLeadsTo (rules_in searched) line work.end work.phase r leads.0 leads.1) lives.1 leads.2 in
-          absurd (led.inner ended.final_rule)
-      | inr ends ↦ (are number).1 ends.1
-    ],
-  )
-
+  -- by one rule that leads on
   pub lives_led : (rule at : ℕ) (entrance : Entrance) (living : StateSet) → RuleLeadsTo (rules_in searched) line work.end work.phase rule at entrance
       → IsEntrance entrance → living ≡ set_at table at entrance
       → (number : ℕ) → HasState living number ↔ LivesBy searched line table work (λ one. one ≡ rule) number
@@ -221,7 +181,7 @@ module _ (searched : SearchedLexicon) (line : Line) (table : Table) (work : Work
   lives_written letter is there left next living are =
       lives_same (Contains (choices_with searched.tries work.node letter)) (Contains (choices_of searched.tries work.node))
       (λ rule stands among. written_choice searched line work.node work.end work.phase letter rule is there left next stands among)
-      (λ rule among. choice_with searched.tries work.node letter rule among) living are
+      (λ rule among. choice_if_written searched.tries work.node letter rule among) living are
 
 -- ---- what the memo keeps
 
