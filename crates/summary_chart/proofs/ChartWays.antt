@@ -1,6 +1,6 @@
 -- A path from a place that is reached begins with a key that ends the line, or leads on to a place of the program's; and then the place is
 -- living, so the table has it. So the ways that a chart keeps from there are all that a search has to try.
-use Rattle.std.proofs.Common.{◌≡◌, ℕ, ◌≤◌, inl, inr, List, [], ◌∷◌, length, sym, subst, ◌∙◌}
+use Rattle.std.proofs.Common.{◌≡◌, ℕ, ◌≤◌, inl, inr, List, [], ◌∷◌, length, sym, ◌∙◌}
 use Rattle.text_definitions.specs.Lines.{Line}
 use Rattle.segmentation_definitions.specs.Items.{Choice}
 use Rattle.segmentation_definitions.specs.Listings.{Key}

@@ -139,14 +139,16 @@ module _ (searched : SearchedLexicon) (line : Line) (choices : List Choice) (tab
       → AreGoingFurther searched line choices table place.at place.entrance set (OnlyKey key) result
   further_ends key result may are = only_one key result (λ number. (
     λ has.
-        let accepted = (are number).0 has in
-        (accepted.0, inl (record {
-          stands = may.stands;
-          final_rule = may.final_rule;
-          all = may.all;
-          blanks_before = may.blanks_before;
-          accepted = accepted.1;
-        })),
+        let accepted = (are number).0 has in (
+          accepted.0,
+          inl (record {
+            stands = may.stands;
+            final_rule = may.final_rule;
+            all = may.all;
+            blanks_before = may.blanks_before;
+            accepted = accepted.1;
+          }),
+        ),
     λ goes. elim goes.1 [
       | inl ends ↦ (are number).1 (goes.0, ends.accepted)
       | inr (next, leads, is) ↦ absurd (not_both_ways searched line choices (numbered_of searched place) key may (may_lead key number next leads))

@@ -1,11 +1,10 @@
 -- Which states live after a phase by rules, wherever the form before them begins: by one rule, as its test tells, by some, and by those
 -- that begin with the next letter. And which states of a set go further by these, since a key that fits its place does what its rule does.
-use Rattle.std.proofs.Common.{◌≡◌, ◌⊎◌, inl, inr, ℕ, zero, suc, ◌+◌, ◌-◌, ◌<◌, ◌≤◌, ◌↔◌, ◌==◌, IsTrue, Bool, true, false, Option, Some, None, List, [], ◌∷◌, ◌++◌, length, map, take, drop, get_or, Contains, refl, sym, ap, subst, ◌∙◌, arith}
+use Rattle.std.proofs.Common.{◌≡◌, ◌⊎◌, inl, inr, ℕ, zero, suc, ◌+◌, ◌-◌, ◌<◌, ◌≤◌, ◌↔◌, ◌==◌, IsTrue, Bool, false, Option, Some, None, List, [], ◌∷◌, ◌++◌, length, map, take, drop, get_or, Contains, refl, sym, ap, subst, ◌∙◌, arith}
 use Rattle.std.proofs.lemmas.Bool.{cases_lt, eq-eqb}
 use Rattle.std.proofs.lemmas.List.{take_more, take_all, get_or-take, get_or-drop, get_or-map, get_or_default, get_or_past}
-use Rattle.std.proofs.lemmas.List.Elements.{All-contains, All-filter, Contains-append_left, Contains-push, Contains-push_cases}
-use Rattle.list_laws.proofs.Elements.{written_within}
-use Rattle.list_laws.proofs.Sorted.{All-from_Contains, not_Contains-nil}
+use Rattle.std.proofs.lemmas.List.Elements.{Contains-append_left, Contains-push, Contains-push_cases}
+use Rattle.list_laws.proofs.Sorted.{not_Contains-nil}
 use Rattle.text_definitions.specs.Lines.{Line}
 use Rattle.lexicon_definitions.specs.Rules.{no_change}
 use Rattle.lexicon_definitions.specs.Leads.{leads_of}
@@ -16,14 +15,14 @@ use Rattle.segmentation_definitions.specs.Listings.{Key}
 use Rattle.segmentation_definitions.proofs.Coverings.{some_letters, rule_at_number}
 use Rattle.phase_automaton.specs.Automata.{NumberedState, StateMachine, IsStateIn, is_accepting, next_state}
 use Rattle.derivation.specs.declared.entrance.Entrance.{Entrance}
-use Rattle.annotated_trie.specs.Choices.{AnnotatedTrie, choices_of, choices_with, first_letter}
+use Rattle.annotated_trie.specs.Choices.{choices_of, choices_with, first_letter}
 use Rattle.annotated_trie.specs.Searched.{SearchedLexicon, IsSearchedLexicon}
 use Rattle.answer_paths.specs.Following.{step_at}
 use Rattle.search_frames.specs.declared.ahead.Ahead.{Ahead}
 use Rattle.search_frames.specs.declared.configuration.Configuration.{Configuration}
 use Rattle.search_frames.specs.declared.letter_testing.LetterTest.TheVariants as test
-use Rattle.search_frames.specs.Ahead.{IsAhead, FitsPlace, MayBegin, RuleStands, RuleLeadsTo, RuleEnds, RuleFails}
-use Rattle.search_frames.specs.Configurations.{NumberedConfiguration, Ends, IsPossible, rules_in}
+use Rattle.search_frames.specs.Ahead.{IsAhead, FitsPlace, MayBegin, RuleStands, RuleLeadsTo, RuleEnds}
+use Rattle.search_frames.specs.Configurations.{NumberedConfiguration, IsPossible, rules_in}
 use Rattle.search_frames.specs.Frames.{IsConfigurationIn, numbered_of}
 use Rattle.search_frames.specs.LetterTests.{MayEndLine, MayLeadTo}
 use Rattle.search_frames.specs.Tests.{LeadsTo}
@@ -34,14 +33,15 @@ use Rattle.summary_chart.specs.declared.memo.Work.{Work}
 use Rattle.summary_chart.specs.declared.state_set.StateSet.{StateSet}
 use Rattle.summary_chart.specs.declared.table.Table.{Table}
 use Rattle.summary_chart.specs.Fronts.{IsFrontAt}
-use Rattle.summary_chart.specs.Memos.{AreLiving, EndFrom, IsKnown, IsLiving, IsSameWork, KeepsKnown, LivesBy}
+use Rattle.summary_chart.specs.Memos.{AreLiving, EndFrom, IsLiving, IsSameWork, KeepsKnown, LivesBy}
 use Rattle.summary_chart.specs.StateSets.{HasState, IsStateOf, LeadsInto}
-use Rattle.summary_chart.specs.Spreading.{AreGoingFurther, GathersMore, GoesFurther, GoesFurtherBy, IsAtFront, IsByRule, OnlyKey, leads_in, place_with, standing_with}
+use Rattle.summary_chart.specs.Spreading.{AreGoingFurther, GathersMore, GoesFurther, GoesFurtherBy, IsAtFront, IsByRule, OnlyKey, place_with, standing_with}
 use Rattle.summary_chart.specs.Summaries.{key_with}
-use Rattle.summary_chart.specs.Tables.{HasSet, HasThisState, IsEntrance, IsIn, IsTable, set_at}
+use Rattle.summary_chart.specs.Tables.{HasThisState, IsEntrance, IsIn, set_at}
 use Rattle.summary_chart.proofs.FrontKeys.{choice_possible, choice_if_possible, filter_keeps, front_node}
-use Rattle.summary_chart.proofs.FurtherKeys.{may_end, may_lead, possible_if_further}
+use Rattle.summary_chart.proofs.FurtherKeys.{may_end, may_lead}
 use Rattle.summary_chart.proofs.SpreadKeys.{leads_to_place}
+use Rattle.summary_chart.proofs.SpreadMemos.{choice_if_written}
 use Rattle.summary_chart.proofs.TablePlaces.{same_entrance}
 use Rattle.summary_chart.proofs.Visits.{gather_visit}
 
@@ -53,14 +53,6 @@ pub choice_number : (searched : SearchedLexicon) (node rule : ℕ) → IsSearche
 choice_number searched node rule is there among =
     let members = ((is.tries.each node there).members rule).0 among in
     (members.0, members.1)
-
--- those that begin with a letter are some of them
-pub choice_with : (tries : AnnotatedTrie) (node letter rule : ℕ) → Contains (choices_with tries node letter) rule → Contains (choices_of tries node) rule
-choice_with tries node letter rule among =
-    let all = choices_of tries node in
-    let begins : ℕ → Bool = λ number. get_or tries.firsts (number - 1) 0 == letter in
-    All-contains (Contains all) (choices_with tries node letter) rule
-    (All-filter begins (Contains all) all (All-from_Contains (Contains all) all (λ x h. h))) among
 
 -- the trie keeps the first letter of the w of a rule
 first_kept : (searched : SearchedLexicon) (rule : ℕ) → IsSearchedLexicon searched → 0 < rule → rule ≤ length (rules_in searched).rules
@@ -105,39 +97,7 @@ accepting_within machine number accepts = elim (cases_lt number (length machine.
 -- ---- which states live by them
 
 module _ (searched : SearchedLexicon) (line : Line) (table : Table) (work : Work) where
-  -- the table has a set where a rule leads on to
-  pub set_led : (rule at : ℕ) (entrance : Entrance) → work.end ≤ length line.letters → RuleLeadsTo (rules_in searched) line work.end work.phase rule at entrance
-      → at ≤ length line.letters
-  set_led rule at entrance within led =
-      omega (arith, led.at_is, written_within line.letters (rule_of (rules_in searched) rule).w work.end within led.stands.written)
-
-  -- by one rule, as its test tells
-  pub lives_refused : (rule : ℕ) (living : StateSet) → RuleFails (rules_in searched) line work.end work.may_end work.phase rule
-      → ((number : ℕ) → HasState living number → ⊥)
-      → (number : ℕ) → HasState living number ↔ LivesBy searched line table work (λ one. one ≡ rule) number
-  lives_refused rule living fails none number = (
-    λ has. absurd (none number has),
-    λ lives. absurd (elim lives.2 [
-      | inl leads ↦
-          let led = subst (λ (r : ℕ). RuleLeadsTo (rules_in searched) line work.end work.phase r leads.0 leads.1) lives.1 leads.2 in
-          fails.leads led.stands led.inner
-      | inr ends ↦ fails.ends (subst (RuleEnds (rules_in searched) line work.end work.may_end work.phase) lives.1 ends.0)
-    ]),
-  )
-
-  pub lives_ended : (rule : ℕ) (living : StateSet) → RuleEnds (rules_in searched) line work.end work.may_end work.phase rule
-      → ((number : ℕ) → HasState living number ↔ IsTrue (is_accepting searched.machine (Some number)))
-      → (number : ℕ) → HasState living number ↔ LivesBy searched line table work (λ one. one ≡ rule) number
-  lives_ended rule living ended are number = (
-    λ has. (rule, refl, inr (ended, (are number).0 has)),
-    λ lives. elim lives.2 [
-      | inl leads ↦
-          let led = subst (λ (r : ℕ). RuleLeadsTo (rules_in searched) line work.end work.phase r leads.0 leads.1) lives.1 leads.2 in
-          absurd (led.inner ended.final_rule)
-      | inr ends ↦ (are number).1 ends.1
-    ],
-  )
-
+  -- by one rule that leads on
   pub lives_led : (rule at : ℕ) (entrance : Entrance) (living : StateSet) → RuleLeadsTo (rules_in searched) line work.end work.phase rule at entrance
       → IsEntrance entrance → living ≡ set_at table at entrance
       → (number : ℕ) → HasState living number ↔ LivesBy searched line table work (λ one. one ≡ rule) number
@@ -188,15 +148,13 @@ module _ (searched : SearchedLexicon) (line : Line) (table : Table) (work : Work
       let more : take (count + 1) rules ≡ take count rules ++ rule ∷ [] = take_more rules count rule low ∙ ap (λ (r : ℕ). take count rules ++ r ∷ []) (sym is) in (
         λ has. elim ((both number).0 has) [
           | inl had ↦
-              let lives = (before number).0 had in
-              (
+              let lives = (before number).0 had in (
                 lives.0,
                 subst (λ (some : List ℕ). Contains some lives.0) (sym more) (Contains-append_left (take count rules) (rule ∷ []) lives.0 lives.1),
                 lives.2,
               )
           | inr now ↦
-              let lives = (this number).0 now in
-              (
+              let lives = (this number).0 now in (
                 lives.0,
                 subst (λ (some : List ℕ). Contains some lives.0) (sym more)
                     (subst (λ (r : ℕ). Contains (take count rules ++ rule ∷ []) r) (sym lives.1) (Contains-push (take count rules) rule)),
@@ -223,7 +181,7 @@ module _ (searched : SearchedLexicon) (line : Line) (table : Table) (work : Work
   lives_written letter is there left next living are =
       lives_same (Contains (choices_with searched.tries work.node letter)) (Contains (choices_of searched.tries work.node))
       (λ rule stands among. written_choice searched line work.node work.end work.phase letter rule is there left next stands among)
-      (λ rule among. choice_with searched.tries work.node letter rule among) living are
+      (λ rule among. choice_if_written searched.tries work.node letter rule among) living are
 
 -- ---- what the memo keeps
 
@@ -233,7 +191,7 @@ pub same_work : (searched : SearchedLexicon) (line : Line) (table : Table) (done
     → IsLiving searched line table (record { work = work; states = states })
 same_work searched line table done work states same same_states living =
     let Lives = λ (choices : List ℕ) (end phase : ℕ) (may_end : Bool) (s : StateSet). (number : ℕ)
-        → HasState s number ↔ LivesBy searched line table (record { node = work.node; end = end; may_end = may_end; phase = phase }) (Contains choices) number in
+    → HasState s number ↔ LivesBy searched line table (record { node = work.node; end = end; may_end = may_end; phase = phase }) (Contains choices) number in
     let one = choices_of searched.tries done.work.node in
     let other = choices_of searched.tries work.node in
     subst (Lives other work.end work.phase work.may_end) same_states
@@ -324,25 +282,28 @@ module _ (searched : SearchedLexicon) (line : Line) (choices : List Choice) (pla
         let rule = by.0 in
         let key = key_with phase taken rule in
         let some = (choice_number searched node rule is (front_node searched is line here phase taken node front) by.1).0 in
-        let fit = fits key refl (choice_possible searched is line here phase taken node front rule by.1) begins in
-        (key, (refl, refl, by.1), elim by.2 [
-          | inl led ↦
-              let may : MayLeadTo searched line choices here key led.0 led.1 =
-              rule_does searched line choices here key ahead.may_end is_ahead.ending (test.LeadsOn led.0 led.1) some fit led.2 in
-              let next = place_with led.0 led.1 to in
-              let within : IsConfigurationIn searched line next = record { letters = may.within; over = may.over; state_in = low } in
-              inr (next, leads_to_place searched line choices place set key led.0 led.1 may number to next within refl refl refl leads, led.3)
-          | inr ended ↦
-              let may : MayEndLine searched line choices here key =
-              rule_does searched line choices here key ahead.may_end is_ahead.ending test.Ends some fit ended.0 in
-              inl (record {
-                stands = may.stands;
-                final_rule = may.final_rule;
-                all = may.all;
-                blanks_before = may.blanks_before;
-                accepted = subst (λ (s : Option ℕ). IsTrue (is_accepting searched.machine s)) (sym leads) ended.1;
-              })
-        ])
+        let fit = fits key refl (choice_possible searched is line here phase taken node front rule by.1) begins in (
+          key,
+          (refl, refl, by.1),
+          elim by.2 [
+            | inl led ↦
+                let may : MayLeadTo searched line choices here key led.0 led.1 =
+                rule_does searched line choices here key ahead.may_end is_ahead.ending (test.LeadsOn led.0 led.1) some fit led.2 in
+                let next = place_with led.0 led.1 to in
+                let within : IsConfigurationIn searched line next = record { letters = may.within; over = may.over; state_in = low } in
+                inr (next, leads_to_place searched line choices place set key led.0 led.1 may number to next within refl refl refl leads, led.3)
+            | inr ended ↦
+                let may : MayEndLine searched line choices here key =
+                rule_does searched line choices here key ahead.may_end is_ahead.ending test.Ends some fit ended.0 in
+                inl (record {
+                  stands = may.stands;
+                  final_rule = may.final_rule;
+                  all = may.all;
+                  blanks_before = may.blanks_before;
+                  accepted = subst (λ (s : Option ℕ). IsTrue (is_accepting searched.machine s)) (sym leads) ended.1;
+                })
+          ],
+        )
 
     -- the other way, a state that goes further leads to one that lives
     ended_to : (number rule : ℕ) → Contains (choices_of searched.tries node) rule

@@ -1,11 +1,10 @@
 -- What the memo keeps on the way back stays right: each work ends after the place at hand or at it, so its rules lead to places that come
 -- later in the table, and these do not change any more.
-use Rattle.std.proofs.Common.{◌≡◌, ◌≢◌, ◌⊎◌, inl, inr, ℕ, ◌+◌, ◌*◌, ◌<◌, ◌≤◌, ◌↔◌, IsTrue, Some, List, length, Contains, sym, ap, subst, ◌∙◌, arith}
+use Rattle.std.proofs.Common.{◌≡◌, ◌≢◌, inl, inr, ℕ, ◌+◌, ◌*◌, ◌<◌, ◌≤◌, length, Contains, sym, ap, subst, ◌∙◌, arith}
 use Rattle.std.proofs.lemmas.Bool.{cases_lt}
 use Rattle.text_definitions.specs.Lines.{Line}
 use Rattle.lexicon_definitions.specs.Lexicons.{rule_of}
 use Rattle.segmentation_definitions.proofs.Coverings.{some_letters, rule_at_number}
-use Rattle.phase_automaton.specs.Automata.{is_accepting}
 use Rattle.derivation.specs.declared.entrance.Entrance.{Entrance}
 use Rattle.annotated_trie.specs.Choices.{choices_of}
 use Rattle.annotated_trie.specs.Searched.{SearchedLexicon, IsSearchedLexicon}
@@ -16,9 +15,9 @@ use Rattle.summary_chart.specs.declared.memo.Memo.{Memo}
 use Rattle.summary_chart.specs.declared.state_set.StateSet.{StateSet}
 use Rattle.summary_chart.specs.declared.table.Table.{Table}
 use Rattle.summary_chart.specs.Memos.{AreLiving, AreSpread, EndFrom, IsKnown}
-use Rattle.summary_chart.specs.Spreading.{leads_in, place_with}
+use Rattle.summary_chart.specs.Spreading.{leads_in}
 use Rattle.summary_chart.specs.StateSets.{HasState}
-use Rattle.summary_chart.specs.Tables.{ChangesAt, IsEntrance, IsIn, IsIndexed, IsTable, column_of, index_in, index_of, set_at, set_of, width_over}
+use Rattle.summary_chart.specs.Tables.{ChangesAt, IsIndexed, IsTable, index_in, index_of, set_at, set_of, width_over}
 use Rattle.summary_chart.proofs.LivingKeys.{choice_number}
 use Rattle.summary_chart.proofs.TableOrder.{column_within, row_after}
 use Rattle.summary_chart.proofs.TablePlaces.{same_index_in}
@@ -109,26 +108,43 @@ module _ (searched : SearchedLexicon) (line : Line) (index : ℕ) (old new : Tab
         let there = are.nodes done known in
         let far = past done known in (
           λ has.
-              let lives = living.0 has in
-              (lives.0, lives.1, elim lives.2 [
-                | inl leads ↦
-                    let same = same_elsewhere leads.0 leads.1
-                    (led_past done.work.node done.work.end done.work.phase lives.0 leads.0 leads.1 there lives.1 far leads.2) in
-                    inl (leads.0, leads.1, leads.2, record {
+              let lives = living.0 has in (
+                lives.0,
+                lives.1,
+                elim lives.2 [
+                  | inl leads ↦
+                      let same = same_elsewhere leads.0 leads.1
+                      (led_past done.work.node done.work.end done.work.phase lives.0 leads.0 leads.1 there lives.1 far leads.2) in
+                      inl (
+                        leads.0,
+                        leads.1,
+                        leads.2,
+                        record {
+                          entrance = leads.3.entrance;
+                          state = subst (λ (s : StateSet). HasState s number) (sym same) leads.3.state;
+                        },
+                      )
+                  | inr ends ↦ inr ends
+                ],
+              ),
+          λ lives. living.1 (
+            lives.0,
+            lives.1,
+            elim lives.2 [
+              | inl leads ↦
+                  let same = same_elsewhere leads.0 leads.1
+                  (led_past done.work.node done.work.end done.work.phase lives.0 leads.0 leads.1 there lives.1 far leads.2) in
+                  inl (
+                    leads.0,
+                    leads.1,
+                    leads.2,
+                    record {
                       entrance = leads.3.entrance;
-                      state = subst (λ (s : StateSet). HasState s number) (sym same) leads.3.state;
-                    })
-                | inr ends ↦ inr ends
-              ]),
-          λ lives. living.1 (lives.0, lives.1, elim lives.2 [
-            | inl leads ↦
-                let same = same_elsewhere leads.0 leads.1
-                (led_past done.work.node done.work.end done.work.phase lives.0 leads.0 leads.1 there lives.1 far leads.2) in
-                inl (leads.0, leads.1, leads.2, record {
-                  entrance = leads.3.entrance;
-                  state = subst (λ (s : StateSet). HasState s number) same leads.3.state;
-                })
-            | inr ends ↦ inr ends
-          ]),
+                      state = subst (λ (s : StateSet). HasState s number) same leads.3.state;
+                    },
+                  )
+              | inr ends ↦ inr ends
+            ],
+          ),
         );
   }

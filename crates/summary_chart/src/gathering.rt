@@ -168,13 +168,7 @@ fn gather_unchanged(
 
 /// The states after the phase from which the rule ends the line or leads on to a place of the table, after a form that ends as the work
 /// tells, wherever it begins.
-fn living_by_rule(
-    lexicon: &Lexicon,
-    line: &Line,
-    work: &Work,
-    rule: u32,
-    table: &Table,
-) -> StateSet
+fn living_by_rule(lexicon: &Lexicon, line: &Line, work: &Work, rule: u32, table: &Table) -> StateSet
     requires searched { IsSearchedLexicon lexicon.now }
     requires line { IsLine line.now }
     requires end { work.now.end ≤ length line.now.letters }

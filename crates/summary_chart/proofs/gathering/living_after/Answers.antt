@@ -1,15 +1,14 @@
 -- What the memo keeps of a work with the same choices is right of this one; what is not kept is found by the rules that begin with the next
 -- letter, and kept (`LivingKeys`).
-use Rattle.std.proofs.Common.{◌≡◌, ℕ, ◌+◌, ◌<◌, ◌≤◌, ◌↔◌, List, length, All, Contains, sym, ap, subst, ◌∙◌, arith}
+use Rattle.std.proofs.Common.{◌≡◌, ℕ, ◌<◌, ◌≤◌, ◌↔◌, List, length, All, Contains, sym, ap, subst, ◌∙◌, arith}
 use Rattle.list_laws.proofs.Sorted.{All-from_Contains}
-use Rattle.annotated_trie.specs.Choices.{AnnotatedTrie, choices_of, choices_with}
+use Rattle.annotated_trie.specs.Choices.{AnnotatedTrie, choices_with}
 use Rattle.search_frames.specs.Configurations.{rules_in}
-use Rattle.summary_chart.specs.Memos.{HasNodes, IsKnown, IsSameWork, LivesBy}
+use Rattle.summary_chart.specs.Memos.{HasNodes, IsSameWork, LivesBy}
 use Rattle.summary_chart.specs.StateSets.{HasState}
-use Rattle.summary_chart.specs.declared.memo.Done.{Done}
-use Rattle.summary_chart.specs.declared.state_set.StateSet.{StateSet}
 use Rattle.summary_chart.proofs.FrontKeys.{few_written}
-use Rattle.summary_chart.proofs.LivingKeys.{choice_number, choice_with, ends_kept, lives_written, living_kept, same_work}
+use Rattle.summary_chart.proofs.LivingKeys.{choice_number, ends_kept, lives_written, living_kept, same_work}
+use Rattle.summary_chart.proofs.SpreadMemos.{choice_if_written}
 use Rattle.summary_chart.proofs.gathering.living_after.Goals as goal
 
 pub get-requires-clause-nodes : goal.get-requires-clause-nodes
@@ -31,7 +30,7 @@ living_by_rules-living-requires-clause-rules g c =
     c.choices_with-rules.ensures.value ∙ ap (λ (t : AnnotatedTrie). choices_with t node c.args.letter) c.tries-tries.ensures.value in
     subst (All Named) (sym rules)
     (All-from_Contains Named (choices_with searched.tries node c.args.letter)
-    (λ rule among. choice_number searched node rule c.requires.searched c.requires.node (choice_with searched.tries node c.args.letter rule among)))
+    (λ rule among. choice_number searched node rule c.requires.searched c.requires.node (choice_if_written searched.tries node c.args.letter rule among)))
 
 pub returns-in_err-keep-clause-steps : goal.returns-in_err-keep-clause-steps
 returns-in_err-keep-clause-steps g c most few =
