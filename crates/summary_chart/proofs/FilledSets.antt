@@ -30,7 +30,8 @@ module _ (sets : List StateSet) where
   }
 
   -- sets that are empty up to an index are so up to one before it, among those that there are
-  pub up_to : (from until least : ℕ) → AreEmptyFrom sets from until → from ≤ least → least ≤ until → least ≤ length sets → AreEmptyBetween sets from least
+  pub up_to : (from until least : ℕ) → AreEmptyFrom sets from until → from ≤ least → least ≤ until → least ≤ length sets
+      → AreEmptyBetween sets from least
   up_to from until least is rises low within = record {
     rises = rises;
     within = within;
@@ -39,9 +40,11 @@ module _ (sets : List StateSet) where
 
   module _ (filled : List ℕ) (have : HaveBits sets filled) where
     -- a set whose bit is not set is empty
-    empty_there : (index number : ℕ) → bit_at (slice_index_or filled (index / 64) 0) (index % 64) ≡ 0 → HasState (slice_index_or sets index (record { bits = 0 })) number → ⊥
+    empty_there : (index number : ℕ) → bit_at (slice_index_or filled (index / 64) 0) (index % 64) ≡ 0
+        → HasState (slice_index_or sets index (record { bits = 0 })) number → ⊥
     empty_there index number none has =
-        let set : bit_at (slice_index_or filled (index / 64) 0) (index % 64) ≡ 1 = (bit_is (slice_index_or filled (index / 64) 0) (index % 64)).0 (have.each index number has) in
+        let word = slice_index_or filled (index / 64) 0 in
+        let set : bit_at word (index % 64) ≡ 1 = (bit_is word (index % 64)).0 (have.each index number has) in
         absurd (omega (arith, none, set))
 
     -- ---- onwards: the word of the index is shifted down, so that the index has the lowest bit
@@ -52,8 +55,8 @@ module _ (sets : List StateSet) where
       empty_on other number above same none =
           let place : index % 64 + (other - index) ≡ other % 64 = omega (arith, above, same) in
           let bit : bit_at (slice_index_or filled (other / 64) 0) (other % 64) ≡ 0 =
-          ap (λ n. bit_at (slice_index_or filled n 0) (other % 64)) same ∙ ap (λ n. bit_at n (other % 64)) (sym word_is) ∙ ap (bit_at word) (sym place)
-          ∙ sym (bit_of_right_shift word (index % 64) (other - index)) ∙ none in
+          ap (λ n. bit_at (slice_index_or filled n 0) (other % 64)) same ∙ ap (λ n. bit_at n (other % 64)) (sym word_is)
+          ∙ ap (bit_at word) (sym place) ∙ sym (bit_of_right_shift word (index % 64) (other - index)) ∙ none in
           empty_there other number bit
 
       -- no bit is left in the word
@@ -61,11 +64,13 @@ module _ (sets : List StateSet) where
       word_passed nothing = side_by_side from index (index + (64 - index % 64)) so_far (record {
         rises = omega arith;
         empty = λ other number above below.
-            empty_on other number above (omega (arith, above, below)) (ap (λ n. bit_at n (other - index)) nothing ∙ bit_at-zero (other - index));
+            empty_on other number above (omega (arith, above, below))
+            (ap (λ n. bit_at n (other - index)) nothing ∙ bit_at-zero (other - index));
       })
 
       -- up to the next bit that is set
-      pub next_bit : word < 2 ^ 64 → word / 2 ^ (index % 64) ≢ 0 → AreEmptyFrom sets from (index + trailing_zeros w64 (word / 2 ^ (index % 64)))
+      pub next_bit : word < 2 ^ 64 → word / 2 ^ (index % 64) ≢ 0
+          → AreEmptyFrom sets from (index + trailing_zeros w64 (word / 2 ^ (index % 64)))
       next_bit small some =
           let bits = word / 2 ^ (index % 64) in
           let positive : 0 < bits = omega (arith, some) in
@@ -85,14 +90,17 @@ module _ (sets : List StateSet) where
 
     -- ---- backwards: the word of the last index is shifted up, so that this has the highest bit
 
-    module _ (last until word : ℕ) (word_is : word ≡ slice_index_or filled (last / 64) 0) (so_far : AreEmptyFrom sets (last + 1) until) where
-      empty_back : (other number : ℕ) → other ≤ last → other / 64 ≡ last / 64 → bit_at (word * 2 ^ (63 - last % 64) % 2 ^ 64) (63 - (last - other)) ≡ 0
+    module _ (last until word : ℕ) (word_is : word ≡ slice_index_or filled (last / 64) 0)
+        (so_far : AreEmptyFrom sets (last + 1) until) where
+      empty_back : (other number : ℕ) → other ≤ last → other / 64 ≡ last / 64
+          → bit_at (word * 2 ^ (63 - last % 64) % 2 ^ 64) (63 - (last - other)) ≡ 0
           → HasState (slice_index_or sets other (record { bits = 0 })) number → ⊥
       empty_back other number below same none =
           let place : 63 - last % 64 + other % 64 ≡ 63 - (last - other) = omega (arith, below, same) in
           let bit : bit_at (slice_index_or filled (other / 64) 0) (other % 64) ≡ 0 =
           ap (λ n. bit_at (slice_index_or filled n 0) (other % 64)) same ∙ ap (λ n. bit_at n (other % 64)) (sym word_is)
-          ∙ sym (bit_of_left_shift word (63 - last % 64) (other % 64) (omega (arith, place))) ∙ ap (bit_at (word * 2 ^ (63 - last % 64) % 2 ^ 64)) place ∙ none in
+          ∙ sym (bit_of_left_shift word (63 - last % 64) (other % 64) (omega (arith, place)))
+          ∙ ap (bit_at (word * 2 ^ (63 - last % 64) % 2 ^ 64)) place ∙ none in
           empty_there other number bit
 
       -- no bit is before in the word
@@ -107,7 +115,8 @@ module _ (sets : List StateSet) where
       pub few_leading : word * 2 ^ (63 - last % 64) % 2 ^ 64 ≢ 0 → leading_zeros w64 (word * 2 ^ (63 - last % 64) % 2 ^ 64) ≤ last % 64
       few_leading some = let below = leading_below word (63 - last % 64) (omega arith) some in omega (arith, below)
 
-      pub last_bit : word * 2 ^ (63 - last % 64) % 2 ^ 64 ≢ 0 → AreEmptyFrom sets (last + 1 - leading_zeros w64 (word * 2 ^ (63 - last % 64) % 2 ^ 64)) until
+      pub last_bit : word * 2 ^ (63 - last % 64) % 2 ^ 64 ≢ 0
+          → AreEmptyFrom sets (last + 1 - leading_zeros w64 (word * 2 ^ (63 - last % 64) % 2 ^ 64)) until
       last_bit some =
           let bits = word * 2 ^ (63 - last % 64) % 2 ^ 64 in
           let zeros = leading_zeros w64 bits in
@@ -129,7 +138,11 @@ with_word sets filled index word put states have below word_is here others =
     let count = have.count in
     let there : index / 64 < length filled = omega (arith, below, count) in
     record {
-      count = (let sets_long = length-set sets index states in let filled_long = length-set filled (index / 64) put in omega (arith, count, sets_long, filled_long));
+      count = (
+          let sets_long = length-set sets index states in
+          let filled_long = length-set filled (index / 64) put in
+          omega (arith, count, sets_long, filled_long)
+          );
       each = λ other number has. elim (cases_eq other index) [
         | inl same ↦
             let put_there : HasState states number =
@@ -139,7 +152,8 @@ with_word sets filled index word put states have below word_is here others =
             ((bit_is (slice_index_or (slice_set filled (index / 64) put) (index / 64) 0) (index % 64)).1
             (ap (λ n. bit_at n (index % 64)) (get_or-set_same filled (index / 64) put 0 there) ∙ here number put_there))
         | inr apart ↦
-            let was = have.each other number (subst (λ (s : StateSet). HasState s number) (get_or-set_other sets index other states (record { bits = 0 }) apart) has) in
+            let was = have.each other number
+            (subst (λ (s : StateSet). HasState s number) (get_or-set_other sets index other states (record { bits = 0 }) apart) has) in
             elim (cases_eq (other / 64) (index / 64)) [
               | inl same ↦
                   let differ : other % 64 ≢ index % 64 = λ e. apart (omega (arith, e, same)) in
@@ -149,7 +163,8 @@ with_word sets filled index word put states have below word_is here others =
                   (bit_is (slice_index_or (slice_set filled (index / 64) put) (other / 64) 0) (other % 64)).1
                   (ap (λ n. bit_at n (other % 64)) read ∙ others (other % 64) (omega arith) differ
                   ∙ ap (λ n. bit_at n (other % 64)) old ∙ (bit_is (slice_index_or filled (other / 64) 0) (other % 64)).0 was)
-              | inr elsewhere ↦ subst (λ (n : ℕ). IsBitSet n (other % 64)) (sym (get_or-set_other filled (index / 64) (other / 64) put 0 elsewhere)) was
+              | inr elsewhere ↦
+                  subst (λ (n : ℕ). IsBitSet n (other % 64)) (sym (get_or-set_other filled (index / 64) (other / 64) put 0 elsewhere)) was
             ]
       ];
     }

@@ -42,7 +42,8 @@ index_in table at entrance = index_of (leads_of_table table) at entrance
 -- each set has a bit, in words of 64 of which at most one is not needed; and where a set has a state, its bit is set
 pub record HaveBits (sets : List StateSet) (filled : List ℕ) : Type 0 where
   pub count : length filled ≡ length sets / 64 + 1
-  pub each : (index number : ℕ) → HasState (slice_index_or sets index (record { bits = 0 })) number → IsBitSet (slice_index_or filled (index / 64) 0) (index % 64)
+  pub each : (index number : ℕ) → HasState (slice_index_or sets index (record { bits = 0 })) number
+      → IsBitSet (slice_index_or filled (index / 64) 0) (index % 64)
 
 -- the table has a set there, where the entrance is one of the program's
 pub record HasSet (table : Table) (at : ℕ) (entrance : Entrance) : Type 0 where

@@ -119,7 +119,7 @@ impl Table {
         self.filled[index / SETS_OF_WORD] |= 1 << (index % SETS_OF_WORD);
     }
 
-    /// Puts these states in place of those at the index.
+    /// Puts these states in place of those at the index. Where there are none, the set loses its bit.
     pub fn replace(&mut self, index: usize, states: StateSet)
         requires bits { HaveBits self.old.sets.items self.old.filled.items }
         requires there { index < length self.old.sets.items }
@@ -135,7 +135,7 @@ impl Table {
         }
     }
 
-    /// An index from this one on before which all sets from there on are empty: that of the next set that may have a state, or the number of
+    /// An index from this one on, before which all sets from there on are empty: that of the next set that has its bit, or the number of
     /// sets.
     pub fn next_filled(&self, from: usize) -> usize
         requires bits { HaveBits self.now.sets.items self.now.filled.items }
@@ -155,7 +155,7 @@ impl Table {
         count
     }
 
-    /// An index no greater than this one from which on all sets before this one are empty: that after the last set that may have a state, or 0.
+    /// An index up to this one, from which on all sets before this one are empty: that after the last set that has its bit, or 0.
     pub fn filled_until(&self, until: usize) -> usize
         requires bits { HaveBits self.now.sets.items self.now.filled.items }
         requires until { until ≤ length self.now.sets.items }
