@@ -1,11 +1,10 @@
 -- Lists one after another stay when one is added; the groups of one list more stand after those of the lists before it.
-use Rattle.std.proofs.Common.{◌≡◌, ◌≢◌, ◌⊎◌, inl, inr, ℕ, zero, suc, ◌+◌, ◌-◌, ◌*◌, ◌<◌, ◌≤◌, ◌==◌, Bool, true, false, cond, List, [], ◌∷◌, ◌++◌, length, map, take, drop, get_or, refl, sym, ◌∙◌, ap, subst, arith}
+use Rattle.std.proofs.Common.{◌≡◌, inl, inr, ℕ, ◌+◌, ◌-◌, ◌*◌, ◌<◌, ◌==◌, Bool, cond, List, [], ◌∷◌, ◌++◌, length, map, take, drop, get_or, refl, sym, ◌∙◌, ap, subst, arith}
 use Rattle.std.specs.Global.{Vec}
-use Rattle.std.specs.List.{filter}
-use Rattle.std.specs.Prelude.{All, Contains, slice_range, slice_index}
+use Rattle.std.specs.Prelude.{All, slice_range, slice_index}
 use Rattle.std.proofs.lemmas.Bool.{cases_lt}
-use Rattle.std.proofs.lemmas.List.{append-nil, append_assoc, drop-append-le, drop_at, get_or-append-add, get_or-map, get_or_default, get_or_append_left, get_or_push, length-append, length-drop, length-map, length_push, map_push, take-append-le, take_all, take_more}
-use Rattle.std.proofs.lemmas.List.Elements.{All-contains, All-get_or, All-head, All-nil, All-push, All-tail, All-weaker, filter_more}
+use Rattle.std.proofs.lemmas.List.{append-nil, append_assoc, drop-append-le, drop_at, get_or-append-add, get_or-map, get_or_default, get_or_append_left, get_or_push, length-append, length-drop, length-map, length_push, map_push, take-append-le, take_all}
+use Rattle.std.proofs.lemmas.List.Elements.{All-get_or, All-head, All-push, All-tail, All-weaker, filter_more}
 use Rattle.list_laws.proofs.Sorted.{All-from_Contains}
 use Rattle.annotated_trie.specs.declared.rule_lists.Span.{Span}
 use Rattle.lexicon_definitions.specs.Tries.{Trie}

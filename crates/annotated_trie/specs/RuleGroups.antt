@@ -1,5 +1,5 @@
 -- Lists of rules in groups by the first letters of their `w`, one group after another.
-use Rattle.std.specs.Prelude.{◌≡◌, ℕ, ◌+◌, ◌-◌, ◌*◌, ◌<◌, ◌≤◌, List, [], ◌++◌, length, slice_index_or, slice_range, All}
+use Rattle.std.specs.Prelude.{◌≡◌, ℕ, ◌+◌, ◌*◌, ◌<◌, ◌≤◌, List, [], ◌++◌, length, slice_index_or, slice_range, All}
 use Rattle.std.specs.Global.{Vec}
 use Rattle.annotated_trie.specs.declared.rule_lists.Span.{Span}
 use Rattle.annotated_trie.specs.Choices.{with_first}

@@ -1,10 +1,8 @@
 -- the groups of one list more
-use Rattle.std.proofs.Common.{◌≡◌, ◌+◌, ◌++◌, ◌∷◌, [], List, ℕ, length, map, take, sym, ◌∙◌, ap, subst, arith}
+use Rattle.std.proofs.Common.{◌≡◌, ◌+◌, ◌++◌, ◌∷◌, [], List, ℕ, length, take, sym, ◌∙◌, ap, subst}
 use Rattle.std.specs.Global.{Vec}
 use Rattle.std.specs.Prelude.{All}
 use Rattle.std.proofs.lemmas.List.{length-map, take_all, take_more}
-use Rattle.std.proofs.lemmas.List.Elements.{All-get_or}
-use Rattle.lexicon_definitions.specs.Rules.{Rule}
 use Rattle.annotated_trie.specs.Choices.{first_letter}
 use Rattle.annotated_trie.specs.RuleGroups.{AddsGroups, AreGroupedBy, IsNumberUpTo}
 use Rattle.annotated_trie.proofs.RuleGroupLaws.{AreGroupedBy-none, AreGroupedBy-push}

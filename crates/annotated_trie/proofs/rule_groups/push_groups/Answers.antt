@@ -1,6 +1,6 @@
 -- one group more
 use Rattle.annotated_trie.proofs.RuleGroupLaws.{AddsGroups-none, AddsGroups-push}
-use Rattle.std.proofs.Common.{◌∙◌, ap}
+use Rattle.std.proofs.Common.{◌∙◌}
 use Rattle.annotated_trie.proofs.rule_groups.push_groups.Goals as goal
 
 pub loop-code-init : goal.loop-code-init

@@ -1,6 +1,5 @@
 -- the longest list is that of a node
-use Rattle.std.proofs.Common.{◌≡◌, ◌+◌, ◌<◌, ◌⊎◌, inl, inr, ℕ, List, [], length, map, sym, ◌∙◌, ap, arith}
-use Rattle.std.specs.Prelude.{Contains}
+use Rattle.std.proofs.Common.{◌≡◌, inl, inr, [], length, map, sym, ◌∙◌, ap, arith}
 use Rattle.std.proofs.lemmas.List.{get_or_default, length-map}
 use Rattle.annotated_trie.specs.Choices.{AnnotatedTrie, choices_of}
 use Rattle.annotated_trie.specs.Views.{list_at}
