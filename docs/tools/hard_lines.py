@@ -27,12 +27,20 @@ def powers(us, vs, ws):
     return [("a" * u, "a" * v, "a" * w) for u in us for v in vs for w in ws]
 
 
+# Letters in their order.
+LETTERS = "aAiIuUfFxXeEoOMHkKgGNcCjJYwWqQRtTdDnpPbBmyrlLvSzsh"
+
+
 def lexicon(count, rules, forms):
     """The text of a lexicon file of version 1."""
     names = phases_of(count)
+
+    def rank(form):
+        return names.index(form[0]), [LETTERS.index(letter) for letter in form[1]]
+
     lines = ["slx 1", *["phase " + name for name in names], "grammar (%s)+" % "|".join(names)]
     lines += ["rule %s|%s>%s" % rule for rule in rules]
-    lines += ["form %s %s %s ind" % (name, form, form) for name, form in sorted(forms, key=lambda form: (names.index(form[0]), form[1]))]
+    lines += ["form %s %s %s ind" % (name, form, form) for name, form in sorted(forms, key=rank)]
     return "\n".join(lines + ["end"]) + "\n"
 
 
@@ -63,10 +71,42 @@ def family_dead_long():
     return family_dead()[0], "a" * 1000
 
 
+def words(letters, most):
+    """All words over the letters, of one letter to so many."""
+    found, last = [], [""]
+    for _ in range(most):
+        last = [word + letter for word in last for letter in letters]
+        found += last
+    return found
+
+
+def family_leads(count=1):
+    """62 leads, each of which begins forms that go on in a's."""
+    leads = words("ab", 5)
+    rules = [("a" * u, v, "a" * w) for u in UPTO8 for v in leads for w in UPTO8]
+    forms = {(name, v + "a" * n) for name in phases_of(count) for v in leads + [""] for n in range(60) if v + "a" * n}
+    return lexicon(count, rules, forms), "a" * 1000
+
+
+def family_leads_phases():
+    return family_leads(16)
+
+
+def family_nodes():
+    """250 leads, each with nodes of its own: after how many a's forms end is another matter for each."""
+    leads = words("abcd", 4)[:250]
+    rules = [("a", v, "a") for v in leads]
+    forms = {(name, v + "a" * n) for name in phases_of(16) for k, v in enumerate(leads + [""]) for n in range(1, 60) if n % 8 == 7 or k >> (n % 8) & 1}
+    return lexicon(16, rules, forms), "a" * 1000
+
+
 FAMILIES = {
     "rules: first answers of 1,000 letters": (family_rules, "segment"),
     "rules: summary of 300 letters": (family_rules_summary, "summary"),
     "phases: first answers of 1,000 letters": (family_phases, "segment"),
+    "leads: 62 leads, one phase": (family_leads, "segment"),
+    "leads: 62 leads, 16 phases": (family_leads_phases, "segment"),
+    "nodes: 250 leads with nodes of their own": (family_nodes, "segment"),
     "dead: 41 letters without an answer": (family_dead, "segment"),
     "dead: 1,000 letters without an answer": (family_dead_long, "segment"),
 }
