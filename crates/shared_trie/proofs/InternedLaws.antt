@@ -16,7 +16,7 @@ use Rattle.form_tags.specs.contracts.delta.DeltaPartialEq.TheImpl.{eq-value as d
 use Rattle.form_tags.specs.declared.delta.Delta.{Delta}
 use Rattle.form_tags.specs.Analyses.{text_delta}
 use Rattle.lexicon_definitions.specs.Deltas.{Delta as TextDelta}
-use Rattle.lexicon_definitions.specs.Tries.{AreRows, IsRow, IsTrie, Row, empty_row, row_of}
+use Rattle.lexicon_definitions.specs.Tries.{IsRow, IsTrie, Row, empty_row, row_of}
 use Rattle.lexicon_definitions.proofs.TrieGrowth.{AreRows-push, row_of-push}
 use Rattle.shared_trie.specs.declared.packed_node.PackedNode.{PackedNode}
 use Rattle.shared_trie.specs.Growth.{Grows, HasRow}

@@ -12,8 +12,8 @@ use Rattle.std.proofs.lemmas.List.Elements.{All-cons, All-contains, All-head, Al
 use Rattle.list_laws.proofs.Sorted.{Contains-first, following_front}
 use Rattle.text_definitions.specs.Words.{compare_words}
 use Rattle.lexicon_definitions.specs.Analyses.{Analysis, compare_analyses}
-use Rattle.lexicon_definitions.specs.FormEntries.{placed, placed_at, with_analysis, with_form}
-use Rattle.lexicon_definitions.specs.Lexicons.{Form, IsPhase}
+use Rattle.lexicon_definitions.specs.FormEntries.{placed, with_analysis, with_form}
+use Rattle.lexicon_definitions.specs.Lexicons.{Form}
 use Rattle.lexicon_definitions.specs.Tries.{BeginsForm}
 use Rattle.lexicon_definitions.proofs.FormsWithEntry.{analyses_total, by_letters, forms_total}
 use Rattle.shared_trie.proofs.FrontOrder.{compare_words-front, not_below_empty, not_below_smaller}

@@ -10,10 +10,8 @@ pub mod MarkSteps
 pub mod FormWalkSteps
 pub mod HeightLemmas
 pub mod RowEquality
-pub mod Interning
 pub mod FrontOrder
 pub mod DeltaLists
-pub mod FormFacts
 pub mod Partial
 pub mod EndedForms
 pub mod EntriesEnd
@@ -24,8 +22,6 @@ pub mod BuilderStages
 pub mod MoreForms
 pub mod OpenRowLaws
 pub mod PathRows
-pub mod NextLetters
-pub mod RunSteps
 pub mod Roots
 pub mod LetterLists
 pub mod PackedRows

@@ -6,14 +6,11 @@ use Rattle.std.specs.Option.{option_map}
 use Rattle.std.proofs.lemmas.List.{get_or-map, length-map, append-nil}
 use Rattle.std.proofs.lemmas.List.Elements.{All-contains, Contains-get_or}
 use Rattle.list_laws.proofs.FirstOnes.{Contains-map}
-use Rattle.lexicon_definitions.specs.Deltas.{Delta}
 use Rattle.lexicon_definitions.specs.Lexicons.{Form}
-use Rattle.lexicon_definitions.specs.Tries.{Row, Trie, AreRows, IsTrie, IsTrieOf, IsNodeAfter, HasDelta, BeginsForm, child_among, child_in, row_of, walk, empty_row}
-use Rattle.lexicon_definitions.proofs.TrieChildren.{Contains-child_among}
+use Rattle.lexicon_definitions.specs.Tries.{Row, Trie, IsTrieOf, IsNodeAfter, child_among, child_in, row_of, walk, empty_row}
 use Rattle.lexicon_definitions.proofs.TrieGrowth.{walk-child, walk-none}
 use Rattle.lexicon_definitions.proofs.TrieWalks.{walk-two}
 use Rattle.trie_text_definitions.specs.VersionTexts.{IsLedTo, IsOrderedTrieOf}
-use Rattle.trie_text_definitions.proofs.RootNodes.{reached_by}
 use Rattle.shared_trie.specs.CanonicalNodes.{number_in, numbered_child, numbered_row, rows_of_nodes, trie_of_nodes, IsCanonical}
 use Rattle.shared_trie.proofs.NumbersIn.{number_at, number_of_place}
 

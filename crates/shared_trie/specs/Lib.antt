@@ -16,4 +16,3 @@ pub mod Interned
 pub mod Runs
 pub mod Stages
 pub mod ToldForms
-pub mod Views

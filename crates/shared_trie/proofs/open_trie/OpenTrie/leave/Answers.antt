@@ -4,7 +4,7 @@ use Rattle.std.specs.Cmp.Lexicographic.{pointwise}
 use Rattle.std.proofs.lemmas.Bool.Decides.{Decides-eqb}
 use Rattle.std.proofs.lemmas.Slice.Eq.{slice_eq-Decides}
 use Rattle.form_lists.specs.Lists.{text_entry}
-use Rattle.shared_trie.proofs.ReadyEntries.{analysis_above, form_above, goes_on_after, phase_above, ready_again, ready_first, ready_next}
+use Rattle.shared_trie.proofs.ReadyEntries.{analysis_above, form_above, goes_on_after, ready_again, ready_first, ready_next}
 use Rattle.shared_trie.proofs.open_trie.OpenTrie.leave.Goals as goal
 
 pub returns-then-last-next : goal.returns-then-last-next
