@@ -1,15 +1,3 @@
-//! The forms of a lexicon by phase, each with its analyses, as they are collected entry by entry.
-//!
-//! Proved: contracts see `FormLists` as the list of phases of `lexicon_definitions`, each a rising list of forms with rising
-//! analyses (`lists`). `insert` answers true exactly where the entry was not there (`added`); the lists are then the old ones
-//! with this entry (`ok`), and otherwise as they were (`same`, `unchanged`). `forms`, `analyses`, `has`, `phases` and `lines`
-//! read these lists (`value`). That rising inserts cost one comparison and a push is only measured.
+//! Form lists, as definitions in `specs/` with no code: what holds of the forms of all phases, as they are told entry by entry
+//! (`AreFormLists`), and an entry as the definitions see it (`text_entry`). The lemmas of `proofs/` are cited by the crates above.
 #![tactic(auto)]
-
-mod form_lists;
-mod phase_forms;
-mod places;
-mod sharing;
-
-pub use form_lists::FormLists;
-pub use sharing::form_lists_are_shared;
