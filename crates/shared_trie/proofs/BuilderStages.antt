@@ -1,5 +1,5 @@
 -- How the entries so far compare with a new one, as the builder keeps them, and what is built after one entry more.
-use Rattle.std.proofs.Common.{◌≡◌, ◌≢◌, ℕ, zero, suc, ◌+◌, ◌<◌, ◌≤◌, Bool, false, Option, None, Some, List, [], length, get_or, replicate, All, refl, sym, ◌∙◌, ap, subst, arith}
+use Rattle.std.proofs.Common.{◌≡◌, ◌≢◌, ℕ, zero, suc, ◌+◌, ◌<◌, ◌≤◌, Bool, false, Option, None, Some, List, [], length, get_or, replicate, refl, sym, ◌∙◌, ap, subst, arith}
 use Rattle.std.specs.Option.{option_map}
 use Rattle.std.specs.declared.cmp.Ordering.{Ordering}
 use Rattle.std.specs.declared.cmp.Ordering.TheVariants.{Less, Equal, Greater}
@@ -7,8 +7,8 @@ use Rattle.std.specs.Ordering.{nat_cmp, ordering_then}
 use Rattle.std.specs.Cmp.{ranked, nat_cmp_is}
 use Rattle.std.proofs.lemmas.List.{length-replicate, length-set}
 use Rattle.form_tags.specs.declared.entry.Entry.{Entry as FormEntry}
-use Rattle.form_lists.specs.Lists.{text_entry}
-use Rattle.form_lists.proofs.ListLemmas.{AreFormLists-empty, AreFormLists-set, no_lines as no_lines_counted}
+use Rattle.form_tags.specs.Entries.{text_entry}
+use Rattle.shared_trie.proofs.FormListLaws.{AreFormLists-empty, AreFormLists-set, no_lines as no_lines_counted}
 use Rattle.text_definitions.specs.Words.{IsWord}
 use Rattle.lexicon_definitions.specs.FormEntries.{Entry, IsListedStem, with_entry, with_form}
 use Rattle.lexicon_definitions.specs.Lexicons.{Form, IsAnalysis}

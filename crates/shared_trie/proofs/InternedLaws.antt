@@ -1,11 +1,11 @@
 -- Rows by the numbers of their lists of deltas: lists that are told apart have one number each, so rows are the same where list
 -- and children are; and one row more, with its hash and its height.
-use Rattle.std.proofs.Common.{◌≡◌, ◌≢◌, ◌↔◌, ◌⊎◌, inl, inr, ℕ, zero, suc, ◌+◌, ◌*◌, ◌<◌, ◌≤◌, ◌^◌, Bool, true, false, List, [], ◌∷◌, ◌++◌, length, map, get_or, Some, None, Option, nat_eq, refl, sym, ◌∙◌, ap, subst, arith, append-nil, true≢false}
+use Rattle.std.proofs.Common.{◌≡◌, ◌≢◌, ◌↔◌, inl, inr, ℕ, zero, suc, ◌+◌, ◌*◌, ◌<◌, ◌≤◌, ◌^◌, Bool, true, false, List, [], ◌∷◌, ◌++◌, length, map, get_or, Some, None, Option, refl, sym, ◌∙◌, ap, subst, arith, append-nil, true≢false}
 use Rattle.std.specs.Global.{Vec}
 use Rattle.std.specs.Prelude.{All, AllPairs, Err, IfOk, Ok, Result}
 use Rattle.std.specs.List.{IsDistinct}
 use Rattle.std.specs.Cmp.Lexicographic.{pointwise}
-use Rattle.std.proofs.lemmas.Bool.{cases_lt, cases_order}
+use Rattle.std.proofs.lemmas.Bool.{cases_order}
 use Rattle.std.proofs.lemmas.List.{get_or-map, length-append, length-map, length_push, map_push, get_or_default}
 use Rattle.std.proofs.lemmas.List.Elements.{All-append, All-from_recursion, All-get_or, All-head, All-tail, All-weaker}
 use Rattle.std.proofs.lemmas.List.Kept.{AllPairs-cons}

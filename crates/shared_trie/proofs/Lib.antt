@@ -5,6 +5,8 @@ pub mod CanonicalOrders
 pub mod CanonicalLevels
 pub mod CanonicalSteps
 pub mod ListedTexts
+pub mod FormListLaws
+pub mod SearchedPlaces
 pub mod PutAnalyses
 pub mod MarkSteps
 pub mod FormWalkSteps

@@ -1,9 +1,9 @@
 -- What is appended one after another with commas between: one text more comes after a comma.
-use Rattle.std.proofs.Common.{◌≡◌, ℕ, zero, suc, ◌+◌, ◌<◌, ◌≤◌, List, [], ◌∷◌, ◌++◌, length, map, take, get_or, refl, sym, ◌∙◌, ap, subst, add-one, arith}
+use Rattle.std.proofs.Common.{◌≡◌, ℕ, suc, ◌+◌, ◌<◌, List, [], ◌∷◌, ◌++◌, length, map, take, get_or, refl, sym, ◌∙◌, ap, subst, add-one}
 use Rattle.std.specs.Prelude.{All, Contains}
 use Rattle.std.specs.List.{join_with_byte}
-use Rattle.std.proofs.lemmas.List.{append_assoc, length_push, map_push, take_all, take_more}
-use Rattle.std.proofs.lemmas.List.Elements.{All-cons, All-nil, All-push}
+use Rattle.std.proofs.lemmas.List.{append_assoc, map_push, take_more}
+use Rattle.std.proofs.lemmas.List.Elements.{All-push}
 use Rattle.list_laws.proofs.Sorted.{Contains-later}
 use Rattle.trie_text_definitions.specs.NodeLines.{listed}
 

@@ -1,10 +1,10 @@
 -- A trie with its nodes in another order and none that no root leads to: a word leads from a node's new number to the new number of the node to
 -- which it led, by induction on the word; so roots stand for what they stood for.
 use Rattle.std.proofs.Common.{◌≡◌, ◌≢◌, ℕ, ◌<◌, ◌==◌, Bool, true, false, cond, Option, Some, None, List, [], ◌∷◌, ◌++◌, length, map, get_or, refl, sym, ◌∙◌, ap, subst, arith}
-use Rattle.std.specs.Prelude.{find, AllPairs, Contains, IsSome, is_some}
+use Rattle.std.specs.Prelude.{find, AllPairs, Contains, IsSome}
 use Rattle.std.specs.Option.{option_map}
-use Rattle.std.proofs.lemmas.List.{get_or-map, length-map, append-nil}
-use Rattle.std.proofs.lemmas.List.Elements.{All-contains, Contains-get_or}
+use Rattle.std.proofs.lemmas.List.{get_or-map, length-map}
+use Rattle.std.proofs.lemmas.List.Elements.{Contains-get_or}
 use Rattle.list_laws.proofs.FirstOnes.{Contains-map}
 use Rattle.lexicon_definitions.specs.Lexicons.{Form}
 use Rattle.lexicon_definitions.specs.Tries.{Row, Trie, IsTrieOf, IsNodeAfter, child_among, child_in, row_of, walk, empty_row}

@@ -1,16 +1,12 @@
--- A row that is built letter by letter: its children are known for the words before a place, and the words from there on go on
--- with greater letters. So the next letter's words are a run, its child goes last, and at the end of the run the row is that of
--- a node that stands for what follows the front.
-use Rattle.std.proofs.Common.{◌≡◌, ◌≢◌, ℕ, ◌+◌, ◌<◌, ◌≤◌, ◌↔◌, inl, inr, Some, List, [], ◌∷◌, ◌++◌, length, get_or, slice_get, refl, sym, ◌∙◌, ap, subst, arith, append_assoc, append-nil}
-use Rattle.std.specs.Prelude.{All, Contains}
+-- Children of a row that is built letter by letter: they stay known where rows are added, and one with a greater letter goes last.
+use Rattle.std.proofs.Common.{◌≡◌, ℕ, ◌+◌, ◌<◌, inl, inr, List, [], ◌∷◌, ◌++◌, sym, ◌∙◌, subst, arith}
+use Rattle.std.specs.Prelude.{All}
 use Rattle.std.specs.declared.cmp.Ordering.TheVariants.{Less}
 use Rattle.std.specs.Ordering.{nat_cmp, on}
 use Rattle.std.specs.List.Sorted.{IsStrictlySortedBy}
-use Rattle.std.proofs.lemmas.Bool.{cases_lt, cases_order}
 use Rattle.std.proofs.lemmas.Cmp.{nat_cmp_total, on_total}
-use Rattle.std.proofs.lemmas.List.{get_or-append-add, length-append, length-map}
-use Rattle.std.proofs.lemmas.List.Elements.{All-nil, All-push, All-weaker, All-contains, Contains-append_left, Contains-push, Contains-get_or}
-use Rattle.std.proofs.lemmas.Option.{slice_get_read, same_Some}
+use Rattle.std.proofs.lemmas.List.{length-append}
+use Rattle.std.proofs.lemmas.List.Elements.{All-weaker}
 use Rattle.lexicon_definitions.specs.Lexicons.{Form}
 use Rattle.lexicon_definitions.specs.Tries.{Row, AreRows}
 use Rattle.lexicon_definitions.proofs.TrieGrowth.{IsNodeAfter-append, row_of-append}

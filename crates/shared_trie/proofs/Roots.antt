@@ -1,12 +1,10 @@
--- The root of a phase: of all its forms, which begin with the empty front; or of no form, with the empty row.
-use Rattle.std.proofs.Common.{◌≡◌, ℕ, ◌<◌, ◌≤◌, List, [], ◌∷◌, ◌++◌, length, refl, sym, ap, subst, arith}
+-- The root of a phase stays where rows are added; a phase without forms has a node with the empty row.
+use Rattle.std.proofs.Common.{◌≡◌, ℕ, List, [], ◌∷◌, ◌++◌, length, sym, ap, subst, arith}
 use Rattle.std.specs.Prelude.{All, Contains}
 use Rattle.std.specs.Ordering.{nat_cmp, on}
 use Rattle.std.specs.List.Sorted.{IsStrictlySortedBy}
-use Rattle.std.specs.Prelude.{sum_by}
 use Rattle.std.proofs.lemmas.List.{length-append}
-use Rattle.std.proofs.lemmas.List.Sums.{sum_by-cons}
-use Rattle.std.proofs.lemmas.List.Elements.{All-nil, All-head, All-tail}
+use Rattle.std.proofs.lemmas.List.Elements.{All-nil}
 use Rattle.list_laws.proofs.Sorted.{not_Contains-nil}
 use Rattle.lexicon_definitions.specs.Deltas.{Delta, compare_deltas}
 use Rattle.lexicon_definitions.specs.Lexicons.{Form}

@@ -1,13 +1,7 @@
--- Rows that are equal for the program have one text, and rows with one text are equal: field by field, down to the enums of a
--- tag, whose derived equality tells their variants.
-use Rattle.std.proofs.Common.{◌≡◌, ◌≢◌, ℕ, ◌<◌, Bool, true, false, ◌&&◌, List, [], ◌∷◌, length, map, get_or, refl, sym, ◌∙◌, ap, subst, arith, rules, nat_eq, true≢false, Decides}
-use Rattle.std.specs.Prelude.{AllPairs}
-use Rattle.std.specs.List.{IsDistinct}
+-- Deltas and children that are equal for the program are one: field by field, down to the enums of a tag, whose derived equality tells
+-- their variants; and deltas with one text are one.
+use Rattle.std.proofs.Common.{◌≡◌, ℕ, true, ◌&&◌, List, [], ◌∷◌, map, refl, ap, subst, rules, nat_eq, Decides}
 use Rattle.std.proofs.lemmas.Bool.{eqb-true, and_parts}
-use Rattle.std.proofs.lemmas.List.{get_or-map, length-map}
-use Rattle.std.proofs.lemmas.List.Elements.{All-from_recursion}
-use Rattle.std.proofs.lemmas.List.Kept.{AllPairs-cons}
-use Rattle.std.proofs.lemmas.Map.Keys.{IsDistinct-head, IsDistinct-tail}
 use Rattle.std.proofs.lemmas.Slice.Eq.{slice_eq-Decides}
 use Rattle.std.proofs.lemmas.Bool.Decides.{Decides-eqb}
 use Rattle.std.specs.Cmp.Lexicographic.{pointwise}

@@ -1,4 +1,5 @@
 pub mod CanonicalNodes
+pub mod FormLists
 pub mod FormWalks
 pub mod Chains
 pub mod ChainLinks

@@ -1,5 +1,5 @@
--- Runs of forms that begin with the same letters, in the rising list of a phase's forms.
-use Rattle.std.specs.Prelude.{◌≡◌, ◌≢◌, ℕ, ◌<◌, ◌≤◌, List, [], ◌++◌, length, map, slice_index_or, Contains}
+-- What a node stands for among the forms of a phase.
+use Rattle.std.specs.Prelude.{◌≡◌, ◌≢◌, ℕ, ◌<◌, List, [], ◌++◌, length, Contains}
 use Rattle.lexicon_definitions.specs.Analyses.{Analysis}
 use Rattle.lexicon_definitions.specs.Deltas.{Delta, IsDelta}
 use Rattle.lexicon_definitions.specs.Lexicons.{Form}

@@ -1,5 +1,5 @@
 -- A node without a mark has nothing to mark; with one, its children are marked.
-use Rattle.std.proofs.Common.{◌≡◌, ◌<◌, ◌≤◌, ◌+◌, ◌-◌, ◌++◌, ℕ, Bool, true, false, List, length, take, drop, get_or, sym, ap, ◌∙◌, subst, arith}
+use Rattle.std.proofs.Common.{◌≡◌, ◌+◌, ◌-◌, ◌++◌, ℕ, Bool, true, false, List, length, take, drop, get_or, sym, ap, ◌∙◌, subst, arith}
 use Rattle.std.proofs.lemmas.List.{get_or_read, take_at}
 use Rattle.lexicon_definitions.specs.Tries.{row_of}
 use Rattle.shared_trie.specs.CanonicalNodes.{AreMarkedFrom, MarksChildren}

@@ -1,7 +1,7 @@
 -- One front more is closed.
 use Rattle.std.proofs.Common.{◌≡◌, ◌+◌, ◌-◌, ◌<◌, ℕ, List, length, get_or, set, sym, ◌∙◌, ap, subst, arith}
 use Rattle.std.proofs.lemmas.List.{get_or_default}
-use Rattle.form_lists.specs.Lists.{text_entry}
+use Rattle.form_tags.specs.Entries.{text_entry}
 use Rattle.text_definitions.specs.Letters.{IsLetter}
 use Rattle.shared_trie.specs.Growth.{HasRow}
 use Rattle.shared_trie.specs.OpenForms.{IsEnded, row_at}

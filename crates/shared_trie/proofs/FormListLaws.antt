@@ -1,12 +1,12 @@
 -- What holds of all form lists: of empty ones, and of those where one phase got an entry.
-use Rattle.std.proofs.Common.{◌≡◌, ℕ, zero, suc, ◌<◌, ◌^◌, List, [], length, set, replicate, refl, arith}
+use Rattle.std.proofs.Common.{◌≡◌, ℕ, zero, suc, ◌<◌, ◌^◌, List, [], ◌∷◌, length, set, replicate, refl, arith}
 use Rattle.std.proofs.lemmas.List.{length-set, length-replicate}
 use Rattle.std.proofs.lemmas.List.Elements.{All-nil, All-set, All-replicate}
 use Rattle.std.specs.List.Sorted.{IsStrictlySortedBy}
 use Rattle.lexicon_definitions.specs.Lexicons.{Form, IsFormEntry}
 use Rattle.lexicon_definitions.specs.Limits.{count_lines}
 use Rattle.lexicon_definitions.specs.FormEntries.{IsListedForm, IsListedPhase}
-use Rattle.form_lists.specs.Lists.{AreFormLists}
+use Rattle.shared_trie.specs.FormLists.{AreFormLists}
 
 -- a phase without forms is listed
 pub no_forms : IsListedPhase []

@@ -1,4 +1,0 @@
-pub mod AnalysisOrder
-pub mod PlaceLemmas
-pub mod ViewLemmas
-pub mod ListLemmas
