@@ -21,7 +21,7 @@ use Rattle.lexicon_definitions.specs.FormEntries.{HasAnalysis}
 use Rattle.lexicon_definitions.specs.Lexicons.{Form, IsFormEntry, IsPhase}
 use Rattle.lexicon_definitions.specs.Tries.{Row, IsNodeAfter, HasDelta, BeginsForm, row_of, walk}
 use Rattle.lexicon_definitions.proofs.FormsWithEntry.{analyses_total, has_later, by_letters, forms_total}
-use Rattle.form_lists.proofs.AnalysisOrder.{exact_analyses}
+use Rattle.form_tags.proofs.AnalysisOrder.{exact_analyses}
 use Rattle.search_frames.proofs.WalkDeltas.{delta_exists}
 use Rattle.session_definitions.specs.PrintedSummaries.{analyses_among}
 use Rattle.list_laws.proofs.FirstOnes.{Contains-map, Contains-map_cases}

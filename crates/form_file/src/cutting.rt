@@ -31,7 +31,7 @@ pub fn kind_and_rest(line: &[u8]) -> (&[u8], Option<&[u8]>)
 }
 
 /// The only field, where there is one.
-pub fn one_field(text: &[u8]) -> Option<&[u8]>
+pub(crate) fn one_field(text: &[u8]) -> Option<&[u8]>
     ensures { MatchOption result (one_of (fields_of (Some text.now)) ≡ None) (λ field. fields_of (Some text.now) ≡ field.now ∷ []) }
 {
     match cut_at(text, b' ') {

@@ -17,7 +17,7 @@ mod told;
 mod words;
 
 pub use contents::Contents;
-pub use cutting::{first_line, kind_and_rest, one_field, rule_parts, two_fields};
+pub use cutting::{first_line, kind_and_rest, rule_parts, two_fields};
 pub use error::{FileError, FileFault, FileWhy};
 pub use reading::read;
 pub use take_error::TakeError;

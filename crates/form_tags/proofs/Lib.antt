@@ -4,3 +4,4 @@ pub mod TagOrder
 pub mod TagShapes
 pub mod TagsByText
 pub mod TagEquality
+pub mod AnalysisOrder

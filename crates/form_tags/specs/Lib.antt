@@ -1,4 +1,5 @@
 pub mod Analyses
+pub mod Entries
 pub mod Dots
 pub mod TagTexts
 pub mod TagWords

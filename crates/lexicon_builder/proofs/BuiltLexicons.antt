@@ -15,7 +15,7 @@ use Rattle.run_definitions.specs.SoundSources.{IsSoundEntry}
 use Rattle.run_definitions.specs.SourceLexicons.{IsLexiconOf}
 use Rattle.run_definitions.proofs.SourcesSound.{entries_sound}
 use Rattle.form_tags.specs.declared.entry.Entry.{Entry}
-use Rattle.form_lists.specs.Lists.{text_entry}
+use Rattle.form_tags.specs.Entries.{text_entry}
 use Rattle.form_file.proofs.ListsTold.{lists_tell}
 use Rattle.lexicon_file.specs.Writing.{HasNewestText}
 use Rattle.lexicon_builder.specs.Sources.{AreSources, HaveTooManyLines}

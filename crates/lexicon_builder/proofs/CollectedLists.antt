@@ -22,9 +22,9 @@ use Rattle.list_laws.proofs.Orderings.{equal_then_both}
 use Rattle.list_laws.proofs.Sorted.{Contains-first, Contains-later, Contains-cons_cases, not_Contains-nil}
 use Rattle.run_definitions.specs.SoundSources.{IsSoundEntry}
 use Rattle.form_tags.specs.declared.entry.Entry.{Entry as FormEntry}
-use Rattle.form_lists.specs.Lists.{text_entry}
-use Rattle.form_lists.proofs.AnalysisOrder.{exact_analyses}
-use Rattle.form_lists.proofs.ListLemmas.{no_forms}
+use Rattle.form_tags.specs.Entries.{text_entry}
+use Rattle.form_tags.proofs.AnalysisOrder.{exact_analyses}
+use Rattle.shared_trie.proofs.FormListLaws.{no_forms}
 use Rattle.shared_trie.proofs.EntriesEnd.{are_empty, compare_last-push, entries_with, lawful_lists}
 use Rattle.shared_trie.proofs.NextEntries.{one_line_more}
 use Rattle.lexicon_builder.specs.Collected.{AreInOrder, last_before, IsAdded, HasNoRoom, AreCollectedIn, AreTooMany}

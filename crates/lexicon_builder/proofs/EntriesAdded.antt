@@ -11,7 +11,7 @@ use Rattle.lexicon_definitions.specs.Analyses.{Analysis, compare_analyses}
 use Rattle.lexicon_definitions.specs.FormEntries.{Entry, placed_at, with_analysis, with_form, with_entry, HasAnalysis, HasEntry}
 use Rattle.lexicon_definitions.specs.Lexicons.{Form}
 use Rattle.list_laws.proofs.Sorted.{Contains-first, Contains-later, Contains-cons_cases, not_Contains-nil}
-use Rattle.form_lists.proofs.AnalysisOrder.{exact_analyses}
+use Rattle.form_tags.proofs.AnalysisOrder.{exact_analyses}
 use Rattle.lexicon_definitions.proofs.FormsWithEntry.{has_later}
 
 -- ---- analyses

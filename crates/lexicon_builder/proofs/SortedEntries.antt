@@ -9,7 +9,7 @@ use Rattle.std.proofs.lemmas.List.Sorted.{sorted_far}
 use Rattle.lexicon_text_definitions.specs.FileContents.{compare_entries}
 use Rattle.lexicon_text_definitions.proofs.RisingLines.{lines_total}
 use Rattle.form_tags.specs.declared.entry.Entry.{Entry}
-use Rattle.form_lists.specs.Lists.{text_entry}
+use Rattle.form_tags.specs.Entries.{text_entry}
 use Rattle.lexicon_builder.specs.Collected.{AreInOrder}
 
 -- the order by which entries are sorted

@@ -7,7 +7,7 @@ ghost use Rattle.lexicon_definitions.specs.FormEntries.{IsListedStem};
 ghost use Rattle.lexicon_definitions.specs.Limits.{count_lines};
 ghost use Rattle.lexicon_text_definitions.specs.FileContents.{compare_entries as compare_entries_of};
 ghost use Rattle.run_definitions.specs.SoundSources.{IsSoundEntry};
-ghost use Rattle.form_lists.specs.Lists.{text_entry};
+ghost use Rattle.form_tags.specs.Entries.{text_entry};
 ghost use Rattle.lexicon_builder.specs.Sources.{IfLimit};
 ghost use Rattle.lexicon_builder.specs.Collected.{AreInOrder, last_before, IsAdded, HasNoRoom, AreCollectedIn, AreTooMany};
 

@@ -6,7 +6,7 @@ use Rattle.std.specs.List.{AllZip, flat_map}
 use Rattle.std.proofs.lemmas.List.{get_or-map, length-map, map-append, take_more}
 use Rattle.std.proofs.lemmas.Slice.Zip.{all_zipped_more}
 use Rattle.form_tags.specs.declared.entry.Entry.{Entry}
-use Rattle.form_lists.specs.Lists.{text_entry}
+use Rattle.form_tags.specs.Entries.{text_entry}
 use Rattle.lexicon_definitions.specs.FormEntries.{Entry as TextEntry}
 use Rattle.morphology_definitions.specs.Inflection as inflection
 use Rattle.morphology_definitions.specs.Inflection.{AreAllInflected, AreInflected, Class, IsInflectable, IsInflectableStem, IsInflected, rows_of, rows_with}

@@ -1,6 +1,6 @@
 ghost use Rattle.std.specs.Prelude.{◌≡◌, ◌≤◌, length, map, All, IfOk};
 ghost use Rattle.std.specs.List.{AllZip, flat_map};
-ghost use Rattle.form_lists.specs.Lists.{text_entry};
+ghost use Rattle.form_tags.specs.Entries.{text_entry};
 ghost use Rattle.morphology_definitions.specs.Inflection.{AreAllInflected, AreInflected, IsInflectable, IsInflectableStem, IsInflected};
 ghost use Rattle.paradigms.specs.Rows.{text_row, text_stem};
 ghost use Rattle.paradigms.specs.Parts.{IsPartOf};

@@ -1,5 +1,5 @@
 -- How the entries so far compare with a new one, as the builder keeps them, and what is built after one entry more.
-use Rattle.std.proofs.Common.{◌≡◌, ◌≢◌, ℕ, zero, suc, ◌+◌, ◌<◌, ◌≤◌, Bool, false, Option, None, Some, List, [], length, get_or, replicate, All, refl, sym, ◌∙◌, ap, subst, arith}
+use Rattle.std.proofs.Common.{◌≡◌, ◌≢◌, ℕ, zero, suc, ◌+◌, ◌<◌, ◌≤◌, Bool, false, Option, None, Some, List, [], length, get_or, replicate, refl, sym, ◌∙◌, ap, subst, arith}
 use Rattle.std.specs.Option.{option_map}
 use Rattle.std.specs.declared.cmp.Ordering.{Ordering}
 use Rattle.std.specs.declared.cmp.Ordering.TheVariants.{Less, Equal, Greater}
@@ -7,11 +7,10 @@ use Rattle.std.specs.Ordering.{nat_cmp, ordering_then}
 use Rattle.std.specs.Cmp.{ranked, nat_cmp_is}
 use Rattle.std.proofs.lemmas.List.{length-replicate, length-set}
 use Rattle.form_tags.specs.declared.entry.Entry.{Entry as FormEntry}
-use Rattle.form_lists.specs.Lists.{text_entry, AreFormLists}
-use Rattle.form_lists.proofs.ListLemmas.{AreFormLists-empty, AreFormLists-set, no_lines as no_lines_counted}
-use Rattle.text_definitions.specs.Words.{IsWord, compare_words}
-use Rattle.lexicon_definitions.specs.Analyses.{compare_analyses}
-use Rattle.lexicon_definitions.specs.FormEntries.{Entry, IsListedPhase, IsListedStem, with_entry, with_form}
+use Rattle.form_tags.specs.Entries.{text_entry}
+use Rattle.shared_trie.proofs.FormListLaws.{AreFormLists-empty, AreFormLists-set, no_lines as no_lines_counted}
+use Rattle.text_definitions.specs.Words.{IsWord}
+use Rattle.lexicon_definitions.specs.FormEntries.{Entry, IsListedStem, with_entry, with_form}
 use Rattle.lexicon_definitions.specs.Lexicons.{Form, IsAnalysis}
 use Rattle.lexicon_definitions.specs.Limits.{count_lines}
 use Rattle.lexicon_definitions.specs.declared.limits.TheConstants.{MOST_FORM_LETTERS, MOST_FORM_LINES, MOST_PHASES}
@@ -19,7 +18,7 @@ use Rattle.lexicon_definitions.proofs.FormsWithEntry.{IsListedPhase-with_form}
 use Rattle.lexicon_text_definitions.specs.FileContents.{compare_entries, compare_last, entries_from}
 use Rattle.lexicon_text_definitions.proofs.FormLines.{no_lines}
 use Rattle.shared_trie.specs.OpenForms.{IsBetween, IsPending}
-use Rattle.shared_trie.specs.Stages.{IsBuilt, IsLastOf, IsStage}
+use Rattle.shared_trie.specs.Stages.{IsBuilt, IsLastOf}
 use Rattle.shared_trie.specs.declared.open_trie.OpenTrie.{OpenTrie}
 use Rattle.shared_trie.proofs.EntriesEnd.{are_empty}
 use Rattle.shared_trie.proofs.NextEntries.{last_compared, one_line_more}

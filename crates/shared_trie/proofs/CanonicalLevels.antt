@@ -1,6 +1,6 @@
 -- One level more: its nodes have no children but such as are placed, so their lines are known; they come after all that are less high, and among
 -- themselves as their lines are sorted, since no two have one line.
-use Rattle.std.proofs.Common.{◌≡◌, ◌≢◌, ◌↔◌, inl, inr, ℕ, ◌+◌, ◌<◌, ◌≤◌, Option, Some, List, [], ◌∷◌, ◌++◌, length, map, take, drop, get_or, false, true≢false, refl, sym, ◌∙◌, ap, subst, arith}
+use Rattle.std.proofs.Common.{◌≡◌, ◌≢◌, inl, inr, ℕ, ◌+◌, ◌<◌, ◌≤◌, List, [], ◌∷◌, ◌++◌, length, map, take, drop, get_or, false, true≢false, refl, sym, ◌∙◌, ap, subst, arith}
 use Rattle.std.specs.Prelude.{Result, Ok, Err, OnOk, All, AllPairs, Contains, IsPermutation, IsSortedByKey}
 use Rattle.std.specs.List.{AllByRecursion}
 use Rattle.std.specs.List.Sorted.{IsStrictlySortedBy}
@@ -22,8 +22,7 @@ use Rattle.std.proofs.lemmas.Map.Made.{AllPairs-from_IsDistinct, IsDistinct-from
 use Rattle.list_laws.proofs.FirstOnes.{Contains-map_cases}
 use Rattle.list_laws.proofs.Orderings.{nat_cmp-Equal, nat_cmp-Less}
 use Rattle.list_laws.proofs.Sorted.{All-from_Contains, Contains-first, Contains-later, not_Less-itself, sorted_append}
-use Rattle.lexicon_definitions.specs.Deltas.{Delta}
-use Rattle.lexicon_definitions.specs.Tries.{Row, Trie, IsTrie, child_in, row_of}
+use Rattle.lexicon_definitions.specs.Tries.{Row, Trie, IsTrie, row_of}
 use Rattle.lexicon_definitions.proofs.TrieGrowth.{walk-within}
 use Rattle.lexicon_definitions.proofs.TrieSteps.{child_among-Contains}
 use Rattle.trie_text_definitions.specs.NodeLines.{NodeLine, compare_node_lines, node_line}
@@ -32,7 +31,7 @@ use Rattle.trie_text_definitions.specs.VersionTexts.{IsLedTo}
 use Rattle.trie_text_definitions.proofs.NodeLinesApart.{same_row}
 use Rattle.trie_text_definitions.proofs.NodeSteps.{node_lines_total}
 use Rattle.trie_text_definitions.proofs.ToldTries.{no_line}
-use Rattle.shared_trie.specs.CanonicalNodes.{number_in, numbered_child, numbered_row, height_of, line_in, NodeText, text_of_node, ArePlaced, IsLevelOf}
+use Rattle.shared_trie.specs.CanonicalNodes.{numbered_child, numbered_row, height_of, line_in, NodeText, text_of_node, ArePlaced, IsLevelOf}
 use Rattle.shared_trie.proofs.CanonicalOrders.{one_node, same_children}
 use Rattle.shared_trie.proofs.DeltaLists.{sorted_from_pairs}
 use Rattle.shared_trie.proofs.LineHeights.{child_lower}

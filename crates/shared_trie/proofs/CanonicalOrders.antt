@@ -1,11 +1,10 @@
 -- Nodes that some root leads to, ordered by height and line, are in their order: a child is less high than its node, so it comes before; so the
 -- new rows are those of a trie; and by induction on places each new line has the height of its node.
-use Rattle.std.proofs.Common.{◌≡◌, ◌≢◌, ◌↔◌, inl, inr, ℕ, zero, suc, ◌+◌, ◌<◌, ◌≤◌, Option, Some, None, List, [], ◌∷◌, ◌++◌, length, map, get_or, max, refl, sym, ◌∙◌, ap, subst, arith}
-use Rattle.std.specs.Prelude.{All, Contains}
+use Rattle.std.proofs.Common.{◌≡◌, ◌≢◌, inl, inr, ℕ, zero, suc, ◌+◌, ◌<◌, ◌≤◌, List, [], ◌∷◌, length, map, get_or, max, refl, sym, ◌∙◌, ap, subst, arith}
+use Rattle.std.specs.Prelude.{Contains}
 use Rattle.std.specs.List.{AllByRecursion}
 use Rattle.std.specs.List.Sorted.{IsStrictlySortedBy}
 use Rattle.std.specs.Ordering.{nat_cmp, on}
-use Rattle.std.specs.Cmp.Lexicographic.{slice_cmp}
 use Rattle.std.proofs.lemmas.Bool.{cases_lt}
 use Rattle.std.proofs.lemmas.List.{get_or-map, length-map, ext_get_or}
 use Rattle.std.proofs.lemmas.List.Elements.{All-contains, Contains-get_or, recursion_from_All}
@@ -13,8 +12,7 @@ use Rattle.std.proofs.lemmas.Map.Keys.{Less-from_sorted}
 use Rattle.list_laws.proofs.FirstOnes.{Contains-map_cases, sorted-map}
 use Rattle.list_laws.proofs.Orderings.{le_from_then}
 use Rattle.list_laws.proofs.Sorted.{All-from_Contains, Contains-first, Contains-later, not_Less-itself}
-use Rattle.lexicon_definitions.specs.Deltas.{Delta}
-use Rattle.lexicon_definitions.specs.Tries.{Row, Trie, AreRows, IsChild, IsRow, IsTrie, child_in, row_of, empty_row}
+use Rattle.lexicon_definitions.specs.Tries.{Row, Trie, AreRows, IsChild, IsRow, IsTrie, row_of, empty_row}
 use Rattle.lexicon_definitions.proofs.TrieGrowth.{walk-within}
 use Rattle.lexicon_definitions.proofs.TrieSteps.{child_among-Contains}
 use Rattle.trie_text_definitions.specs.NodeValues.{height_over}
@@ -23,7 +21,7 @@ use Rattle.trie_text_definitions.specs.VersionTexts.{IsLedTo}
 use Rattle.trie_text_definitions.proofs.NodeSteps.{node_lines_total}
 use Rattle.trie_text_definitions.proofs.NodeValueLaws.{length-values}
 use Rattle.trie_text_definitions.proofs.ToldTries.{heights_at, line_at, no_line}
-use Rattle.shared_trie.specs.CanonicalNodes.{number_in, numbered_child, numbered_row, rows_of_nodes, trie_of_nodes, IsCanonical, height_of, line_in}
+use Rattle.shared_trie.specs.CanonicalNodes.{number_in, numbered_child, numbered_row, rows_of_nodes, IsCanonical, height_of, line_in}
 use Rattle.shared_trie.proofs.LineHeights.{height_at, child_lower}
 use Rattle.shared_trie.proofs.NumbersIn.{number_at, same_number}
 use Rattle.shared_trie.proofs.NumberedTries.{led_to_child, row_at_number, row_at_place}

@@ -1,10 +1,9 @@
 -- What is kept while nodes are put in their order: the greatest height so far, the nodes of a level so far, those that have numbers, and the
 -- levels that are placed.
-use Rattle.std.proofs.Common.{◌≡◌, ◌≢◌, ◌↔◌, inl, inr, ℕ, suc, ◌+◌, ◌<◌, ◌≤◌, Bool, true, false, true≢false, nat_eq, List, [], ◌∷◌, ◌++◌, length, map, take, drop, get_or, max, refl, sym, ◌∙◌, ap, subst, arith}
-use Rattle.std.specs.Prelude.{All, AllPairs, Contains, IsTrue}
-use Rattle.std.specs.List.Sorted.{IsStrictlySortedBy}
+use Rattle.std.proofs.Common.{◌≡◌, ◌≢◌, ◌↔◌, inl, inr, ℕ, ◌+◌, ◌<◌, ◌≤◌, Bool, true, false, nat_eq, List, [], ◌∷◌, ◌++◌, length, map, take, drop, get_or, max, sym, ◌∙◌, ap, subst, arith}
+use Rattle.std.specs.Prelude.{AllPairs, Contains, IsTrue}
 use Rattle.std.proofs.lemmas.Bool.{cases_lt, eq-eqb, eqb-true}
-use Rattle.std.proofs.lemmas.List.{append_assoc, get_or_append_left, get_or-append-add, length-append, length_push, map-append, map_push, take-append-drop, take_more, drop_more}
+use Rattle.std.proofs.lemmas.List.{append_assoc, get_or_append_left, get_or-append-add, length-append, map-append, take-append-drop, drop_more}
 use Rattle.std.proofs.lemmas.List.Elements.{All-contains, Contains-get_or, Contains-push, Contains-push_cases, Contains-append_left}
 use Rattle.std.proofs.lemmas.List.Quantifiers.{all_pairs_push}
 use Rattle.list_laws.proofs.Sorted.{not_Contains-nil, sorted_nil}
@@ -40,25 +39,11 @@ of_level trie lawful marks marked node height found low mark is =
       λ h. eq-eqb found height (told ∙ h.1),
     )
 
--- a node that is not marked is not
-pub not_of_level : (trie : Trie) (marks : List Bool) → AreMarked trie marks → (node height : ℕ) → get_or marks node false ≡ false
-    → IsTrue false ↔ (IsLedTo trie node × (height_of trie.rows node ≡ height))
-not_of_level trie marks marked node height none = (
-  λ test. absurd (true≢false (sym test)),
-  λ h. absurd (true≢false (sym ((marked.each node).1 h.0) ∙ none)),
-)
-
 -- ---- a level so far
 
 pub record IsLevelBelow (trie : Trie) (height bound : ℕ) (level : List ℕ) : Type 0 where
   pub each : (node : ℕ) → Contains level node ↔ ((node < bound) × IsLedTo trie node × (height_of trie.rows node ≡ height))
   pub apart : AllPairs (λ (left right : ℕ). left ≢ right) level
-
-pub no_level : (trie : Trie) (height : ℕ) → IsLevelBelow trie height 0 []
-no_level trie height = record {
-  each = λ node. (λ m. absurd (not_Contains-nil node m), λ h. absurd (let low = h.0 in omega (arith, low)));
-  apart = λ i j d less below e. absurd (omega (arith, below));
-}
 
 pub level_without : (trie : Trie) (height node : ℕ) (level : List ℕ) → IsLevelBelow trie height node level → ((IsLedTo trie node × (height_of trie.rows node ≡ height)) → ⊥)
     → IsLevelBelow trie height (node + 1) level
@@ -135,13 +120,6 @@ next_apart nodes lines place line below here apart m =
     ap (λ (ls : List NodeText). nodes ++ nodes_of ls) cut ∙ ap (λ (ns : List ℕ). nodes ++ ns) (map-append (λ (line : NodeText). line.node) (take place lines) (line ∷ drop (place + 1) lines))
     ∙ sym (append_assoc nodes (nodes_of (take place lines)) (line.node ∷ nodes_of (drop (place + 1) lines))) in
     apart_front (nodes ++ nodes_of (take place lines)) line.node (nodes_of (drop (place + 1) lines)) (subst (AllPairs (λ (left right : ℕ). left ≢ right)) whole apart) m
-
-pub next_numbered : (nodes new : List ℕ) (lines : List NodeText) (place : ℕ) (line : NodeText) → place < length lines → line ≡ get_or lines place line
-    → new ≡ (nodes ++ nodes_of (take place lines)) ++ line.node ∷ [] → new ≡ nodes ++ nodes_of (take (place + 1) lines)
-next_numbered nodes new lines place line below here e =
-    let more : take (place + 1) lines ≡ take place lines ++ line ∷ [] = take_more lines place line below ∙ ap (λ (x : NodeText). take place lines ++ x ∷ []) (sym here) in
-    e ∙ append_assoc nodes (nodes_of (take place lines)) (line.node ∷ [])
-    ∙ ap (λ (ns : List ℕ). nodes ++ ns) (sym (ap nodes_of more ∙ map-append (λ (line : NodeText). line.node) (take place lines) (line ∷ [])))
 
 -- ---- levels
 

@@ -1,8 +1,8 @@
 -- One number more is the last in its bucket, and knows the one that was; the others stay.
-use Rattle.std.proofs.Common.{◌≡◌, ◌≢◌, ℕ, ◌+◌, ◌-◌, ◌<◌, ◌≤◌, ◌^◌, inl, inr, Option, None, Some, List, [], ◌∷◌, ◌++◌, length, get_or, set, replicate, refl, sym, ◌∙◌, ap, subst, arith}
+use Rattle.std.proofs.Common.{◌≡◌, ◌≢◌, ℕ, ◌+◌, ◌-◌, ◌<◌, ◌≤◌, ◌^◌, inl, inr, Option, None, Some, List, [], ◌∷◌, ◌++◌, length, get_or, set, sym, ◌∙◌, ap, subst, arith}
 use Rattle.std.proofs.lemmas.Bool.{cases_lt, cases_eq}
-use Rattle.std.proofs.lemmas.List.{get_or-replicate, get_or-set_other, get_or-set_same, get_or_append_left, get_or_push, length-append, length-replicate, length-set, length_push}
-use Rattle.shared_trie.specs.Chains.{AreChained, IsLastIn, IsLastWith, bucket_in}
+use Rattle.std.proofs.lemmas.List.{get_or-set_other, get_or-set_same, get_or_append_left, get_or_push, length-set, length_push}
+use Rattle.shared_trie.specs.Chains.{AreChained, IsLastIn, bucket_in}
 
 -- what is last below a bound stays when numbers are added after it
 IsLastIn-append : (buckets : ℕ) (hashes more : List ℕ) (bucket bound place : ℕ) → bound ≤ length hashes
@@ -33,24 +33,6 @@ IsLastIn-push buckets hashes hash bucket place other is =
                 λ e. other (sym (ap (bucket_in buckets) (get_or_push hashes hash 0 k here)) ∙ e)
           ];
     }
-
--- no numbers
-pub chained_none : (size : ℕ) → AreChained (replicate size 0) [] []
-chained_none size = record {
-  few = omega arith;
-  count = refl;
-  bucketed = λ some. absurd (omega (arith, some));
-  firsts = λ bucket low.
-      let long : length {A = ℕ} (replicate size 0) ≡ size = length-replicate size 0 in
-      let none : get_or (replicate size 0) bucket 0 ≡ 0 = get_or-replicate size bucket 0 0 (omega (arith, low, long)) in
-      subst (IsLastIn (length (replicate size 0)) [] bucket 0) (sym none)
-      record {
-        below = omega arith;
-        has = λ some. absurd (omega (arith, some));
-        none_after = λ k from to. absurd (omega (arith, to));
-      };
-  each = λ k low. absurd (omega (arith, low));
-}
 
 -- one number more
 pub chained_push : (heads hashes befores : List ℕ) (hash bucket before place : ℕ) → AreChained heads hashes befores → bucket < length heads
@@ -121,16 +103,7 @@ abbrev pub left_of : Option ℕ → ℕ
 left_of None = 0
 left_of (Some number) = number + 1
 
--- the next number is lower
-pub fewer_left : (hashes : List ℕ) (hash number : ℕ) (found : Option ℕ) → IsLastWith hashes hash number found → left_of found < left_of (Some number)
-fewer_left hashes hash number None is = omega arith
-fewer_left hashes hash number (Some next) (before, has, between) = omega (arith, before)
-
 -- the number that is found has the hash
 abbrev pub HasHash : List ℕ → ℕ → Option ℕ → Type 0
 HasHash hashes hash None = Unit {0}
 HasHash hashes hash (Some number) = (number < length hashes) × (get_or hashes number 0 ≡ hash)
-
-pub found_has : (hashes : List ℕ) (hash bound : ℕ) (found : Option ℕ) → bound ≤ length hashes → IsLastWith hashes hash bound found → HasHash hashes hash found
-found_has hashes hash bound None low is = tt
-found_has hashes hash bound (Some number) low (within, has, after) = (omega (arith, within, low), has)

@@ -1,34 +1,33 @@
 -- The last form is ended: its row gets its deltas, then the rows of its fronts become nodes, from the longest on, and the node of the
 -- empty front is the phase's root.
-use Rattle.std.proofs.Common.{◌≡◌, ◌≢◌, ◌⊎◌, ◌↔◌, inl, inr, ℕ, zero, suc, ◌+◌, ◌-◌, ◌*◌, ◌<◌, ◌≤◌, ◌^◌, List, [], ◌∷◌, ◌++◌, length, take, drop, map, get_or, replicate, set, refl, sym, ◌∙◌, ap, subst, arith, append_assoc, append-nil}
+use Rattle.std.proofs.Common.{◌≡◌, ◌≢◌, ◌↔◌, inl, inr, ℕ, zero, suc, ◌+◌, ◌-◌, ◌*◌, ◌<◌, ◌≤◌, List, [], ◌∷◌, ◌++◌, length, take, drop, map, get_or, replicate, set, refl, sym, ◌∙◌, ap, subst, arith, append-nil}
 use Rattle.std.specs.Prelude.{All, AllPairs, Contains}
 use Rattle.std.specs.declared.cmp.Ordering.TheVariants.{Less}
 use Rattle.std.specs.List.Sorted.{IsStrictlySortedBy}
-use Rattle.std.specs.Global.{Vec}
-use Rattle.std.proofs.lemmas.Bool.{cases_eq, cases_lt, cases_order}
+use Rattle.std.proofs.lemmas.Bool.{cases_eq, cases_lt}
 use Rattle.std.proofs.lemmas.Cmp.{nat_list_cmp_total}
-use Rattle.std.proofs.lemmas.List.{get_or-map, get_or-set_other, get_or-set_same, get_or_append_left, get_or_past, get_or_push, length-append, length-map, length-replicate, length-set, length_push, map_push, take-append-drop, take_all, take_more}
+use Rattle.std.proofs.lemmas.List.{get_or-set_other, get_or-set_same, get_or_append_left, get_or_past, get_or_push, length-append, length-replicate, length-set, length_push, map_push, take-append-drop, take_all, take_more}
 use Rattle.std.proofs.lemmas.List.Elements.{All-contains, All-head, All-nil, All-push, All-tail, All-weaker, Contains-get_or, Contains-push}
 use Rattle.list_laws.proofs.Sorted.{not_Contains-nil, not_Less-itself}
 use Rattle.text_definitions.specs.Letters.{IsLetter}
 use Rattle.text_definitions.specs.Words.{compare_words}
 use Rattle.lexicon_definitions.specs.Analyses.{Analysis}
-use Rattle.lexicon_definitions.specs.Deltas.{Delta, IsDelta, compare_deltas}
+use Rattle.lexicon_definitions.specs.Deltas.{Delta, IsDelta}
 use Rattle.lexicon_definitions.specs.FormEntries.{Entry, IsListedForm, IsListedPhase}
 use Rattle.lexicon_definitions.specs.Lexicons.{Form, IsFormEntry, IsPhase}
-use Rattle.lexicon_definitions.specs.Tries.{AreRows, BeginsForm, HasDelta, IsNodeAfter, IsRow, IsTrie, Row, empty_row, row_of}
+use Rattle.lexicon_definitions.specs.Tries.{BeginsForm, HasDelta, IsNodeAfter, IsRow, IsTrie, Row, row_of}
 use Rattle.shared_trie.specs.DeltaNumbers.{AddsDelta, IsListFor, delta_of}
 use Rattle.shared_trie.specs.Growth.{Grows, HasRow}
 use Rattle.shared_trie.specs.Interned.{AddsList, GrowingTrie, list_of, row_of_list, trie_of}
-use Rattle.shared_trie.specs.OpenForms.{AreDeltas, AreNumbersOf, HasRoots, IsBetween, IsEnded, IsKept, IsKnownChild, IsKnownList, IsKnownRow, IsLastEntry, IsOpenRow, IsOpenTo, IsPath, IsPending, IsReadyFor, IsWholeRow, row_at}
+use Rattle.shared_trie.specs.OpenForms.{AreDeltas, AreNumbersOf, HasRoots, IsBetween, IsEnded, IsKept, IsKnownChild, IsKnownList, IsLastEntry, IsOpenRow, IsOpenTo, IsPath, IsPending, IsReadyFor, IsWholeRow, row_at}
 use Rattle.shared_trie.specs.OpenPaths.{PathRow, no_row, path_row}
-use Rattle.shared_trie.specs.Runs.{IsDeltaAmong, IsNodeFor, IsRootFor}
+use Rattle.shared_trie.specs.Runs.{IsDeltaAmong, IsRootFor}
 use Rattle.shared_trie.specs.declared.open_trie.OpenTrie.{OpenTrie}
 use Rattle.shared_trie.proofs.DeltaLists.{AreDeltas-push, Contains-deltas, deltas_apart, some_element}
 use Rattle.shared_trie.proofs.LastForms.{last_or_below, none_longer}
 use Rattle.shared_trie.proofs.NextEntries.{last_form}
 use Rattle.shared_trie.proofs.Roots.{IsNodeAfter-none, IsRootFor-grown, IsRow-empty}
-use Rattle.shared_trie.proofs.OpenRowLaws.{open_grown, whole_may, whole_node, whole_with_child}
+use Rattle.shared_trie.proofs.OpenRowLaws.{open_grown, whole_node, whole_with_child}
 
 -- ---- lists and deltas that are added
 
@@ -269,33 +268,6 @@ module _ (phases : List (List Form)) (last : Entry) (told : IsLastEntry phases l
 
 -- ---- rows of fronts become nodes
 
--- a row that is closed has the row of its depth
-module _ (phases : List (List Form)) (lines : ℕ) (last : Entry) (depth : ℕ) (old : OpenTrie) (is : IsEnded phases lines last depth old) where
-  abbrev its_forms : List Form
-  its_forms = get_or phases last.phase []
-
-  abbrev its_row : Row
-  its_row = row_at old.trie.lists old.path depth
-
-  -- it may stand last
-  pub closed_may : IsRow old.trie.rows (length old.trie.rows) its_row
-  closed_may = whole_may old.trie.rows its_forms (take depth last.letters) its_row is.whole
-
-  -- its list of deltas is there
-  pub closed_list : (path_row old.path depth).list < length old.trie.lists
-  closed_list = is.kept.path.listed depth
-
-  -- there is room for it
-  pub closed_room : lines ≤ 600000 → length phases ≤ 16 → 64 * (length old.trie.rows + 1) < 2 ^ 32
-  closed_room few few_phases =
-      let rows = is.kept.few_rows in
-      let within = is.is_last.within in
-      omega (arith, rows, within, few, few_phases)
-
-  -- the path has it
-  pub closed_within : depth ≤ 64 → depth < length old.path
-  closed_within short = let size = is.kept.path.size in omega (arith, size, short)
-
 -- what is kept with rows more
 kept_rows : (lines left new_left lists_left phase new_phase : ℕ) (old new : OpenTrie) → IsKept lines left lists_left phase old → new.trie.lists ≡ old.trie.lists → new.known ≡ old.known → new.deltas ≡ old.deltas
     → IsPath new.trie.lists new.path → length new.trie.rows + new_left ≤ 64 * lines + new_phase → IsKept lines new_left lists_left new_phase new
@@ -510,12 +482,6 @@ phase_filled phases lines phase old new node is deltas known numbers path trie l
 -- the empty row may stand last
 pub empty_may : (phases : List (List Form)) (lines phase : ℕ) (old : OpenTrie) → IsBetween phases lines phase old → IsRow old.trie.rows (length old.trie.rows) (row_of_list old.trie.lists 0 [])
 empty_may phases lines phase old is = IsRow-empty old.trie.rows (length old.trie.rows) (row_of_list old.trie.lists 0 []) is.kept.first refl
-
--- there is room for it
-pub empty_room : (phases : List (List Form)) (lines phase : ℕ) (old : OpenTrie) → IsBetween phases lines phase old → lines ≤ 600000 → phase ≤ 16 → 64 * (length old.trie.rows + 1) < 2 ^ 32
-empty_room phases lines phase old is few few_phases =
-    let rows = is.kept.few_rows in
-    omega (arith, rows, few, few_phases)
 
 -- ---- at first
 

@@ -7,7 +7,7 @@ use Rattle.std.proofs.lemmas.List.{append_assoc, append-nil, map-append, take-ap
 use Rattle.std.proofs.lemmas.Option.{get_or_from_slice_get, slice_get-get_or, slice_get_within}
 use Rattle.std.proofs.lemmas.List.Elements.{All-contains, recursion_from_All}
 use Rattle.lexicon_definitions.specs.Deltas.{Delta}
-use Rattle.lexicon_definitions.specs.Tries.{Row, AreRows, IsChild, IsHeight, child_in, row_of}
+use Rattle.lexicon_definitions.specs.Tries.{Row, AreRows, IsChild, child_in, row_of}
 use Rattle.lexicon_definitions.proofs.TrieGrowth.{walk-child}
 use Rattle.lexicon_definitions.proofs.TrieSteps.{child_among-Contains}
 use Rattle.trie_text_definitions.specs.NodeValues.{Suffix, values_of, suffixes_over, suffixes_of, own_suffix, child_suffixes, after_letter}
@@ -263,18 +263,6 @@ no_forms rows are node low no_deltas no_children =
     sym (suffixes_are rows are node low ∙ (λ i. own_suffix (no_deltas i) ++ flat_map (child_suffixes (values_of suffixes_over rows)) (no_children i)))
 
 -- ---- at the beginning
-
-pub first_way : (rows : List Row) (node height letter_room level_room : ℕ) → node < length rows → IsHeight rows node height → height ≤ letter_room → height < level_room
-    → IsOnWay rows [] [] letter_room level_room node
-first_way rows node height letter_room level_room low is fit fits =
-    record {
-      most = height;
-      are_levels = tt;
-      as_many = refl;
-      is_level = record { there = low; room = λ word walks. (let few = is.longest word walks in omega (arith, few)) };
-      letters_fit = fit;
-      levels_fit = fits;
-    }
 
 pub none_way : (rows : List Row) (node height letter_room level_room : ℕ) → height ≤ letter_room → height < level_room
     → IsAtForm rows [] [] letter_room level_room

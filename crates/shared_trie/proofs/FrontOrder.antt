@@ -1,14 +1,11 @@
 -- Words that begin with one front stand in the order of what follows it: the front drops out of the comparison.
-use Rattle.std.proofs.Common.{◌≡◌, ℕ, ◌<◌, ◌≤◌, inl, inr, List, [], ◌∷◌, ◌++◌, length, refl, sym, ◌∙◌, ap, append-nil}
+use Rattle.std.proofs.Common.{◌≡◌, ℕ, ◌≤◌, inl, inr, List, [], ◌∷◌, ◌++◌, refl, sym, ◌∙◌, ap}
 use Rattle.std.specs.declared.cmp.Ordering.{Ordering}
 use Rattle.std.specs.declared.cmp.Ordering.TheVariants.{Less, Equal, Greater}
 use Rattle.std.specs.Ordering.{nat_cmp, ordering_then}
 use Rattle.std.specs.Cmp.{nat_cmp_is}
-use Rattle.std.specs.List.Sorted.{IsStrictlySortedBy}
 use Rattle.std.proofs.lemmas.Bool.{cases_lt}
-use Rattle.std.proofs.lemmas.Map.Keys.{Less-from_sorted}
 use Rattle.text_definitions.specs.Words.{compare_words}
-use Rattle.shared_trie.specs.Runs.{word_at}
 
 -- a number is equal to itself
 equal_itself : (n : ℕ) → nat_cmp n n ≡ Equal
@@ -35,21 +32,3 @@ not_below_smaller a b left right e =
           absurd cc
       | inr g ↦ g
     ]
-
-module _ (words : List (List ℕ)) (rising : IsStrictlySortedBy compare_words words) where
-  -- the letters after a front do not fall
-  pub letters_rise : (front left right : List ℕ) (a b : ℕ) (j k : ℕ) → j < k → k < length words
-      → word_at words j ≡ front ++ a ∷ left → word_at words k ≡ front ++ b ∷ right → a ≤ b
-  letters_rise front left right a b j k before within first second =
-      let less = Less-from_sorted compare_words words j k [] rising before within in
-      let same : compare_words (word_at words j) (word_at words k) ≡ compare_words (a ∷ left) (b ∷ right) =
-      (λ i. compare_words (first i) (second i)) ∙ compare_words-front front (a ∷ left) (b ∷ right) in
-      not_below_smaller a b left right (sym same ∙ less)
-
-  -- the front itself comes before each word that begins with it
-  pub front_first : (front rest : List ℕ) (j k : ℕ) → j < k → k < length words → word_at words j ≡ front ++ rest → word_at words k ≡ front → ⊥
-  front_first front rest j k before within first second =
-      let less = Less-from_sorted compare_words words j k [] rising before within in
-      let same : compare_words (word_at words j) (word_at words k) ≡ compare_words rest [] =
-      (λ i. compare_words (first i) ((second ∙ sym (append-nil front)) i)) ∙ compare_words-front front rest [] in
-      not_below_empty rest (sym same ∙ less)

@@ -1,11 +1,11 @@
 -- Rows by the numbers of their lists of deltas: lists that are told apart have one number each, so rows are the same where list
 -- and children are; and one row more, with its hash and its height.
-use Rattle.std.proofs.Common.{◌≡◌, ◌≢◌, ◌↔◌, ◌⊎◌, inl, inr, ℕ, zero, suc, ◌+◌, ◌*◌, ◌<◌, ◌≤◌, ◌^◌, Bool, true, false, List, [], ◌∷◌, ◌++◌, length, map, get_or, Some, None, Option, nat_eq, refl, sym, ◌∙◌, ap, subst, arith, append-nil, true≢false}
+use Rattle.std.proofs.Common.{◌≡◌, ◌≢◌, ◌↔◌, inl, inr, ℕ, zero, suc, ◌+◌, ◌*◌, ◌<◌, ◌≤◌, ◌^◌, Bool, true, false, List, [], ◌∷◌, ◌++◌, length, map, get_or, Some, None, Option, refl, sym, ◌∙◌, ap, subst, arith, append-nil, true≢false}
 use Rattle.std.specs.Global.{Vec}
 use Rattle.std.specs.Prelude.{All, AllPairs, Err, IfOk, Ok, Result}
 use Rattle.std.specs.List.{IsDistinct}
 use Rattle.std.specs.Cmp.Lexicographic.{pointwise}
-use Rattle.std.proofs.lemmas.Bool.{cases_lt, cases_order}
+use Rattle.std.proofs.lemmas.Bool.{cases_order}
 use Rattle.std.proofs.lemmas.List.{get_or-map, length-append, length-map, length_push, map_push, get_or_default}
 use Rattle.std.proofs.lemmas.List.Elements.{All-append, All-from_recursion, All-get_or, All-head, All-tail, All-weaker}
 use Rattle.std.proofs.lemmas.List.Kept.{AllPairs-cons}
@@ -16,7 +16,7 @@ use Rattle.form_tags.specs.contracts.delta.DeltaPartialEq.TheImpl.{eq-value as d
 use Rattle.form_tags.specs.declared.delta.Delta.{Delta}
 use Rattle.form_tags.specs.Analyses.{text_delta}
 use Rattle.lexicon_definitions.specs.Deltas.{Delta as TextDelta}
-use Rattle.lexicon_definitions.specs.Tries.{AreRows, IsRow, IsTrie, Row, empty_row, row_of}
+use Rattle.lexicon_definitions.specs.Tries.{IsRow, IsTrie, Row, empty_row, row_of}
 use Rattle.lexicon_definitions.proofs.TrieGrowth.{AreRows-push, row_of-push}
 use Rattle.shared_trie.specs.declared.packed_node.PackedNode.{PackedNode}
 use Rattle.shared_trie.specs.Growth.{Grows, HasRow}

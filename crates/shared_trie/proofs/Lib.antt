@@ -5,15 +5,15 @@ pub mod CanonicalOrders
 pub mod CanonicalLevels
 pub mod CanonicalSteps
 pub mod ListedTexts
+pub mod FormListLaws
+pub mod SearchedPlaces
 pub mod PutAnalyses
 pub mod MarkSteps
 pub mod FormWalkSteps
 pub mod HeightLemmas
 pub mod RowEquality
-pub mod Interning
 pub mod FrontOrder
 pub mod DeltaLists
-pub mod FormFacts
 pub mod Partial
 pub mod EndedForms
 pub mod EntriesEnd
@@ -24,8 +24,6 @@ pub mod BuilderStages
 pub mod MoreForms
 pub mod OpenRowLaws
 pub mod PathRows
-pub mod NextLetters
-pub mod RunSteps
 pub mod Roots
 pub mod LetterLists
 pub mod PackedRows

@@ -1,9 +1,9 @@
 -- What is appended one after another with commas between: one text more comes after a comma.
-use Rattle.std.proofs.Common.{◌≡◌, ℕ, zero, suc, ◌+◌, ◌<◌, ◌≤◌, List, [], ◌∷◌, ◌++◌, length, map, take, get_or, refl, sym, ◌∙◌, ap, subst, add-one, arith}
+use Rattle.std.proofs.Common.{◌≡◌, ℕ, suc, ◌+◌, ◌<◌, List, [], ◌∷◌, ◌++◌, length, map, take, get_or, refl, sym, ◌∙◌, ap, subst, add-one}
 use Rattle.std.specs.Prelude.{All, Contains}
 use Rattle.std.specs.List.{join_with_byte}
-use Rattle.std.proofs.lemmas.List.{append_assoc, length_push, map_push, take_all, take_more}
-use Rattle.std.proofs.lemmas.List.Elements.{All-cons, All-nil, All-push}
+use Rattle.std.proofs.lemmas.List.{append_assoc, map_push, take_more}
+use Rattle.std.proofs.lemmas.List.Elements.{All-push}
 use Rattle.list_laws.proofs.Sorted.{Contains-later}
 use Rattle.trie_text_definitions.specs.NodeLines.{listed}
 
@@ -24,14 +24,6 @@ module _ {X Y : Type 0} (view : X → Y) (write : Y → List ℕ) (P : Y → Typ
   pub record AreListed (old out : List ℕ) (xs : List X) : Type 0 where
     pub text : out ≡ old ++ listed (map write (map view xs))
     pub each : All P (map view xs)
-
-  pub listed_none : (old out : List ℕ) → out ≡ old ++ 45 ∷ [] → AreListed old out []
-  listed_none old out e = record { text = e; each = All-nil P }
-
-  pub listed_one : (old out : List ℕ) (all others : List X) (first : X) → all ≡ first ∷ others → out ≡ old ++ write (view first) → P (view first)
-      → AreListed old out (take 1 all)
-  listed_one old out all others first e is p =
-      subst (λ (xs : List X). AreListed old out (take 1 xs)) (sym e) (record { text = is; each = All-cons P (view first) [] p (All-nil P) })
 
   more : (old out new : List ℕ) (first : X) (xs : List X) (x : X) → AreListed old out (first ∷ xs) → new ≡ (out ++ 44 ∷ []) ++ write (view x) → P (view x)
       → AreListed old new (first ∷ xs ++ x ∷ [])
@@ -55,8 +47,3 @@ module _ {X Y : Type 0} (view : X → Y) (write : Y → List ℕ) (P : Y → Typ
       let next : take (place + 1 + 1) all ≡ first ∷ take place others ++ x ∷ [] =
       rw add-one (ap (take (suc (place + 1))) e ∙ ap (◌∷◌ first) (take_more others place x below ∙ ap (λ (y : X). take place others ++ y ∷ []) (sym here))) in
       subst (AreListed old new) (sym next) (more old out new first (take place others) x (subst (AreListed old out) front is) wrote p)
-
-  pub listed_all : (old out : List ℕ) (all others : List X) (first : X) (place : ℕ) → all ≡ first ∷ others → length others ≤ place → AreListed old out (take (place + 1) all)
-      → AreListed old out all
-  listed_all old out all others first place e past is =
-      subst (AreListed old out) (take_all (place + 1) all (let long = ap length e in omega (arith, past, long))) is

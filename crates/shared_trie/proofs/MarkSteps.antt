@@ -1,17 +1,16 @@
 -- Marks: one more is set; and from the last node to the first, what a marked node leads to is marked, so at the end just the nodes that some root
 -- leads to, by induction on the word that leads there.
-use Rattle.std.proofs.Common.{◌≡◌, ◌≢◌, ◌↔◌, ◌⊎◌, inl, inr, ℕ, zero, suc, ◌+◌, ◌-◌, ◌<◌, ◌≤◌, Bool, true, false, Option, Some, None, List, [], ◌∷◌, ◌++◌, length, take, get_or, replicate, true≢false, refl, sym, ◌∙◌, ap, subst, arith}
-use Rattle.std.specs.Prelude.{All, Contains, slice_set}
+use Rattle.std.proofs.Common.{◌≡◌, ◌≢◌, ◌↔◌, ◌⊎◌, inl, inr, ℕ, ◌+◌, ◌-◌, ◌<◌, ◌≤◌, Bool, true, false, Option, Some, None, List, [], ◌∷◌, ◌++◌, length, get_or, true≢false, refl, sym, ◌∙◌, ap, subst, arith}
+use Rattle.std.specs.Prelude.{Contains, slice_set}
 use Rattle.std.proofs.lemmas.Bool.{cases_lt}
-use Rattle.std.proofs.lemmas.List.{get_or-set_same, get_or-set_other, get_or-replicate, get_or_past, length-set, length_push, take_all, take_more}
+use Rattle.std.proofs.lemmas.List.{get_or-set_same, get_or-set_other, length-set}
 use Rattle.std.proofs.lemmas.List.Elements.{All-contains, Contains-push, Contains-push_cases, Contains-append_left}
-use Rattle.list_laws.proofs.Sorted.{not_Contains-nil}
-use Rattle.lexicon_definitions.specs.Tries.{Row, Trie, AreRows, IsChild, IsTrie, child_in, row_of, walk}
-use Rattle.lexicon_definitions.proofs.TrieChildren.{Contains-child_among, IsChild-child_in}
-use Rattle.lexicon_definitions.proofs.TrieGrowth.{walk-child, walk-none, walk-within}
+use Rattle.lexicon_definitions.specs.Tries.{Trie, IsChild, IsTrie, child_in, row_of, walk}
+use Rattle.lexicon_definitions.proofs.TrieChildren.{Contains-child_among}
+use Rattle.lexicon_definitions.proofs.TrieGrowth.{walk-child, walk-none}
 use Rattle.lexicon_definitions.proofs.TrieSteps.{child_among-Contains}
 use Rattle.trie_text_definitions.specs.VersionTexts.{IsLedTo}
-use Rattle.shared_trie.specs.CanonicalNodes.{number_in, AreNumbered, IsChildAmong, MarksChildren, AreMarkedFrom, AreMarked}
+use Rattle.shared_trie.specs.CanonicalNodes.{number_in, AreNumbered, MarksChildren, AreMarkedFrom, AreMarked}
 use Rattle.shared_trie.proofs.NumbersIn.{number_append, number_push}
 use Rattle.shared_trie.proofs.NumberedTries.{led_to_child}
 
@@ -40,12 +39,6 @@ mark_set marks place below node =
     ]
 
 -- ---- children
-
-pub no_children : (marks : List Bool) → MarksChildren [] marks marks
-no_children marks = record {
-  count = refl;
-  each = λ node. (λ h. inl h, λ h. elim h [ inl old ↦ old | inr (child, m, e) ↦ absurd (not_Contains-nil child m) ]);
-}
 
 pub child_marked : (children : List (ℕ × ℕ)) (child : ℕ × ℕ) (old marks new : List Bool) → MarksChildren children old marks → length new ≡ length marks → IsMarkedToo marks child.1 new
     → MarksChildren (children ++ child ∷ []) old new
@@ -76,18 +69,6 @@ pub record AreJustMarked (count : ℕ) (nodes : List ℕ) (marks : List Bool) : 
   pub count_is : length marks ≡ count
   pub each : (node : ℕ) → (get_or marks node false ≡ true) ↔ Contains nodes node
 
-pub none_marked : (count : ℕ) (marks : List Bool) → marks ≡ replicate count false → length marks ≡ count → AreJustMarked count [] marks
-none_marked count marks e long = record {
-  count_is = long;
-  each = λ node. (
-    λ h. elim (cases_lt node count) [
-      | inl below ↦ absurd (true≢false (sym h ∙ ap (λ (ms : List Bool). get_or ms node false) e ∙ get_or-replicate count node false false below))
-      | inr past ↦ absurd (true≢false (sym h ∙ get_or_past marks node false (omega (arith, past, long))))
-    ],
-    λ m. absurd (not_Contains-nil node m),
-  );
-}
-
 pub root_marked : (count : ℕ) (nodes : List ℕ) (node : ℕ) (marks new : List Bool) → AreJustMarked count nodes marks → length new ≡ length marks → IsMarkedToo marks node new
     → AreJustMarked count (nodes ++ node ∷ []) new
 root_marked count nodes node marks new is long too = record {
@@ -102,14 +83,6 @@ root_marked count nodes node marks new is long too = record {
       | inr same ↦ (too other).1 (inr (sym same))
     ],
   );
-}
-
-pub roots_marked : (trie : Trie) (marks : List Bool) → AreJustMarked (length trie.rows) trie.roots marks → AreMarkedFrom trie (length trie.rows) marks
-roots_marked trie marks is = record {
-  count = is.count_is;
-  sound = λ node h. record { root = node; is_root = (is.each node).0 h; word = []; walked = refl };
-  roots = λ root m. (is.each root).1 m;
-  closed = λ node past h child m. absurd (true≢false (sym h ∙ get_or_past marks node false (let count = is.count_is in omega (arith, past, count))));
 }
 
 -- ---- from the last node to the first

@@ -1,14 +1,14 @@
 -- Forms with one entry more: which words begin a form and which deltas there are; and what stays of a node, which is all where the
 -- entry's form does not begin with the node's front.
-use Rattle.std.proofs.Common.{◌≡◌, ◌⊎◌, ◌↔◌, inl, inr, ℕ, List, [], ◌∷◌, ◌++◌, refl, sym, ◌∙◌, ap, subst, append_assoc}
-use Rattle.std.specs.Prelude.{Contains, IsSome}
+use Rattle.std.proofs.Common.{◌≡◌, ◌⊎◌, inl, inr, ℕ, List, [], ◌∷◌, ◌++◌, sym, ◌∙◌, ap, subst, append_assoc}
+use Rattle.std.specs.Prelude.{Contains}
 use Rattle.std.proofs.lemmas.List.Elements.{Contains-append_left, Contains-push, Contains-push_cases}
 use Rattle.lexicon_definitions.specs.Analyses.{Analysis}
-use Rattle.lexicon_definitions.specs.Deltas.{Delta, IsDelta}
+use Rattle.lexicon_definitions.specs.Deltas.{Delta}
 use Rattle.lexicon_definitions.specs.Lexicons.{Form}
-use Rattle.lexicon_definitions.specs.Tries.{Row, BeginsForm, HasDelta, IsNodeAfter, row_of, walk}
+use Rattle.lexicon_definitions.specs.Tries.{Row, BeginsForm, HasDelta, IsNodeAfter}
 use Rattle.shared_trie.specs.OpenForms.{IsKnownChild}
-use Rattle.shared_trie.specs.Runs.{HasFront, IsNodeFor}
+use Rattle.shared_trie.specs.Runs.{HasFront}
 
 -- the new forms are the old ones, with an analysis of this word
 pub record HaveWord (old new : List Form) (word : List ℕ) : Type 0 where

@@ -1,19 +1,16 @@
 -- A trie with its nodes in another order and none that no root leads to: a word leads from a node's new number to the new number of the node to
 -- which it led, by induction on the word; so roots stand for what they stood for.
 use Rattle.std.proofs.Common.{◌≡◌, ◌≢◌, ℕ, ◌<◌, ◌==◌, Bool, true, false, cond, Option, Some, None, List, [], ◌∷◌, ◌++◌, length, map, get_or, refl, sym, ◌∙◌, ap, subst, arith}
-use Rattle.std.specs.Prelude.{find, AllPairs, Contains, IsSome, is_some}
+use Rattle.std.specs.Prelude.{find, AllPairs, Contains, IsSome}
 use Rattle.std.specs.Option.{option_map}
-use Rattle.std.proofs.lemmas.List.{get_or-map, length-map, append-nil}
-use Rattle.std.proofs.lemmas.List.Elements.{All-contains, Contains-get_or}
+use Rattle.std.proofs.lemmas.List.{get_or-map, length-map}
+use Rattle.std.proofs.lemmas.List.Elements.{Contains-get_or}
 use Rattle.list_laws.proofs.FirstOnes.{Contains-map}
-use Rattle.lexicon_definitions.specs.Deltas.{Delta}
 use Rattle.lexicon_definitions.specs.Lexicons.{Form}
-use Rattle.lexicon_definitions.specs.Tries.{Row, Trie, AreRows, IsTrie, IsTrieOf, IsNodeAfter, HasDelta, BeginsForm, child_among, child_in, row_of, walk, empty_row}
-use Rattle.lexicon_definitions.proofs.TrieChildren.{Contains-child_among}
+use Rattle.lexicon_definitions.specs.Tries.{Row, Trie, IsTrieOf, IsNodeAfter, child_among, child_in, row_of, walk, empty_row}
 use Rattle.lexicon_definitions.proofs.TrieGrowth.{walk-child, walk-none}
 use Rattle.lexicon_definitions.proofs.TrieWalks.{walk-two}
 use Rattle.trie_text_definitions.specs.VersionTexts.{IsLedTo, IsOrderedTrieOf}
-use Rattle.trie_text_definitions.proofs.RootNodes.{reached_by}
 use Rattle.shared_trie.specs.CanonicalNodes.{number_in, numbered_child, numbered_row, rows_of_nodes, trie_of_nodes, IsCanonical}
 use Rattle.shared_trie.proofs.NumbersIn.{number_at, number_of_place}
 

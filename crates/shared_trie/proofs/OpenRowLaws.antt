@@ -1,21 +1,19 @@
 -- Rows of fronts as forms come: a row that is open stays so, one that is whole is opened towards a greater letter, and one more
 -- child makes an open row whole. A whole row may stand last, and its node stands for what follows the front.
-use Rattle.std.proofs.Common.{◌≡◌, ◌≢◌, ◌⊎◌, ◌↔◌, inl, inr, ℕ, ◌+◌, ◌<◌, ◌≤◌, List, [], ◌∷◌, ◌++◌, length, refl, sym, ◌∙◌, ap, subst, arith, append_assoc, append-nil}
+use Rattle.std.proofs.Common.{◌≡◌, ◌⊎◌, ◌↔◌, inl, inr, ℕ, ◌+◌, ◌<◌, List, [], ◌∷◌, ◌++◌, length, sym, ◌∙◌, ap, subst, arith, append_assoc, append-nil}
 use Rattle.std.specs.Prelude.{All, Contains}
-use Rattle.std.specs.Ordering.{nat_cmp, on}
 use Rattle.std.specs.List.Sorted.{IsStrictlySortedBy}
 use Rattle.std.proofs.lemmas.List.{append_cancel_left, length-append}
-use Rattle.std.proofs.lemmas.List.Elements.{All-contains, All-nil, All-push, All-weaker, Contains-append_left, Contains-push}
+use Rattle.std.proofs.lemmas.List.Elements.{All-nil, All-push, All-weaker, Contains-append_left, Contains-push}
 use Rattle.list_laws.proofs.Sorted.{not_Contains-nil}
-use Rattle.lexicon_definitions.specs.Deltas.{Delta, compare_deltas}
+use Rattle.lexicon_definitions.specs.Deltas.{Delta}
 use Rattle.lexicon_definitions.specs.Lexicons.{Form}
-use Rattle.lexicon_definitions.specs.Tries.{AreRows, BeginsForm, HasDelta, IsChild, IsNodeAfter, IsRow, Row, empty_row, row_of}
+use Rattle.lexicon_definitions.specs.Tries.{AreRows, BeginsForm, HasDelta, IsNodeAfter, Row, empty_row, row_of}
 use Rattle.lexicon_definitions.proofs.TrieSteps.{IsNodeAfter-row, IsRowAfter}
-use Rattle.shared_trie.specs.Growth.{HasRow}
 use Rattle.shared_trie.specs.OpenForms.{IsKnownChild, IsKnownRow, IsOpenRow, IsWholeRow}
-use Rattle.shared_trie.specs.Runs.{HasFront, IsNodeFor, IsRootFor}
+use Rattle.shared_trie.specs.Runs.{HasFront}
 use Rattle.shared_trie.proofs.MoreForms.{HaveWord, child_stays}
-use Rattle.shared_trie.proofs.Partial.{IsKnownChild-append, nil_rises, rising_push}
+use Rattle.shared_trie.proofs.Partial.{IsKnownChild-append, rising_push}
 
 -- the front of a word goes on with one letter
 one_letter : (front : List ℕ) (a b : ℕ) (left right : List ℕ) → front ++ a ∷ left ≡ front ++ b ∷ right → a ≡ b
@@ -133,14 +131,6 @@ pub open_grown : (rows more : List Row) (forms : List Form) (front : List ℕ) (
 open_grown rows more forms front letter row are is = record { known = known_grown rows more forms front row are is.known; below = is.below; seen = is.seen }
 
 -- ---- a whole row becomes a node
-
--- it may stand last
-pub whole_may : (rows : List Row) (forms : List Form) (front : List ℕ) (row : Row) → IsWholeRow rows forms front row → IsRow rows (length rows) row
-whole_may rows forms front row is = record {
-  deltas = is.known.deltas_rise;
-  children = All-weaker (IsKnownChild rows forms front) (IsChild rows (length rows)) (λ c k. record { letter = k.letter; before = k.known.there; not_empty = k.known.not_empty }) row.children is.known.children;
-  letters = is.known.rising;
-}
 
 -- a node with it stands for what follows the front
 pub whole_node : (rows more : List Row) (forms : List Form) (front : List ℕ) (row : Row) (node : ℕ) → AreRows rows → IsWholeRow rows forms front row

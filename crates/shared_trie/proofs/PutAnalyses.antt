@@ -13,9 +13,8 @@ use Rattle.list_laws.proofs.RisingSetLaws.{with_element_at, with_element_there, 
 use Rattle.form_tags.specs.declared.analysis.Analysis.{Analysis}
 use Rattle.form_tags.specs.declared.delta.Delta.{Delta}
 use Rattle.form_tags.specs.Analyses.{text_analysis, text_delta}
-use Rattle.form_lists.proofs.AnalysisOrder.{exact_analyses}
-use Rattle.form_lists.proofs.PlaceLemmas.{place_searched}
-use Rattle.form_lists.proofs.ViewLemmas.{map-insert}
+use Rattle.form_tags.proofs.AnalysisOrder.{exact_analyses}
+use Rattle.shared_trie.proofs.SearchedPlaces.{map-insert, place_searched}
 
 module _ (slice analyses : List Analysis) (analysis : Analysis) (same : slice ≡ analyses) (rising : IsStrictlySortedBy compare_analyses (map text_analysis analyses)) where
   -- it is put in at the place

@@ -1,31 +1,31 @@
 -- What is ready for an entry that comes after the last one: the rows of the fronts of its form are open. The rows of the fronts that
 -- it shares with the last form stay open, the row of the longest such front is opened towards a greater letter, and with longer
 -- fronts no form begins, so their empty rows are open.
-use Rattle.std.proofs.Common.{◌≡◌, ◌≢◌, ◌⊎◌, inl, inr, ℕ, suc, ◌+◌, ◌-◌, ◌*◌, ◌<◌, ◌≤◌, List, [], ◌∷◌, ◌++◌, length, take, drop, map, get_or, refl, sym, ◌∙◌, ap, subst, arith, zero, drop-cons, append-nil}
-use Rattle.std.specs.Prelude.{All, Contains}
+use Rattle.std.proofs.Common.{◌≡◌, ◌≢◌, inl, inr, ℕ, suc, ◌+◌, ◌-◌, ◌<◌, ◌≤◌, List, [], ◌∷◌, ◌++◌, length, take, drop, get_or, refl, sym, ◌∙◌, ap, subst, arith, zero, drop-cons, append-nil}
+use Rattle.std.specs.Prelude.{All}
 use Rattle.std.specs.declared.cmp.Ordering.TheVariants.{Less}
 use Rattle.std.proofs.Math.Seq.{take-add}
 use Rattle.std.proofs.lemmas.Bool.{cases_lt, cases_order}
 use Rattle.std.proofs.lemmas.List.{get_or-take, length-drop, take-append-drop, take_all, take_more}
-use Rattle.std.proofs.lemmas.List.Elements.{All-contains, All-nil, All-weaker}
+use Rattle.std.proofs.lemmas.List.Elements.{All-nil, All-weaker}
 use Rattle.std.proofs.lemmas.Cmp.{nat_list_cmp_total}
 use Rattle.list_laws.proofs.Sorted.{not_Contains-nil, not_Less-itself}
 use Rattle.text_definitions.specs.Words.{compare_words}
-use Rattle.lexicon_definitions.specs.Analyses.{Analysis, compare_analyses}
+use Rattle.lexicon_definitions.specs.Analyses.{compare_analyses}
 use Rattle.lexicon_definitions.specs.Deltas.{Delta}
 use Rattle.lexicon_definitions.specs.FormEntries.{Entry, IsListedPhase, with_entry, with_form}
 use Rattle.lexicon_definitions.specs.Lexicons.{Form}
-use Rattle.lexicon_definitions.specs.Tries.{BeginsForm, IsNodeAfter, Row, empty_row}
+use Rattle.lexicon_definitions.specs.Tries.{BeginsForm, Row, empty_row}
 use Rattle.lexicon_text_definitions.specs.FileContents.{compare_entries}
 use Rattle.shared_trie.specs.Interned.{GrowingTrie, list_of, row_of_list}
-use Rattle.shared_trie.specs.OpenForms.{AreNumbersOf, HasRoots, IsBetween, IsEnded, IsKept, IsKnownChild, IsKnownRow, IsLastEntry, IsOpenRow, IsOpenTo, IsPending, IsReadyFor, IsWholeRow, row_at}
+use Rattle.shared_trie.specs.OpenForms.{AreNumbersOf, HasRoots, IsBetween, IsEnded, IsKept, IsKnownChild, IsOpenRow, IsOpenTo, IsPending, IsReadyFor, IsWholeRow, row_at}
 use Rattle.shared_trie.specs.OpenPaths.{PathRow, no_row, path_row}
 use Rattle.shared_trie.specs.Runs.{IsRootFor}
 use Rattle.shared_trie.specs.declared.open_trie.OpenTrie.{OpenTrie}
 use Rattle.shared_trie.proofs.FrontOrder.{compare_words-front, not_below_empty}
 use Rattle.shared_trie.proofs.LastForms.{letters_below, none_with}
 use Rattle.shared_trie.proofs.MoreForms.{HaveWord, word_analyzed, word_appended}
-use Rattle.shared_trie.proofs.NextEntries.{after_last, form_again, form_next, forms_are, forms_with, last_form, last_with, others_with, phase_is}
+use Rattle.shared_trie.proofs.NextEntries.{after_last, form_again, form_next, forms_with, last_form, last_with, others_with, phase_is}
 use Rattle.shared_trie.proofs.OpenRowLaws.{begins_front, empty_whole, open_stays, whole_opened}
 
 -- a word is cut at a letter
@@ -143,15 +143,6 @@ form_above last entry less same other =
       | inl phase ↦ absurd (omega (arith, phase, same))
       | inr (inl (here, below)) ↦ below
       | inr (inr (here, there, below)) ↦ absurd (other there)
-    ]
-
--- an entry of another phase is of a later one
-pub phase_above : (last entry : Entry) → compare_entries last entry ≡ Less → last.phase ≢ entry.phase → last.phase < entry.phase
-phase_above last entry less other =
-    elim (after_last last entry less) [
-      | inl phase ↦ phase
-      | inr (inl (here, below)) ↦ absurd (other here)
-      | inr (inr (here, there, below)) ↦ absurd (other here)
     ]
 
 -- a word above another goes on after what both share

@@ -1,23 +1,18 @@
--- The root of a phase: of all its forms, which begin with the empty front; or of no form, with the empty row.
-use Rattle.std.proofs.Common.{◌≡◌, ℕ, ◌<◌, ◌≤◌, List, [], ◌∷◌, ◌++◌, length, refl, sym, ap, subst, arith}
+-- The root of a phase stays where rows are added; a phase without forms has a node with the empty row.
+use Rattle.std.proofs.Common.{◌≡◌, ℕ, List, [], ◌∷◌, ◌++◌, length, sym, ap, subst, arith}
 use Rattle.std.specs.Prelude.{All, Contains}
 use Rattle.std.specs.Ordering.{nat_cmp, on}
 use Rattle.std.specs.List.Sorted.{IsStrictlySortedBy}
-use Rattle.std.specs.Prelude.{sum_by}
 use Rattle.std.proofs.lemmas.List.{length-append}
-use Rattle.std.proofs.lemmas.List.Sums.{sum_by-cons}
-use Rattle.std.proofs.lemmas.List.Elements.{All-nil, All-head, All-tail}
+use Rattle.std.proofs.lemmas.List.Elements.{All-nil}
 use Rattle.list_laws.proofs.Sorted.{not_Contains-nil}
 use Rattle.lexicon_definitions.specs.Deltas.{Delta, compare_deltas}
-use Rattle.lexicon_definitions.specs.Lexicons.{Form, IsFormEntry}
-use Rattle.lexicon_definitions.specs.FormEntries.{IsListedPhase}
-use Rattle.lexicon_definitions.specs.Limits.{count_lines}
+use Rattle.lexicon_definitions.specs.Lexicons.{Form}
 use Rattle.lexicon_definitions.specs.Tries.{Row, AreRows, IsChild, IsRow, IsNodeAfter, HasDelta, BeginsForm, row_of}
 use Rattle.lexicon_definitions.proofs.TrieSteps.{IsRowAfter, IsNodeAfter-row}
 use Rattle.lexicon_definitions.proofs.TrieGrowth.{IsNodeAfter-append}
 use Rattle.shared_trie.specs.Growth.{Grows}
-use Rattle.shared_trie.specs.Runs.{word_at, IsRootFor, IsRun}
-use Rattle.lexicon_definitions.proofs.FormsPlaced.{some_length}
+use Rattle.shared_trie.specs.Runs.{IsRootFor}
 
 -- the empty row may stand anywhere
 pub IsRow-empty : (rows : List Row) (node : ℕ) (row : Row) → row.deltas ≡ [] → row.children ≡ [] → IsRow rows node row
@@ -46,35 +41,6 @@ IsNodeAfter-none rows forms node row none here no_deltas no_children =
       letters = λ letter word begins. absurd (not_Contains-nil begins.form (subst (λ (fs : List Form). Contains fs begins.form) none begins.is_among));
     } in
     IsNodeAfter-row rows forms [] node (subst (IsRowAfter rows forms []) (sym here) after)
-
--- all forms of a phase are a run
-pub whole_run : (words : List (List ℕ)) (stop : ℕ) → stop ≡ length words → 0 < stop → IsRun words [] 0 stop
-whole_run words stop whole some =
-    record {
-      some = some;
-      within = omega (arith, whole);
-      begins = λ k low high. (word_at words k, refl);
-      only = λ k low has. (omega arith, omega (arith, low, whole));
-    }
-
--- a phase has no more forms than lines
-forms_below_lines : (forms : List Form) → All IsFormEntry forms → length forms ≤ sum_by (λ (form : Form). length form.analyses) forms
-forms_below_lines [] each = omega arith
-forms_below_lines (form ∷ forms) each =
-    let rest = forms_below_lines forms (All-tail IsFormEntry form forms each) in
-    let some = some_length form.analyses (All-head IsFormEntry form forms each).analyzed in
-    let sum = sum_by-cons (λ (f : Form). length f.analyses) form forms in
-    omega (arith, rest, some, sum)
-
--- nor have all phases together
-pub all_below_lines : (lists : List (List Form)) → All IsListedPhase lists → sum_by length lists ≤ count_lines lists
-all_below_lines [] each = omega arith
-all_below_lines (forms ∷ lists) each =
-    let rest = all_below_lines lists (All-tail IsListedPhase forms lists each) in
-    let here = forms_below_lines forms (All-head IsListedPhase forms lists each).phase.each in
-    let sum = sum_by-cons (λ (fs : List Form). sum_by (λ (f : Form). length f.analyses) fs) forms lists in
-    let count = sum_by-cons (λ (fs : List Form). length fs) forms lists in
-    omega (arith, rest, here, sum, count)
 
 -- a root stays
 pub IsRootFor-grown : (most : ℕ) (rows new : List Row) (forms : List Form) (root : ℕ) → AreRows rows → Grows most rows new

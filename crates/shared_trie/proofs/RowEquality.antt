@@ -1,27 +1,17 @@
--- Rows that are equal for the program have one text, and rows with one text are equal: field by field, down to the enums of a
--- tag, whose derived equality tells their variants.
-use Rattle.std.proofs.Common.{◌≡◌, ◌≢◌, ℕ, ◌<◌, Bool, true, false, ◌&&◌, List, [], ◌∷◌, length, map, get_or, refl, sym, ◌∙◌, ap, subst, arith, rules, nat_eq, true≢false, Decides}
-use Rattle.std.specs.Prelude.{AllPairs}
-use Rattle.std.specs.List.{IsDistinct}
+-- Deltas and children that are equal for the program are one: field by field, down to the enums of a tag, whose derived equality tells
+-- their variants; and deltas with one text are one.
+use Rattle.std.proofs.Common.{◌≡◌, ℕ, true, ◌&&◌, List, [], ◌∷◌, map, refl, ap, subst, rules, nat_eq, Decides}
 use Rattle.std.proofs.lemmas.Bool.{eqb-true, and_parts}
-use Rattle.std.proofs.lemmas.List.{get_or-map, length-map}
-use Rattle.std.proofs.lemmas.List.Elements.{All-from_recursion}
-use Rattle.std.proofs.lemmas.List.Kept.{AllPairs-cons}
-use Rattle.std.proofs.lemmas.Map.Keys.{IsDistinct-head, IsDistinct-tail}
 use Rattle.std.proofs.lemmas.Slice.Eq.{slice_eq-Decides}
 use Rattle.std.proofs.lemmas.Bool.Decides.{Decides-eqb}
 use Rattle.std.specs.Cmp.Lexicographic.{pointwise}
 use Rattle.form_tags.specs.contracts.delta.DeltaEq.TheImpl.Laws.{laws-law as delta_laws}
-use Rattle.lexicon_definitions.specs.Tries.{Row as TextRow}
 use Rattle.form_tags.specs.declared.delta.Delta.{Delta}
 use Rattle.form_tags.specs.contracts.tag.TagPartialEq.TheImpl.{eq-value as tag_eq}
 use Rattle.form_tags.specs.contracts.delta.DeltaPartialEq.TheImpl.{eq-value as delta_eq}
 use Rattle.form_tags.specs.Analyses.{text_delta}
 use Rattle.form_tags.proofs.TagsByText.{tag_text-once}
 use Rattle.lexicon_definitions.specs.Deltas.{Delta as TextDelta}
-use Rattle.shared_trie.specs.contracts.row.RowPartialEq.TheImpl.{eq-value as row_eq}
-use Rattle.shared_trie.specs.declared.row.Row.{Row}
-use Rattle.shared_trie.specs.Views.{text_row}
 use Rattle.form_tags.proofs.TagEquality.{tag_one}
 
 -- deltas that are equal are one
@@ -62,50 +52,3 @@ text_deltas-once (x ∷ xs) (y ∷ ys) e =
     let first : x ≡ y = text_delta-once x y cc in
     let rest : xs ≡ ys = text_deltas-once xs ys cc in
     λ i. first i ∷ rest i
-
--- equality of the parts of two rows
-deltas_equal : Row → Row → Bool
-deltas_equal a b = pointwise delta_eq.it a.deltas.items b.deltas.items
-
-children_equal : Row → Row → Bool
-children_equal a b = pointwise (λ (l r : ℕ × ℕ). nat_eq l.0 r.0 && nat_eq l.1 r.1) a.children.items b.children.items
-
--- equal rows have one text
-pub text_row-one : (a b : Row) → row_eq.it a b ≡ true → text_row a ≡ text_row b
-unfolding deltas_equal children_equal
-text_row-one a b e =
-    let two = and_parts (deltas_equal a b) (children_equal a b) e in
-    let deltas : a.deltas.items ≡ b.deltas.items = (slice_eq-Decides delta_decides a.deltas.items b.deltas.items (deltas_equal a b) refl).0 two.0 in
-    let children : a.children.items ≡ b.children.items = (slice_eq-Decides child_decides a.children.items b.children.items (children_equal a b) refl).0 two.1 in
-    λ i. record { deltas = map text_delta (deltas i); children = children i }
-
--- rows with one text are equal
-pub row_eq-from_text : (a b : Row) → text_row a ≡ text_row b → row_eq.it a b ≡ true
-unfolding deltas_equal children_equal
-row_eq-from_text a b e =
-    let deltas : a.deltas.items ≡ b.deltas.items = text_deltas-once a.deltas.items b.deltas.items (ap (λ (r : TextRow). r.deltas) e) in
-    let children : a.children.items ≡ b.children.items = ap (λ (r : TextRow). r.children) e in
-    let first : deltas_equal a b ≡ true = (slice_eq-Decides delta_decides a.deltas.items b.deltas.items (deltas_equal a b) refl).1 deltas in
-    let second : children_equal a b ≡ true = (slice_eq-Decides child_decides a.children.items b.children.items (children_equal a b) refl).1 children in
-    (λ i. first i && second i)
-
--- each two of a list of rows that are told apart are not equal
-pairs_apart : (rows : List Row) → IsDistinct row_eq.it rows → AllPairs (λ a b. row_eq.it a b ≡ false) rows
-pairs_apart [] apart = λ i j d l h. absurd (omega (arith, h))
-pairs_apart (row ∷ rows) apart =
-    AllPairs-cons (λ a b. row_eq.it a b ≡ false) row rows (All-from_recursion (λ b. row_eq.it row b ≡ false) rows (IsDistinct-head row_eq.it row rows apart)) (pairs_apart rows (IsDistinct-tail row_eq.it row rows apart))
-
--- some row of a list with a place
-some_row : (rows : List Row) (place : ℕ) → place < length rows → Row
-some_row [] place l = absurd (omega (arith, l))
-some_row (row ∷ rows) place l = row
-
--- rows that are told apart have different texts
-pub texts_apart : (rows : List Row) → IsDistinct row_eq.it rows → AllPairs (λ a b. a ≢ b) (map text_row rows)
-texts_apart rows apart = λ i j d l h e.
-    let long = length-map rows text_row in
-    let low : j < length rows = omega (arith, h, long) in
-    let any = some_row rows j low in
-    let one : text_row (get_or rows i any) ≡ text_row (get_or rows j any) =
-    sym (get_or-map text_row rows i any d (omega (arith, l, low))) ∙ e ∙ get_or-map text_row rows j any d low in
-    true≢false (sym (row_eq-from_text (get_or rows i any) (get_or rows j any) one) ∙ pairs_apart rows apart i j any l low)

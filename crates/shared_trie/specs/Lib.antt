@@ -1,4 +1,5 @@
 pub mod CanonicalNodes
+pub mod FormLists
 pub mod FormWalks
 pub mod Chains
 pub mod ChainLinks
@@ -16,4 +17,3 @@ pub mod Interned
 pub mod Runs
 pub mod Stages
 pub mod ToldForms
-pub mod Views

@@ -1,28 +1,13 @@
--- Runs of forms that begin with the same letters, in the rising list of a phase's forms.
-use Rattle.std.specs.Prelude.{◌≡◌, ◌≢◌, ℕ, ◌<◌, ◌≤◌, List, [], ◌++◌, length, map, slice_index_or, Contains}
+-- What a node stands for among the forms of a phase.
+use Rattle.std.specs.Prelude.{◌≡◌, ◌≢◌, ℕ, ◌<◌, List, [], ◌++◌, length, Contains}
 use Rattle.lexicon_definitions.specs.Analyses.{Analysis}
 use Rattle.lexicon_definitions.specs.Deltas.{Delta, IsDelta}
 use Rattle.lexicon_definitions.specs.Lexicons.{Form}
 use Rattle.lexicon_definitions.specs.Tries.{Row, IsNodeAfter, row_of, empty_row}
 
--- the letters of each form
-abbrev pub words_of : List Form → List (List ℕ)
-words_of forms = map (λ (form : Form). form.letters) forms
-
--- the word at the place
-abbrev pub word_at : List (List ℕ) → ℕ → List ℕ
-word_at words place = slice_index_or words place []
-
 -- the word begins with the front
 abbrev pub HasFront : List ℕ → List ℕ → Type 0
 HasFront front word = (rest : List ℕ) × (word ≡ front ++ rest)
-
--- the words from start up to stop are just those that begin with the front, and there is one
-pub record IsRun (words : List (List ℕ)) (front : List ℕ) (start stop : ℕ) : Type 0 where
-  pub some : start < stop
-  pub within : stop ≤ length words
-  pub begins : (k : ℕ) → start ≤ k → k < stop → HasFront front (word_at words k)
-  pub only : (k : ℕ) → k < length words → HasFront front (word_at words k) → (start ≤ k) × (k < stop)
 
 -- the node is there, stands for what follows the front in the forms, and stands for something
 pub record IsNodeFor (rows : List Row) (forms : List Form) (front : List ℕ) (node : ℕ) : Type 0 where
@@ -40,8 +25,3 @@ pub record IsDeltaAmong (form : List ℕ) (analyses : List Analysis) (delta : De
   pub analysis : Analysis
   pub is_analyzed : Contains analyses analysis
   pub is_delta : IsDelta form analysis delta
-
--- the form has just so many letters, and the delta is that of one of its analyses
-pub record HasOwnDelta (depth : ℕ) (form : Form) (delta : Delta) : Type 0 where
-  pub ends : length form.letters ≡ depth
-  pub is_among : IsDeltaAmong form.letters form.analyses delta

@@ -4,7 +4,7 @@ use Rattle.lexicon_definitions.specs.declared.limits.TheConstants.{MOST_FORM_LIN
 use Rattle.lexicon_definitions.specs.FormEntries.{Entry}
 use Rattle.lexicon_definitions.specs.Lexicons.{Form}
 use Rattle.lexicon_definitions.specs.Limits.{count_lines}
-use Rattle.form_lists.specs.Lists.{AreFormLists}
+use Rattle.shared_trie.specs.FormLists.{AreFormLists}
 use Rattle.shared_trie.specs.OpenForms.{IsBetween, IsLastEntry, IsPending}
 use Rattle.shared_trie.specs.declared.open_trie.OpenTrie.{OpenTrie}
 

@@ -2,7 +2,7 @@
 use Rattle.std.specs.Prelude.{ℕ, ◌+◌, Option, None, Some, List, [], replicate}
 use Rattle.std.specs.declared.snapshot.Snapshot.{Snapshot}
 use Rattle.form_tags.specs.declared.entry.Entry.{Entry}
-use Rattle.form_lists.specs.Lists.{text_entry}
+use Rattle.form_tags.specs.Entries.{text_entry}
 use Rattle.lexicon_definitions.specs.FormEntries.{with_entry}
 use Rattle.lexicon_definitions.specs.Lexicons.{Form}
 

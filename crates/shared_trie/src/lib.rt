@@ -1,13 +1,12 @@
 //! All phases of a lexicon as one trie with shared subtrees (Huet 2005): a node stands for a set of suffixes with the deltas
 //! of each, and equal sets are one node, over all phases.
 //!
-//! Proved: contracts see a `Store` as the rows of its nodes and a root for each phase. `build` holds exactly the forms of its
-//! lists, with their deltas (`ok`). Children have smaller numbers than their parents, and no two rows are the same (`trie` of
-//! `len`), so no two nodes stand for the same suffixes (`nodes_are_told_by_suffixes` of `lexicon_definitions`). `root`, `roots`, `child`,
-//! `accepts`, `deltas`, `children` and `len` read the rows (`value`); `height` is the length of the longest suffix. `child`
-//! takes one step, and `children` one for each child and one more (`steps`). A `FormWalk` is the list of the forms of a node that are
-//! left, rising, each with its deltas: all of them at first (`ok` of `new`), and one less after `advance`, which takes no memory.
-//! `analyses_by_deltas` gives a form's analyses (`ok`).
+//! Proved: contracts see a `Store` as the rows of its nodes and a root for each phase. Children have smaller numbers than their
+//! parents, and no two rows are the same (`trie` of `len`), so no two nodes stand for the same suffixes (`nodes_are_told_by_suffixes`
+//! of `lexicon_definitions`). `root`, `roots`, `child`, `accepts`, `deltas`, `children` and `len` read the rows (`value`); `height` is
+//! the length of the longest suffix. `child` takes one step, and `children` one for each child and one more (`steps`). A `FormWalk` is
+//! the list of the forms of a node that are left, rising, each with its deltas: all of them at first (`ok` of `new`), and one less after
+//! `advance`, which takes no memory. `analyses_by_deltas` gives a form's analyses (`ok`).
 //!
 //! `canonical` gives the nodes to which some root leads in the order in which lexicon files tell them (`ok`), which make the ordered trie
 //! of the same phases (`ordered`), and `numbered` each of them with its number; `push_node_line` appends a node's line (`ok`). A `StoreBuilder` makes a store
@@ -17,7 +16,6 @@
 #![tactic(auto)]
 
 mod analyses;
-mod building;
 mod canonical;
 mod canonical_laws;
 mod canonical_letters;
@@ -30,8 +28,6 @@ mod deltas;
 mod form_walk;
 mod form_walk_level;
 mod form_walk_moves;
-mod grow;
-mod growing;
 mod hashes;
 mod heights;
 mod interned;
@@ -43,10 +39,7 @@ mod node_table;
 mod open_path;
 mod open_trie;
 mod packed_node;
-mod packing;
 mod placed_line;
-mod row;
-mod rows;
 mod sharing;
 mod store;
 mod store_builder;
@@ -54,7 +47,6 @@ mod told_forms;
 mod trie_so_far;
 
 pub use analyses::analyses_by_deltas;
-pub use building::build;
 pub use canonical_laws::nodes_in_their_order_make_an_ordered_trie;
 pub use canonical_letters::push_letters;
 pub use canonical_lines::{push_node_line, push_number};

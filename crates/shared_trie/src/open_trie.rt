@@ -1,6 +1,6 @@
 ghost use Rattle.std.specs.Prelude.{◌≡◌, ◌≢◌, ◌+◌, ◌*◌, ◌<◌, ◌≤◌, ◌^◌, ℕ, [], length, map, replicate, slice_set, All, AllPairs, IfOk, OnOk};
 ghost use Rattle.std.specs.declared.cmp.Ordering.TheVariants.{Less};
-ghost use Rattle.form_lists.specs.Lists.{text_entry};
+ghost use Rattle.form_tags.specs.Entries.{text_entry};
 ghost use Rattle.lexicon_definitions.specs.declared.limits.TheConstants.{MOST_FORM_LINES, MOST_PHASES};
 ghost use Rattle.lexicon_definitions.specs.FormEntries.{IsListedPhase, with_entry};
 ghost use Rattle.lexicon_definitions.specs.Tries.{IsRow, IsTrie};

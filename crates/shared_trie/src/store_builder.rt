@@ -2,7 +2,8 @@ ghost use Rattle.std.specs.Prelude.{◌≡◌, ◌<◌, ◌≤◌, [], length, r
 ghost use Rattle.std.specs.Option.{option_map};
 ghost use Rattle.std.specs.declared.cmp.Ordering.TheVariants.{Less};
 ghost use Rattle.form_tags.specs.Analyses.{text_analysis};
-ghost use Rattle.form_lists.specs.Lists.{text_entry, AreFormLists};
+ghost use Rattle.form_tags.specs.Entries.{text_entry};
+ghost use Rattle.shared_trie.specs.FormLists.{AreFormLists};
 ghost use Rattle.lexicon_definitions.specs.declared.limits.TheConstants.{MOST_FORM_LETTERS, MOST_FORM_LINES, MOST_PHASES};
 ghost use Rattle.lexicon_definitions.specs.FormEntries.{with_entry, IsListedPhase, IsListedStem};
 ghost use Rattle.lexicon_definitions.specs.Limits.{count_lines};
@@ -39,7 +40,7 @@ impl Model for StoreBuilder {
     ghost use Rattle.std.specs.Prelude.{List};
     ghost use Rattle.std.specs.Option.{option_map};
     ghost use Rattle.lexicon_definitions.specs.Lexicons.{Form};
-    ghost use Rattle.form_lists.specs.Lists.{text_entry};
+    ghost use Rattle.form_tags.specs.Entries.{text_entry};
     ghost use Rattle.shared_trie.specs.Stages.{IsBuilt};
 
     ghost Value = { List (List Form) };

@@ -1,6 +1,6 @@
 ghost use Rattle.std.specs.Prelude.{◌≡◌, ◌+◌, [], replicate};
 ghost use Rattle.lexicon_definitions.specs.FormEntries.{with_entry};
-ghost use Rattle.form_lists.specs.Lists.{text_entry};
+ghost use Rattle.form_tags.specs.Entries.{text_entry};
 
 use form_tags::Entry;
 use std::marker::Model;

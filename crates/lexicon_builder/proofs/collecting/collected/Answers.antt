@@ -2,7 +2,7 @@
 use Rattle.std.proofs.Common.{rules, ◌≡◌, List, map, sym, ap, subst, arith}
 use Rattle.std.proofs.lemmas.Result.{err_from_is_err_and}
 use Rattle.form_tags.specs.declared.entry.Entry.{Entry}
-use Rattle.form_lists.specs.Lists.{text_entry}
+use Rattle.form_tags.specs.Entries.{text_entry}
 use Rattle.lexicon_definitions.proofs.FormsPlaced.{some_length}
 use Rattle.run_definitions.specs.SoundSources.{IsSoundEntry}
 use Rattle.lexicon_builder.proofs.CollectedLists.{AreCollected, none_left, collected_at_first, next_listable, next_within, next_not_below, collected_more, collected_at_end, no_room}

@@ -1,6 +1,6 @@
 -- The phases have just the entries that are not left.
 use Rattle.std.proofs.Common.{map}
-use Rattle.form_lists.specs.Lists.{text_entry}
+use Rattle.form_tags.specs.Entries.{text_entry}
 use Rattle.lexicon_builder.proofs.CollectedLists.{AreCollected}
 use Rattle.lexicon_builder.proofs.collecting.collected.Given as goal
 

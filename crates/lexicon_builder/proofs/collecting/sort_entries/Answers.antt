@@ -5,7 +5,7 @@ use Rattle.std.proofs.lemmas.Fn.{always_returns_same}
 use Rattle.std.proofs.lemmas.List.MinMax.{ranks_by}
 use Rattle.lexicon_text_definitions.specs.FileContents.{compare_entries}
 use Rattle.lexicon_text_definitions.proofs.RisingLines.{lines_total}
-use Rattle.form_lists.specs.Lists.{text_entry}
+use Rattle.form_tags.specs.Entries.{text_entry}
 use Rattle.lexicon_builder.proofs.SortedEntries.{is_below, in_order}
 use Rattle.lexicon_builder.proofs.collecting.sort_entries.Goals as goal
 

@@ -2,7 +2,7 @@
 use Rattle.std.proofs.Common.{◌<◌, ◌≤◌, length, map, arith, subst}
 use Rattle.std.specs.List.{AllZip}
 use Rattle.std.proofs.lemmas.List.{length-map, take_all}
-use Rattle.form_lists.specs.Lists.{text_entry}
+use Rattle.form_tags.specs.Entries.{text_entry}
 use Rattle.morphology_definitions.specs.Inflection.{IsInflected}
 use Rattle.paradigms.specs.Rows.{text_row}
 use Rattle.paradigms.proofs.InflectionLemmas.{cut_fits, entry_more, zip-mapped}

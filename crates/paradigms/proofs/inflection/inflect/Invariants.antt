@@ -1,7 +1,7 @@
 -- The entries so far are those of the rows so far.
 use Rattle.std.proofs.Common.{take}
 use Rattle.std.specs.List.{AllZip}
-use Rattle.form_lists.specs.Lists.{text_entry}
+use Rattle.form_tags.specs.Entries.{text_entry}
 use Rattle.morphology_definitions.specs.Inflection.{IsInflected}
 use Rattle.paradigms.specs.Rows.{text_row}
 use Rattle.paradigms.proofs.inflection.inflect.Given as goal

@@ -3,7 +3,7 @@ use Rattle.std.proofs.Common.{List, Vec, Global, map, sym, subst}
 use Rattle.std.specs.List.{flat_map}
 use Rattle.rayon.proofs.ListFacts.{IfOk-then}
 use Rattle.form_tags.specs.declared.entry.Entry.{Entry}
-use Rattle.form_lists.specs.Lists.{text_entry}
+use Rattle.form_tags.specs.Entries.{text_entry}
 use Rattle.morphology_definitions.specs.Inflection as inflection
 use Rattle.morphology_definitions.specs.Inflection.{AreAllInflected}
 use Rattle.paradigms.proofs.InflectionLemmas.{all_inflected}

@@ -1,11 +1,11 @@
 -- One node more.
-use Rattle.std.proofs.Common.{ℕ, ◌≡◌, ◌∙◌, ◌+◌, ◌++◌, [], ◌∷◌, List, length, map, take, sym, ap, subst, arith}
+use Rattle.std.proofs.Common.{ℕ, ◌≡◌, ◌∙◌, ◌+◌, ◌++◌, [], ◌∷◌, map, take, sym, ap, subst, arith}
 use Rattle.std.specs.Prelude.{All, Contains}
 use Rattle.std.proofs.lemmas.List.{map_push, take_all, take_more}
 use Rattle.std.proofs.lemmas.List.Elements.{All-contains, All-push}
 use Rattle.lexicon_definitions.specs.Tries.{row_of}
 use Rattle.trie_text_definitions.specs.PrintableRows.{IsPrintable}
-use Rattle.shared_trie.specs.CanonicalNodes.{NodeText, numbered_row, text_of_node}
+use Rattle.shared_trie.specs.CanonicalNodes.{numbered_row, text_of_node}
 use Rattle.shared_trie.proofs.canonical.lines_of.Goals as goal
 
 pub line_of-requires-clause-children : goal.line_of-requires-clause-children

@@ -1,7 +1,7 @@
 -- A node without a mark has nothing to mark; with one, its children are marked.
-use Rattle.std.proofs.Common.{◌≡◌, ◌<◌, ◌≤◌, ◌+◌, ◌-◌, ◌++◌, ℕ, Bool, true, false, List, length, take, drop, get_or, sym, ap, ◌∙◌, subst, arith}
+use Rattle.std.proofs.Common.{◌≡◌, ◌+◌, ◌-◌, ◌++◌, ℕ, Bool, true, false, List, length, take, drop, get_or, sym, ap, ◌∙◌, subst, arith}
 use Rattle.std.proofs.lemmas.List.{get_or_read, take_at}
-use Rattle.lexicon_definitions.specs.Tries.{Row, row_of}
+use Rattle.lexicon_definitions.specs.Tries.{row_of}
 use Rattle.shared_trie.specs.CanonicalNodes.{AreMarkedFrom, MarksChildren}
 use Rattle.shared_trie.proofs.MarkSteps.{marked_with, marked_without, all_marked}
 use Rattle.shared_trie.proofs.canonical_marks.mark_led_to.Goals as goal

@@ -1,8 +1,8 @@
 -- The next entry is above the last one, if there is one. Otherwise it is the first.
-use Rattle.std.proofs.Common.{Option, sym, ◌∙◌, subst, refl}
+use Rattle.std.proofs.Common.{Option, sym, ◌∙◌, subst}
 use Rattle.std.specs.Option.{option_map}
 use Rattle.form_tags.specs.declared.entry.Entry.{Entry}
-use Rattle.form_lists.specs.Lists.{text_entry}
+use Rattle.form_tags.specs.Entries.{text_entry}
 use Rattle.shared_trie.specs.Stages.{IsStage}
 use Rattle.shared_trie.proofs.NextEntries.{last_compared}
 use Rattle.shared_trie.proofs.ReadyEntries.{ready_first}

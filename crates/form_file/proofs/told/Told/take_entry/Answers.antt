@@ -1,7 +1,7 @@
 -- An entry within the limits and above the last goes to the end of what was told.
 use Rattle.std.proofs.Common.{arith, ◌<◌, length, refl, sym, subst}
 use Rattle.std.proofs.lemmas.Result.{err_from_is_err_and}
-use Rattle.form_lists.specs.Lists.{text_entry}
+use Rattle.form_tags.specs.Entries.{text_entry}
 use Rattle.lexicon_text_definitions.specs.FileContents.{Told}
 use Rattle.lexicon_text_definitions.specs.FileSteps.{take_form_line}
 use Rattle.form_file.specs.declared.error.FileWhy.TheVariants.{Limit}

@@ -1,6 +1,5 @@
 -- The row has the same children.
-use Rattle.std.proofs.Common.{sym, ap}
-use Rattle.shared_trie.specs.OpenPaths.{PathRow}
+use Rattle.std.proofs.Common.{sym}
 use Rattle.shared_trie.proofs.PathRows.{row_read, row_set}
 use Rattle.shared_trie.proofs.open_path.OpenPath.set_list.Goals as goal
 

@@ -1,11 +1,11 @@
 -- One front more is closed.
 use Rattle.std.proofs.Common.{◌≡◌, ◌+◌, ◌-◌, ◌<◌, ℕ, List, length, get_or, set, sym, ◌∙◌, ap, subst, arith}
 use Rattle.std.proofs.lemmas.List.{get_or_default}
-use Rattle.form_lists.specs.Lists.{text_entry}
+use Rattle.form_tags.specs.Entries.{text_entry}
 use Rattle.text_definitions.specs.Letters.{IsLetter}
 use Rattle.shared_trie.specs.Growth.{HasRow}
 use Rattle.shared_trie.specs.OpenForms.{IsEnded, row_at}
-use Rattle.shared_trie.specs.OpenPaths.{PathRow, no_row}
+use Rattle.shared_trie.specs.OpenPaths.{no_row}
 use Rattle.shared_trie.specs.declared.open_trie.OpenTrie.{OpenTrie}
 use Rattle.shared_trie.proofs.EndedForms.{closed_more}
 use Rattle.shared_trie.proofs.open_trie.OpenTrie.close_to.Goals as goal

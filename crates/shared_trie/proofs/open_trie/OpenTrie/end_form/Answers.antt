@@ -1,9 +1,9 @@
 -- The list of the last form's deltas is put in its row.
-use Rattle.std.proofs.Common.{◌≡◌, ℕ, List, length, set, sym, ◌∙◌, ap, subst, arith}
-use Rattle.form_lists.specs.Lists.{text_entry}
+use Rattle.std.proofs.Common.{◌≡◌, ℕ, List, length, set, ◌∙◌, ap, subst, arith}
+use Rattle.form_tags.specs.Entries.{text_entry}
 use Rattle.lexicon_definitions.specs.Deltas.{Delta}
 use Rattle.shared_trie.specs.OpenForms.{IsKnownList}
-use Rattle.shared_trie.specs.OpenPaths.{PathRow, path_row}
+use Rattle.shared_trie.specs.OpenPaths.{path_row}
 use Rattle.shared_trie.specs.declared.open_trie.OpenTrie.{OpenTrie}
 use Rattle.shared_trie.proofs.EndedForms.{ended, numbers_apart, short_last}
 use Rattle.shared_trie.proofs.open_trie.OpenTrie.end_form.Goals as goal

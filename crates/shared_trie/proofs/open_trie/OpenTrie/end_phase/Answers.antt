@@ -1,6 +1,6 @@
 -- The row of the empty front becomes the root.
-use Rattle.std.proofs.Common.{◌≡◌, ◌∙◌, ◌++◌, ◌∷◌, [], ℕ, List, sym, ap, subst}
-use Rattle.form_lists.specs.Lists.{text_entry}
+use Rattle.std.proofs.Common.{◌∙◌, ◌++◌, ◌∷◌, [], ℕ, List, sym, ap, subst}
+use Rattle.form_tags.specs.Entries.{text_entry}
 use Rattle.lexicon_definitions.specs.Tries.{Row}
 use Rattle.shared_trie.specs.Growth.{Grows, HasRow}
 use Rattle.shared_trie.specs.OpenForms.{row_at}

@@ -1,10 +1,10 @@
 -- The last form again, the next form, or the first form of a later phase.
-use Rattle.std.proofs.Common.{◌≡◌, ◌≢◌, ◌<◌, ℕ, List, get_or, length, take, nat_eq, refl, sym, ◌∙◌, ap, arith, true≢false}
+use Rattle.std.proofs.Common.{◌≡◌, ◌≢◌, ℕ, List, get_or, length, take, nat_eq, refl, sym, ◌∙◌, ap, arith, true≢false}
 use Rattle.std.specs.Cmp.Lexicographic.{pointwise}
 use Rattle.std.proofs.lemmas.Bool.Decides.{Decides-eqb}
 use Rattle.std.proofs.lemmas.Slice.Eq.{slice_eq-Decides}
-use Rattle.form_lists.specs.Lists.{text_entry}
-use Rattle.shared_trie.proofs.ReadyEntries.{analysis_above, form_above, goes_on_after, phase_above, ready_again, ready_first, ready_next}
+use Rattle.form_tags.specs.Entries.{text_entry}
+use Rattle.shared_trie.proofs.ReadyEntries.{analysis_above, form_above, goes_on_after, ready_again, ready_first, ready_next}
 use Rattle.shared_trie.proofs.open_trie.OpenTrie.leave.Goals as goal
 
 pub returns-then-last-next : goal.returns-then-last-next

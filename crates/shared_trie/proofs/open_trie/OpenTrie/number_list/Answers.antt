@@ -3,7 +3,6 @@ use Rattle.std.proofs.Common.{◌≡◌, List, ℕ, ◌∷◌, ◌++◌, [], map
 use Rattle.std.specs.Prelude.{All}
 use Rattle.std.proofs.lemmas.List.Elements.{All-push, All-weaker}
 use Rattle.form_tags.specs.Analyses.{text_delta}
-use Rattle.lexicon_definitions.specs.Deltas.{Delta}
 use Rattle.shared_trie.specs.DeltaNumbers.{IsListFor}
 use Rattle.shared_trie.specs.OpenForms.{IsKnownList}
 use Rattle.shared_trie.proofs.EndedForms.{known_listed}

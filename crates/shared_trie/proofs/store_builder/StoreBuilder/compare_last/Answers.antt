@@ -1,14 +1,12 @@
 -- The last entry compares part by part.
-use Rattle.std.proofs.Common.{◌≡◌, ℕ, List, refl, sym, ◌∙◌, ap}
-use Rattle.std.specs.declared.cmp.Ordering.{Ordering}
+use Rattle.std.proofs.Common.{◌≡◌, List, sym, ◌∙◌, ap}
 use Rattle.std.specs.declared.cmp.Ordering.TheVariants.{Equal}
 use Rattle.std.specs.Ordering.{nat_cmp, ordering_then}
 use Rattle.text_definitions.specs.Words.{compare_words}
 use Rattle.lexicon_definitions.specs.Analyses.{compare_analyses}
 use Rattle.lexicon_definitions.specs.Lexicons.{Form}
 use Rattle.lexicon_text_definitions.specs.FileContents.{compare_entries, compare_last as compare_last_of, entries_from}
-use Rattle.form_tags.specs.Analyses.{text_analysis}
-use Rattle.form_lists.specs.Lists.{text_entry}
+use Rattle.form_tags.specs.Entries.{text_entry}
 use Rattle.shared_trie.proofs.BuilderStages.{apart_compared, compared_first, compared_last, decided, same_compared}
 use Rattle.shared_trie.proofs.store_builder.StoreBuilder.compare_last.Goals as goal
 

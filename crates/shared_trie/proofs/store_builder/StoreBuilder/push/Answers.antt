@@ -1,6 +1,6 @@
 -- The entry is pending, and so it is the last.
 use Rattle.std.proofs.Common.{ℕ, List, refl, subst}
-use Rattle.form_lists.specs.Lists.{text_entry}
+use Rattle.form_tags.specs.Entries.{text_entry}
 use Rattle.form_tags.proofs.DeltaLaws.{text_analysis-IsAnalysis}
 use Rattle.lexicon_definitions.specs.FormEntries.{with_entry}
 use Rattle.lexicon_definitions.specs.Deltas.{IsDelta}

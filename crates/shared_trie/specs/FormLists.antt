@@ -1,14 +1,8 @@
--- The entries of form lists, and what holds of all form lists.
+-- What holds of the forms of all phases, as they are told entry by entry.
 use Rattle.std.specs.Prelude.{◌<◌, ◌^◌, List, length, All}
-use Rattle.form_tags.specs.declared.entry.Entry.{Entry}
-use Rattle.form_tags.specs.Analyses.{text_analysis}
 use Rattle.lexicon_definitions.specs.Lexicons.{Form}
 use Rattle.lexicon_definitions.specs.Limits.{count_lines}
-use Rattle.lexicon_definitions.specs.FormEntries.{Entry as TextEntry, IsListedPhase}
-
--- an entry with its tag's text
-abbrev pub text_entry : Entry → TextEntry
-text_entry entry = record { phase = entry.phase; letters = entry.form; analysis = text_analysis entry.analysis }
+use Rattle.lexicon_definitions.specs.FormEntries.{IsListedPhase}
 
 -- each phase is a rising list of forms with rising analyses, and no form or stem is too long; phases and lines have numbers of 32 bits
 pub record AreFormLists (lists : List (List Form)) : Type 0 where

@@ -1,4 +1,0 @@
-pub mod Places
-pub mod Views
-pub mod Lists
-pub mod Inserts
