@@ -21,6 +21,8 @@ mod Visits
 mod SpreadMemos
 mod RisingItems
 mod SameU
+mod SameEffects
+mod AlikeRules
 mod Walks
 mod FrontKeys
 mod LivingKeys

@@ -33,6 +33,7 @@ use Rattle.summary_chart.specs.declared.memo.Work.{Work}
 use Rattle.summary_chart.specs.declared.state_set.StateSet.{StateSet}
 use Rattle.summary_chart.specs.declared.table.Table.{Table}
 use Rattle.summary_chart.specs.Fronts.{IsFrontAt}
+use Rattle.summary_chart.specs.Effects.{AreEffects}
 use Rattle.summary_chart.specs.Memos.{AreLiving, EndFrom, IsLiving, IsSameWork, KeepsKnown, LivesBy}
 use Rattle.summary_chart.specs.StateSets.{HasState, IsStateOf, LeadsInto}
 use Rattle.summary_chart.specs.Spreading.{AreGoingFurther, GathersMore, GoesFurther, GoesFurtherBy, IsAtFront, IsByRule, OnlyKey, place_with, standing_with}
@@ -203,8 +204,9 @@ same_work searched line table done work states same same_states living =
 -- one work more is kept
 pub living_kept : (searched : SearchedLexicon) (line : Line) (table : Table) (work : Work) (states : StateSet) (old new : Memo)
     → AreLiving searched line table old → work.node < length searched.tries.trie.rows → IsLiving searched line table (record { work = work; states = states })
-    → KeepsKnown work states old new → AreLiving searched line table new
-living_kept searched line table work states old new are there living keeps = record {
+    → KeepsKnown work states old new → AreEffects (rules_in searched) new.effects → AreLiving searched line table new
+living_kept searched line table work states old new are there living keeps effects = record {
+  effects = effects;
   nodes = λ done known. elim (keeps done known) [
     | inl was ↦ are.nodes done was
     | inr same ↦ subst (λ (d : Done). d.work.node < length searched.tries.trie.rows) (sym same) there

@@ -14,6 +14,7 @@ use Rattle.summary_chart.specs.declared.memo.Done.{Done}
 use Rattle.summary_chart.specs.declared.memo.Memo.{Memo}
 use Rattle.summary_chart.specs.declared.state_set.StateSet.{StateSet}
 use Rattle.summary_chart.specs.declared.table.Table.{Table}
+use Rattle.summary_chart.specs.Effects.{AreEffects}
 use Rattle.summary_chart.specs.Memos.{AreLiving, AreSpread, EndFrom, IsKnown}
 use Rattle.summary_chart.specs.Spreading.{leads_in}
 use Rattle.summary_chart.specs.StateSets.{HasState}
@@ -29,17 +30,19 @@ LeadPast searched index memo = (done : Done) → IsKnown memo done → index ≤
 
 -- a memo that keeps nothing
 pub nothing_living : (searched : SearchedLexicon) (line : Line) (table : Table) (memo : Memo) → ((done : Done) → IsKnown memo done → ⊥)
-    → AreLiving searched line table memo
-nothing_living searched line table memo none = record {
+    → AreEffects (rules_in searched) memo.effects → AreLiving searched line table memo
+nothing_living searched line table memo none effects = record {
   nodes = λ done known. absurd (none done known);
   living = λ done known. absurd (none done known);
+  effects = effects;
 }
 
 pub nothing_spread : (searched : SearchedLexicon) (line : Line) (table : Table) (memo : Memo) → ((done : Done) → IsKnown memo done → ⊥)
-    → AreSpread searched line table memo
-nothing_spread searched line table memo none = record {
+    → AreEffects (rules_in searched) memo.effects → AreSpread searched line table memo
+nothing_spread searched line table memo none effects = record {
   nodes = λ done known. absurd (none done known);
   spread = λ done known. absurd (none done known);
+  effects = effects;
 }
 
 pub nothing_past : (searched : SearchedLexicon) (index : ℕ) (memo : Memo) → ((done : Done) → IsKnown memo done → ⊥) → LeadPast searched index memo
@@ -102,6 +105,7 @@ module _ (searched : SearchedLexicon) (line : Line) (index : ℕ) (old new : Tab
   pub living_stays : (memo : Memo) → LeadPast searched (index + 1) memo → AreLiving searched line old memo → AreLiving searched line new memo
   living_stays memo past are = record {
     nodes = are.nodes;
+    effects = are.effects;
     living = λ done known number.
         let Among = Contains (choices_of searched.tries done.work.node) in
         let living = are.living done known number in

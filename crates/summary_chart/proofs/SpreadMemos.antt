@@ -27,6 +27,7 @@ use Rattle.summary_chart.specs.declared.memo.Work.{Work}
 use Rattle.summary_chart.specs.declared.state_set.StateSet.{StateSet}
 use Rattle.summary_chart.specs.declared.table.Table.{Table}
 use Rattle.summary_chart.specs.Fronts.{IsFrontAt}
+use Rattle.summary_chart.specs.Effects.{AreEffects}
 use Rattle.summary_chart.specs.Memos.{AreSpread, IsKnownWith, IsSameWork, IsSpread, KeepsKnown}
 use Rattle.summary_chart.specs.Spreading.{Spreads, IsByRule, IsLedOnTo, place_with, standing_with}
 use Rattle.summary_chart.specs.StateSets.{HasState, IsLedTo}
@@ -70,13 +71,14 @@ module _ (searched : SearchedLexicon) (line : Line) where
   all_grown old new memo keeps are = record {
     nodes = are.nodes;
     spread = λ done known. spread_grown old new done keeps (are.spread done known);
+    effects = are.effects;
   }
 
   -- one work more
   pub all_with : (table : Table) (work : Work) (states : StateSet) (old new : Memo) → KeepsKnown work states old new
       → work.node < length searched.tries.trie.rows → IsSpread searched line table (record { work = work; states = states })
-      → AreSpread searched line table old → AreSpread searched line table new
-  all_with table work states old new keeps low is are = record {
+      → AreEffects (rules_in searched) new.effects → AreSpread searched line table old → AreSpread searched line table new
+  all_with table work states old new keeps low is effects are = record {
     nodes = λ done known. elim (keeps done known) [
       | inl before ↦ are.nodes done before
       | inr same ↦ subst (λ (d : Done). d.work.node < length searched.tries.trie.rows) (sym same) low
@@ -85,6 +87,7 @@ module _ (searched : SearchedLexicon) (line : Line) where
       | inl before ↦ are.spread done before
       | inr same ↦ subst (IsSpread searched line table) (sym same) is
     ];
+    effects = effects;
   }
 
   -- where a rule leads on to from a work that gives the same as one that was spread, each state of this is there

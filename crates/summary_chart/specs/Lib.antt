@@ -5,4 +5,5 @@ pub mod Fronts
 pub mod Charts
 pub mod Summaries
 pub mod PlaceWays
+pub mod Effects
 pub mod Memos

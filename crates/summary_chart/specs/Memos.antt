@@ -12,6 +12,7 @@ use Rattle.summary_chart.specs.declared.memo.Memo.{Memo}
 use Rattle.summary_chart.specs.declared.memo.Work.{Work}
 use Rattle.summary_chart.specs.declared.state_set.StateSet.{StateSet}
 use Rattle.summary_chart.specs.declared.table.Table.{Table}
+use Rattle.summary_chart.specs.Effects.{AreEffects}
 use Rattle.summary_chart.specs.StateSets.{HasState}
 use Rattle.summary_chart.specs.Spreading.{place_with}
 use Rattle.summary_chart.specs.Tables.{IsIn}
@@ -45,10 +46,11 @@ IsSpread searched line table done = (rule at number : ℕ) (entrance : Entrance)
     → RuleLeadsTo (rules_in searched) line done.work.end done.work.phase rule at entrance → HasState done.states number
     → IsIn table (place_with at entrance number)
 
--- all that the memo keeps is so
+-- all that the memo keeps is so, and rules stand for those that do the same
 pub record AreSpread (searched : SearchedLexicon) (line : Line) (table : Table) (memo : Memo) : Type 0 where
   pub nodes : HasNodes searched.tries memo
   pub spread : (done : Done) → IsKnown memo done → IsSpread searched line table done
+  pub effects : AreEffects (rules_in searched) memo.effects
 
 -- after the phase with this state, one of these rules ends the line or leads on to a place of the table
 abbrev pub LivesBy : SearchedLexicon → Line → Table → Work → (ℕ → Type 0) → ℕ → Type 0
@@ -61,10 +63,11 @@ abbrev pub IsLiving : SearchedLexicon → Line → Table → Done → Type 0
 IsLiving searched line table done = (number : ℕ)
     → HasState done.states number ↔ LivesBy searched line table done.work (Contains (choices_of searched.tries done.work.node)) number
 
--- all that the memo keeps is so
+-- all that the memo keeps is so, and rules stand for those that do the same
 pub record AreLiving (searched : SearchedLexicon) (line : Line) (table : Table) (memo : Memo) : Type 0 where
   pub nodes : HasNodes searched.tries memo
   pub living : (done : Done) → IsKnown memo done → IsLiving searched line table done
+  pub effects : AreEffects (rules_in searched) memo.effects
 
 -- each form whose work the memo keeps ends after so many letters at least
 abbrev pub EndFrom : ℕ → Memo → Type 0

@@ -11,6 +11,7 @@ ghost use Rattle.search_frames.specs.Costs.{HasAtMostRules};
 ghost use Rattle.search_frames.specs.WaysFrom.{IsWayFrom, key_of_way};
 ghost use Rattle.summary_chart.specs.Fronts.{IsFrontAt};
 ghost use Rattle.summary_chart.specs.PlaceWays.{HasEachKey};
+ghost use Rattle.summary_chart.specs.Effects.{AreEffects};
 ghost use Rattle.summary_chart.specs.Memos.{AreLiving, EndFrom, LivesBy};
 ghost use Rattle.summary_chart.specs.StateSets.{HasState};
 ghost use Rattle.summary_chart.specs.Tables.{IsTable};
@@ -18,6 +19,7 @@ ghost use Rattle.summary_chart.specs.Spreading.{AreGoingFurther, GathersMore, Ev
 ghost use Rattle.summary_chart.specs.Summaries.{steps_of_front, steps_of_fronts, steps_of_items};
 
 use super::memo::{Memo, Work};
+use super::same_effect::Effects;
 use super::state_set::StateSet;
 use super::state_steps::{accepted_states, accepting_states, states_after, states_into};
 use super::table::Table;
@@ -185,29 +187,37 @@ fn living_by_rule(lexicon: &Lexicon, line: &Line, work: &Work, rule: u32, table:
     }
 }
 
-/// The same for each of these rules.
+/// The same for each of these rules; of rules that do the same, one is looked at. Refused only for want of memory.
 fn living_by_rules<L>(
     lexicon: &Lexicon,
     line: &Line,
     work: &Work,
     rules: &[u32],
     table: &Table,
+    effects: &mut Effects,
     steps: &mut Steps<L>,
-) -> StateSet
+) -> Result<StateSet, Memory>
     requires searched { IsSearchedLexicon lexicon.now }
     requires line { IsLine line.now }
     requires end { work.now.end ≤ length line.now.letters }
     requires rules { All (λ rule. (0 < rule) × (rule ≤ length lexicon.now.lexicon.rules.rules)) rules.now }
     requires table { IsTable (leads_in lexicon.now) (length line.now.letters) table.now }
-    ensures living { (number : ℕ) → HasState result number ↔ LivesBy lexicon.now line.now table.now work.now (Contains rules.now) number }
-    ensures steps { steps.new ≡ steps.old + length rules.now }
+    requires effects { AreEffects lexicon.now.lexicon.rules effects.old }
+    ensures effects { OnOk result (AreEffects lexicon.now.lexicon.rules effects.new) }
+    ensures living { IfOk result (λ living. (number : ℕ) → HasState living number ↔ LivesBy lexicon.now line.now table.now work.now (Contains rules.now) number) }
+    ensures steps { steps.new ≤ steps.old + length rules.now }
+    ensures counted { IfOk result (λ living. steps.old + length rules.now ≤ steps.new) }
 {
+    effects.begin(lexicon.rules(), rules.len())?;
     let mut living = StateSet::empty();
     for rule in rules {
         steps.tick();
+        if effects.repeats(lexicon.rules(), *rule) {
+            continue;
+        }
         living = living.union(living_by_rule(lexicon, line, work, *rule, table));
     }
-    living
+    Ok(living)
 }
 
 /// The states after the phase from which a rule that is a choice at the node and whose `w` begins with the next letter, which is this, ends
@@ -240,7 +250,7 @@ fn living_after<L>(
         return Ok(states);
     }
     let rules = tries.choices_with(work.node, letter, steps);
-    let living = living_by_rules(lexicon, line, work, rules, table, steps);
+    let living = living_by_rules(lexicon, line, work, rules, table, &mut memo.effects, steps)?;
     memo.keep(tries, work, living)?;
     Ok(living)
 }

@@ -2,8 +2,11 @@ ghost use Rattle.std.specs.Prelude.{◌≡◌, ◌<◌, length, IfSome, OnOk};
 ghost use Rattle.std.specs.Bool.{OnTrue};
 ghost use Rattle.summary_chart.specs.declared.memo.TheConstants.{MOST_DONE};
 ghost use Rattle.summary_chart.specs.declared.memo.Done.{Done as DoneValue};
+ghost use Rattle.lexicon_definitions.specs.Lexicons.{RuleSet as RuleSetValue};
+ghost use Rattle.summary_chart.specs.Effects.{AreEffects};
 ghost use Rattle.summary_chart.specs.Memos.{HasNodes, IsKnown, IsSameWork, KeepsKnown};
 
+use super::same_effect::Effects;
 use super::state_set::StateSet;
 use annotated_trie::Annotated;
 use phoneme::Memory;
@@ -31,10 +34,11 @@ pub(crate) struct Done {
 }
 
 /// Work that was done, so that it is not done once more (own). It may forget: each work has one place, where what was done last is kept.
-/// It takes no memory before something is kept.
+/// It takes no memory before something is kept. And besides, which rules do the same, so that of these one is looked at in a work.
 #[derive(Debug, Drop)]
 pub(crate) struct Memo {
     places: Vec<Option<Done>>,
+    pub effects: Effects,
 }
 
 /// The place of the work, below `MOST_DONE`. Works of nodes with the same choices have the same place.
@@ -53,10 +57,12 @@ fn place_of(tries: &Annotated, work: &Work) -> usize
 impl Memo {
     /// A memo that keeps nothing yet.
     pub fn new(alloc: Global) -> Memo
-        ensures { (done : DoneValue) → IsKnown result done → ⊥ }
+        ensures none { (done : DoneValue) → IsKnown result done → ⊥ }
+        ensures effects { (rules : RuleSetValue) → AreEffects rules result.effects }
     {
         Memo {
             places: Vec::new(alloc),
+            effects: Effects::new(alloc),
         }
     }
 
@@ -78,7 +84,8 @@ impl Memo {
 
     /// Makes the places, where there are none yet. Refused only for want of memory.
     fn make_places(&mut self) -> Result<(), Memory>
-        ensures { OnOk result ((done : DoneValue) → IsKnown self.new done → IsKnown self.old done) }
+        ensures keeps { OnOk result ((done : DoneValue) → IsKnown self.new done → IsKnown self.old done) }
+        ensures effects { OnOk result (self.new.effects ≡ self.old.effects) }
     {
         if self.places.is_empty() {
             self.places.resize(MOST_DONE, None)?;
@@ -89,7 +96,8 @@ impl Memo {
     /// Keeps that the work gave these states, in place of what is kept at its place. Refused only for want of memory.
     pub fn keep(&mut self, tries: &Annotated, work: &Work, states: StateSet) -> Result<(), Memory>
         requires { work.now.node < length tries.now.trie.rows }
-        ensures { OnOk result (KeepsKnown work.now states self.old self.new) }
+        ensures keeps { OnOk result (KeepsKnown work.now states self.old self.new) }
+        ensures effects { OnOk result (self.new.effects ≡ self.old.effects) }
     {
         self.make_places()?;
         if let Some(place) = self.places.get_mut(place_of(tries, work)) {
@@ -101,9 +109,10 @@ impl Memo {
         Ok(())
     }
 
-    /// Forgets all, and keeps its memory.
+    /// Forgets all work, and keeps its memory.
     pub fn clear(&mut self)
-        ensures { (done : DoneValue) → IsKnown self.new done → ⊥ }
+        ensures none { (done : DoneValue) → IsKnown self.new done → ⊥ }
+        ensures effects { self.new.effects ≡ self.old.effects }
     {
         self.places.clear();
     }

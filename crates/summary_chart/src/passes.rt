@@ -5,6 +5,7 @@ ghost use Rattle.search_frames.specs.Costs.{HasAtMostRules};
 ghost use Rattle.search_frames.specs.Frames.{IsConfigurationIn, numbered_of};
 ghost use Rattle.summary_chart.specs.declared.passes.TheConstants.{SETS_FOR_A_WAY};
 ghost use Rattle.summary_chart.specs.declared.memo.Done.{Done as DoneValue};
+ghost use Rattle.summary_chart.specs.Effects.{AreEffects};
 ghost use Rattle.summary_chart.specs.Memos.{AreLiving, AreSpread, EndFrom, IsKnown};
 ghost use Rattle.summary_chart.specs.Tables.{IsTable, IsIndexed, set_of};
 ghost use Rattle.summary_chart.specs.Spreading.{AreGoingFurther, EveryKey, leads_in};
@@ -150,6 +151,8 @@ pub(crate) fn reach<L>(
     requires stops { kept.old.stops.items ≡ [] }
     requires ways { kept.old.ways.items ≡ [] }
     requires memo { (done : DoneValue) → IsKnown memo.old done → ⊥ }
+    requires effects { AreEffects lexicon.now.lexicon.rules memo.old.effects }
+    ensures effects { OnOk result (AreEffects lexicon.now.lexicon.rules memo.new.effects) }
     ensures reached { OnOk result (HasReached lexicon.now line.now choices.now table.new) }
     ensures kept { OnOk result (HaveWays lexicon.now line.now choices.now table.new kept.new.stops.items kept.new.ways.items) }
     ensures few { OnOk result (AreFew lexicon.now line.now kept.new.stops.items kept.new.ways.items) }
@@ -226,6 +229,7 @@ pub(crate) fn keep_living<L>(
     requires reached { HasReached lexicon.now line.now choices.now table.old }
     requires kept { HaveWays lexicon.now line.now choices.now table.old kept.now.stops.items kept.now.ways.items }
     requires memo { (done : DoneValue) → IsKnown memo.old done → ⊥ }
+    requires effects { AreEffects lexicon.now.lexicon.rules memo.old.effects }
     ensures living { OnOk result (IsChartTable lexicon.now line.now choices.now table.new) }
     ensures kept { OnOk result (HaveWays lexicon.now line.now choices.now table.new kept.now.stops.items kept.now.ways.items) }
     ensures steps { (most : ℕ) → HasAtMostRules lexicon.now.tries most → steps.new ≤ steps.old + steps_of_summary lexicon.now line.now most }

@@ -1,8 +1,9 @@
 ghost use Rattle.std.specs.Prelude.{◌≡◌, ◌+◌, ◌*◌, ◌<◌, ◌≤◌, ◌↔◌, ℕ, length, slice_index_or, All, OnOk, IsTrue};
 ghost use Rattle.text_definitions.specs.Lines.{IsLine};
+ghost use Rattle.segmentation_definitions.specs.Listings.{Key as KeyValue};
 ghost use Rattle.derivation.specs.Steps.{key_meant};
 ghost use Rattle.annotated_trie.specs.Searched.{IsSearchedLexicon};
-ghost use Rattle.search_frames.specs.Ahead.{IsAhead, MayBegin};
+ghost use Rattle.search_frames.specs.Ahead.{FitsPlace, IsAhead, MayBegin};
 ghost use Rattle.search_frames.specs.Frames.{IsConfigurationIn, numbered_of};
 ghost use Rattle.search_frames.specs.Configurations.{IsPossible};
 ghost use Rattle.search_frames.specs.Costs.{HasAtMostRules};
@@ -11,12 +12,14 @@ ghost use Rattle.summary_chart.specs.Fronts.{IsFrontAt};
 ghost use Rattle.summary_chart.specs.PlaceWays.{HasEachKey};
 ghost use Rattle.summary_chart.specs.StateSets.{HasState, IsLedTo};
 ghost use Rattle.annotated_trie.specs.Choices.{choices_with};
+ghost use Rattle.summary_chart.specs.Effects.{AreEffects};
 ghost use Rattle.summary_chart.specs.Memos.{AreSpread, HasNodes, IsKnownWith};
 ghost use Rattle.summary_chart.specs.Tables.{IsTable};
 ghost use Rattle.summary_chart.specs.Spreading.{Spreads, EveryKey, OnlyKey, IsByRule, IsAtFront, IsInPhase, leads_in};
 ghost use Rattle.summary_chart.specs.Summaries.{steps_of_front, steps_of_fronts, steps_of_items};
 
 use super::memo::{Memo, Work};
+use super::same_effect::Effects;
 use super::state_set::StateSet;
 use super::state_steps::states_after;
 use super::table::Table;
@@ -98,6 +101,58 @@ fn spread_rules<L>(
             lexicon, line, choices, place, ahead, states, after, key, table,
         );
     }
+}
+
+/// The same where every key with this front fits the place: of rules that do the same, one is looked at. Refused only for want of memory.
+fn spread_effects<L>(
+    lexicon: &Lexicon,
+    line: &Line,
+    choices: &Choices,
+    place: &Configuration,
+    ahead: Ahead,
+    states: StateSet,
+    after: StateSet,
+    phase: u32,
+    taken: u32,
+    rules: &[u32],
+    table: &mut Table,
+    effects: &mut Effects,
+    steps: &mut Steps<L>,
+) -> Result<(), Memory>
+    requires searched { IsSearchedLexicon lexicon.now }
+    requires line { IsLine line.now }
+    requires place { IsConfigurationIn lexicon.now line.now place.now }
+    requires ahead { IsAhead lexicon.now.lexicon.rules line.now place.now.at (numbered_of lexicon.now place.now).entrance ahead }
+    requires limit { place.now.at + taken ≤ ahead.limit }
+    requires begins { MayBegin (numbered_of lexicon.now place.now).entrance phase }
+    requires after { (number : ℕ) → HasState after number ↔ IsLedTo lexicon.now.machine states phase number }
+    requires rules { All (λ rule. 0 < rule) rules.now }
+    requires possible { All (λ rule. IsPossible lexicon.now line.now (numbered_of lexicon.now place.now) (record { phase = phase; taken = taken; rule = rule })) rules.now }
+    requires fits { (key : KeyValue) → key.taken ≡ taken → IsPossible lexicon.now line.now (numbered_of lexicon.now place.now) key → MayBegin (numbered_of lexicon.now place.now).entrance key.phase → FitsPlace lexicon.now line.now choices.now (numbered_of lexicon.now place.now) key }
+    requires table { IsTable (leads_in lexicon.now) (length line.now.letters) table.old }
+    requires effects { AreEffects lexicon.now.lexicon.rules effects.old }
+    ensures effects { OnOk result (AreEffects lexicon.now.lexicon.rules effects.new) }
+    ensures table { OnOk result (IsTable (leads_in lexicon.now) (length line.now.letters) table.new) }
+    ensures spreads { OnOk result (Spreads lexicon.now line.now choices.now place.now.at place.now.entrance states (IsByRule phase taken rules.now) table.old table.new) }
+    ensures steps { steps.new ≤ steps.old + length rules.now }
+    ensures counted { OnOk result (steps.old + length rules.now ≤ steps.new) }
+{
+    effects.begin(lexicon.rules(), rules.len())?;
+    for rule in rules {
+        steps.tick();
+        if effects.repeats(lexicon.rules(), *rule) {
+            continue;
+        }
+        let key = Key {
+            phase,
+            taken,
+            rule: *rule,
+        };
+        spread_key(
+            lexicon, line, choices, place, ahead, states, after, key, table,
+        );
+    }
+    Ok(())
 }
 
 /// Puts into the table where the key with this front that has no change leads on to from the states of the set, if a form ends at its node.
@@ -198,12 +253,28 @@ fn spread_changed<L>(
         return Ok(());
     }
     let rules = tries.choices_with(work.node, letter, steps);
-    spread_rules(
-        lexicon, line, choices, place, ahead, states, after, work.phase, taken, rules, table, steps,
-    );
     if !shares {
+        spread_rules(
+            lexicon, line, choices, place, ahead, states, after, work.phase, taken, rules, table,
+            steps,
+        );
         return Ok(());
     }
+    spread_effects(
+        lexicon,
+        line,
+        choices,
+        place,
+        ahead,
+        states,
+        after,
+        work.phase,
+        taken,
+        rules,
+        table,
+        &mut memo.effects,
+        steps,
+    )?;
     memo.keep(tries, work, all)?;
     Ok(())
 }

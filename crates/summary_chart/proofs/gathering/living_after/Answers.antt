@@ -4,6 +4,7 @@ use Rattle.std.proofs.Common.{◌≡◌, ℕ, ◌<◌, ◌≤◌, ◌↔◌, Lis
 use Rattle.list_laws.proofs.Sorted.{All-from_Contains}
 use Rattle.annotated_trie.specs.Choices.{AnnotatedTrie, choices_with}
 use Rattle.search_frames.specs.Configurations.{rules_in}
+use Rattle.summary_chart.specs.Effects.{AreEffects}
 use Rattle.summary_chart.specs.Memos.{HasNodes, IsSameWork, LivesBy}
 use Rattle.summary_chart.specs.StateSets.{HasState}
 use Rattle.summary_chart.proofs.FrontKeys.{few_written}
@@ -21,8 +22,8 @@ returns-in-Some-clause-living g c =
     same_work searched c.args.line.now c.args.table.now done c.args.work.now c.in-Some.states
     (subst (λ (t : AnnotatedTrie). IsSameWork t done.work c.args.work.now) c.tries-tries.ensures.value same) states (c.requires.memo.living done known)
 
-pub living_by_rules-living-requires-clause-rules : goal.living_by_rules-living-requires-clause-rules
-living_by_rules-living-requires-clause-rules g c =
+pub living_by_rules-requires-clause-rules : goal.living_by_rules-requires-clause-rules
+living_by_rules-requires-clause-rules g c =
     let searched = c.args.lexicon.now in
     let node = c.args.work.now.node in
     let Named = λ (rule : ℕ). (0 < rule) × (rule ≤ length (rules_in searched).rules) in
@@ -41,34 +42,46 @@ returns-in_err-keep-clause-steps g c most few =
     let count = ap length rules in
     let short = few_written searched.tries node c.args.letter in
     let all = few node c.requires.node in
-    omega (arith, c.tick.ensures, c.choices_with-rules.ensures.steps, c.living_by_rules-living.ensures.steps, count, short, all)
+    omega (arith, c.tick.ensures, c.choices_with-rules.ensures.steps, c.living_by_rules.ensures.steps, count, short, all)
+
+pub returns-in_err-living-clause-steps : goal.returns-in_err-living-clause-steps
+returns-in_err-living-clause-steps g c most few =
+    let searched = c.args.lexicon.now in
+    let node = c.args.work.now.node in
+    let rules : c.choices_with-rules.result.now ≡ choices_with searched.tries node c.args.letter =
+    c.choices_with-rules.ensures.value ∙ ap (λ (t : AnnotatedTrie). choices_with t node c.args.letter) c.tries-tries.ensures.value in
+    let count = ap length rules in
+    let short = few_written searched.tries node c.args.letter in
+    let all = few node c.requires.node in
+    omega (arith, c.tick.ensures, c.choices_with-rules.ensures.steps, c.living_by_rules.ensures.steps, count, short, all)
 
 pub returns-clause-memo : goal.returns-clause-memo
 returns-clause-memo g c =
     let searched = c.args.lexicon.now in
     let work = c.args.work.now in
-    let living = c.living_by_rules-living.result in
+    let living = c.in_ok-living.living in
     let rules : c.choices_with-rules.result.now ≡ choices_with searched.tries work.node c.args.letter =
     c.choices_with-rules.ensures.value ∙ ap (λ (t : AnnotatedTrie). choices_with t work.node c.args.letter) c.tries-tries.ensures.value in
     let are = lives_written searched c.args.line.now c.args.table.now work c.args.letter c.requires.searched c.requires.node c.requires.end c.requires.letter living
     (subst (λ (some : List ℕ). (number : ℕ) → HasState living number ↔ LivesBy searched c.args.line.now c.args.table.now work (Contains some) number)
-    rules c.living_by_rules-living.ensures.living) in
-    living_kept searched c.args.line.now c.args.table.now work living c.args.memo.now c.keep.new.self c.requires.memo c.requires.node are c.in_ok-keep.ensures
+    rules c.in_ok-living.ensures.living) in
+    living_kept searched c.args.line.now c.args.table.now work living c.args.memo.now c.keep.new.self c.requires.memo c.requires.node are c.in_ok-keep.ensures.keeps
+    (subst (AreEffects (rules_in searched)) (sym c.in_ok-keep.ensures.effects) c.in_ok-living.ensures.effects)
 
 pub returns-clause-ends : goal.returns-clause-ends
 returns-clause-ends g c at low ends =
-    ends_kept at c.args.work.now c.living_by_rules-living.result c.args.memo.now c.keep.new.self low ends c.in_ok-keep.ensures
+    ends_kept at c.args.work.now c.in_ok-living.living c.args.memo.now c.keep.new.self low ends c.in_ok-keep.ensures.keeps
 
 pub returns-clause-living : goal.returns-clause-living
 returns-clause-living g c =
     let searched = c.args.lexicon.now in
     let work = c.args.work.now in
-    let living = c.living_by_rules-living.result in
+    let living = c.in_ok-living.living in
     let rules : c.choices_with-rules.result.now ≡ choices_with searched.tries work.node c.args.letter =
     c.choices_with-rules.ensures.value ∙ ap (λ (t : AnnotatedTrie). choices_with t work.node c.args.letter) c.tries-tries.ensures.value in
     lives_written searched c.args.line.now c.args.table.now work c.args.letter c.requires.searched c.requires.node c.requires.end c.requires.letter living
     (subst (λ (some : List ℕ). (number : ℕ) → HasState living number ↔ LivesBy searched c.args.line.now c.args.table.now work (Contains some) number)
-    rules c.living_by_rules-living.ensures.living)
+    rules c.in_ok-living.ensures.living)
 
 pub returns-clause-steps : goal.returns-clause-steps
 returns-clause-steps g c most few =
@@ -79,4 +92,4 @@ returns-clause-steps g c most few =
     let count = ap length rules in
     let short = few_written searched.tries node c.args.letter in
     let all = few node c.requires.node in
-    omega (arith, c.tick.ensures, c.choices_with-rules.ensures.steps, c.living_by_rules-living.ensures.steps, count, short, all)
+    omega (arith, c.tick.ensures, c.choices_with-rules.ensures.steps, c.living_by_rules.ensures.steps, count, short, all)

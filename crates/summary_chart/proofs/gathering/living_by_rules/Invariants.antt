@@ -1,5 +1,7 @@
--- The states that live by the rules so far were found, and each rule took a step.
+-- The states that live by the rules so far were found, of these one that does the same was looked at for each that has the turn, and each
+-- rule took a step.
 use Rattle.std.proofs.Common.{◌≡◌, ◌+◌, ◌≤◌, ◌↔◌, ℕ, length, take, Contains}
+use Rattle.summary_chart.specs.Effects.{AreEffects, HaveLooked}
 use Rattle.summary_chart.specs.Memos.{LivesBy}
 use Rattle.summary_chart.specs.StateSets.{HasState}
 use Rattle.summary_chart.proofs.gathering.living_by_rules.Given as goal
@@ -7,6 +9,8 @@ use Rattle.summary_chart.proofs.gathering.living_by_rules.Given as goal
 abbrev pub invariant-loop-rule : goal.invariant-loop-rule
 invariant-loop-rule g l = record {
   low : l.rule-index ≤ length l.rules;
+  effects : AreEffects l.lexicon.lexicon.rules l.effects;
+  looked : HaveLooked l.lexicon.lexicon.rules (take l.rule-index l.rules) l.effects;
   living : (number : ℕ) → HasState l.living number ↔ LivesBy l.lexicon l.line l.table l.work (Contains (take l.rule-index l.rules)) number;
   spent : l.steps ≡ l.fn.steps + l.rule-index;
 }

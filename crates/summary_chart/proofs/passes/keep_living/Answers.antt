@@ -26,7 +26,7 @@ loop-until-init g c =
       from = living_down searched line choices first c.len.result table from (none_in_empty searched line choices table lawful first c.len.result empty);
       low = (let rises = empty.rises in let within = empty.within in omega (arith, rises, within));
       kept = c.requires.kept;
-      memo = nothing_living searched line table c.args.memo.now c.requires.memo;
+      memo = nothing_living searched line table c.args.memo.now c.requires.memo c.requires.effects;
       past = nothing_past searched first c.args.memo.now c.requires.memo;
       steps = λ most few.
           let less = fewer_left (c.args.steps.now + steps_of_summary searched line most) c.len.result first (steps_of_items searched most) c.args.steps.now empty.rises

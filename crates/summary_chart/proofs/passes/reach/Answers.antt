@@ -29,7 +29,7 @@ loop-index-init g c =
       kept = until searched line choices 0 c.next_filled-index.result table stops ways (omega arith) none;
       few = subst (λ (s : List Stop). AreFew searched line s ways) (sym c.requires.stops)
           (subst (AreFew searched line []) (sym c.requires.ways) (none_few searched line choices));
-      memo = nothing_spread searched line table c.args.memo.now c.requires.memo;
+      memo = nothing_spread searched line table c.args.memo.now c.requires.memo c.requires.effects;
       within = empty.within;
       steps = λ most few. omega arith;
     }
