@@ -112,22 +112,6 @@ module _ (searched : SearchedLexicon) (line : Line) (choices : List Choice) (her
   pub not_fitting : (FitsPlace searched line choices here key → ⊥) → MayNeither searched line choices here key
   not_fitting not = not_standing (λ stands. not (stands_fits stands))
 
-  -- a key that may stand takes no letter past the limit
-  pub near_if_stands : (ahead : Ahead) → IsAhead (rules_in searched) line here.at here.entrance ahead
-      → MayStand searched.lexicon line choices here.at here.entrance key → here.at + key.taken ≤ ahead.limit
-  near_if_stands ahead is stands = elim (cases_lt ahead.limit (here.at + key.taken)) [
-    | inl past ↦
-        let within = stands.within in
-        let stop = is.stop (omega (arith, past, within)) in
-        absurd (All-contains (λ blank. here.at < blank → blank < here.at + key.taken → ⊥) line.blanks ahead.limit stands.blanks stop.0 stop.1 past)
-    | inr near ↦ near
-  ]
-
-  -- no key takes a letter past the limit
-  pub past_limit : (ahead : Ahead) → IsAhead (rules_in searched) line here.at here.entrance ahead → ahead.limit < here.at + key.taken
-      → MayNeither searched line choices here key
-  past_limit ahead is past = not_standing (λ stands. (let near = near_if_stands ahead is stands in omega (arith, near, past)))
-
   -- the phase of a key that may stand may begin
   pub begins_if_stands : MayStand searched.lexicon line choices here.at here.entrance key → MayBegin here.entrance key.phase
   begins_if_stands stands = begun here.entrance refl stands.enters where
@@ -136,6 +120,33 @@ module _ (searched : SearchedLexicon) (line : Line) (choices : List Choice) (her
     begun Start is enters = tt
     begun (Plain letter) is enters = tt
     begun (Lead v after) is enters = enters
+
+  -- where a key that may stand takes a letter, a form that takes one may be entered
+  lets_letter_in : (ahead : Ahead) → IsAhead (rules_in searched) line here.at here.entrance ahead
+      → MayStand searched.lexicon line choices here.at here.entrance key → 0 < key.taken → LetsLetterIn (rules_in searched) line here.at here.entrance
+  lets_letter_in ahead is stands some =
+      is.entering.0 ((enters_with_letter (rules_in searched) line here.at here.entrance key ahead.enters stands.within some (begins_if_stands stands) is.entering).1
+      stands.enters)
+
+  -- a key that may stand takes no letter past the limit
+  pub near_if_stands : (ahead : Ahead) → IsAhead (rules_in searched) line here.at here.entrance ahead
+      → MayStand searched.lexicon line choices here.at here.entrance key → here.at + key.taken ≤ ahead.limit
+  near_if_stands ahead is stands = elim (cases_lt ahead.limit (here.at + key.taken)) [
+    | inl past ↦
+        let within = stands.within in
+        let low = is.low in
+        elim (is.stop (omega (arith, past, within))) [
+          | inl stop ↦
+              absurd (All-contains (λ blank. here.at < blank → blank < here.at + key.taken → ⊥) line.blanks ahead.limit stands.blanks stop.0 stop.1 past)
+          | inr closed ↦ absurd (closed (lets_letter_in ahead is stands (omega (arith, past, low))))
+        ]
+    | inr near ↦ near
+  ]
+
+  -- no key takes a letter past the limit
+  pub past_limit : (ahead : Ahead) → IsAhead (rules_in searched) line here.at here.entrance ahead → ahead.limit < here.at + key.taken
+      → MayNeither searched line choices here key
+  past_limit ahead is past = not_standing (λ stands. (let near = near_if_stands ahead is stands in omega (arith, near, past)))
 
   -- where the phase of a key may not begin, it does nothing
   pub not_begun : (MayBegin here.entrance key.phase → ⊥) → MayNeither searched line choices here key

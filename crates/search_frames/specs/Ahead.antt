@@ -1,6 +1,6 @@
 -- What a line tells of every form that begins at a place, and what a rule does after so many letters of the line, wherever the
 -- form before it begins (own).
-use Rattle.std.specs.Prelude.{◌≡◌, ℕ, ◌+◌, ◌<◌, ◌≤◌, ◌↔◌, Bool, IsTrue, List, length, take, drop, slice_index, All, Contains}
+use Rattle.std.specs.Prelude.{◌≡◌, ℕ, ◌+◌, ◌<◌, ◌≤◌, ◌↔◌, ◌⊎◌, Bool, IsTrue, List, length, take, drop, slice_index, All, Contains}
 use Rattle.text_definitions.specs.Lines.{Line}
 use Rattle.lexicon_definitions.specs.Leads.{leads_of}
 use Rattle.lexicon_definitions.specs.Rules.{IsInner, IsFinal, HasPhase}
@@ -43,12 +43,13 @@ MayBegin (Plain letter) phase = Unit {0}
 MayBegin (Lead v after) phase = HasPhase after phase
 
 -- what the line tells of the forms that begin at the place and are entered so: no blank stands between the place and the limit, and one
--- stands there unless the line ends there; whether a blank stands after the place; and whether the next letter of the line may begin one
+-- stands there unless the line ends there, or the place is there and no form that takes a letter may be entered; whether a blank stands
+-- after the place; and whether the next letter of the line may begin a form
 pub record IsAhead (rules : RuleSet) (line : Line) (at : ℕ) (entrance : Entrance) (ahead : Ahead) : Type 0 where
   pub low : at ≤ ahead.limit
   pub within : ahead.limit ≤ length line.letters
   pub blanks : All (λ blank. at < blank → blank < ahead.limit → ⊥) line.blanks
-  pub stop : (ahead.limit < length line.letters) → Contains line.blanks ahead.limit × (at < ahead.limit)
+  pub stop : ahead.limit < length line.letters → (Contains line.blanks ahead.limit × (at < ahead.limit)) ⊎ (LetsLetterIn rules line at entrance → ⊥)
   pub ending : IsTrue ahead.may_end ↔ All (λ blank. blank ≤ at) line.blanks
   pub entering : IsTrue ahead.enters ↔ LetsLetterIn rules line at entrance
 

@@ -27,9 +27,10 @@ use phoneme::{Letter, Line};
 use reader_choices::Choices;
 use sandhi_rules::RuleSet;
 
-/// What a line tells of every form that begins at a place: after how many letters of the line the first blank after the place stands, or
-/// all letters where there is none, and no form goes past it; whether no blank stands after the place, so that the line may end with the
-/// form; and whether a form that takes a letter of the line may be entered.
+/// What a line tells of every form that begins at a place: the number of letters of the line past which no form goes, which is the place
+/// itself where no form that takes a letter may be entered, else that of the first blank after the place, or of all letters where there
+/// is none; whether no blank stands after the place, so that the line may end with the form; and whether a form that takes a letter of
+/// the line may be entered.
 #[derive(Clone, Copy, Debug, PartialEq, Eq)]
 pub struct Ahead {
     pub limit: u32,
@@ -185,17 +186,14 @@ impl Ahead {
         ensures { IsAhead rules.now line.now place.now.at (entrance_of (leads_of rules.now.rules) place.now.entrance) result }
     {
         let enters = lets_letter_in(rules, line, place);
-        match next_blank(line, place.at) {
-            None => Ahead {
-                limit: line.letters.len() as u32,
-                may_end: true,
-                enters,
-            },
-            Some(blank) => Ahead {
-                limit: blank,
-                may_end: false,
-                enters,
-            },
+        let (stop, may_end) = match next_blank(line, place.at) {
+            None => (line.letters.len() as u32, true),
+            Some(blank) => (blank, false),
+        };
+        Ahead {
+            limit: if enters { stop } else { place.at },
+            may_end,
+            enters,
         }
     }
 
