@@ -7,6 +7,7 @@ ghost use Rattle.answer_printing.specs.Fronts.{AreStarts, IsOpen, step_in};
 use super::RuleTexts;
 use super::printed_front::{PrintedFront, PrintedStep};
 use derivation::Step;
+use itoa::Buffer;
 use latin_schemes::print_slp1;
 use phoneme::{Line, Memory};
 use std::alloc::Global;
@@ -47,13 +48,32 @@ impl<'a> AnswerPrinter<'a> {
     ) -> Result<AnswerPrinter<'a>, Memory>
         ensures ok { IfOk result (λ printer. printer ≡ record { rules = texts.now; letters = line.now.letters }) }
     {
+        AnswerPrinter::over(alloc, texts, line, PrintedFront::new(alloc))
+    }
+
+    /// The same in the memory of a printed front, whatever was printed.
+    pub fn over(
+        alloc: Global,
+        texts: &'a RuleTexts<'a>,
+        line: &'a Line,
+        front: PrintedFront,
+    ) -> Result<AnswerPrinter<'a>, Memory>
+        ensures ok { IfOk result (λ printer. printer ≡ record { rules = texts.now; letters = line.now.letters }) }
+    {
+        let mut front = front;
+        front.clear();
         Ok(AnswerPrinter {
             alloc,
             texts,
             line,
             spelled: print_slp1(alloc, &line.letters)?,
-            front: PrintedFront::new(alloc),
+            front,
         })
+    }
+
+    /// What it printed last, whose memory may serve for another line.
+    pub fn into_front(self) -> PrintedFront {
+        self.front
     }
 
     /// The letters of the line that the step takes, in SLP1.
@@ -199,7 +219,9 @@ impl<'a> AnswerPrinter<'a> {
         let alloc = self.alloc;
         let before = mem::replace(&mut self.front, PrintedFront::new(alloc));
         self.front = self.print_steps(before, steps)?;
-        output.extend_from_slice(format!(in alloc; "{number}: ")?.as_bytes())?;
+        let mut digits = Buffer::new();
+        output.extend_from_slice(digits.format(number).as_bytes())?;
+        output.extend_from_slice(b": ")?;
         output.extend_from_slice(self.front.text.as_slice())?;
         output.push(b'\n')?;
         Ok(())

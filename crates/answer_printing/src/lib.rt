@@ -18,6 +18,7 @@ mod rule_texts;
 mod sharing;
 
 pub use answer_printer::AnswerPrinter;
+pub use printed_front::PrintedFront;
 pub use page_printing::{NextAnswers, push_answers, push_page, rest_line};
 pub use refusals::{push_refusal, push_text_refusal};
 pub use rule_texts::RuleTexts;

@@ -13,11 +13,12 @@ pub(crate) struct PrintedStep {
     pub before: u32,
 }
 
-/// The printed steps of an answer. The next answer mostly begins with many of them, so only the steps after these are printed anew.
+/// The printed steps of an answer. The next answer mostly begins with many of them, so only the steps after these are printed anew. Its
+/// memory may serve for the answers of another line.
 #[derive(Debug, Drop)]
-pub(crate) struct PrintedFront {
-    pub steps: Vec<PrintedStep>,
-    pub text: Vec<u8>,
+pub struct PrintedFront {
+    pub(crate) steps: Vec<PrintedStep>,
+    pub(crate) text: Vec<u8>,
 }
 
 impl PrintedFront {
@@ -30,6 +31,15 @@ impl PrintedFront {
             steps: Vec::new(alloc),
             text: Vec::new(alloc),
         }
+    }
+
+    /// Drops what is printed, and keeps its memory.
+    pub(crate) fn clear(&mut self)
+        ensures steps { self.new.steps.items ≡ [] }
+        ensures text { self.new.text.items ≡ [] }
+    {
+        self.steps.clear();
+        self.text.clear();
     }
 
     /// How many steps at the beginning are printed already, without the last of either.
@@ -48,7 +58,7 @@ impl PrintedFront {
     }
 
     /// Keeps of the printed steps those with which these begin, and not the last of them. Answers the rule before the next step.
-    pub fn keep(&mut self, steps: &[Step]) -> u32
+    pub(crate) fn keep(&mut self, steps: &[Step]) -> u32
         requires { 0 < length steps.now }
         ensures open { (rules : RuleSet) (letters : List ℕ) → AreStarts rules letters self.old.steps.items self.old.text.items
             → IsOpen rules letters self.new.steps.items result self.new.text.items }

@@ -1,3 +1,4 @@
 pub mod Replies
 pub mod Blocks
 pub mod Serving
+pub mod Desks

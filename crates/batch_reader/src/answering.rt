@@ -4,7 +4,7 @@ ghost use Rattle.text_definitions.specs.Lines.{Line as LineValue};
 ghost use Rattle.lexicon_definitions.specs.Lexicons.{Lexicon as LexiconValue};
 ghost use Rattle.batch_reader.specs.Replies.{IsReply, AreFound, AreReplies};
 
-use super::replier::Replier;
+use super::replier::{Desk, Replier};
 use annotated_trie::Lexicon;
 use answer_printing::RuleTexts;
 use outside::Gate;
@@ -51,13 +51,15 @@ fn find_replies<G: Gate>(
     ensures ok { IfOk result (λ found. AreFound replier.now.lexicon.now.lexicon replier.now.count lines.now found.items) }
 {
     let mut found = no_replies(alloc, lines)?;
-    let mut room = Vec::new(alloc);
+    let mut desk = Desk::new(alloc, replier.lexicon)?;
     for _ in 0..lines.len() {
         let place = next.fetch_add(1, Ordering::SeqCst);
         if place >= lines.len() {
             break;
         }
-        found[place] = Some(replier.reply(alloc, &lines[place], place as u64, &mut room)?);
+        let (reply, kept) = replier.reply(alloc, &lines[place], place as u64, desk)?;
+        found[place] = Some(reply);
+        desk = kept;
     }
     Ok(found)
 }
@@ -115,8 +117,9 @@ fn reply_late<G: Gate>(
 ) -> Result<Vec<u8>, Memory>
     ensures ok { IfOk result (λ text. IsReply replier.now.lexicon.now.lexicon replier.now.count line.now text.items) }
 {
-    let mut room = Vec::new(alloc);
-    replier.reply(alloc, line, place, &mut room)
+    let desk = Desk::new(alloc, replier.lexicon)?;
+    let (reply, _desk) = replier.reply(alloc, line, place, desk)?;
+    Ok(reply)
 }
 
 /// The replies to all lines, of which these were found. A line that no worker has answered is answered here. That the count of the lines

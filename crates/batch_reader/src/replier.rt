@@ -1,11 +1,13 @@
-ghost use Rattle.std.specs.Prelude.{◌≡◌, IfOk, OnOk};
+ghost use Rattle.std.specs.Prelude.{◌≡◌, IfOk};
+ghost use Rattle.batch_reader.specs.Desks.{IsDesk};
 ghost use Rattle.batch_reader.specs.Replies.{IsReply};
 
 use annotated_trie::Lexicon;
-use answer_printing::{AnswerPrinter, NextAnswers, RuleTexts, push_page};
+use answer_printing::{AnswerPrinter, NextAnswers, PrintedFront, RuleTexts, push_page};
 use outside::{Gate, NoGate, Steps};
 use phoneme::{Line, Memory};
 use reader_choices::Choices;
+use search_frames::{Resumption, new_stack};
 use segmenter::Search;
 use std::alloc::Global;
 use summary_chart::Chart;
@@ -21,38 +23,75 @@ pub(crate) struct Replier<'a, G: Gate> {
     pub ghost same_rules: { texts.now ≡ lexicon.now.lexicon.rules },
 }
 
-impl<'a, G: Gate> Replier<'a, G> {
-    /// Prints the page of the line's first answers, found under its chart and numbered from 1, into the room.
-    fn print_page(&self, alloc: Global, line: &Line, room: &mut Vec<u8>) -> Result<(), Memory>
-        ensures ok { OnOk result (IsReply self.now.lexicon.now.lexicon self.now.count line.now room.new.items) }
+/// What a worker keeps from line to line, whose memory serves again: the chart, the stack of the search, what was printed of the last
+/// answer, and the page.
+#[derive(Drop)]
+pub(crate) struct Desk {
+    chart: Chart,
+    stack: Resumption,
+    front: PrintedFront,
+    page: Vec<u8>,
+}
+
+impl Desk {
+    /// A desk on which no line was read. Refused only for want of memory.
+    pub fn new(alloc: Global, lexicon: &Lexicon) -> Result<Desk, Memory>
+        ensures { IfOk result IsDesk }
     {
-        room.clear();
+        Ok(Desk {
+            chart: Chart::new(alloc),
+            stack: new_stack(alloc, lexicon, 0)?,
+            front: PrintedFront::new(alloc),
+            page: Vec::new(alloc),
+        })
+    }
+}
+
+impl<'a, G: Gate> Replier<'a, G> {
+    /// The desk, once the page of the line's first answers is printed on it, found under its chart and numbered from 1.
+    fn print_page(&self, alloc: Global, line: &Line, desk: Desk) -> Result<Desk, Memory>
+        requires { IsDesk desk }
+        ensures desk { IfOk result IsDesk }
+        ensures ok { IfOk result (λ desk. IsReply self.now.lexicon.now.lexicon self.now.count line.now desk.page.items) }
+    {
         let choices = Choices::new(alloc);
         let mut steps = Steps::<()>::new();
-        let chart = Chart::build(alloc, self.lexicon, line, &choices, &mut steps)?;
-        let mut search = Search::new(alloc, self.lexicon, line, &choices, &chart)?;
-        let mut printer = AnswerPrinter::new(alloc, self.texts, line)?;
+        let chart = desk.chart.rebuilt(alloc, self.lexicon, line, &choices, &mut steps)?;
+        let mut search = Search::over(self.lexicon, line, &choices, &chart, desk.stack)?;
+        let mut printer = AnswerPrinter::over(alloc, self.texts, line, desk.front)?;
         let asked = NextAnswers {
             number: 1,
             count: self.count,
         };
-        push_page(room, &mut printer, &mut search, asked, &mut steps)
+        let mut page = desk.page;
+        page.clear();
+        push_page(&mut page, &mut printer, &mut search, asked, &mut steps)?;
+        let stack = search.into_resumption();
+        Ok(Desk {
+            chart,
+            stack,
+            front: printer.into_front(),
+            page,
+        })
     }
 
-    /// The reply to the line with this number, by a worker that passes the gate before it begins. It is printed into the worker's room,
-    /// which is kept from line to line, and takes no more memory than it has bytes.
+    /// The reply to the line with this number, by a worker that passes the gate before it begins, and the worker's desk, which is kept
+    /// from line to line. The reply takes no more memory than it has bytes.
     pub fn reply(
         &self,
         alloc: Global,
         line: &Line,
         number: u64,
-        room: &mut Vec<u8>,
-    ) -> Result<Vec<u8>, Memory>
-        ensures ok { IfOk result (λ text. IsReply self.now.lexicon.now.lexicon self.now.count line.now text.items) }
+        desk: Desk,
+    ) -> Result<(Vec<u8>, Desk), Memory>
+        requires { IsDesk desk }
+        ensures ok { IfOk result (λ given. IsReply self.now.lexicon.now.lexicon self.now.count line.now given.0.items) }
+        ensures desk { IfOk result (λ given. IsDesk given.1) }
     {
         self.gate.pass(number);
-        self.print_page(alloc, line, room)?;
-        Ok(Vec::from_slice(alloc, room.as_slice())?)
+        let desk = self.print_page(alloc, line, desk)?;
+        let reply = Vec::from_slice(alloc, desk.page.as_slice())?;
+        Ok((reply, desk))
     }
 }
 
@@ -73,7 +112,7 @@ pub fn first_page(
         count,
         gate: &NoGate,
     };
-    let mut page = Vec::new(alloc);
-    replier.print_page(alloc, line, &mut page)?;
-    Ok(page)
+    let desk = Desk::new(alloc, lexicon)?;
+    let answered = replier.print_page(alloc, line, desk)?;
+    Ok(answered.page)
 }

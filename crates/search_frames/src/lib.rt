@@ -45,7 +45,7 @@ pub use guiding::{SearchGuide, ToTry, Turn};
 pub use letter_testing::{LetterTest, test_letters};
 pub use opening::open_frame;
 pub use resumption::Resumption;
-pub use rooms::new_stack;
+pub use rooms::{new_stack, renewed_stack};
 pub use search_space::SearchSpace;
 pub use seeking::seek;
 pub use sharing::resumptions_are_shared;

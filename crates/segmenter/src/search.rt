@@ -1,13 +1,13 @@
 ghost use Rattle.std.specs.Prelude.{◌≡◌, ◌+◌, ◌*◌, ◌<◌, ◌≤◌, ℕ, length, IfOk, MatchOption, Some, None, List};
 ghost use Rattle.std.specs.Bool.{OnTrue, OnFalse};
-ghost use Rattle.text_definitions.specs.Lines.{Line as LineValue};
+ghost use Rattle.text_definitions.specs.Lines.{IsLine, Line as LineValue};
 ghost use Rattle.segmentation_definitions.specs.Items.{Choice};
 ghost use Rattle.segmentation_definitions.specs.Listings.{BeforeFirst};
 ghost use Rattle.annotated_trie.specs.Searched.{IsSearchedLexicon};
 ghost use Rattle.search_frames.specs.declared.cursor.Cursor.TheVariants as cursor;
 ghost use Rattle.search_frames.specs.Frames.{IsConfigurationIn, numbered_of};
 ghost use Rattle.search_frames.specs.Configurations.{opening};
-ghost use Rattle.search_frames.specs.Stacks.{KeepsBefore, cursor_in};
+ghost use Rattle.search_frames.specs.Stacks.{IsStack, KeepsBefore, cursor_in};
 ghost use Rattle.search_frames.specs.Guided.{IsGuideOf, IsExactOf};
 ghost use Rattle.search_frames.specs.Costs.{HasAtMostRules};
 ghost use Rattle.segmentation_definitions.specs.StepBounds.{advance_bound};
@@ -22,7 +22,7 @@ use derivation::{Entrance, Step};
 use outside::Steps;
 use phoneme::{Line, Memory};
 use reader_choices::Choices;
-use search_frames::{Configuration, Cursor, Resumption, SearchGuide, SearchSpace, new_stack};
+use search_frames::{Configuration, Cursor, Resumption, SearchGuide, SearchSpace, new_stack, renewed_stack};
 use std::alloc::Global;
 use std::marker::Model;
 
@@ -63,6 +63,24 @@ impl<'a, D: SearchGuide> Search<'a, D> {
         ensures ok { IfOk result (λ search. search ≡ record { searched = lexicon.now; line = line.now; choices = choices.now; cursor = BeforeFirst }) }
     {
         let stack = empty_stack(alloc, lexicon, line)?;
+        Ok(Search::go_on(lexicon, line, choices, guide, stack))
+    }
+
+    /// A search that stands before the first answer, on this stack, which gets room for the longest where it has less. Refused only for
+    /// want of memory.
+    pub fn over(
+        lexicon: &'a Lexicon,
+        line: &'a Line,
+        choices: &'a Choices,
+        guide: &'a D,
+        stack: Resumption,
+    ) -> Result<Search<'a, D>, Memory>
+        requires guide { IsGuideOf lexicon.now line.now choices.now (D.covers guide.now) (D.says guide.now) }
+        requires known { D.known guide.now lexicon.now line.now choices.now }
+        requires stack { IsStack stack }
+        ensures ok { IfOk result (λ search. search ≡ record { searched = lexicon.now; line = line.now; choices = choices.now; cursor = BeforeFirst }) }
+    {
+        let stack = renewed_stack(stack, lexicon, most_steps(line))?;
         Ok(Search::go_on(lexicon, line, choices, guide, stack))
     }
 
@@ -207,7 +225,15 @@ pub(crate) fn opening(lexicon: &Lexicon) -> Configuration
     }
 }
 
-/// A stack before the first answer, with room for the most steps that an answer can have, twice the number of letters.
+/// The most steps that an answer of the line can have, twice the number of its letters.
+fn most_steps(line: &Line) -> usize
+    ensures line { IsLine line.now }
+    ensures most { result ≡ 2 * length line.now.letters }
+{
+    2 * line.letters.as_slice().len()
+}
+
+/// A stack before the first answer, with room for the most steps that an answer can have.
 pub(crate) fn empty_stack(
     alloc: Global,
     lexicon: &Lexicon,
@@ -216,5 +242,5 @@ pub(crate) fn empty_stack(
     ensures cursor { IfOk result (λ stack. cursor_in stack ≡ cursor.Before) }
     ensures ok { IfOk result (λ stack. (choices : List Choice) → IsStackOf lexicon.now line.now choices stack) }
 {
-    new_stack(alloc, lexicon, 2 * line.letters.as_slice().len())
+    new_stack(alloc, lexicon, most_steps(line))
 }

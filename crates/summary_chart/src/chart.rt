@@ -19,16 +19,18 @@ use outside::Steps;
 use phase_automaton::State;
 use phoneme::{Line, Memory};
 use reader_choices::Choices;
-use search_frames::NODES_OF_FRAME;
+use shared_trie::Node;
 use std::alloc::Global;
 use std::marker::Model;
 
 /// The chart of a line: an exact guide, which says of each configuration whether it stands in an answer (own; for the summary of
-/// Goyal and Huet 2016). It is one for the lexicon, the line and the choices with which it was built.
+/// Goyal and Huet 2016). It is one for the lexicon, the line and the choices with which it was built. Its memory may serve for the chart
+/// of another line.
 #[derive(Debug, Drop)]
 pub struct Chart {
     pub(crate) table: Table,
     pub(crate) kept: PlaceWays,
+    nodes: Vec<Node>,
 }
 
 impl Model for Chart {
@@ -39,12 +41,12 @@ impl Model for Chart {
     ghost view = { λ c. record { table = c.table; stops = c.kept.stops.items; ways = c.kept.ways.items } };
 }
 
-/// A table that has the opening alone.
-fn open_table(alloc: Global, lexicon: &Lexicon, line: &Line) -> Result<Table, Memory>
+/// A table that has the opening alone, in the memory of this one.
+fn open_table(table: Table, lexicon: &Lexicon, line: &Line) -> Result<Table, Memory>
     requires { IsLine line.now }
     ensures { IfOk result (IsOpenTable lexicon.now line.now) }
 {
-    let mut table = Table::new(alloc, lexicon.rules(), line)?;
+    let mut table = table.emptied(lexicon.rules(), line)?;
     if let Some(start) = lexicon.automaton().start().number() {
         table.add(0, Entrance::Start, StateSet::empty().with(start));
     }
@@ -52,6 +54,15 @@ fn open_table(alloc: Global, lexicon: &Lexicon, line: &Line) -> Result<Table, Me
 }
 
 impl Chart {
+    /// A chart of no line, which says of no place that it stands in an answer. Takes no memory.
+    pub fn new(alloc: Global) -> Chart {
+        Chart {
+            table: Table::new(alloc),
+            kept: PlaceWays::new(alloc),
+            nodes: Vec::new(alloc),
+        }
+    }
+
     /// The chart of the line with these choices, over the lexicon: a set of states, of four bytes, for each number of letters and each
     /// entrance; and the ways from places that have few of them, as long as ways and stops, of 24 bytes each, take no more than four
     /// bytes for each of the sets and each phase. `steps` counts each phase, node, rule and way that is looked at or kept, in two passes.
@@ -71,17 +82,34 @@ impl Chart {
         ensures steps { (most : ℕ) → HasAtMostRules lexicon.now.tries most → steps.new ≤ steps.old + 4 * steps_of_summary lexicon.now line.now most }
         ensures bound { (most : ℕ) → HasAtMostRules lexicon.now.tries most → steps.new ≤ steps.old + chart_bound lexicon.now.lexicon most (length line.now.letters) (length (leads_in lexicon.now)) }
     {
+        Chart::new(alloc).rebuilt(alloc, lexicon, line, choices, steps)
+    }
+
+    /// The chart of the line with these choices, over the lexicon, as `build` gives it, in the memory of this one, whatever it was of.
+    pub fn rebuilt<L>(
+        self,
+        alloc: Global,
+        lexicon: &Lexicon,
+        line: &Line,
+        choices: &Choices,
+        steps: &mut Steps<L>,
+    ) -> Result<Chart, Memory>
+        ensures guide { IfOk result (λ chart. IsGuideOf lexicon.now line.now choices.now (CoversPlace chart.table) (says_of chart.table)) }
+        ensures exact { IfOk result (λ chart. IsExactOf lexicon.now line.now choices.now (says_of chart.table)) }
+        ensures chart { IfOk result (λ chart. IsChartOf lexicon.now line.now choices.now chart) }
+        ensures stored { IfOk result (λ chart. length chart.table.sets.items ≡ set_count lexicon.now line.now) }
+        ensures few { IfOk result (λ chart. AreFew lexicon.now line.now chart.stops chart.ways) }
+        ensures steps { (most : ℕ) → HasAtMostRules lexicon.now.tries most → steps.new ≤ steps.old + 4 * steps_of_summary lexicon.now line.now most }
+        ensures bound { (most : ℕ) → HasAtMostRules lexicon.now.tries most → steps.new ≤ steps.old + chart_bound lexicon.now.lexicon most (length line.now.letters) (length (leads_in lexicon.now)) }
+    {
         // The proof knows what holds of a line, a lexicon and an automaton only of those that are read.
         let _letters = &line.letters;
         let _rules = lexicon.rules();
         let _states = lexicon.automaton().states();
-        let mut nodes = Vec::with_capacity(alloc, NODES_OF_FRAME)?;
-        let mut table = open_table(alloc, lexicon, line)?;
-        let letters = line.letters.as_slice().len();
-        let mut kept = PlaceWays {
-            stops: Vec::with_capacity(alloc, letters)?,
-            ways: Vec::with_capacity(alloc, letters)?,
-        };
+        let mut table = open_table(self.table, lexicon, line)?;
+        let mut kept = self.kept;
+        kept.clear();
+        let mut nodes = self.nodes;
         let mut memo = Memo::new(alloc);
         reach(
             lexicon, line, choices, &mut nodes, &mut table, &mut kept, &mut memo, steps,
@@ -90,7 +118,7 @@ impl Chart {
         keep_living(
             lexicon, line, choices, &kept, &mut nodes, &mut table, &mut memo, steps,
         )?;
-        Ok(Chart { table, kept })
+        Ok(Chart { table, kept, nodes })
     }
 }
 

@@ -1,7 +1,8 @@
-ghost use Rattle.std.specs.Prelude.{◌≡◌, ◌+◌, ◌<◌, ◌↔◌, length, IsTrue, MatchOption};
+ghost use Rattle.std.specs.Prelude.{◌≡◌, ◌+◌, ◌<◌, ◌↔◌, [], length, IsTrue, MatchOption};
 ghost use Rattle.summary_chart.specs.PlaceWays.{AreStops, AreWaysAt, HasStopAt, IsStopWithin, ways_of};
 
 use search_frames::Way;
+use std::alloc::Global;
 
 /// Where the ways stand that lead from the places at an index of a table: from `first` to before `end` among all ways.
 #[derive(Clone, Copy, Debug, PartialEq, Eq)]
@@ -19,6 +20,23 @@ pub(crate) struct PlaceWays {
 }
 
 impl PlaceWays {
+    /// No stops, and no ways. Takes no memory.
+    pub fn new(alloc: Global) -> PlaceWays {
+        PlaceWays {
+            stops: Vec::new(alloc),
+            ways: Vec::new(alloc),
+        }
+    }
+
+    /// Drops all stops and ways, and keeps their memory.
+    pub fn clear(&mut self)
+        ensures stops { self.new.stops.items ≡ [] }
+        ensures ways { self.new.ways.items ≡ [] }
+    {
+        self.stops.clear();
+        self.ways.clear();
+    }
+
     /// Whether there are fewer stops and ways together than this.
     pub fn has_room(&self, most: usize) -> bool
         ensures { IsTrue result ↔ (length self.now.stops.items + length self.now.ways.items < most) }

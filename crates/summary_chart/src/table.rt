@@ -29,12 +29,14 @@ pub(crate) struct Table {
     pub filled: Vec<u64>,
 }
 
-/// The entrances over so many leads, in the order of their columns.
-fn entrances_over(alloc: Global, leads: usize) -> Result<Vec<Entrance>, Memory>
+/// The entrances over so many leads, in the order of their columns, in place of what is in the list.
+fn entrances_over(list: Vec<Entrance>, leads: usize) -> Result<Vec<Entrance>, Memory>
     requires few { leads ≤ MOST_LEADS }
     ensures { IfOk result (λ entrances. AreEntrances leads entrances.items) }
 {
-    let mut entrances = Vec::with_capacity(alloc, leads + OTHER_ENTRANCES)?;
+    let mut entrances = list;
+    entrances.clear();
+    entrances.reserve(leads + OTHER_ENTRANCES)?;
     for place in 0..leads {
         entrances.push(Entrance::Lead(place as u16))?;
     }
@@ -48,19 +50,30 @@ fn entrances_over(alloc: Global, leads: usize) -> Result<Vec<Entrance>, Memory>
 }
 
 impl Table {
-    /// A table for the rules and the line whose sets are empty. Refused only for want of memory.
-    pub fn new(alloc: Global, rules: &RuleSet, line: &Line) -> Result<Table, Memory>
+    /// A table without sets. Takes no memory.
+    pub fn new(alloc: Global) -> Table {
+        Table {
+            entrances: Vec::new(alloc),
+            sets: Vec::new(alloc),
+            filled: Vec::new(alloc),
+        }
+    }
+
+    /// A table for the rules and the line whose sets are empty, in the memory of this one. Refused only for want of memory.
+    pub fn emptied(self, rules: &RuleSet, line: &Line) -> Result<Table, Memory>
         requires { IsLine line.now }
         ensures is_table { IfOk result (λ table. IsTable (leads_of rules.now.rules) (length line.now.letters) table) }
         ensures empty { IfOk result (λ table. (index number : ℕ) → HasState (set_of table index) number → ⊥) }
     {
         // Its contract says that there are not too many leads.
         rules.rules();
-        let entrances = entrances_over(alloc, rules.leads().len())?;
+        let entrances = entrances_over(self.entrances, rules.leads().len())?;
         let count = (line.letters.as_slice().len() + 1) * entrances.len();
-        let mut sets = Vec::new(alloc);
+        let mut sets = self.sets;
+        sets.clear();
         sets.resize(count, StateSet::empty())?;
-        let mut filled = Vec::new(alloc);
+        let mut filled = self.filled;
+        filled.clear();
         filled.resize(count / SETS_OF_WORD + 1, 0)?;
         Ok(Table {
             entrances,
