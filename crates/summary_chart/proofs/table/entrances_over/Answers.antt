@@ -5,7 +5,9 @@ use Rattle.summary_chart.proofs.TableColumns.{AreColumns, no_columns, one_more, 
 use Rattle.summary_chart.proofs.table.entrances_over.Goals as goal
 
 pub loop-place-init : goal.loop-place-init
-loop-place-init c = subst (AreColumns c.args.leads 0) (sym c.in_ok-entrances.ensures.items) (no_columns c.args.leads)
+loop-place-init c =
+    let none : c.reserve.new.self.items ≡ [] = cc in
+    subst (AreColumns c.args.leads 0) (sym none) (no_columns c.args.leads)
 
 pub loop-place-preserved : goal.loop-place-preserved
 loop-place-preserved c =

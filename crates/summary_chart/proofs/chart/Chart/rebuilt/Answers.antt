@@ -4,7 +4,7 @@ use Rattle.text_definitions.specs.Lines.{IsLine}
 use Rattle.phase_automaton.specs.Automata.{IsStateMachine}
 use Rattle.summary_chart.proofs.ChartGuides.{chart_is_guide, chart_is_exact}
 use Rattle.summary_chart.proofs.SummarySteps.{passes_within}
-use Rattle.summary_chart.proofs.chart.Chart.build.Goals as goal
+use Rattle.summary_chart.proofs.chart.Chart.rebuilt.Goals as goal
 
 pub returns-clause-guide : goal.returns-clause-guide
 returns-clause-guide g c =
