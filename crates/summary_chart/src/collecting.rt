@@ -53,6 +53,7 @@ fn collect_way<L>(
     ensures collected { OnOk result (IsCollected lexicon.now.lexicon.rules collected.new) }
     ensures adds { OnOk result (AddsItems (IsItemBy lexicon.now line.now choices.now table.now place.now.at place.now.entrance states (key_of_way way.now)) collected.old.items.items collected.new.items.items) }
     ensures steps { steps.new ≤ steps.old + 2 }
+    ensures counted { steps.old ≤ steps.new }
 {
     if states_by_way(lexicon, line, choices, place, states, way, table).is_empty() {
         return Ok(());
@@ -85,6 +86,7 @@ pub(crate) fn collect_ways<L>(
     ensures collected { OnOk result (IsCollected lexicon.now.lexicon.rules collected.new) }
     ensures adds { OnOk result (AddsItems (IsItemFrom lexicon.now line.now choices.now table.now place.now.at place.now.entrance states) collected.old.items.items collected.new.items.items) }
     ensures steps { steps.new ≤ steps.old + 3 * length ways.now }
+    ensures counted { OnOk result (steps.old + length ways.now ≤ steps.new) }
 {
     for way in ways {
         steps.tick();
@@ -160,6 +162,7 @@ fn collect_key<L>(
     ensures seen { OnOk result ((since : ℕ) → HasSeen lexicon.now line.now place.now.at place.now.entrance key.phase key.taken since collected.old
         → HasSeen lexicon.now line.now place.now.at place.now.entrance key.phase key.taken since collected.new) }
     ensures steps { steps.new ≤ steps.old + 2 }
+    ensures counted { steps.old ≤ steps.new }
 {
     if states_by_key(lexicon, line, choices, place, ahead, states, key, table).is_empty() {
         return Ok(());
@@ -196,6 +199,7 @@ fn collect_rules<L>(
     ensures collected { OnOk result (IsCollected lexicon.now.lexicon.rules collected.new) }
     ensures adds { OnOk result (AddsItems (IsItemByRule lexicon.now line.now choices.now table.now place.now.at place.now.entrance states phase taken rules.now) collected.old.items.items collected.new.items.items) }
     ensures steps { steps.new ≤ steps.old + 3 * length rules.now }
+    ensures counted { OnOk result (steps.old + length rules.now ≤ steps.new) }
 {
     collected.expect(alloc, lexicon.rules(), rules.len())?;
     let since = collected.items.len();

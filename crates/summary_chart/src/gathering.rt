@@ -114,7 +114,7 @@ fn gather_rules<L>(
     requires possible { All (λ rule. IsPossible lexicon.now line.now (numbered_of lexicon.now place.now) (record { phase = phase; taken = taken; rule = rule })) rules.now }
     requires table { IsTable (leads_in lexicon.now) (length line.now.letters) table.now }
     ensures gathers { GathersMore lexicon.now line.now choices.now table.now place.now.at place.now.entrance states (IsByRule phase taken rules.now) further result }
-    ensures steps { steps.new ≤ steps.old + length rules.now }
+    ensures steps { steps.new ≡ steps.old + length rules.now }
 {
     let mut gathered = further;
     for rule in rules {

@@ -47,6 +47,7 @@ fn push_key<L>(
     requires possible { IsPossible lexicon.now line.now (numbered_of lexicon.now place.now) (key_meant key) }
     ensures appends { OnOk result (AppendsWays lexicon.now line.now choices.now (numbered_of lexicon.now place.now) (OnlyKey (key_meant key)) ways.old.items ways.new.items) }
     ensures steps { steps.new ≤ steps.old + 1 }
+    ensures counted { steps.old ≤ steps.new }
 {
     match ahead.test(lexicon, line, choices, place, key) {
         LetterTest::Refused => Ok(()),
@@ -81,6 +82,7 @@ fn push_rules<L>(
     requires rising { IsStrictlySortedBy nat_cmp rules.now }
     ensures appends { OnOk result (AppendsWays lexicon.now line.now choices.now (numbered_of lexicon.now place.now) (IsByRule phase taken rules.now) ways.old.items ways.new.items) }
     ensures steps { steps.new ≤ steps.old + 2 * length rules.now }
+    ensures counted { OnOk result (steps.old + length rules.now ≤ steps.new) }
 {
     for rule in rules {
         steps.tick();

@@ -88,7 +88,7 @@ fn spread_rules<L>(
     requires table { IsTable (leads_in lexicon.now) (length line.now.letters) table.old }
     ensures table { IsTable (leads_in lexicon.now) (length line.now.letters) table.new }
     ensures spreads { Spreads lexicon.now line.now choices.now place.now.at place.now.entrance states (IsByRule phase taken rules.now) table.old table.new }
-    ensures steps { steps.new ≤ steps.old + length rules.now }
+    ensures steps { steps.new ≡ steps.old + length rules.now }
 {
     for rule in rules {
         steps.tick();

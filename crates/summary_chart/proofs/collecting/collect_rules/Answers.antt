@@ -21,6 +21,7 @@ loop-rule-init g c =
           let made = expected.collected.within (get_or c.expect.new.self.same_u.items rule 0) in
           absurd (omega (arith, made, above, c.len-since.ensures, c.expect.new.self.items.ok));
       spent = omega arith;
+      counted = omega arith;
     }
 
 pub loop-rule-preserved-then-has : goal.loop-rule-preserved-then-has
@@ -39,6 +40,7 @@ loop-rule-preserved-then-has g c =
           (inv.seen rule few (c.has.ensures.0 c.if-has.true)) inv.adds;
       seen = inv.seen;
       spent = omega (arith, inv.spent, c.tick.ensures);
+      counted = omega (arith, inv.counted, c.tick.ensures);
     }
 
 pub loop-rule-preserved : goal.loop-rule-preserved
@@ -55,4 +57,5 @@ loop-rule-preserved g c =
           inv.adds c.in_ok-collect_key.ensures.adds;
       seen = c.in_ok-collect_key.ensures.seen c.len-since.result inv.seen;
       spent = omega (arith, inv.spent, c.tick.ensures, c.collect_key.ensures.steps);
+      counted = omega (arith, inv.counted, c.tick.ensures, c.collect_key.ensures.counted);
     }

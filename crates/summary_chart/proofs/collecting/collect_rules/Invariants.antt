@@ -10,4 +10,5 @@ invariant-loop-rule g l = record {
       l.fn.collected.items.items l.collected.items.items;
   seen : HasSeen l.lexicon l.line l.place.at l.place.entrance l.phase l.taken l.since l.collected;
   spent : l.steps ≤ l.fn.steps + 3 * l.rule-index;
+  counted : l.fn.steps + l.rule-index ≤ l.steps;
 }

@@ -9,6 +9,7 @@ loop-way-init g c = record {
   adds = items_at_first c.args.lexicon.now c.args.line.now c.args.choices.now c.args.table.now c.args.place.now c.args.states c.args.ways.now
       c.args.collected.now.items.items;
   spent = omega arith;
+  counted = omega arith;
 }
 
 pub loop-way-preserved : goal.loop-way-preserved
@@ -20,6 +21,7 @@ loop-way-preserved g c =
           c.way-item.result (record { below = c.loop-way-test.true; is = c.way-item.is })
           c.args.collected.now.items.items c.loop-way.collected.items.items c.collect_way.new.collected.items.items inv.adds c.in_ok-collect_way.ensures.adds;
       spent = omega (arith, inv.spent, c.tick.ensures, c.collect_way.ensures.steps);
+      counted = omega (arith, inv.counted, c.tick.ensures, c.collect_way.ensures.counted);
     }
 
 pub returns-clause-adds : goal.returns-clause-adds

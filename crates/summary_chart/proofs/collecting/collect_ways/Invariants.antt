@@ -9,4 +9,5 @@ invariant-loop-way g l = record {
   collected : IsCollected l.lexicon.lexicon.rules l.collected;
   adds : AddsItems (IsItemAmongFirst l.lexicon l.line l.choices l.table l.place l.states l.ways l.way-index) l.fn.collected.items.items l.collected.items.items;
   spent : l.steps ≤ l.fn.steps + 3 * l.way-index;
+  counted : l.fn.steps + l.way-index ≤ l.steps;
 }

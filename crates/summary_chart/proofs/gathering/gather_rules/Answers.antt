@@ -10,6 +10,7 @@ pub loop-rule-init : goal.loop-rule-init
 loop-rule-init g c = record {
   gathers = visit_no_rule c.args.lexicon.now c.args.line.now c.args.choices.now c.args.place.now c.args.states StateSet
       (gather_visit c.args.lexicon.now c.args.line.now c.args.choices.now c.args.place.now c.args.states c.args.table.now) c.args.phase c.args.taken c.args.rules.now c.args.further;
+  low = omega arith;
   spent = omega arith;
 }
 
@@ -23,6 +24,7 @@ loop-rule-preserved g c =
       gathers = visit_rule c.args.lexicon.now c.args.line.now c.args.choices.now c.args.place.now c.args.states StateSet
           (gather_visit c.args.lexicon.now c.args.line.now c.args.choices.now c.args.place.now c.args.states c.args.table.now) c.args.phase c.args.taken rules
           c.loop-rule.rule-index rule c.loop-rule-test.true is c.args.further c.loop-rule.gathered c.gather_key-gathered.result inv.gathers c.gather_key-gathered.ensures;
+      low = omega (arith, c.loop-rule-test.true);
       spent = omega (arith, inv.spent, c.tick.ensures);
     }
 

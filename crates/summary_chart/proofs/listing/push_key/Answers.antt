@@ -27,4 +27,5 @@ returns-in_ok-push-in_default g c =
     record {
       appends = append_one searched line choices here way c.args.ways.now.items c.push.new.self.items is c.in_ok-push-in_default.ensures.items;
       steps = omega (arith, c.tick.ensures);
+      counted = omega (arith, c.tick.ensures);
     }

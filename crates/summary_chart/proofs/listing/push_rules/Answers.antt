@@ -10,6 +10,7 @@ loop-rule-init g c = record {
   appends = append_no_rule c.args.lexicon.now c.args.line.now c.args.choices.now (numbered_of c.args.lexicon.now c.args.place.now) c.args.phase c.args.taken
       c.args.rules.now c.requires.rising c.args.ways.now.items;
   spent = omega arith;
+  counted = omega arith;
 }
 
 pub loop-rule-preserved : goal.loop-rule-preserved
@@ -23,6 +24,7 @@ loop-rule-preserved g c =
           rules c.requires.rising c.loop-rule.rule-index rule c.loop-rule-test.true is
           c.args.ways.now.items c.loop-rule.ways.items c.push_key.new.ways.items inv.appends c.in_ok-push_key.ensures.appends;
       spent = omega (arith, inv.spent, c.tick.ensures, c.push_key.ensures.steps);
+      counted = omega (arith, inv.counted, c.tick.ensures, c.push_key.ensures.counted);
     }
 
 pub returns-clause-appends : goal.returns-clause-appends

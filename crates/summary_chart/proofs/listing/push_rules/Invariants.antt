@@ -9,4 +9,5 @@ abbrev pub invariant-loop-rule : goal.invariant-loop-rule
 invariant-loop-rule g l = record {
   appends : AppendsWays l.lexicon l.line l.choices (numbered_of l.lexicon l.place) (IsByRule l.phase l.taken (take l.rule-index l.rules)) l.fn.ways.items l.ways.items;
   spent : l.steps ≤ l.fn.steps + 2 * l.rule-index;
+  counted : l.fn.steps + l.rule-index ≤ l.steps;
 }

@@ -11,6 +11,7 @@ loop-rule-init g c = record {
   lawful = c.requires.table;
   spreads = visit_no_rule c.args.lexicon.now c.args.line.now c.args.choices.now c.args.place.now c.args.states Table
       (spread_visit c.args.lexicon.now c.args.line.now c.args.choices.now c.args.place.now c.args.states) c.args.phase c.args.taken c.args.rules.now c.args.table.now;
+  low = omega arith;
   spent = omega arith;
 }
 
@@ -25,6 +26,7 @@ loop-rule-preserved g c =
       spreads = visit_rule c.args.lexicon.now c.args.line.now c.args.choices.now c.args.place.now c.args.states Table
           (spread_visit c.args.lexicon.now c.args.line.now c.args.choices.now c.args.place.now c.args.states) c.args.phase c.args.taken rules
           c.loop-rule.rule-index rule c.loop-rule-test.true is c.args.table.now c.loop-rule.table c.spread_key.new.table inv.spreads c.spread_key.ensures.spreads;
+      low = omega (arith, c.loop-rule-test.true);
       spent = omega (arith, inv.spent, c.tick.ensures);
     }
 
