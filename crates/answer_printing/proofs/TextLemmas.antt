@@ -52,11 +52,12 @@ word_appended rules texts letters before step old first second third v taken u s
     ∙ ap (λ w. slp1_of_word (rule_of texts before).v ++ slp1_of_word (letters_taken letters step) ++ w) u_is) in
     third_is ∙ ap (λ w. w ++ u) second_is ∙ ap (λ w. w ++ taken ++ u) first_is ∙ three_appended old v taken u ∙ ap (λ w. old ++ w) (sym form)
 
--- an answer's line is appended in three parts
-pub answer_appended : (rules : RuleSet) (number : ℕ) (steps : List Step) (old first second third start text : List ℕ)
-    → start ≡ decimal number ++ codes ": " → text ≡ start → first ≡ old ++ text → second ≡ first ++ printed_steps rules steps → third ≡ second ++ 10 ∷ []
-    → third ≡ old ++ output_line (printed_answer rules number steps)
+-- an answer's line is appended in four parts
+pub answer_appended : (rules : RuleSet) (number : ℕ) (steps : List Step) (old first second third fourth digits text : List ℕ)
+    → digits ≡ decimal number → text ≡ digits → first ≡ old ++ text → second ≡ first ++ codes ": " → third ≡ second ++ printed_steps rules steps
+    → fourth ≡ third ++ 10 ∷ [] → fourth ≡ old ++ output_line (printed_answer rules number steps)
 unfolding printed_answer
-answer_appended rules number steps old first second third start text start_is text_is first_is second_is third_is =
-    third_is ∙ ap (λ w. w ++ 10 ∷ []) second_is ∙ ap (λ w. w ++ printed_steps rules steps ++ 10 ∷ []) (first_is ∙ ap (λ w. old ++ w) (text_is ∙ start_is))
-    ∙ three_appended old (decimal number ++ codes ": ") (printed_steps rules steps) (10 ∷ [])
+answer_appended rules number steps old first second third fourth digits text digits_are text_is first_is second_is third_is fourth_is =
+    fourth_is ∙ ap (λ w. w ++ 10 ∷ []) third_is ∙ ap (λ w. w ++ printed_steps rules steps ++ 10 ∷ []) second_is
+    ∙ ap (λ w. w ++ codes ": " ++ printed_steps rules steps ++ 10 ∷ []) (first_is ∙ ap (λ w. old ++ w) (text_is ∙ digits_are))
+    ∙ four_appended old (decimal number) (codes ": ") (printed_steps rules steps) (10 ∷ [])

@@ -1,5 +1,5 @@
 -- The steps so far are the same.
-use Rattle.std.proofs.Common.{◌≡◌, ◌+◌, ◌-◌, ◌<◌, ◌⊎◌, map, take, length}
+use Rattle.std.proofs.Common.{◌≡◌, ◌-◌, ◌<◌, ◌⊎◌, map, take}
 use Rattle.answer_printing.specs.Fronts.{step_in}
 use Rattle.answer_printing.proofs.printed_front.PrintedFront.count_same.Given as goal
 
