@@ -1,12 +1,32 @@
--- The list that was made is known afterwards.
-use Rattle.std.proofs.Common.{◌≡◌, List, ℕ, ◌∷◌, ◌++◌, [], map, sym, ◌∙◌, ap, subst}
+-- The list that was made is known afterwards; where memory is wanting, what was known stays known.
+use Rattle.std.proofs.Common.{◌≡◌, List, ℕ, ◌∷◌, ◌++◌, [], map, sym, ◌∙◌, ap, subst, arith, append-nil}
 use Rattle.std.specs.Prelude.{All}
 use Rattle.std.proofs.lemmas.List.Elements.{All-push, All-weaker}
 use Rattle.form_tags.specs.Analyses.{text_delta}
+use Rattle.lexicon_definitions.specs.Deltas.{Delta}
 use Rattle.shared_trie.specs.DeltaNumbers.{IsListFor}
+use Rattle.shared_trie.specs.Interned.{AddsList}
 use Rattle.shared_trie.specs.OpenForms.{IsKnownList}
 use Rattle.shared_trie.proofs.EndedForms.{known_listed}
 use Rattle.shared_trie.proofs.open_trie.OpenTrie.number_list.Goals as goal
+
+-- what was known stays known when lists are added
+still_known : (deltas : List Delta) (lists new : List (List Delta)) (known : List (List ℕ × ℕ)) → AddsList lists new → All (IsKnownList deltas lists) known
+    → All (IsKnownList deltas new) known
+still_known deltas lists new known adds are =
+    All-weaker (IsKnownList deltas lists) (IsKnownList deltas new) (λ one is. known_listed deltas lists new one adds is) known are
+
+pub returns-in_err-deltas-clause-lists : goal.returns-in_err-deltas-clause-lists
+returns-in_err-deltas-clause-lists c = record { more = []; is = sym (append-nil c.args.self.now.trie.lists); few = omega arith }
+
+pub returns-in_err-list-clause-known : goal.returns-in_err-list-clause-known
+returns-in_err-list-clause-known c =
+    still_known c.args.self.now.deltas c.args.self.now.trie.lists c.number_list.new.self.lists c.args.self.now.known c.in_err-list.ensures.lists c.requires.known
+
+pub returns-in_err-add-clause-known : goal.returns-in_err-add-clause-known
+returns-in_err-add-clause-known c =
+    subst (All (IsKnownList c.args.self.now.deltas c.number_list.new.self.lists)) (sym c.in_err-add.ensures.unchanged)
+    (still_known c.args.self.now.deltas c.args.self.now.trie.lists c.number_list.new.self.lists c.args.self.now.known c.in_ok-list.ensures.lists c.requires.known)
 
 pub returns-clause-known : goal.returns-clause-known
 returns-clause-known c =
@@ -22,4 +42,4 @@ returns-clause-known c =
     c.in_ok-add.ensures.ok ∙ ap (λ (ns : List ℕ). c.args.self.now.known ++ (ns, c.in_ok-list.list) ∷ []) c.as_slice-3.ensures.value in
     subst (All (IsKnownList deltas new)) (sym pushed)
     (All-push (IsKnownList deltas new) c.args.self.now.known (numbers, c.in_ok-list.list)
-    (All-weaker (IsKnownList deltas lists) (IsKnownList deltas new) (λ known is. known_listed deltas lists new known c.in_ok-list.ensures.lists is) c.args.self.now.known c.requires.known) one)
+    (still_known deltas lists new c.args.self.now.known c.in_ok-list.ensures.lists c.requires.known) one)
