@@ -20,14 +20,20 @@ impl Kind {
     pub(crate) fn named(name: &[u8]) -> Option<Kind>
         ensures { MatchOption result (kind_named name.now ≡ None) (λ kind. kind_named name.now ≡ Some (kind_of kind)) }
     {
-        match name {
-            b"phase" => Some(Kind::Phase),
-            b"grammar" => Some(Kind::Grammar),
-            b"plain" => Some(Kind::Plain),
-            b"rule" => Some(Kind::Rule),
-            b"form" => Some(Kind::Form),
-            b"end" => Some(Kind::End),
-            _ => None,
+        if name == b"phase".as_slice() {
+            Some(Kind::Phase)
+        } else if name == b"grammar".as_slice() {
+            Some(Kind::Grammar)
+        } else if name == b"plain".as_slice() {
+            Some(Kind::Plain)
+        } else if name == b"rule".as_slice() {
+            Some(Kind::Rule)
+        } else if name == b"form".as_slice() {
+            Some(Kind::Form)
+        } else if name == b"end".as_slice() {
+            Some(Kind::End)
+        } else {
+            None
         }
     }
 

@@ -20,15 +20,22 @@ impl Kind {
     pub(crate) fn named(name: &[u8]) -> Option<Kind>
         ensures { MatchOption result (kind_named name.now ≡ None) (λ kind. kind_named name.now ≡ Some (kind_of kind)) }
     {
-        match name {
-            b"phase" => Some(Kind::Phase),
-            b"grammar" => Some(Kind::Grammar),
-            b"plain" => Some(Kind::Plain),
-            b"rule" => Some(Kind::Rule),
-            b"node" => Some(Kind::Node),
-            b"root" => Some(Kind::Root),
-            b"end" => Some(Kind::End),
-            _ => None,
+        if name == b"phase".as_slice() {
+            Some(Kind::Phase)
+        } else if name == b"grammar".as_slice() {
+            Some(Kind::Grammar)
+        } else if name == b"plain".as_slice() {
+            Some(Kind::Plain)
+        } else if name == b"rule".as_slice() {
+            Some(Kind::Rule)
+        } else if name == b"node".as_slice() {
+            Some(Kind::Node)
+        } else if name == b"root".as_slice() {
+            Some(Kind::Root)
+        } else if name == b"end".as_slice() {
+            Some(Kind::End)
+        } else {
+            None
         }
     }
 

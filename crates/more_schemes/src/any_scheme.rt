@@ -39,14 +39,20 @@ impl AnyScheme {
         ensures some { IfSome result (λ scheme. name.now ≡ name_of_any_scheme (any_scheme_of scheme)) }
         ensures none { IfNone result ((scheme : defined.AnyScheme) → name.now ≡ name_of_any_scheme scheme → ⊥) }
     {
-        match name {
-            b"slp1" => Some(AnyScheme::Slp1),
-            b"wx" => Some(AnyScheme::Wx),
-            b"velthuis" => Some(AnyScheme::Velthuis),
-            b"devanagari" => Some(AnyScheme::Devanagari),
-            b"iast" => Some(AnyScheme::Iast),
-            b"hk" => Some(AnyScheme::Hk),
-            _ => None,
+        if name == b"slp1".as_slice() {
+            Some(AnyScheme::Slp1)
+        } else if name == b"wx".as_slice() {
+            Some(AnyScheme::Wx)
+        } else if name == b"velthuis".as_slice() {
+            Some(AnyScheme::Velthuis)
+        } else if name == b"devanagari".as_slice() {
+            Some(AnyScheme::Devanagari)
+        } else if name == b"iast".as_slice() {
+            Some(AnyScheme::Iast)
+        } else if name == b"hk".as_slice() {
+            Some(AnyScheme::Hk)
+        } else {
+            None
         }
     }
 

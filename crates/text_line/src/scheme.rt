@@ -29,12 +29,16 @@ impl Scheme {
         ensures some { IfSome result (λ scheme. name.now ≡ name_of_scheme (scheme_of scheme)) }
         ensures none { IfNone result ((scheme : DefinedScheme) → name.now ≡ name_of_scheme scheme → ⊥) }
     {
-        match name {
-            b"slp1" => Some(Scheme::Slp1),
-            b"wx" => Some(Scheme::Wx),
-            b"velthuis" => Some(Scheme::Velthuis),
-            b"devanagari" => Some(Scheme::Devanagari),
-            _ => None,
+        if name == b"slp1".as_slice() {
+            Some(Scheme::Slp1)
+        } else if name == b"wx".as_slice() {
+            Some(Scheme::Wx)
+        } else if name == b"velthuis".as_slice() {
+            Some(Scheme::Velthuis)
+        } else if name == b"devanagari".as_slice() {
+            Some(Scheme::Devanagari)
+        } else {
+            None
         }
     }
 
