@@ -22,7 +22,9 @@ use derivation::{Entrance, Step};
 use outside::Steps;
 use phoneme::{Line, Memory};
 use reader_choices::Choices;
-use search_frames::{Configuration, Cursor, Resumption, SearchGuide, SearchSpace, new_stack, renewed_stack};
+use search_frames::{
+    Configuration, Cursor, Resumption, SearchGuide, SearchSpace, new_stack, renewed_stack,
+};
 use std::alloc::Global;
 use std::marker::Model;
 
