@@ -70,33 +70,25 @@ returns-clause-ok c = row_there _ _ _ _ _ _ _ _ _ _ _ _ _ (have_one_more c) c.ne
     (let size = c.len-number.ensures in let same = ap length c.reserve.ensures.items in let last = c.new.ensures in omega (arith, size, same, last))
 
 pub returns-in_err-reserve-clause-trie : goal.returns-in_err-reserve-clause-trie
-returns-in_err-reserve-clause-trie c = trie_kept c.self.inside.children.items c.self.inside.children.items c.self.inside.lists.keys c.self.inside.nodes.items c.reserve.new.self.items c.self.inside.roots.items refl c.reserve.ensures.items c.self.invariant.trie
+returns-in_err-reserve-clause-trie c = trie_kept _ _ _ _ _ _ refl c.reserve.ensures.items c.self.invariant.trie
 
 pub returns-in_err-reserve-clause-grown : goal.returns-in_err-reserve-clause-grown
-returns-in_err-reserve-clause-grown c =
-    none_added c.self.inside.children.items c.self.inside.children.items c.self.inside.lists.keys c.self.inside.nodes.items c.reserve.new.self.items c.args.self.now.rows refl c.reserve.ensures.items
-    (ap (λ (growing : GrowingTrie). growing.rows) c.self.view_is)
+returns-in_err-reserve-clause-grown c = none_added _ _ _ _ _ _ refl c.reserve.ensures.items (ap (λ (growing : GrowingTrie). growing.rows) c.self.view_is)
 
 pub returns-in_err-reserve-2-clause-trie : goal.returns-in_err-reserve-2-clause-trie
-returns-in_err-reserve-2-clause-trie c = trie_kept c.self.inside.children.items c.reserve-2.new.self.items c.self.inside.lists.keys c.self.inside.nodes.items c.reserve.new.self.items c.self.inside.roots.items c.reserve-2.ensures.items c.reserve.ensures.items c.self.invariant.trie
+returns-in_err-reserve-2-clause-trie c = trie_kept _ _ _ _ _ _ c.reserve-2.ensures.items c.reserve.ensures.items c.self.invariant.trie
 
 pub returns-in_err-reserve-2-clause-grown : goal.returns-in_err-reserve-2-clause-grown
-returns-in_err-reserve-2-clause-grown c =
-    none_added c.self.inside.children.items c.reserve-2.new.self.items c.self.inside.lists.keys c.self.inside.nodes.items c.reserve.new.self.items c.args.self.now.rows c.reserve-2.ensures.items c.reserve.ensures.items
-    (ap (λ (growing : GrowingTrie). growing.rows) c.self.view_is)
+returns-in_err-reserve-2-clause-grown c = none_added _ _ _ _ _ _ c.reserve-2.ensures.items c.reserve.ensures.items (ap (λ (growing : GrowingTrie). growing.rows) c.self.view_is)
 
 pub returns-in_err-reserve-3-clause-trie : goal.returns-in_err-reserve-3-clause-trie
-returns-in_err-reserve-3-clause-trie c = trie_kept c.self.inside.children.items c.reserve-2.new.self.items c.self.inside.lists.keys c.self.inside.nodes.items c.reserve.new.self.items c.self.inside.roots.items c.reserve-2.ensures.items c.reserve.ensures.items c.self.invariant.trie
+returns-in_err-reserve-3-clause-trie c = trie_kept _ _ _ _ _ _ c.reserve-2.ensures.items c.reserve.ensures.items c.self.invariant.trie
 
 pub returns-in_err-reserve-3-clause-grown : goal.returns-in_err-reserve-3-clause-grown
-returns-in_err-reserve-3-clause-grown c =
-    none_added c.self.inside.children.items c.reserve-2.new.self.items c.self.inside.lists.keys c.self.inside.nodes.items c.reserve.new.self.items c.args.self.now.rows c.reserve-2.ensures.items c.reserve.ensures.items
-    (ap (λ (growing : GrowingTrie). growing.rows) c.self.view_is)
+returns-in_err-reserve-3-clause-grown c = none_added _ _ _ _ _ _ c.reserve-2.ensures.items c.reserve.ensures.items (ap (λ (growing : GrowingTrie). growing.rows) c.self.view_is)
 
 pub returns-in_err-push-clause-trie : goal.returns-in_err-push-clause-trie
-returns-in_err-push-clause-trie c = trie_kept c.self.inside.children.items c.reserve-2.new.self.items c.self.inside.lists.keys c.self.inside.nodes.items c.reserve.new.self.items c.self.inside.roots.items c.reserve-2.ensures.items c.reserve.ensures.items c.self.invariant.trie
+returns-in_err-push-clause-trie c = trie_kept _ _ _ _ _ _ c.reserve-2.ensures.items c.reserve.ensures.items c.self.invariant.trie
 
 pub returns-in_err-push-clause-grown : goal.returns-in_err-push-clause-grown
-returns-in_err-push-clause-grown c =
-    none_added c.self.inside.children.items c.reserve-2.new.self.items c.self.inside.lists.keys c.self.inside.nodes.items c.reserve.new.self.items c.args.self.now.rows c.reserve-2.ensures.items c.reserve.ensures.items
-    (ap (λ (growing : GrowingTrie). growing.rows) c.self.view_is)
+returns-in_err-push-clause-grown c = none_added _ _ _ _ _ _ c.reserve-2.ensures.items c.reserve.ensures.items (ap (λ (growing : GrowingTrie). growing.rows) c.self.view_is)
