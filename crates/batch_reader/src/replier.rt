@@ -56,7 +56,9 @@ impl<'a, G: Gate> Replier<'a, G> {
     {
         let choices = Choices::new(alloc);
         let mut steps = Steps::<()>::new();
-        let chart = desk.chart.rebuilt(alloc, self.lexicon, line, &choices, &mut steps)?;
+        let chart = desk
+            .chart
+            .rebuilt(alloc, self.lexicon, line, &choices, &mut steps)?;
         let mut search = Search::over(self.lexicon, line, &choices, &chart, desk.stack)?;
         let mut printer = AnswerPrinter::over(alloc, self.texts, line, desk.front)?;
         let asked = NextAnswers {
