@@ -23,7 +23,7 @@ WORD = re.compile(r"[^\W\d][\w'-]*(?:\.[^\W\d][\w'-]*)*")
 CONSTANTS = "declared.limits.TheConstants"
 
 RUN = "run_definitions"
-PROGRAM = "sandhi_program"
+PROGRAM = "commands"
 LISTS = {
     "segment": [(RUN, "SegmentOutcomes", "IsSegmentRun")],
     "check": [(RUN, "CheckOutcomes", "IsCheckRun")],

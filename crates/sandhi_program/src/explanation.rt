@@ -1,5 +1,5 @@
 use super::escaped::Escaped;
-use super::status::Status;
+use commands::Status;
 use outside::DiskFault;
 use session_definitions::MOST_INPUT_BYTES;
 use std::fmt;

@@ -1,49 +1,21 @@
-//! Yuzudeck's program: makes the devices, runs the words of the command line, and ends with the exit status.
-//!
-//! Proved of `run`, over any devices: all the output of the outcome that the definitions give the words, files and input was
-//! written, the files are as it leaves them, and the exit status is that of its end, unless memory ran out or a device failed
-//! (`outcome`), and the status tells with which fault it ended (`fault`); otherwise a prefix of that output (`prefix`), for `read`
-//! where the input could not be read just the replies to the complete lines that were taken (`replies`), and for any other command
-//! that could not read nothing (`read_fault_output`); when each refusal comes (`usage`, `no_command`, `missing`, `read_fault`,
-//! `write_fault`); what becomes of the files, whatever happens (`files`, `other_files`, `done_files`, `read_fault_files`,
-//! `write_fault_files`); and what stays (`failed_writes`, `failed_reads`, `unused_shelf`, `input`, `unread_input`).
+//! Yuzudeck's program: makes the devices, runs the words of the command line by `run` of `commands`, of which all is proved that the
+//! program claims, and ends with the exit status. What it tells a person on standard error besides is tested.
 #![tactic(auto)]
 
-mod annotate;
-mod any_error;
-mod batch;
-mod build;
-mod check;
-mod convert;
-mod demo;
-mod ending;
 mod escaped;
 mod explanation;
-mod join;
-mod migrate;
 mod notes;
-mod read;
-mod reading;
 mod ready_reader;
-mod refusal;
-mod reread;
-mod run;
-mod segment;
-mod source_files;
-mod source_refusal;
-mod split;
-mod status;
 #[cfg(test)]
 mod tests;
 mod usage;
 
+use commands::{Status, run};
 use explanation::{Explanation, LastFaults};
 use notes::tell_before;
 use outside::{DiskShelf, InputSource, NoGate, OutputSink};
 use phoneme::Memory;
 use ready_reader::ReadyReader;
-use run::run;
-use status::Status;
 use std::env;
 use std::io::{ErrorKind, Input};
 use std::process::ExitCode;

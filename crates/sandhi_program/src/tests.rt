@@ -10,8 +10,7 @@ mod scripted_input;
 mod scripted_printer;
 mod streams;
 
-use super::run::run;
-use super::status::Status;
+use commands::{Status, run};
 use outside::{Failed, MemoryShelf, MemorySink, MemorySource, NoGate, Sink, Source, WriteError};
 use std::process::Abort;
 use std::sync::atomic::{AtomicU64, Ordering};

@@ -1,8 +1,8 @@
 //! The first part of a small listing: the front by which it is told, and that another front is left.
 
-use super::super::read::read_lexicon;
 use super::ALL_A;
 use annotated_trie::Lexicon;
+use commands::read_lexicon;
 use outside::Steps;
 use phoneme::{Line, Memory};
 use reader_choices::Choices;

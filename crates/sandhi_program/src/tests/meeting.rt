@@ -1,9 +1,8 @@
 //! A gate at which the worker of the first line of a batch, or of the first part of a page, waits for that of the second, which shows that
 //! two are at work at once. It counts who passes: each of the two once, and nobody else.
 
-use super::super::run::run;
-use super::super::status::Status;
 use super::{ALL_A, shelf_of, words_of};
+use commands::{Status, run};
 use outside::{Gate, MemorySink, MemorySource};
 use std::sync::atomic::{AtomicBool, AtomicU64, Ordering};
 use std::test::Fail;

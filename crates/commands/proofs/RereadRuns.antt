@@ -1,0 +1,68 @@
+-- What `reread` says of the outcome: the file of the note tells the note, its fault, or that it is not there; and the note has an answer, which
+-- has a step.
+use Rattle.std.proofs.Common.{◌≡◌, ℕ, List, [], Option, Some, None, refl, ap}
+use Rattle.outside.specs.Files.{Files, contents_of}
+use Rattle.lexicon_definitions.specs.Lexicons.{Lexicon}
+use Rattle.note_definitions.specs.NoteReadings.{IsNoteRead}
+use Rattle.run_definitions.specs.Commands.{FileWord}
+use Rattle.run_definitions.specs.Ends as ends
+use Rattle.run_definitions.specs.Ends.{Outcome, outcome_over}
+use Rattle.run_definitions.specs.Refusals.{file_refusal}
+use Rattle.run_definitions.specs.LexiconTells as lexicons
+use Rattle.run_definitions.specs.LexiconTells.{NotThere, DoesTell}
+use Rattle.run_definitions.specs.SourceTells.{Missing, Refused, Holds, IsMissing}
+use Rattle.run_definitions.specs.RereadOutcomes.{IsNoteFileOutcome, IsRereadOutcome}
+use Rattle.commands.specs.declared.status.Status.TheVariants.{Done, BadFile}
+use Rattle.commands.specs.declared.status.AnyFault.{AnyFault}
+use Rattle.commands.specs.Faults.{file_fault}
+use Rattle.commands.specs.RunEnds.{HasOutcome}
+use Rattle.commands.specs.Sources.{IsRefusedSource}
+use Rattle.commands.specs.Rereads.{IsPrintedNote}
+use Rattle.commands.proofs.BuildRuns.{AreRead, told_held, told_refused}
+
+-- ---- the file of the note
+
+module _ (lexicon : Lexicon) (file : FileWord) where
+  pub note_missing : (told : Files) → contents_of told file.name ≡ None → IsNoteFileOutcome lexicon file told (outcome_over told [] ends.ReadFault)
+  note_missing told e = record { tells = Missing; do_tell = IsMissing e refl; is_outcome = refl }
+
+  pub note_refused : (files : Option Files) (bytes : List ℕ) (fault : AnyFault) → AreRead files file.name bytes
+      → IsRefusedSource (IsNoteRead lexicon) ends.Note bytes (file_fault fault) → (told : Files) → files ≡ Some told
+      → HasOutcome (IsNoteFileOutcome lexicon file told) (BadFile file.place fault) (file_refusal file.name (file_fault fault)) told
+  note_refused files bytes fault read why told e = record {
+    end = ends.BadFile file.place (file_fault fault);
+    told = refl;
+    is_it = record {
+      tells = Refused (file_fault fault);
+      do_tell = told_refused (IsNoteRead lexicon) ends.Note files told file.name bytes e read (file_fault fault) why;
+      is_outcome = refl;
+    };
+  }
+
+  pub note_held : (files : Option Files) (bytes output : List ℕ) → AreRead files file.name bytes → IsPrintedNote lexicon bytes output
+      → (told : Files) → files ≡ Some told → HasOutcome (IsNoteFileOutcome lexicon file told) Done output told
+  note_held files bytes output read p told e = record {
+    end = ends.Done;
+    told = refl;
+    is_it = record {
+      tells = Holds p.note;
+      do_tell = told_held (IsNoteRead lexicon) ends.Note files told file.name bytes e read p.note p.held;
+      is_outcome = ap (λ out. outcome_over told out ends.Done) p.printed;
+    };
+  }
+
+-- ---- the lexicon file
+
+module _ (lex file : FileWord) where
+  pub reread_missing : (told : Files) → contents_of told lex.name ≡ None → IsRereadOutcome lex file told (outcome_over told [] ends.ReadFault)
+  reread_missing told missing = record { tells = NotThere; does_tell = lexicons.IsMissing missing refl; is_outcome = refl }
+
+  pub reread_refused : (told : Files) (fault : ends.AnyFault) → DoesTell told lex.name (lexicons.Refused fault)
+      → IsRereadOutcome lex file told (outcome_over told (file_refusal lex.name fault) (ends.BadFile lex.place fault))
+  reread_refused told fault tells = record { tells = lexicons.Refused fault; does_tell = tells; is_outcome = refl }
+
+  -- with the lexicon it goes on with the file of the note
+  pub reread_goes_on : (lexicon : Lexicon) (files : Option Files)
+      → ((told : Files) → files ≡ Some told → DoesTell told lex.name (lexicons.Holds lexicon)) → (told : Files) → files ≡ Some told
+      → (outcome : Outcome) → IsNoteFileOutcome lexicon file told outcome → IsRereadOutcome lex file told outcome
+  reread_goes_on lexicon files holds told e outcome is = record { tells = lexicons.Holds lexicon; does_tell = holds told e; is_outcome = is }

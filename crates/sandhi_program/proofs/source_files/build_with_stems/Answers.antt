@@ -1,5 +1,0 @@
--- The lexicon of the sources is written, or the stem file is refused since it is too large.
-use Rattle.sandhi_program.proofs.source_files.build_with_stems.Goals as goal
-
-pub returns-in-Ok : goal.returns-in-Ok
-returns-in-Ok g c = c.write_built.ensures c.args.sources.file.rules c.args.sources.tables c.args.sources.stems c.in-Ok.ensures.ok
