@@ -1,3 +1,7 @@
+ghost use Rattle.std.specs.Prelude.{◌≡◌, Some, None};
+ghost use Rattle.commands.specs.declared.status.Status.TheVariants as ended;
+ghost use Rattle.sandhi_program.specs.declared.explanation.Explanation.TheVariants as told;
+
 use super::escaped::Escaped;
 use commands::Status;
 use outside::DiskFault;
@@ -27,7 +31,11 @@ pub enum Explanation<'a> {
 impl<'a> Explanation<'a> {
     /// What is told of this status. Nothing is told where the output alone says enough, and where standard output is a pipe
     /// that nobody reads any more: whoever closed it has what was wanted.
-    pub fn of(status: &Status, faults: &LastFaults<'a>) -> Option<Explanation<'a>> {
+    pub fn of(status: &Status, faults: &LastFaults<'a>) -> Option<Explanation<'a>>
+        ensures done { status.now ≡ ended.Done → result ≡ None }
+        ensures memory { status.now ≡ ended.Memory → result ≡ Some told.Memory }
+        ensures too_much { status.now ≡ ended.TooMuch → result ≡ Some told.TooMuch }
+    {
         match status {
             Status::Memory => Some(Explanation::Memory),
             Status::ReadFault => match faults.input {
