@@ -71,7 +71,7 @@ impl<'a> AnswerPrinter<'a> {
         })
     }
 
-    /// What it printed last, whose memory may serve for another line.
+    /// Its printed front, whose memory may serve for another line.
     pub fn into_front(self) -> PrintedFront {
         self.front
     }

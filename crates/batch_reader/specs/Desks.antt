@@ -4,4 +4,4 @@ use Rattle.batch_reader.specs.declared.replier.Desk.{Desk}
 
 -- a search may stand on the desk's stack
 abbrev pub IsDesk : Desk → Type 0
-IsDesk desk = IsStack desk.print.stack
+IsDesk desk = IsStack desk.room.stack

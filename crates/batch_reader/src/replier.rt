@@ -27,20 +27,20 @@ pub(crate) struct Replier<'a, G: Gate> {
     pub ghost same_rules: { texts.now ≡ lexicon.now.lexicon.rules },
 }
 
-/// What a worker prints with, whose memory serves again from line to line: the stack of the search, what was printed of the last answer,
+/// Room for the page of a line, whose memory serves again from line to line: the stack of the search, what was printed of the last answer,
 /// and the page.
 #[derive(Drop)]
-pub(crate) struct Print {
+pub(crate) struct PageRoom {
     stack: Resumption,
     front: PrintedFront,
     page: Vec<u8>,
 }
 
-/// What a worker keeps from line to line: its chart, whose memory serves again, and what it prints with.
+/// What a worker keeps from line to line: its chart, whose memory serves again, and room for a page.
 #[derive(Drop)]
 pub(crate) struct Desk {
     chart: Chart,
-    print: Print,
+    room: PageRoom,
 }
 
 impl Desk {
@@ -48,47 +48,47 @@ impl Desk {
     pub fn new(alloc: Global, lexicon: &Lexicon) -> Result<Desk, Memory>
         ensures { IfOk result IsDesk }
     {
-        let print = Print {
+        let room = PageRoom {
             stack: new_stack(alloc, lexicon, 0)?,
             front: PrintedFront::new(alloc),
             page: Vec::new(alloc),
         };
         Ok(Desk {
             chart: Chart::new(alloc),
-            print,
+            room,
         })
     }
 }
 
 impl<'a, G: Gate> Replier<'a, G> {
-    /// The print, once the page of the line's first answers is on it, found under the chart and numbered from 1.
+    /// The room, once the page of the line's first answers stands in it, found under the chart and numbered from 1.
     fn print_under(
         &self,
         alloc: Global,
         line: &Line,
         choices: &Choices,
         chart: &Chart,
-        print: Print,
-    ) -> Result<Print, Memory>
+        room: PageRoom,
+    ) -> Result<PageRoom, Memory>
         requires none { choices.now ≡ [] }
         requires guide { IsGuideOf self.now.lexicon.now line.now choices.now (CoversPlace chart.now.table) (says_of chart.now.table) }
         requires chart { IsChartOf self.now.lexicon.now line.now choices.now chart.now }
-        requires stack { IsStack print.stack }
-        ensures stack { IfOk result (λ print. IsStack print.stack) }
-        ensures ok { IfOk result (λ print. IsReply self.now.lexicon.now.lexicon self.now.count line.now print.page.items) }
+        requires stack { IsStack room.stack }
+        ensures stack { IfOk result (λ room. IsStack room.stack) }
+        ensures ok { IfOk result (λ room. IsReply self.now.lexicon.now.lexicon self.now.count line.now room.page.items) }
     {
-        let mut search = Search::over(self.lexicon, line, choices, chart, print.stack)?;
-        let mut printer = AnswerPrinter::over(alloc, self.texts, line, print.front)?;
+        let mut search = Search::over(self.lexicon, line, choices, chart, room.stack)?;
+        let mut printer = AnswerPrinter::over(alloc, self.texts, line, room.front)?;
         let asked = NextAnswers {
             number: 1,
             count: self.count,
         };
-        let mut page = print.page;
+        let mut page = room.page;
         page.clear();
         let mut steps = Steps::<()>::new();
         push_page(&mut page, &mut printer, &mut search, asked, &mut steps)?;
         let stack = search.into_resumption();
-        Ok(Print {
+        Ok(PageRoom {
             stack,
             front: printer.into_front(),
             page,
@@ -99,15 +99,15 @@ impl<'a, G: Gate> Replier<'a, G> {
     fn print_page(&self, alloc: Global, line: &Line, desk: Desk) -> Result<Desk, Memory>
         requires { IsDesk desk }
         ensures desk { IfOk result IsDesk }
-        ensures ok { IfOk result (λ desk. IsReply self.now.lexicon.now.lexicon self.now.count line.now desk.print.page.items) }
+        ensures ok { IfOk result (λ desk. IsReply self.now.lexicon.now.lexicon self.now.count line.now desk.room.page.items) }
     {
         let choices = Choices::new(alloc);
         let mut steps = Steps::<()>::new();
         let chart = desk
             .chart
             .rebuilt(alloc, self.lexicon, line, &choices, &mut steps)?;
-        let print = self.print_under(alloc, line, &choices, &chart, desk.print)?;
-        Ok(Desk { chart, print })
+        let room = self.print_under(alloc, line, &choices, &chart, desk.room)?;
+        Ok(Desk { chart, room })
     }
 
     /// The reply to the line with this number, by a worker that passes the gate before it begins, and the worker's desk, which is kept
@@ -125,7 +125,7 @@ impl<'a, G: Gate> Replier<'a, G> {
     {
         self.gate.pass(number);
         let desk = self.print_page(alloc, line, desk)?;
-        let reply = Vec::from_slice(alloc, desk.print.page.as_slice())?;
+        let reply = Vec::from_slice(alloc, desk.room.page.as_slice())?;
         Ok((reply, desk))
     }
 }
@@ -149,6 +149,6 @@ pub fn first_page(
     };
     let desk = Desk::new(alloc, lexicon)?;
     let answered = replier.print_page(alloc, line, desk)?;
-    let print = answered.print;
-    Ok(print.page)
+    let room = answered.room;
+    Ok(room.page)
 }

@@ -1,5 +1,6 @@
 //! Yuzudeck's program: makes the devices, runs the words of the command line by `run` of `commands`, of which all is proved that the
-//! program claims, and ends with the exit status. What it tells a person on standard error besides is tested.
+//! program claims, and ends with the exit status. What it tells a person on standard error besides is tested, but
+//! for the clauses of `Explanation::of`.
 #![tactic(auto)]
 
 mod escaped;

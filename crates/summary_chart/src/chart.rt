@@ -54,7 +54,7 @@ fn open_table(table: Table, lexicon: &Lexicon, line: &Line) -> Result<Table, Mem
 }
 
 impl Chart {
-    /// A chart of no line, which says of no place that it stands in an answer. Takes no memory.
+    /// A chart of no line, to be rebuilt as that of one. Takes no memory.
     pub fn new(alloc: Global) -> Chart {
         Chart {
             table: Table::new(alloc),
