@@ -1,5 +1,5 @@
 ghost use Rattle.std.specs.Prelude.{◌≡◌, ◌<◌, ◌++◌, not, length, IfOk, string_bytes};
-ghost use Rattle.text_definitions.specs.Longest.{spelling_of_letter, has_length};
+ghost use Rattle.text_definitions.specs.Longest.{spelling_of_letter, has_length, gap_before as gap_before_letter};
 ghost use Rattle.text_definitions.specs.Velthuis.{velthuis_table, velthuis_front, velthuis_of_word};
 
 use super::velthuis_front::is_lengthened;
@@ -33,6 +33,17 @@ fn run_together(first: Letter, second: Letter) -> bool
     is_lengthened(spelling(first).as_bytes(), spelling(second).as_bytes()[0])
 }
 
+/// What is printed between the previous letter, where there is one, and the next: `_` exactly where their spellings
+/// written together would be read otherwise.
+fn gap_before(previous: Option<Letter>, letter: Letter) -> &'static str
+    ensures { result.now ≡ gap_before_letter velthuis_front (spelling_of_letter velthuis_table) previous letter }
+{
+    match previous {
+        Some(previous) if run_together(previous, letter) => "_",
+        _ => "",
+    }
+}
+
 /// The Velthuis spelling of a word, with `_` between two letters exactly where their spellings written together would
 /// be read otherwise.
 #[tactic(auto, unfolding(text_definitions::specs::Velthuis::velthuis_of_word))]
@@ -42,11 +53,7 @@ pub fn print_velthuis(alloc: Global, word: &Word) -> Result<String, Memory>
     let mut text = String::new(alloc);
     let mut previous = None;
     for letter in word.as_slice() {
-        if let Some(before) = previous
-            && run_together(before, *letter)
-        {
-            text.push('_')?;
-        }
+        text.push_str(gap_before(previous, *letter))?;
         text.push_str(spelling(*letter))?;
         previous = Some(*letter);
     }
