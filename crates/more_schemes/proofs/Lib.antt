@@ -5,3 +5,4 @@ pub mod MarkFronts
 pub mod ConversionSteps
 pub mod RunFaults
 pub mod ConvertedLines
+pub mod SpelledBytes

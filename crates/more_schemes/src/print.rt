@@ -1,5 +1,5 @@
 ghost use Rattle.std.specs.Prelude.{◌≡◌, ◌<◌, ◌++◌, not, None, length, IfOk, string_bytes};
-ghost use Rattle.text_definitions.specs.Longest.{spelling_of_letter, has_length, spellings_of_word};
+ghost use Rattle.text_definitions.specs.Longest.{spelling_of_letter, has_length, gap_before as gap_before_letter, spellings_of_word};
 ghost use Rattle.more_scheme_definitions.specs.HarvardKyoto.{harvard_kyoto_of_word};
 ghost use Rattle.more_scheme_definitions.specs.Iast.{iast_of_word};
 ghost use Rattle.more_schemes.specs.Schemes.{front_in, table_in};
@@ -40,6 +40,17 @@ fn run_together(scheme: Scheme, first: Letter, second: Letter) -> bool
     )
 }
 
+/// What is printed between the previous letter, where there is one, and the next: `_` exactly where their spellings
+/// written together would be read otherwise.
+fn gap_before(scheme: Scheme, previous: Option<Letter>, letter: Letter) -> &'static str
+    ensures { result.now ≡ gap_before_letter (front_in scheme) (spelling_of_letter (table_in scheme)) previous letter }
+{
+    match previous {
+        Some(previous) if run_together(scheme, previous, letter) => "_",
+        _ => "",
+    }
+}
+
 /// The spelling of the word in the scheme.
 fn print_spellings(alloc: Global, scheme: Scheme, word: &Word) -> Result<String, Memory>
     ensures ok { IfOk result (λ text. string_bytes text
@@ -48,11 +59,7 @@ fn print_spellings(alloc: Global, scheme: Scheme, word: &Word) -> Result<String,
     let mut text = String::new(alloc);
     let mut previous = None;
     for letter in word.as_slice() {
-        if let Some(before) = previous
-            && run_together(scheme, before, *letter)
-        {
-            text.push('_')?;
-        }
+        text.push_str(gap_before(scheme, previous, *letter))?;
         text.push_str(spelling(scheme, *letter))?;
         previous = Some(*letter);
     }
