@@ -1,6 +1,6 @@
 -- A key with which a path begins ends the line or leads on, so it is possible; none begins with one that is refused, nor with one that
 -- leads to where a guide says false.
-use Rattle.std.proofs.Common.{◌≡◌, ℕ, ◌⊎◌, inl, inr, Bool, false, Option, List, [], ◌∷◌, sym, ◌∙◌, subst}
+use Rattle.std.proofs.Common.{◌≡◌, ℕ, ◌⊎◌, inl, inr, Bool, false, Option, List, [], ◌∷◌, refl, sym, ◌∙◌, subst}
 use Rattle.text_definitions.specs.Lines.{Line, IsLine}
 use Rattle.segmentation_definitions.specs.Items.{Choice}
 use Rattle.segmentation_definitions.specs.Listings.{Key}
@@ -9,10 +9,13 @@ use Rattle.answer_paths.specs.Following.{MayStand}
 use Rattle.derivation.specs.declared.entrance.Entrance.{Entrance as ProgramEntrance}
 use Rattle.annotated_trie.specs.Searched.{SearchedLexicon, IsSearchedLexicon}
 use Rattle.search_frames.specs.declared.configuration.Configuration.{Configuration}
+use Rattle.search_frames.specs.declared.testing.Test.{Test}
+use Rattle.search_frames.specs.declared.testing.Test.TheVariants as test
 use Rattle.search_frames.specs.Configurations.{NumberedConfiguration, IsPossible, LeadsOn, Ends, ways_in}
 use Rattle.search_frames.specs.Guided.{IsGuideOf}
 use Rattle.search_frames.specs.Reached.{IsReached}
-use Rattle.search_frames.specs.Tests.{IsRefused, LeadsTo}
+use Rattle.search_frames.specs.FirstKeys.{IsJudged}
+use Rattle.search_frames.specs.Tests.{IsRefused, IsTestOf, LeadsTo}
 use Rattle.search_frames.specs.Turns.{BeginsPath}
 use Rattle.search_frames.proofs.ConfigurationPaths.{guide_says}
 use Rattle.search_frames.proofs.ConfigurationRanks.{possible_if_leads, possible_if_ends, not_both}
@@ -44,6 +47,13 @@ module _ (searched : SearchedLexicon) (line : Line) (choices : List Choice) (her
     | inl ends ↦ refused.ends ends
     | inr leads ↦ refused.leads_on leads
   ]
+
+  -- so what the test of a key answers that does not lead on is what the key is judged to do
+  pub judged_unless_leads : (says : ℕ → ProgramEntrance → Option ℕ → Bool) (does : Test) → ((next : Configuration) → does ≡ test.LeadsOn next → ⊥)
+      → IsTestOf searched line choices here key does → IsJudged searched line choices says here key does
+  judged_unless_leads says test.Refused not_on told = refused_begins told
+  judged_unless_leads says test.Ends not_on told = told
+  judged_unless_leads says (test.LeadsOn next) not_on told = absurd (not_on next refl)
 
   -- nor does one that leads to where the guide says false
   pub dead_begins : (covers : ℕ → ProgramEntrance → Option ℕ → Type 0) (says : ℕ → ProgramEntrance → Option ℕ → Bool) (next : Configuration)

@@ -5,7 +5,7 @@ use Rattle.segmentation_definitions.specs.Items.{Choice}
 use Rattle.segmentation_definitions.specs.Listings.{Key}
 use Rattle.derivation.specs.declared.entrance.Entrance.{Entrance}
 use Rattle.annotated_trie.specs.Searched.{SearchedLexicon}
-use Rattle.search_frames.specs.declared.guiding.Turn.{Turn}
+use Rattle.search_frames.specs.declared.testing.Test.{Test}
 use Rattle.search_frames.specs.Configurations.{NumberedConfiguration}
 use Rattle.search_frames.specs.Turns.{BeginsPath}
 use Rattle.search_frames.specs.FirstKeys.{IsFirstOf, HasNoneOf, IsFrom}
@@ -17,7 +17,7 @@ module _ (searched : SearchedLexicon) (line : Line) (choices : List Choice) (say
       → HasNoneOf searched line choices here IsMeant → HasNoneOf searched line choices here IsOther
   none_told told none key begins other = none key begins (told key begins other)
 
-  pub first_told : (found : Key) (does : Turn) → ((key : Key) → BeginsPath searched line choices here key → IsOther key → IsMeant key)
+  pub first_told : (found : Key) (does : Test) → ((key : Key) → BeginsPath searched line choices here key → IsOther key → IsMeant key)
       → (IsMeant found → IsOther found)
       → IsFirstOf searched line choices says here IsMeant found does → IsFirstOf searched line choices says here IsOther found does
   first_told found does told back first = record {
@@ -34,7 +34,7 @@ module _ (searched : SearchedLexicon) (line : Line) (choices : List Choice) (say
     none_of_both none others key begins both = elim (split key begins both) [ inl meant ↦ none key begins meant | inr other ↦ others key begins other ]
 
     -- the first part has one, and the keys of the rest come later
-    pub first_of_first : (found : Key) (does : Turn) → (IsMeant found → IsBoth found) → ((key : Key) → IsOther key → IsMeant found → IsFrom found key)
+    pub first_of_first : (found : Key) (does : Test) → (IsMeant found → IsBoth found) → ((key : Key) → IsOther key → IsMeant found → IsFrom found key)
         → IsFirstOf searched line choices says here IsMeant found does → IsFirstOf searched line choices says here IsBoth found does
     first_of_first found does back later first = record {
       possible = first.possible;
@@ -46,7 +46,7 @@ module _ (searched : SearchedLexicon) (line : Line) (choices : List Choice) (say
     }
 
     -- the first part has none
-    pub first_of_rest : (found : Key) (does : Turn) → HasNoneOf searched line choices here IsMeant → (IsOther found → IsBoth found)
+    pub first_of_rest : (found : Key) (does : Test) → HasNoneOf searched line choices here IsMeant → (IsOther found → IsBoth found)
         → IsFirstOf searched line choices says here IsOther found does → IsFirstOf searched line choices says here IsBoth found does
     first_of_rest found does none back first = record {
       possible = first.possible;

@@ -17,8 +17,8 @@ use Rattle.segmentation_definitions.specs.Listings.{Key}
 use Rattle.derivation.specs.declared.entrance.Entrance.{Entrance}
 use Rattle.annotated_trie.specs.Choices.{LeadsToEnd, choices_of, choices_with}
 use Rattle.annotated_trie.specs.Searched.{SearchedLexicon, IsSearchedLexicon}
-use Rattle.search_frames.specs.declared.guiding.Turn.{Turn}
-use Rattle.search_frames.specs.declared.guiding.Turn.TheVariants.{Nothing}
+use Rattle.search_frames.specs.declared.testing.Test.{Test}
+use Rattle.search_frames.specs.declared.testing.Test.TheVariants.{Refused}
 use Rattle.search_frames.specs.Configurations.{NumberedConfiguration, IsPossible, rules_in}
 use Rattle.search_frames.specs.Walks.{IsNodeAt}
 use Rattle.search_frames.specs.Turns.{BeginsPath}
@@ -96,8 +96,8 @@ module _ (searched : SearchedLexicon) (line : Line) (choices : List Choice) (her
         change_possible searched is line here (record { phase = from.phase; taken = from.taken; rule = rule }) node at phase_low within (inr choice)
 
     -- and the only one of its rule
-    pub first_of_choice : (says : ℕ → Entrance → Option ℕ → Bool) (rule : ℕ) (does : Turn) → Contains (choices_of searched.tries node) rule → from.rule ≤ rule
-        → IsJudged searched line choices says here (record { phase = from.phase; taken = from.taken; rule = rule }) does → (does ≡ Nothing → ⊥)
+    pub first_of_choice : (says : ℕ → Entrance → Option ℕ → Bool) (rule : ℕ) (does : Test) → Contains (choices_of searched.tries node) rule → from.rule ≤ rule
+        → IsJudged searched line choices says here (record { phase = from.phase; taken = from.taken; rule = rule }) does → (does ≡ Refused → ⊥)
         → IsFirstOf searched line choices says here (IsThisRuleFrom from rule) (record { phase = from.phase; taken = from.taken; rule = rule }) does
     first_of_choice says rule does choice not_before judged goes = record {
       possible = choice_possible rule choice;
@@ -129,7 +129,7 @@ module _ (searched : SearchedLexicon) (line : Line) (choices : List Choice) (her
       none_of_group none key begins meant = none key begins (meant, rule_of_group key begins meant)
 
       -- and the next one with which a path may begin is the first
-      pub first_of_group : (says : ℕ → Entrance → Option ℕ → Bool) (count rule : ℕ) (found : Key) (does : Turn) → count < length rules → rule ≡ get_or rules count 0
+      pub first_of_group : (says : ℕ → Entrance → Option ℕ → Bool) (count rule : ℕ) (found : Key) (does : Test) → count < length rules → rule ≡ get_or rules count 0
           → HasNoneOf searched line choices here (IsTriedRule from rules count)
           → IsFirstOf searched line choices says here (IsThisRuleFrom from rule) found does → IsFirstOf searched line choices says here (IsRuleFrom from) found does
       first_of_group says count rule found does low rule_is none at_rule = record {

@@ -15,8 +15,8 @@ use Rattle.search_frames.specs.declared.configuration.Configuration.{Configurati
 use Rattle.search_frames.specs.declared.frame.TheConstants.{NODES_OF_FRAME}
 use Rattle.search_frames.specs.declared.guiding.ToTry.{ToTry}
 use Rattle.search_frames.specs.declared.guiding.ToTry.TheVariants.{All, Later}
-use Rattle.search_frames.specs.declared.guiding.Turn.{Turn}
-use Rattle.search_frames.specs.declared.guiding.Turn.TheVariants as turn
+use Rattle.search_frames.specs.declared.testing.Test.{Test}
+use Rattle.search_frames.specs.declared.testing.Test.TheVariants as test
 use Rattle.search_frames.specs.declared.resumption.Resumption.{Resumption}
 use Rattle.search_frames.specs.Configurations.{NumberedConfiguration, IsPossible, Ends, rules_in}
 use Rattle.search_frames.specs.FirstKeys.{IsFirstOf, HasNoneOf, IsFrom}
@@ -123,7 +123,7 @@ module _ (searched : SearchedLexicon) (line : Line) (is : IsSearchedLexicon sear
       key_is : key_at new level ≡ key_meant key
       key_is = set_key level old mid new key steps frames set
 
-      module _ (does : Turn) (first : IsFirstOf searched line choices says (here_of searched old level) (IsFrom from) (key_meant key) does) where
+      module _ (does : Test) (first : IsFirstOf searched line choices says (here_of searched old level) (IsFrom from) (key_meant key) does) where
         few : (key_meant key).taken ≤ MOST_FORM_LETTERS
         few = few_letters searched line (here_of searched old level) (key_meant key) is first.possible
 
@@ -156,21 +156,21 @@ module _ (searched : SearchedLexicon) (line : Line) (is : IsSearchedLexicon sear
             (fallen (here_of searched old level) (key_at old level) (key_meant key) what first.possible to_try_key)
 
       -- so it was turned
-      pub is_turn : (does : Turn) → IsFirstOf searched line choices says (here_of searched old level) (IsFrom from) (key_meant key) does
+      pub is_turn : (does : Test) → IsFirstOf searched line choices says (here_of searched old level) (IsFrom from) (key_meant key) does
           → IsTurn searched line choices says level what old new does
-      is_turn turn.Nothing first = absurd (first.goes refl)
-      is_turn turn.Ends first = (turned turn.Ends first, subst (Ends searched line choices (here_of searched old level)) (sym key_is) first.judged)
-      is_turn (turn.LeadsOn next) first = (
-        turned (turn.LeadsOn next) first,
+      is_turn test.Refused first = absurd (first.goes refl)
+      is_turn test.Ends first = (turned test.Ends first, subst (Ends searched line choices (here_of searched old level)) (sym key_is) first.judged)
+      is_turn (test.LeadsOn next) first = (
+        turned (test.LeadsOn next) first,
         subst (λ (k : Key). LeadsTo searched line choices (here_of searched old level) k next) (sym key_is) first.judged.0,
         first.judged.1,
       )
 
-      pub has_fallen : (does : Turn) → IsFirstOf searched line choices says (here_of searched old level) (IsFrom from) (key_meant key) does
+      pub has_fallen : (does : Test) → IsFirstOf searched line choices says (here_of searched old level) (IsFrom from) (key_meant key) does
           → HasFallen searched level what old new does
-      has_fallen turn.Nothing first = tt
-      has_fallen turn.Ends first = falls turn.Ends first
-      has_fallen (turn.LeadsOn next) first = falls (turn.LeadsOn next) first
+      has_fallen test.Refused first = tt
+      has_fallen test.Ends first = falls test.Ends first
+      has_fallen (test.LeadsOn next) first = falls (test.LeadsOn next) first
 
 -- a stack has room for the nodes along a form
 pub room_for_nodes : (stack : Resumption) → IsStack stack → NODES_OF_FRAME ≤ length stack.nodes.items

@@ -11,7 +11,7 @@ use Rattle.segmentation_definitions.specs.Items.{Choice}
 use Rattle.segmentation_definitions.specs.Listings.{Key}
 use Rattle.derivation.specs.declared.entrance.Entrance.{Entrance}
 use Rattle.annotated_trie.specs.Searched.{SearchedLexicon, IsSearchedLexicon}
-use Rattle.search_frames.specs.declared.guiding.Turn.{Turn}
+use Rattle.search_frames.specs.declared.testing.Test.{Test}
 use Rattle.search_frames.specs.Configurations.{NumberedConfiguration, IsPossible}
 use Rattle.search_frames.specs.Walks.{IsNodeAt}
 use Rattle.search_frames.specs.Turns.{BeginsPath}
@@ -48,7 +48,7 @@ few_letters searched line here key is possible =
 module _ (searched : SearchedLexicon) (line : Line) (choices : List Choice) (says : ℕ → Entrance → Option ℕ → Bool) (here : NumberedConfiguration) (from : Key) where
   -- ---- at a node
 
-  pub node_unchanged : (found : Key) (does : Turn) → IsFirstOf searched line choices says here (IsUnchangedFrom from) found does
+  pub node_unchanged : (found : Key) (does : Test) → IsFirstOf searched line choices says here (IsUnchangedFrom from) found does
       → IsFirstOf searched line choices says here (IsAtNodeFrom from) found does
   node_unchanged found does first =
       first_of_first searched line choices says here (IsUnchangedFrom from) (IsRuleFrom from) (IsAtNodeFrom from) (λ key begins at. at_node_cases from key at)
@@ -59,7 +59,7 @@ module _ (searched : SearchedLexicon) (line : Line) (choices : List Choice) (say
       ))
       first
 
-  pub node_by_rule : (found : Key) (does : Turn) → HasNoneOf searched line choices here (IsUnchangedFrom from)
+  pub node_by_rule : (found : Key) (does : Test) → HasNoneOf searched line choices here (IsUnchangedFrom from)
       → IsFirstOf searched line choices says here (IsRuleFrom from) found does → IsFirstOf searched line choices says here (IsAtNodeFrom from) found does
   node_by_rule found does none first =
       first_of_rest searched line choices says here (IsUnchangedFrom from) (IsRuleFrom from) (IsAtNodeFrom from) (λ key begins at. at_node_cases from key at)
@@ -71,7 +71,7 @@ module _ (searched : SearchedLexicon) (line : Line) (choices : List Choice) (say
       none_of_both searched line choices says here (IsUnchangedFrom from) (IsRuleFrom from) (IsAtNodeFrom from) (λ key begins at. at_node_cases from key at) none others
 
   -- what comes of the rest is what comes of all
-  pub node_found : (found : Option (ProgramKey × Turn)) → HasNoneOf searched line choices here (IsUnchangedFrom from)
+  pub node_found : (found : Option (ProgramKey × Test)) → HasNoneOf searched line choices here (IsUnchangedFrom from)
       → MatchOption found (HasNoneOf searched line choices here (IsRuleFrom from)) (λ f. IsFirstOf searched line choices says here (IsRuleFrom from) (key_meant f.0) f.1)
       → MatchOption found (HasNoneOf searched line choices here (IsAtNodeFrom from)) (λ f. IsFirstOf searched line choices says here (IsAtNodeFrom from) (key_meant f.0) f.1)
   node_found None none others = node_none none others
@@ -99,7 +99,7 @@ module _ (searched : SearchedLexicon) (line : Line) (choices : List Choice) (say
         | inl below ↦ inr (elim (cases_lt key.taken taken) [ inl less ↦ inr less | inr no_less ↦ inl (omega (arith, next)) ])
       ]
 
-      pub length_found : (found : Key) (does : Turn) → IsFirstOf searched line choices says here (IsAtNodeFrom first) found does
+      pub length_found : (found : Key) (does : Test) → IsFirstOf searched line choices says here (IsAtNodeFrom first) found does
           → IsFirstOf searched line choices says here (IsShorterFrom from letters) found does
       length_found found does at =
           let told_found = (meant_at found).0 at.meant in
@@ -136,7 +136,7 @@ module _ (searched : SearchedLexicon) (line : Line) (choices : List Choice) (say
         (meant, reaches key.taken node few possible.within (subst (λ (n : ℕ). IsNodeAt searched line here n key.taken node) (sym meant.0) at))
 
     -- what comes of these lengths is what comes of the phase
-    pub phase_told : (found : Option (ProgramKey × Turn))
+    pub phase_told : (found : Option (ProgramKey × Test))
         → MatchOption found (HasNoneOf searched line choices here (IsShorterFrom from walked)) (λ f. IsFirstOf searched line choices says here (IsShorterFrom from walked) (key_meant f.0) f.1)
         → MatchOption found (HasNoneOf searched line choices here (IsInPhaseFrom from)) (λ f. IsFirstOf searched line choices says here (IsInPhaseFrom from) (key_meant f.0) f.1)
     phase_told None none = none_told searched line choices says here (IsShorterFrom from walked) (IsInPhaseFrom from) in_lengths none
@@ -155,7 +155,7 @@ module _ (searched : SearchedLexicon) (line : Line) (choices : List Choice) (say
     short : (key : Key) → BeginsPath searched line choices here key → key.taken ≤ MOST_FORM_LETTERS
     short key begins = few_taken is key (begins_possible searched line choices here key begins)
 
-    pub next_phase_found : (found : Key) (does : Turn) → IsFirstOf searched line choices says here (IsInPhaseFrom first) found does
+    pub next_phase_found : (found : Key) (does : Test) → IsFirstOf searched line choices says here (IsInPhaseFrom first) found does
         → IsFirstOf searched line choices says here (IsFrom from) found does
     next_phase_found found does at =
         let found_phase : found.phase ≡ phase = sym at.meant.0 ∙ phase_is in

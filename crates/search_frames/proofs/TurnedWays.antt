@@ -12,8 +12,8 @@ use Rattle.segmentation_definitions.specs.Items.{Choice}
 use Rattle.segmentation_definitions.specs.Listings.{Key, compare_keys}
 use Rattle.derivation.specs.declared.entrance.Entrance.{Entrance}
 use Rattle.annotated_trie.specs.Searched.{SearchedLexicon}
-use Rattle.search_frames.specs.declared.guiding.Turn.{Turn}
-use Rattle.search_frames.specs.declared.guiding.Turn.TheVariants.{Nothing}
+use Rattle.search_frames.specs.declared.testing.Test.{Test}
+use Rattle.search_frames.specs.declared.testing.Test.TheVariants.{Refused}
 use Rattle.search_frames.specs.Configurations.{NumberedConfiguration, IsPossible}
 use Rattle.search_frames.specs.Turns.{BeginsPath}
 use Rattle.search_frames.specs.FirstKeys.{IsFirstOf, HasNoneOf, IsFrom, IsJudged}
@@ -115,9 +115,9 @@ module _ (searched : SearchedLexicon) (line : Line) (choices : List Choice) (her
         none key begins (meant, (there.0, omega (arith, low, past), there.1, there.2))
 
     -- and the next one with which a path may begin is the first
-    pub first_way : IsStrictlySortedBy compare_keys keys → (says : ℕ → Entrance → Option ℕ → Bool) (count : ℕ) (way : Key) (does : Turn) → count < length keys
+    pub first_way : IsStrictlySortedBy compare_keys keys → (says : ℕ → Entrance → Option ℕ → Bool) (count : ℕ) (way : Key) (does : Test) → count < length keys
         → ((default : Key) → get_or keys count default ≡ way) → HasNoneOf searched line choices here (IsTriedWay from keys count)
-        → IsFrom from way → IsPossible searched line here way → IsJudged searched line choices says here way does → (does ≡ Nothing → ⊥)
+        → IsFrom from way → IsPossible searched line here way → IsJudged searched line choices says here way does → (does ≡ Refused → ⊥)
         → IsFirstOf searched line choices says here (IsFrom from) way does
     first_way rising says count way does low way_is none is_from possible judged goes = record {
       possible = possible;

@@ -5,8 +5,8 @@ use Rattle.segmentation_definitions.specs.Items.{Choice}
 use Rattle.segmentation_definitions.specs.Listings.{Key}
 use Rattle.derivation.specs.declared.entrance.Entrance.{Entrance}
 use Rattle.annotated_trie.specs.Searched.{SearchedLexicon}
-use Rattle.search_frames.specs.declared.guiding.Turn.{Turn}
-use Rattle.search_frames.specs.declared.guiding.Turn.TheVariants as turn
+use Rattle.search_frames.specs.declared.testing.Test.{Test}
+use Rattle.search_frames.specs.declared.testing.Test.TheVariants as test
 use Rattle.search_frames.specs.Configurations.{NumberedConfiguration, IsPossible, Ends}
 use Rattle.search_frames.specs.Tests.{LeadsTo}
 use Rattle.search_frames.specs.Turns.{BeginsPath}
@@ -41,19 +41,19 @@ IsShorterFrom from letters key = IsInPhaseFrom from key × (key.taken < letters)
 
 -- the answer says what the key does here: no path begins with it, or it ends the line, or it leads on to a place of which the guide
 -- says that an answer goes on from there
-abbrev pub IsJudged : SearchedLexicon → Line → List Choice → (ℕ → Entrance → Option ℕ → Bool) → NumberedConfiguration → Key → Turn → Type 0
-IsJudged searched line choices says here key turn.Nothing = BeginsPath searched line choices here key → ⊥
-IsJudged searched line choices says here key turn.Ends = Ends searched line choices here key
-IsJudged searched line choices says here key (turn.LeadsOn next) =
+abbrev pub IsJudged : SearchedLexicon → Line → List Choice → (ℕ → Entrance → Option ℕ → Bool) → NumberedConfiguration → Key → Test → Type 0
+IsJudged searched line choices says here key test.Refused = BeginsPath searched line choices here key → ⊥
+IsJudged searched line choices says here key test.Ends = Ends searched line choices here key
+IsJudged searched line choices says here key (test.LeadsOn next) =
     LeadsTo searched line choices here key next × (says next.at next.entrance next.state ≡ true)
 
 -- of these keys the first with which a path may begin, and what it does
 pub record IsFirstOf (searched : SearchedLexicon) (line : Line) (choices : List Choice) (says : ℕ → Entrance → Option ℕ → Bool) (here : NumberedConfiguration)
-    (IsMeant : Key → Type 0) (found : Key) (does : Turn) : Type 0 where
+    (IsMeant : Key → Type 0) (found : Key) (does : Test) : Type 0 where
   pub possible : IsPossible searched line here found
   pub meant : IsMeant found
   pub judged : IsJudged searched line choices says here found does
-  pub goes : does ≡ turn.Nothing → ⊥
+  pub goes : does ≡ test.Refused → ⊥
   pub first : (key : Key) → BeginsPath searched line choices here key → IsMeant key → IsFrom found key
 
 -- no path begins with one of these keys

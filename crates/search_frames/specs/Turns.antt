@@ -10,8 +10,8 @@ use Rattle.derivation.specs.declared.entrance.Entrance.{Entrance}
 use Rattle.annotated_trie.specs.Searched.{SearchedLexicon}
 use Rattle.search_frames.specs.declared.frame.TheConstants.{NODES_OF_FRAME}
 use Rattle.search_frames.specs.declared.resumption.Resumption.{Resumption}
-use Rattle.search_frames.specs.declared.guiding.Turn.{Turn}
-use Rattle.search_frames.specs.declared.guiding.Turn.TheVariants as turn
+use Rattle.search_frames.specs.declared.testing.Test.{Test}
+use Rattle.search_frames.specs.declared.testing.Test.TheVariants as test
 use Rattle.search_frames.specs.declared.guiding.ToTry.{ToTry}
 use Rattle.search_frames.specs.declared.guiding.ToTry.TheVariants as to_try
 use Rattle.search_frames.specs.Configurations.{NumberedConfiguration, IsPossible, Ends, ways_in, rules_in}
@@ -53,11 +53,11 @@ HasNoTurn searched line choices level what stack =
 
 -- the frame was brought to a key, and the answer says what this key does, where the guide says that an answer goes on from where it leads;
 -- or there is no such key
-abbrev pub IsTurn : SearchedLexicon → Line → List Choice → (ℕ → Entrance → Option ℕ → Bool) → ℕ → ToTry → Resumption → Resumption → Turn → Type 0
-IsTurn searched line choices says level what old new turn.Nothing = HasNoTurn searched line choices level what old
-IsTurn searched line choices says level what old new turn.Ends =
+abbrev pub IsTurn : SearchedLexicon → Line → List Choice → (ℕ → Entrance → Option ℕ → Bool) → ℕ → ToTry → Resumption → Resumption → Test → Type 0
+IsTurn searched line choices says level what old new test.Refused = HasNoTurn searched line choices level what old
+IsTurn searched line choices says level what old new test.Ends =
     HasTurned searched line choices level what old new × Ends searched line choices (here_of searched old level) (key_at new level)
-IsTurn searched line choices says level what old new (turn.LeadsOn next) =
+IsTurn searched line choices says level what old new (test.LeadsOn next) =
     HasTurned searched line choices level what old new × LeadsTo searched line choices (here_of searched old level) (key_at new level) next
     × (says next.at next.entrance next.state ≡ true)
 
@@ -68,9 +68,9 @@ keys_left searched last to_try.Later =
     ((length (rules_in searched).names - last.phase) * NODES_OF_FRAME + last.taken) * (MOST_RULES + 1) + (MOST_RULES - last.rule)
 
 -- it falls, unless there was no such key
-abbrev pub HasFallen : SearchedLexicon → ℕ → ToTry → Resumption → Resumption → Turn → Type 0
-HasFallen searched level what old new turn.Nothing = Unit {0}
-HasFallen searched level what old new turn.Ends =
+abbrev pub HasFallen : SearchedLexicon → ℕ → ToTry → Resumption → Resumption → Test → Type 0
+HasFallen searched level what old new test.Refused = Unit {0}
+HasFallen searched level what old new test.Ends =
     keys_left searched (key_at new level) to_try.Later < keys_left searched (key_at old level) what
-HasFallen searched level what old new (turn.LeadsOn next) =
+HasFallen searched level what old new (test.LeadsOn next) =
     keys_left searched (key_at new level) to_try.Later < keys_left searched (key_at old level) what

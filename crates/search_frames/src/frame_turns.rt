@@ -11,8 +11,9 @@ ghost use Rattle.search_frames.specs.Stacks.{IsStack};
 ghost use Rattle.search_frames.specs.declared.guiding.ToTry.TheVariants.{Later as AfterStep};
 ghost use Rattle.lexicon_definitions.specs.declared.limits.TheConstants.{MOST_RULES};
 
-use super::guiding::{SearchGuide, ToTry, Turn};
+use super::guiding::{SearchGuide, ToTry};
 use super::search_space::SearchSpace;
+use super::testing::Test;
 use super::turning::turn_from;
 use super::{Configuration, Resumption};
 use derivation::{Key, Step};
@@ -50,15 +51,16 @@ pub(crate) fn stand_at(stack: &mut Resumption, level: usize, key: Key)
 }
 
 /// Brings the frame at the level, counted from 0, which has still to try what is said, to its next key that leads on or ends the line,
-/// and tells which. It leaves out keys with which no path to an answer begins, as far as the guide tells. A step is counted for each
-/// phase, each letter that is walked, each group of rules, each rule, each way that is kept and each question to the guide.
+/// and tells which; it is `Refused` where there is no such key. It leaves out keys with which no path to an answer begins, as far as the
+/// guide tells. A step is counted for each phase, each letter that is walked, each group of rules, each rule, each way that is kept and
+/// each question to the guide.
 pub fn turn<D: SearchGuide, L>(
     space: &SearchSpace<'_, D>,
     stack: &mut Resumption,
     level: usize,
     to_try: ToTry,
     steps: &mut Steps<L>,
-) -> Turn
+) -> Test
     requires searched { IsSearchedLexicon space.now.lexicon.now }
     requires line { IsLine space.now.line.now }
     requires guide { IsGuideOf space.now.lexicon.now space.now.line.now space.now.choices.now (D.covers space.now.guide.now) (D.says space.now.guide.now) }
@@ -73,9 +75,9 @@ pub fn turn<D: SearchGuide, L>(
 {
     let place = Configuration::of_frame(stack, level);
     let from = first_to_try(&stack.steps[level], to_try);
-    let Some((key, turn)) = turn_from(space, &place, from, &mut stack.nodes, steps) else {
-        return Turn::Nothing;
+    let Some((key, test)) = turn_from(space, &place, from, &mut stack.nodes, steps) else {
+        return Test::Refused;
     };
     stand_at(stack, level, key);
-    turn
+    test
 }

@@ -14,14 +14,6 @@ use outside::Steps;
 use phoneme::Line;
 use reader_choices::Choices;
 
-/// What the next key of a frame does: there is no such key; or it ends the line; or it leads on to another configuration.
-#[derive(Clone, Copy, Debug, PartialEq, Eq)]
-pub enum Turn {
-    Nothing,
-    Ends,
-    LeadsOn(Configuration),
-}
-
 /// What a frame has still to try: every key that is possible at its configuration, or just the keys after that of its step.
 #[derive(Clone, Copy, Debug, PartialEq, Eq)]
 pub enum ToTry {

@@ -12,7 +12,7 @@ ghost use Rattle.search_frames.specs.LetterTests.{IsLetterTestOf};
 ghost use Rattle.search_frames.specs.WaysFrom.{IsWayFrom, key_of_way};
 
 use super::Configuration;
-use super::guiding::{SearchGuide, Turn};
+use super::guiding::SearchGuide;
 use super::letter_testing::{LetterTest, test_letters};
 use super::search_space::SearchSpace;
 use super::testing::{Test, test_in_grammar};
@@ -20,15 +20,15 @@ use super::way::Way;
 use derivation::{Key, Step};
 use outside::Steps;
 
-/// What the key, which is possible at the place, does there, where the test says what its letters do: nothing where it neither leads on nor
-/// ends the line, or where the guide says that no answer goes on from where it leads.
+/// What the key, which is possible at the place, does there, where the test says what its letters do. It is refused as well where the guide
+/// says that no answer goes on from where it leads.
 fn judge_test<D: SearchGuide, L>(
     space: &SearchSpace<'_, D>,
     place: &Configuration,
     key: Key,
     test: LetterTest,
     steps: &mut Steps<L>,
-) -> Turn
+) -> Test
     requires searched { IsSearchedLexicon space.now.lexicon.now }
     requires line { IsLine space.now.line.now }
     requires guide { IsGuideOf space.now.lexicon.now space.now.line.now space.now.choices.now (D.covers space.now.guide.now) (D.says space.now.guide.now) }
@@ -40,26 +40,25 @@ fn judge_test<D: SearchGuide, L>(
     ensures steps { steps.new ≤ steps.old + 1 }
 {
     match test_in_grammar(space.lexicon, place, key.phase, test) {
-        Test::Refused => Turn::Nothing,
-        Test::Ends => Turn::Ends,
         Test::LeadsOn(next) => {
             if space.guide.live(next.at, next.entrance, next.state, steps) {
-                Turn::LeadsOn(next)
+                Test::LeadsOn(next)
             } else {
-                Turn::Nothing
+                Test::Refused
             }
         }
+        told => told,
     }
 }
 
-/// What the step, whose key is possible at the place, does there: nothing where it neither leads on nor ends the line, or where the guide
-/// says that no answer goes on from where it leads.
+/// What the step, whose key is possible at the place, does there. It is refused as well where the guide says that no answer goes on from
+/// where it leads.
 pub(crate) fn judge<D: SearchGuide, L>(
     space: &SearchSpace<'_, D>,
     place: &Configuration,
     step: &Step,
     steps: &mut Steps<L>,
-) -> Turn
+) -> Test
     requires searched { IsSearchedLexicon space.now.lexicon.now }
     requires line { IsLine space.now.line.now }
     requires guide { IsGuideOf space.now.lexicon.now space.now.line.now space.now.choices.now (D.covers space.now.guide.now) (D.says space.now.guide.now) }
@@ -81,7 +80,7 @@ pub(crate) fn judge_way<D: SearchGuide, L>(
     place: &Configuration,
     way: &Way,
     steps: &mut Steps<L>,
-) -> Turn
+) -> Test
     requires searched { IsSearchedLexicon space.now.lexicon.now }
     requires line { IsLine space.now.line.now }
     requires guide { IsGuideOf space.now.lexicon.now space.now.line.now space.now.choices.now (D.covers space.now.guide.now) (D.says space.now.guide.now) }

@@ -41,7 +41,7 @@ pub use configuration::Configuration;
 pub use cursor::Cursor;
 pub use frame::{Frame, NODES_OF_FRAME};
 pub use frame_turns::turn;
-pub use guiding::{SearchGuide, ToTry, Turn};
+pub use guiding::{SearchGuide, ToTry};
 pub use letter_testing::{LetterTest, test_letters};
 pub use opening::open_frame;
 pub use resumption::Resumption;

@@ -75,9 +75,7 @@ fn has_key(
         return false;
     }
     let mut steps = Steps::<()>::new();
-    let walked = walk_place(
-        lexicon, line, place, key.phase, key.taken, nodes, &mut steps,
-    );
+    let walked = walk_place(lexicon, line, place, key, nodes, &mut steps);
     if key.taken >= walked {
         return false;
     }

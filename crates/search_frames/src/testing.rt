@@ -17,7 +17,8 @@ use derivation::Step;
 use phoneme::Line;
 use reader_choices::Choices;
 
-/// What a key does at a configuration: it neither leads on nor ends the line; or it ends it; or it leads on to another one.
+/// What a key does at a configuration: it neither leads on nor ends the line, or there is no such key; or it ends the line; or it leads on
+/// to another configuration.
 #[derive(Clone, Copy, Debug, PartialEq, Eq)]
 pub enum Test {
     Refused,

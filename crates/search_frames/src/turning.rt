@@ -19,9 +19,10 @@ ghost use Rattle.search_frames.specs.FirstKeys.{HasNoneOf, IsFirstOf, IsUnchange
 ghost use Rattle.segmentation_definitions.specs.Listings.{Key as DefinedKey};
 
 use super::Configuration;
-use super::guiding::{SearchGuide, Turn};
+use super::guiding::SearchGuide;
 use super::judging::judge;
 use super::search_space::SearchSpace;
+use super::testing::Test;
 use super::walking::{supplied_letters, walk_place};
 use super::way_turns::turn_among_ways;
 use derivation::{Key, Step};
@@ -51,7 +52,7 @@ fn turn_unchanged<D: SearchGuide, L>(
     node: Node,
     from: Key,
     steps: &mut Steps<L>,
-) -> Option<(Key, Turn)>
+) -> Option<(Key, Test)>
     requires searched { IsSearchedLexicon space.now.lexicon.now }
     requires line { IsLine space.now.line.now }
     requires guide { IsGuideOf space.now.lexicon.now space.now.line.now space.now.choices.now (D.covers space.now.guide.now) (D.says space.now.guide.now) }
@@ -68,8 +69,8 @@ fn turn_unchanged<D: SearchGuide, L>(
         return None;
     }
     match judge(space, place, &step_with(space, place, from), steps) {
-        Turn::Nothing => None,
-        turn => Some((from, turn)),
+        Test::Refused => None,
+        test => Some((from, test)),
     }
 }
 
@@ -82,7 +83,7 @@ fn turn_by_rule<D: SearchGuide, L>(
     from: Key,
     rule: u32,
     steps: &mut Steps<L>,
-) -> Option<(Key, Turn)>
+) -> Option<(Key, Test)>
     requires searched { IsSearchedLexicon space.now.lexicon.now }
     requires line { IsLine space.now.line.now }
     requires guide { IsGuideOf space.now.lexicon.now space.now.line.now space.now.choices.now (D.covers space.now.guide.now) (D.says space.now.guide.now) }
@@ -104,8 +105,8 @@ fn turn_by_rule<D: SearchGuide, L>(
         rule,
     };
     match judge(space, place, &step_with(space, place, key), steps) {
-        Turn::Nothing => None,
-        turn => Some((key, turn)),
+        Test::Refused => None,
+        test => Some((key, test)),
     }
 }
 
@@ -129,7 +130,7 @@ fn turn_in_group<D: SearchGuide, L>(
     from: Key,
     letter: Letter,
     steps: &mut Steps<L>,
-) -> Option<(Key, Turn)>
+) -> Option<(Key, Test)>
     requires searched { IsSearchedLexicon space.now.lexicon.now }
     requires line { IsLine space.now.line.now }
     requires guide { IsGuideOf space.now.lexicon.now space.now.line.now space.now.choices.now (D.covers space.now.guide.now) (D.says space.now.guide.now) }
@@ -161,7 +162,7 @@ fn turn_changed<D: SearchGuide, L>(
     node: Node,
     from: Key,
     steps: &mut Steps<L>,
-) -> Option<(Key, Turn)>
+) -> Option<(Key, Test)>
     requires searched { IsSearchedLexicon space.now.lexicon.now }
     requires line { IsLine space.now.line.now }
     requires guide { IsGuideOf space.now.lexicon.now space.now.line.now space.now.choices.now (D.covers space.now.guide.now) (D.says space.now.guide.now) }
@@ -189,7 +190,7 @@ fn turn_at_node<D: SearchGuide, L>(
     node: Node,
     from: Key,
     steps: &mut Steps<L>,
-) -> Option<(Key, Turn)>
+) -> Option<(Key, Test)>
     requires searched { IsSearchedLexicon space.now.lexicon.now }
     requires line { IsLine space.now.line.now }
     requires guide { IsGuideOf space.now.lexicon.now space.now.line.now space.now.choices.now (D.covers space.now.guide.now) (D.says space.now.guide.now) }
@@ -233,7 +234,7 @@ fn turn_among_nodes<D: SearchGuide, L>(
     from: Key,
     nodes: &[Node],
     steps: &mut Steps<L>,
-) -> Option<(Key, Turn)>
+) -> Option<(Key, Test)>
     requires searched { IsSearchedLexicon space.now.lexicon.now }
     requires line { IsLine space.now.line.now }
     requires guide { IsGuideOf space.now.lexicon.now space.now.line.now space.now.choices.now (D.covers space.now.guide.now) (D.says space.now.guide.now) }
@@ -264,7 +265,7 @@ fn turn_in_phase<D: SearchGuide, L>(
     from: Key,
     nodes: &mut Vec<Node>,
     steps: &mut Steps<L>,
-) -> Option<(Key, Turn)>
+) -> Option<(Key, Test)>
     requires searched { IsSearchedLexicon space.now.lexicon.now }
     requires line { IsLine space.now.line.now }
     requires guide { IsGuideOf space.now.lexicon.now space.now.line.now space.now.choices.now (D.covers space.now.guide.now) (D.says space.now.guide.now) }
@@ -283,15 +284,7 @@ fn turn_in_phase<D: SearchGuide, L>(
         steps.tick();
         return None;
     }
-    let walked = walk_place(
-        space.lexicon,
-        space.line,
-        place,
-        from.phase,
-        from.taken,
-        nodes,
-        steps,
-    );
+    let walked = walk_place(space.lexicon, space.line, place, from, nodes, steps);
     turn_among_nodes(space, place, from, &nodes[..walked as usize], steps)
 }
 
@@ -320,7 +313,7 @@ fn turn_by_walking<D: SearchGuide, L>(
     from: Key,
     nodes: &mut Vec<Node>,
     steps: &mut Steps<L>,
-) -> Option<(Key, Turn)>
+) -> Option<(Key, Test)>
     requires searched { IsSearchedLexicon space.now.lexicon.now }
     requires line { IsLine space.now.line.now }
     requires guide { IsGuideOf space.now.lexicon.now space.now.line.now space.now.choices.now (D.covers space.now.guide.now) (D.says space.now.guide.now) }
@@ -352,7 +345,7 @@ pub(crate) fn turn_from<D: SearchGuide, L>(
     from: Key,
     nodes: &mut Vec<Node>,
     steps: &mut Steps<L>,
-) -> Option<(Key, Turn)>
+) -> Option<(Key, Test)>
     requires searched { IsSearchedLexicon space.now.lexicon.now }
     requires line { IsLine space.now.line.now }
     requires guide { IsGuideOf space.now.lexicon.now space.now.line.now space.now.choices.now (D.covers space.now.guide.now) (D.says space.now.guide.now) }

@@ -9,7 +9,7 @@ ghost use Rattle.search_frames.specs.Walks.{IsNodeAt, IsNodeAmong};
 
 use super::{Configuration, NODES_OF_FRAME};
 use annotated_trie::Lexicon;
-use derivation::Entrance;
+use derivation::{Entrance, Key};
 use outside::Steps;
 use phoneme::{Letter, Line};
 use sandhi_rules::RuleSet;
@@ -105,37 +105,36 @@ fn walk_fronts<L>(
     }
 }
 
-/// Walks in the trie of the phase, counted from 0, along the letters that the rule before supplies to a form at the place and then along
-/// at most so many letters of the line. Puts the nodes after no letter of the line, one, two and so on at the first places of `nodes`,
-/// and answers how many these are.
+/// Walks in the trie of the key's phase along the letters that the rule before supplies to a form at the place and then along at most as
+/// many letters of the line as the key takes. Puts the nodes after no letter of the line, one, two and so on at the first places of
+/// `nodes`, and answers how many these are.
 pub(crate) fn walk_place<L>(
     lexicon: &Lexicon,
     line: &Line,
     place: &Configuration,
-    phase: u32,
-    most: u32,
+    key: Key,
     nodes: &mut Vec<Node>,
     steps: &mut Steps<L>,
 ) -> u32
     requires place { IsConfigurationIn lexicon.now line.now place.now }
-    requires phase { phase < length lexicon.now.lexicon.rules.names }
-    requires most { most < NODES_OF_FRAME }
+    requires phase { key.phase < length lexicon.now.lexicon.rules.names }
+    requires taken { key.taken < NODES_OF_FRAME }
     requires room { NODES_OF_FRAME ≤ length nodes.old.items }
     ensures room { length nodes.new.items ≡ length nodes.old.items }
     ensures few { result ≤ NODES_OF_FRAME }
-    ensures within { result ≤ most + 1 }
-    ensures walked { (taken : ℕ) → taken < result → IsNodeAmong lexicon.now line.now (numbered_of lexicon.now place.now) phase (take result nodes.new.items) taken }
-    ensures all { (taken node : ℕ) → taken ≤ most → place.now.at + taken ≤ length line.now.letters → IsNodeAt lexicon.now line.now (numbered_of lexicon.now place.now) phase taken node → taken < result }
+    ensures within { result ≤ key.taken + 1 }
+    ensures walked { (taken : ℕ) → taken < result → IsNodeAmong lexicon.now line.now (numbered_of lexicon.now place.now) key.phase (take result nodes.new.items) taken }
+    ensures all { (taken node : ℕ) → taken ≤ key.taken → place.now.at + taken ≤ length line.now.letters → IsNodeAt lexicon.now line.now (numbered_of lexicon.now place.now) key.phase taken node → taken < result }
     ensures steps { steps.new + result + 1 ≤ steps.old + 2 * NODES_OF_FRAME }
 {
     let store = lexicon.tries().store();
     let lead = supplied_letters(lexicon.rules(), place.entrance);
     let letters = line.letters.as_slice();
     let at = place.at as usize;
-    let end = letters.len().min(at + most as usize);
+    let end = letters.len().min(at + key.taken as usize);
     walk_fronts(
         store,
-        store.root(phase),
+        store.root(key.phase),
         lead,
         &letters[at..end],
         nodes,

@@ -10,9 +10,10 @@ ghost use Rattle.search_frames.specs.FirstKeys.{HasNoneOf, IsFirstOf, IsFrom};
 ghost use Rattle.search_frames.specs.WaysFrom.{AreAllWays};
 
 use super::Configuration;
-use super::guiding::{SearchGuide, Turn};
+use super::guiding::SearchGuide;
 use super::judging::judge_way;
 use super::search_space::SearchSpace;
+use super::testing::Test;
 use super::way::{MOST_WAYS, Way};
 use derivation::Key;
 use outside::Steps;
@@ -25,7 +26,7 @@ pub(crate) fn turn_among_ways<D: SearchGuide, L>(
     from: Key,
     ways: &[Way],
     steps: &mut Steps<L>,
-) -> Option<(Key, Turn)>
+) -> Option<(Key, Test)>
     requires searched { IsSearchedLexicon space.now.lexicon.now }
     requires line { IsLine space.now.line.now }
     requires guide { IsGuideOf space.now.lexicon.now space.now.line.now space.now.choices.now (D.covers space.now.guide.now) (D.says space.now.guide.now) }
@@ -43,8 +44,8 @@ pub(crate) fn turn_among_ways<D: SearchGuide, L>(
             continue;
         }
         match judge_way(space, place, way, steps) {
-            Turn::Nothing => {}
-            turn => return Some((way.key, turn)),
+            Test::Refused => {}
+            test => return Some((way.key, test)),
         }
     }
     None

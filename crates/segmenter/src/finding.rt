@@ -14,7 +14,7 @@ ghost use Rattle.segmenter.specs.Chains.{AreFrames, HasFound, HasNone, Every, Be
 
 use outside::Steps;
 use search_frames::{
-    Configuration, Resumption, SearchGuide, SearchSpace, ToTry, Turn, open_frame, turn,
+    Configuration, Resumption, SearchGuide, SearchSpace, Test, ToTry, open_frame, turn,
 };
 
 /// Finds the first path from the configuration, with the frames from the level on. False where there is no path.
@@ -74,12 +74,12 @@ pub(crate) fn find_next<D: SearchGuide, L>(
     let mut to_try = to_try;
     loop {
         match turn(space, stack, level, to_try, steps) {
-            Turn::Nothing => return false,
-            Turn::Ends => {
+            Test::Refused => return false,
+            Test::Ends => {
                 stack.use_frames(level as u32 + 1);
                 return true;
             }
-            Turn::LeadsOn(next) => {
+            Test::LeadsOn(next) => {
                 if find_first(space, stack, level + 1, next, steps) {
                     return true;
                 }

@@ -59,8 +59,8 @@ returns-clause-turn g c =
     is_turn c.args.space.now.lexicon.now c.args.space.now.line.now c.requires.searched c.args.space.now.choices.now (g.D.Guide.says c.args.space.now.guide.now) c.args.level c.args.to_try c.args.stack.now (key_meant c.first_to_try-from.result)
     (from_is g (goal.at.returns-clause-turn g c).After-first_to_try-from)
     (record { cursor = c.args.stack.now.cursor; depth = c.args.stack.now.depth; steps = c.args.stack.now.steps; frames = c.args.stack.now.frames; nodes = c.turn_from.new.nodes })
-    c.stand_at.new.stack c.in-Some.key c.requires.placed refl refl c.stand_at.ensures c.in-Some.turn
-    (subst (λ (p : Configuration). IsFirstOf c.args.space.now.lexicon.now c.args.space.now.line.now c.args.space.now.choices.now (g.D.Guide.says c.args.space.now.guide.now) (numbered_of c.args.space.now.lexicon.now p) (IsFrom (key_meant c.first_to_try-from.result)) (key_meant c.in-Some.key) c.in-Some.turn)
+    c.stand_at.new.stack c.in-Some.key c.requires.placed refl refl c.stand_at.ensures c.in-Some.test
+    (subst (λ (p : Configuration). IsFirstOf c.args.space.now.lexicon.now c.args.space.now.line.now c.args.space.now.choices.now (g.D.Guide.says c.args.space.now.guide.now) (numbered_of c.args.space.now.lexicon.now p) (IsFrom (key_meant c.first_to_try-from.result)) (key_meant c.in-Some.key) c.in-Some.test)
     c.of_frame-place.ensures c.in-Some.ensures.first)
 
 pub returns-clause-falls : goal.returns-clause-falls
@@ -68,8 +68,8 @@ returns-clause-falls g c =
     has_fallen c.args.space.now.lexicon.now c.args.space.now.line.now c.requires.searched c.args.space.now.choices.now (g.D.Guide.says c.args.space.now.guide.now) c.args.level c.args.to_try c.args.stack.now (key_meant c.first_to_try-from.result)
     (from_is g (goal.at.returns-clause-falls g c).After-first_to_try-from)
     (record { cursor = c.args.stack.now.cursor; depth = c.args.stack.now.depth; steps = c.args.stack.now.steps; frames = c.args.stack.now.frames; nodes = c.turn_from.new.nodes })
-    c.stand_at.new.stack c.in-Some.key c.requires.placed refl refl c.stand_at.ensures c.in-Some.turn
-    (subst (λ (p : Configuration). IsFirstOf c.args.space.now.lexicon.now c.args.space.now.line.now c.args.space.now.choices.now (g.D.Guide.says c.args.space.now.guide.now) (numbered_of c.args.space.now.lexicon.now p) (IsFrom (key_meant c.first_to_try-from.result)) (key_meant c.in-Some.key) c.in-Some.turn)
+    c.stand_at.new.stack c.in-Some.key c.requires.placed refl refl c.stand_at.ensures c.in-Some.test
+    (subst (λ (p : Configuration). IsFirstOf c.args.space.now.lexicon.now c.args.space.now.line.now c.args.space.now.choices.now (g.D.Guide.says c.args.space.now.guide.now) (numbered_of c.args.space.now.lexicon.now p) (IsFrom (key_meant c.first_to_try-from.result)) (key_meant c.in-Some.key) c.in-Some.test)
     c.of_frame-place.ensures c.in-Some.ensures.first)
 
 pub returns-clause-changes : goal.returns-clause-changes

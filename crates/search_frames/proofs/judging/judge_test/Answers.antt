@@ -2,7 +2,7 @@
 use Rattle.std.proofs.Common.{◌≡◌, false, refl, sym, ◌∙◌}
 use Rattle.derivation.specs.Steps.{key_meant}
 use Rattle.search_frames.specs.Frames.{numbered_of}
-use Rattle.search_frames.proofs.BegunPaths.{refused_begins, dead_begins}
+use Rattle.search_frames.proofs.BegunPaths.{judged_unless_leads, dead_begins}
 use Rattle.search_frames.proofs.ConfigurationPaths.{guide_covers}
 use Rattle.search_frames.proofs.PossibleKeys.{possible_phase}
 use Rattle.search_frames.proofs.judging.judge_test.Goals as goal
@@ -16,10 +16,11 @@ live-requires g c =
     guide_covers c.args.space.now.lexicon.now c.args.space.now.line.now c.args.space.now.choices.now (g.D.Guide.covers c.args.space.now.guide.now) (g.D.Guide.says c.args.space.now.guide.now)
     c.in-LeadsOn.next c.requires.searched c.requires.guide (c.in-LeadsOn.ensures.exact c.args.space.now.line.now c.args.space.now.choices.now (key_meant c.args.key) c.requires.place refl c.requires.possible c.requires.test).within
 
-pub returns-in-Refused-clause-judged : goal.returns-in-Refused-clause-judged
-returns-in-Refused-clause-judged g c =
-    refused_begins c.args.space.now.lexicon.now c.args.space.now.line.now c.args.space.now.choices.now (numbered_of c.args.space.now.lexicon.now c.args.place.now) (key_meant c.args.key)
-    (c.in-Refused.ensures.exact c.args.space.now.line.now c.args.space.now.choices.now (key_meant c.args.key) c.requires.place refl c.requires.possible c.requires.test)
+pub returns-in_default-clause-judged : goal.returns-in_default-clause-judged
+returns-in_default-clause-judged g c =
+    judged_unless_leads c.args.space.now.lexicon.now c.args.space.now.line.now c.args.space.now.choices.now (numbered_of c.args.space.now.lexicon.now c.args.place.now) (key_meant c.args.key)
+    (g.D.Guide.says c.args.space.now.guide.now) c.test_in_grammar.result c.in_default.not-LeadsOn
+    (c.test_in_grammar.ensures.exact c.args.space.now.line.now c.args.space.now.choices.now (key_meant c.args.key) c.requires.place refl c.requires.possible c.requires.test)
 
 pub returns-else-live-clause-judged : goal.returns-else-live-clause-judged
 returns-else-live-clause-judged g c =

@@ -49,14 +49,14 @@ judge-requires-clause-possible g c =
     (unchanged_possible searched c.args.space.now.line.now c.args.space.now.choices.now here (key_meant c.args.from) c.requires.searched c.requires.phase c.requires.letters
     c.args.node c.requires.node (told.0 c.if-not-accepts.false) (omega (arith, c.if-from-gt0.false)))
 
-pub returns-in-Nothing-clause-first : goal.returns-in-Nothing-clause-first
-returns-in-Nothing-clause-first g c key begins meant =
+pub returns-in-Refused-clause-first : goal.returns-in-Refused-clause-first
+returns-in-Refused-clause-first g c key begins meant =
     let searched = c.args.space.now.lexicon.now in
     let here = numbered_of searched c.args.place.now in
     let zero : c.args.from.rule ≡ 0 = omega (arith, c.if-from-gt0.false) in
     let is = ap key_of c.step_with.ensures in
     none_of_one searched c.args.space.now.line.now c.args.space.now.choices.now here (key_meant c.args.from) c.args.from.rule
-    (subst (λ (k : Key). BeginsPath searched c.args.space.now.line.now c.args.space.now.choices.now here k → ⊥) is c.in-Nothing.ensures.judged)
+    (subst (λ (k : Key). BeginsPath searched c.args.space.now.line.now c.args.space.now.choices.now here k → ⊥) is c.in-Refused.ensures.judged)
     key begins meant.0.0 meant.0.1 (meant.1 ∙ sym zero)
 
 pub returns-in_default : goal.returns-in_default
@@ -73,7 +73,7 @@ returns-in_default g c =
             c.args.node c.requires.node (told.0 c.if-not-accepts.false) zero;
         meant = ((refl, refl, omega arith), zero);
         judged = subst (λ (k : Key). IsJudged searched c.args.space.now.line.now c.args.space.now.choices.now (g.D.Guide.says c.args.space.now.guide.now) here k c.judge.result) is c.judge.ensures.judged;
-        goes = c.in_default.not-Nothing;
+        goes = c.in_default.not-Refused;
         first = λ key begins meant. inr (meant.0.0, inr (meant.0.1, meant.0.2));
       };
       steps = c.judge.ensures.steps;

@@ -29,7 +29,7 @@ loop-way-preserved-then-is_lt g c =
 pub loop-way-preserved : goal.loop-way-preserved
 loop-way-preserved g c = record {
   none = one_way_more c.args.space.now.lexicon.now c.args.space.now.line.now c.args.space.now.choices.now (numbered_of c.args.space.now.lexicon.now c.args.place.now) (key_meant c.args.from) (map key_of_way c.args.ways.now) c.loop-way.way-index (key_of_way c.way-item.result) (key_there g (goal.at.loop-way-preserved g c).After-is_lt)
-      c.loop-way.invariant.none (λ meant begins. c.in-Nothing.ensures.judged begins);
+      c.loop-way.invariant.none (λ meant begins. c.in-Refused.ensures.judged begins);
   spent = omega (arith, c.loop-way.invariant.spent, c.tick.ensures, c.judge_way.ensures.steps);
 }
 
@@ -41,7 +41,7 @@ returns-in_default g c =
       first = first_way c.args.space.now.lexicon.now c.args.space.now.line.now c.args.space.now.choices.now (numbered_of c.args.space.now.lexicon.now c.args.place.now) (key_meant c.args.from) (map key_of_way c.args.ways.now) c.requires.ways.all c.requires.ways.rising (g.D.Guide.says c.args.space.now.guide.now) c.loop-way.way-index (key_of_way c.way-item.result) c.judge_way.result
           (omega (arith, c.loop-way-test.true, length-map c.args.ways.now key_of_way)) (key_there g (goal.at.returns-in_default g c).After-is_lt) c.loop-way.invariant.none
           (from_unless_before (key_meant c.args.from) (key_of_way c.way-item.result) after) (subst (λ w. IsPossible c.args.space.now.lexicon.now c.args.space.now.line.now (numbered_of c.args.space.now.lexicon.now c.args.place.now) (key_of_way w)) (sym c.way-item.is) way.possible)
-          c.judge_way.ensures.judged c.in_default.not-Nothing;
+          c.judge_way.ensures.judged c.in_default.not-Refused;
       steps = omega (arith, c.loop-way.invariant.spent, c.loop-way-test.true, c.requires.few, c.tick.ensures, c.judge_way.ensures.steps);
     }
 

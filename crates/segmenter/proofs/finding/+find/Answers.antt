@@ -65,9 +65,9 @@ find_next-turn-requires-clause-stands g t c = c.loop-stack.invariant.under.stand
 pub find_next-turn-requires-clause-placed : goal.find_next-turn-requires-clause-placed
 find_next-turn-requires-clause-placed g t c = c.loop-stack.invariant.under.placed
 
-pub find_next-returns-in-Nothing-clause-none : goal.find_next-returns-in-Nothing-clause-none
-find_next-returns-in-Nothing-clause-none g t c =
-    none_left c.args.space.now.lexicon.now c.args.space.now.line.now c.args.space.now.choices.now c.args.level c.args.stack.now c.args.to_try c.loop-stack.stack c.loop-stack.to_try c.loop-stack.invariant.under c.in-Nothing.ensures.turn
+pub find_next-returns-in-Refused-clause-none : goal.find_next-returns-in-Refused-clause-none
+find_next-returns-in-Refused-clause-none g t c =
+    none_left c.args.space.now.lexicon.now c.args.space.now.line.now c.args.space.now.choices.now c.args.level c.args.stack.now c.args.to_try c.loop-stack.stack c.loop-stack.to_try c.loop-stack.invariant.under c.in-Refused.ensures.turn
 
 pub find_next-returns-in-Ends-clause-found : goal.find_next-returns-in-Ends-clause-found
 find_next-returns-in-Ends-clause-found g t c =
@@ -181,8 +181,8 @@ find_next-returns-then-find_first-clause-steps_on g t c exact most few =
     (rank (numbered_of c.args.space.now.lexicon.now c.in-LeadsOn.next)) c.args.steps.now c.turn.new.steps c.find_first.new.steps
     leads.rises (omega (arith, so_far, spent)) (c.if-find_first.ensures.steps_on exact most few)
 
-pub find_next-returns-in-Nothing-clause-steps_end : goal.find_next-returns-in-Nothing-clause-steps_end
-find_next-returns-in-Nothing-clause-steps_end g t c exact most few =
+pub find_next-returns-in-Refused-clause-steps_end : goal.find_next-returns-in-Refused-clause-steps_end
+find_next-returns-in-Refused-clause-steps_end g t c exact most few =
     let so_far = c.loop-stack.invariant.spent exact in
     let spent = c.turn.ensures.steps most few in
     omega (arith, so_far, spent)
