@@ -14,7 +14,7 @@ use toml::value::Array;
 use toml::{Table, Value};
 
 /// The texts of a rule file but for its classes, copied out of its document.
-#[derive(Debug, Drop)]
+#[derive(Drop)]
 pub(crate) struct Texts {
     pub phases: Vec<String>,
     pub grammar: String,

@@ -6,7 +6,7 @@ use phoneme::Memory;
 use std::alloc::{AllocError, AllocFailed};
 
 /// Why an entry of the rules was not taken: its first reason, or want of memory.
-#[derive(Clone, Copy, Debug)]
+#[derive(Clone, Copy)]
 pub(crate) enum EntryError {
     Why(RuleWhy),
     Memory,

@@ -7,7 +7,7 @@ use crate::cutting::cut;
 
 /// The fields of an entry of the rules: its notation, and those that tell the phases before and after its rules, where it has
 /// them.
-#[derive(Clone, Copy, Debug)]
+#[derive(Clone, Copy)]
 pub(crate) struct Fields<'a> {
     pub notation: &'a [u8],
     pub limits: Option<(&'a [u8], &'a [u8])>,

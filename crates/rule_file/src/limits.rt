@@ -7,7 +7,7 @@ use phase_sets::{all_phases, phases_after_told, phases_told};
 use std::marker::Model;
 
 /// The sets of the phases before and after a rule, of which bit `k` stands for phase `k`, counted from 0.
-#[derive(Clone, Copy, Debug)]
+#[derive(Clone, Copy)]
 pub(crate) struct Phases {
     pub before: u16,
     pub after: u16,

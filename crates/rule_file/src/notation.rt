@@ -6,7 +6,7 @@ use crate::cutting::cut;
 
 /// A part of a notation as it is written: what comes before the class and after it, and the class's name. A part without a
 /// class is all before.
-#[derive(Clone, Copy, Debug)]
+#[derive(Clone, Copy)]
 pub(crate) struct Part<'a> {
     pub before: &'a [u8],
     pub class: Option<&'a [u8]>,
@@ -14,7 +14,7 @@ pub(crate) struct Part<'a> {
 }
 
 /// The notation `[x]u|v>w` as it is written.
-#[derive(Clone, Copy, Debug)]
+#[derive(Clone, Copy)]
 pub(crate) struct Notation<'a> {
     pub x: &'a [u8],
     pub u: &'a [u8],

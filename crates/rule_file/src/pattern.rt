@@ -13,7 +13,7 @@ use std::alloc::Global;
 use std::marker::Model;
 
 /// A part of a notation as it is read: the letters before and after the class, where it has one.
-#[derive(Debug, Drop)]
+#[derive(Drop)]
 pub(crate) struct Gap {
     pub before: Word,
     pub has_class: bool,
@@ -29,7 +29,7 @@ impl Model for Gap {
 }
 
 /// A notation as it is read.
-#[derive(Debug, Drop)]
+#[derive(Drop)]
 pub(crate) struct Pattern {
     pub x: Word,
     pub u: Word,

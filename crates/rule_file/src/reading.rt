@@ -39,7 +39,7 @@ fn automaton_of(alloc: Global, text: &[u8], names: &[String]) -> Result<Automato
 }
 
 /// The plain pairs and the rules of a file, and the automaton of its grammar.
-#[derive(Debug, Drop)]
+#[derive(Drop)]
 struct Parts {
     plain: Vec<(Letter, Letter)>,
     rules: Vec<Rule>,
