@@ -7,16 +7,21 @@ use Rattle.lexicon_definitions.specs.Lexicons.{RuleSet, rule_of}
 use Rattle.lexicon_definitions.specs.Rules.{Rule}
 use Rattle.lexicon_definitions.specs.Tries.{Row, Trie, IsTrie, row_of, walk}
 
--- the trie; for each node, by its number, the numbers of the rules that are its choices; and for each rule, from the first on,
--- the first letter of its w
+-- the trie; for each node, by its number, the numbers of the rules that are its choices, and the number of the list that has them; and
+-- for each rule, from the first on, the first letter of its w
 pub record AnnotatedTrie : Type 0 where
   pub trie : Trie
   pub choices : List (List ℕ)
+  pub list_numbers : List ℕ
   pub firsts : List ℕ
 
 -- the choices of the node
 abbrev pub choices_of : AnnotatedTrie → ℕ → List ℕ
 choices_of tries node = slice_index_or tries.choices node []
+
+-- the number of the list that has the choices of the node
+abbrev pub list_number_of : AnnotatedTrie → ℕ → ℕ
+list_number_of tries node = slice_index tries.list_numbers node
 
 -- the rules of the list, by their numbers, whose w begins with the letter
 abbrev pub with_first : List ℕ → ℕ → List ℕ → List ℕ

@@ -11,7 +11,7 @@ list_at lists place = slice_index_or (map (λ (list : Vec ℕ). list.items) list
 
 -- the trie whose nodes have the lists at these places as their choices, and the first letters of the rules
 abbrev pub annotated_with : Trie → List (Vec ℕ) → List ℕ → List ℕ → AnnotatedTrie
-annotated_with trie lists places firsts = record { trie = trie; choices = map (list_at lists) places; firsts = firsts }
+annotated_with trie lists places firsts = record { trie = trie; choices = map (list_at lists) places; list_numbers = places; firsts = firsts }
 
 -- the number is the greatest length of these lists, or 0 where there are none
 pub record IsMostRules (choices : List (List ℕ)) (most : ℕ) : Type 0 where

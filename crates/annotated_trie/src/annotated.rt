@@ -1,6 +1,6 @@
 ghost use Rattle.std.specs.Prelude.{◌≡◌, ◌+◌, ◌≤◌, ◌<◌, ◌^◌, ◌⊎◌, ℕ, length, slice_get};
 ghost use Rattle.std.specs.Bool.{OnTrue};
-ghost use Rattle.annotated_trie.specs.Choices.{choices_of, choices_with};
+ghost use Rattle.annotated_trie.specs.Choices.{choices_of, choices_with, list_number_of};
 ghost use Rattle.annotated_trie.specs.RuleGroups.{AreGroupedBy};
 ghost use Rattle.annotated_trie.specs.Views.{annotated_with, ArePlaces};
 
@@ -99,9 +99,11 @@ impl Annotated {
             .get(CODES * place + letter.code() as usize)
     }
 
-    /// The number of the node's list of choices: a number by which nodes with the same choices may be told together.
+    /// The number of the list that has the node's choices. Nodes with the same number have the same choices.
     pub fn list_number(&self, node: Node) -> u32
         requires { node < length self.now.trie.rows }
+        ensures value { result ≡ list_number_of self.now node }
+        ensures same { (other : ℕ) → other < length self.now.trie.rows → list_number_of self.now other ≡ result → choices_of self.now other ≡ choices_of self.now node }
     {
         self.places[node.number() as usize]
     }
@@ -112,7 +114,7 @@ impl Annotated {
         requires other { other < length self.now.trie.rows }
         ensures { OnTrue result (choices_of self.now one ≡ choices_of self.now other) }
     {
-        self.places[one.number() as usize] == self.places[other.number() as usize]
+        self.list_number(one) == self.list_number(other)
     }
 
     /// The greatest number of choices that a node has: 0 where there are no nodes.

@@ -3,8 +3,9 @@
 //!
 //! Proved: contracts see an `Annotated` as the trie and the choices of each node. `annotate` gives each node just the rules that
 //! are its choices, rising (`ok`); `choice_count`, `choice` and `most_choices` read them, and `choices_with` those whose `w` begins
-//! with a letter (`value`). `choice` and `choices_with` take one step (`steps`). A `Lexicon` is always that of its rules, forms and
-//! automaton, which is its invariant (`searched` of `rules`); threads may share it (`lexicons_are_shared`).
+//! with a letter (`value`). `choice` and `choices_with` take one step (`steps`). Nodes with the same `list_number` have the same choices
+//! (`same`). A `Lexicon` is always that of its rules, forms and automaton, which is its invariant (`searched` of `rules`); threads may
+//! share it (`lexicons_are_shared`).
 #![tactic(auto)]
 
 mod annotated;
