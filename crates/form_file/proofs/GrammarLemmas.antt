@@ -6,8 +6,6 @@ use Rattle.lexicon_definitions.specs.GrammarTexts.{grammar_of}
 use Rattle.lexicon_definitions.specs.GrammarFaults.{IsFirstFault, IsGrammarTextWithinLimits}
 use Rattle.lexicon_definitions.specs.Lexicons.{Form}
 use Rattle.lexicon_definitions.specs.FormEntries.{Entry}
-use Rattle.phase_automaton.specs.declared.fault.GrammarFault.{GrammarFault}
-use Rattle.phase_automaton.specs.Faults.{fault_of}
 use Rattle.phase_automaton.specs.Automata.{StateMachine, Recognizes}
 use Rattle.lexicon_text_definitions.specs.FileLines as lines
 use Rattle.lexicon_text_definitions.specs.FileLines.{may_follow}
@@ -15,10 +13,9 @@ use Rattle.lexicon_text_definitions.specs.FileContents.{Told, entries_from}
 use Rattle.lexicon_text_definitions.specs.FileSteps.{take_grammar}
 use Rattle.lexicon_text_definitions.proofs.FormLines.{no_lines_at_first}
 use Rattle.lexicon_text_definitions.proofs.LineSteps.{with_grammar, takes_grammar}
-use Rattle.form_file.specs.declared.error.FileWhy.TheVariants.{Grammar}
 use Rattle.form_file.specs.declared.take_error.TakeError.{TakeError}
-use Rattle.form_file.specs.declared.take_error.TakeError.TheVariants.{Why}
-use Rattle.form_file.specs.Told.{IsBody, IsStage, IsLineAnswer}
+use Rattle.form_file.specs.declared.take_error.TakeError.TheVariants.{Why, Memory}
+use Rattle.form_file.specs.Told.{IsBody, IsStage, IsLineAnswer, IsTextFault}
 
 -- so many phases without forms
 abbrev pub empty_lists : ℕ → List (List Form)
@@ -35,25 +32,23 @@ pub no_forms_told : (before after : List (List Form)) (count : ℕ) → before �
 no_forms_told before after count b a = ap (entries_from 0) b ∙ sym (ap (entries_from 0) a ∙ no_lines_at_first 0 count)
 
 -- the line is taken
-pub grammar_told : (told old : Told) (text grammar : List ℕ) (forms : List Entry) → old ≡ told → grammar ≡ text → old.forms ≡ forms
-    → take_grammar told (Some text) ≡ Ok (record old { last = lines.Grammar; grammar = grammar; forms = forms })
-grammar_told told old text grammar forms e g f =
-    takes_grammar told text
-    ∙ (λ i. Ok (record { last = lines.Grammar; names = (sym e i).names; grammar = sym g i; plain = (sym e i).plain; rules = (sym e i).rules; forms = (ap (λ (t : Told). t.forms) (sym e) ∙ f) i }))
+pub grammar_told : (told : Told) (text grammar : List ℕ) (forms : List Entry) → grammar ≡ text → told.forms ≡ forms
+    → take_grammar told (Some text) ≡ Ok (record told { last = lines.Grammar; grammar = grammar; forms = forms })
+grammar_told told text grammar forms g f = takes_grammar told text ∙ (λ i. Ok (record told { last = lines.Grammar; grammar = sym g i; forms = f i }))
 
--- the line's text has a fault
-pub grammar_fault : (A : Type 0) (told after : Told) (names : List (List ℕ)) (text : List ℕ) (fault : GrammarFault) (error : TakeError) → error ≡ Why (Grammar fault) → names ≡ told.names
-    → IsFirstFault names text (fault_of fault) → IsLineAnswer {A = A} (take_grammar told (Some text)) (Err error) after
-grammar_fault A told after names text fault error e n f =
-    subst (λ (err : TakeError). IsLineAnswer {A = A} (take_grammar told (Some text)) (Err err) after) (sym e)
-    (inr (record {
+-- the line's text has a fault, or memory is wanting
+pub grammar_fault : (A : Type 0) (told after : Told) (names : List (List ℕ)) (text : List ℕ) (error : TakeError) → names ≡ told.names → IsTextFault error names text
+    → IsLineAnswer {A = A} (take_grammar told (Some text)) (Err error) after
+grammar_fault A told after names text (Why why) n h =
+    inr (record {
       told = with_grammar told text;
       taken_so = takes_grammar told text;
       grammar_line = refl;
-      fault = fault_of fault;
-      first = subst (λ names. IsFirstFault names text (fault_of fault)) n f;
-      is = refl;
-    }))
+      fault = h.0;
+      first = subst (λ names. IsFirstFault names text h.0) n h.1;
+      is = h.2;
+    })
+grammar_fault A told after names text Memory n h = tt
 
 -- by the names as they are held
 module _ {S : Type 0} (bytes : S → List ℕ) where

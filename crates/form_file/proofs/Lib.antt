@@ -8,7 +8,6 @@ pub mod PairLemmas
 pub mod LeadLemmas
 pub mod RuleLemmas
 pub mod ListsTold
-pub mod FormLemmas
 pub mod LinesTaken
 pub mod EntryLemmas
 pub mod FaultsRead

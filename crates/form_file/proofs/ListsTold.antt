@@ -10,14 +10,14 @@ use Rattle.lexicon_definitions.specs.Rules.{Rule}
 use Rattle.lexicon_definitions.specs.Tries.{Trie, IsTrieOf}
 use Rattle.lexicon_definitions.specs.FormEntries.{Entry, IsListedPhase}
 use Rattle.phase_automaton.specs.Automata.{StateMachine, Recognizes}
-use Rattle.lexicon_text_definitions.specs.FileLines as lines
 use Rattle.lexicon_text_definitions.specs.FileContents.{Told, compare_entries, with_entries, entries_from, rules_told, lexicon_told}
 use Rattle.lexicon_text_definitions.proofs.FormLines.{AreWithin, with_lines, no_lines_at_first}
 use Rattle.lexicon_text_definitions.proofs.FormPhases.{IsLawfulForm, AreLawful, lines_rise, lines_lawful, phases_built, entries_placed}
 use Rattle.lexicon_text_definitions.proofs.WholeTexts.{empty_at_first, lawful_at_first, all_within}
 use Rattle.trie_text_definitions.specs.TrieForms.{phases_of}
 use Rattle.trie_text_definitions.proofs.TrieLexicons.{trie_tells_phases}
-use Rattle.form_file.specs.Told.{IsBody, IsStage, IsKept}
+use Rattle.form_file.specs.Told.{HasBody, IsKept}
+use Rattle.form_file.proofs.StageLemmas.{body_kept}
 use Rattle.shared_trie.proofs.EntriesEnd.{lawful_lists}
 
 -- the lists are built up by their entries
@@ -33,38 +33,31 @@ lists_built lists count h long some =
     ∙ ap (λ n. with_lines (replicate n []) lines) (sym long)
     ∙ phases_built lists lawful
 
--- ---- after the last line
-
-pub body_at_end : (last : lines.Kind) (told : Told) (automaton : Option StateMachine) (lists : List (List Form)) → last ≡ lines.End
-    → IsStage last told automaton lists → IsBody told.names told.grammar automaton lists
-body_at_end lines.Opening told automaton lists e h = absurd (cc)
-body_at_end lines.Head told automaton lists e h = absurd (cc)
-body_at_end lines.Phase told automaton lists e h = absurd (cc)
-body_at_end last told automaton lists e h = h
+-- ---- after the lines of the body
 
 -- what holds of the rule set that was told holds of what was kept
-pub rules_kept : (P : RuleSet → Type 0) (kept told : Told) (rules : List Rule) → kept ≡ told → rules ≡ kept.rules → kept.last ≡ lines.End
-    → (told.last ≡ lines.End → P (rules_told told)) → P (record { names = kept.names; grammar = kept.grammar; plain = kept.plain; rules = rules })
-rules_kept P kept told rules view same last h =
-    let all : kept.last ≡ lines.End → P (rules_told kept) = subst (λ (t : Told). t.last ≡ lines.End → P (rules_told t)) (sym view) h in
-    subst (λ (rs : List Rule). P (record { names = kept.names; grammar = kept.grammar; plain = kept.plain; rules = rs })) (sym same) (all last)
+pub rules_kept : (P : RuleSet → Type 0) (kept told : Told) (rules : List Rule) → kept ≡ told → rules ≡ kept.rules → P (rules_told told)
+    → P (record { names = kept.names; grammar = kept.grammar; plain = kept.plain; rules = rules })
+rules_kept P kept told rules view same h =
+    subst (λ (rs : List Rule). P (record { names = kept.names; grammar = kept.grammar; plain = kept.plain; rules = rs })) (sym same)
+    (subst (λ (t : Told). P (rules_told t)) (sym view) h)
 
--- the automaton that was kept is that of the grammar that was told
+-- the automaton that was kept is that of the grammar that was told, and has the phases that were told
 pub automaton_kept : (kept told : Told) (automaton : Option StateMachine) (machine : StateMachine) (lists : List (List Form)) → kept ≡ told
-    → kept.last ≡ lines.End → IsKept kept automaton lists → automaton ≡ Some machine → Recognizes machine (tree_of (rules_told told))
-automaton_kept kept told automaton machine lists view last h some =
-    let body = body_at_end kept.last kept automaton lists last h.stage in
+    → HasBody told.last → IsKept kept automaton lists → automaton ≡ Some machine → Recognizes machine (tree_of (rules_told told))
+automaton_kept kept told automaton machine lists view has h some =
+    let body = body_kept kept told automaton lists view has h in
     let recognizes : Recognizes machine (tree_of (rules_told kept)) =
     subst (λ a. IfSome a (λ (m : StateMachine). Recognizes m (grammar_of kept.names kept.grammar))) some body.recognizes in
     subst (λ (t : Told). Recognizes machine (tree_of (rules_told t))) view recognizes
 
--- the automaton that was kept has the phases that were told
-pub phases_kept : (kept : Told) (automaton : Option StateMachine) (machine : StateMachine) (lists : List (List Form)) (rules : List Rule) (set : RuleSet)
-    → set ≡ record { names = kept.names; grammar = kept.grammar; plain = kept.plain; rules = rules } → kept.last ≡ lines.End
-    → IsKept kept automaton lists → automaton ≡ Some machine → machine.phases ≡ length set.names
-phases_kept kept automaton machine lists rules set is_set last h some =
-    subst (λ a. IfSome a (λ (m : StateMachine). m.phases ≡ length kept.names)) some (body_at_end kept.last kept automaton lists last h.stage).phases
-    ∙ sym (ap (λ (s : RuleSet). length s.names) is_set)
+pub phases_kept : (kept told : Told) (automaton : Option StateMachine) (machine : StateMachine) (lists : List (List Form)) → kept ≡ told
+    → HasBody told.last → IsKept kept automaton lists → automaton ≡ Some machine → machine.phases ≡ length told.names
+phases_kept kept told automaton machine lists view has h some =
+    subst (λ a. IfSome a (λ (m : StateMachine). m.phases ≡ length kept.names)) some (body_kept kept told automaton lists view has h).phases
+    ∙ ap (λ (t : Told). length t.names) view
+
+-- ---- after the last line
 
 -- the trie tells the lists
 pub lists_tell : (store : Trie) (lists : List (List Form)) → IsTrieOf store lists → All IsListedPhase lists → phases_of store ≡ lists
@@ -74,14 +67,11 @@ pub trie_itself : (store : Trie) (lists : List (List Form)) → IsTrieOf store l
 trie_itself store lists is listed = subst (IsTrieOf store) (sym (lists_tell store lists is listed)) is
 
 -- what was kept is the lexicon that was told
-pub lexicon_kept : (kept told : Told) (automaton : Option StateMachine) (lists : List (List Form)) (store : Trie) (rules : List Rule) (set : RuleSet) → kept ≡ told
-    → rules ≡ kept.rules → set ≡ record { names = kept.names; grammar = kept.grammar; plain = kept.plain; rules = rules } → kept.last ≡ lines.End
-    → IsKept kept automaton lists → kept.forms ≡ entries_from 0 lists → IsTrieOf store lists → All IsListedPhase lists
+pub lexicon_kept : (told : Told) (lists : List (List Form)) (store : Trie) (set : RuleSet) → set ≡ rules_told told → entries_from 0 lists ≡ told.forms
+    → length lists ≡ length told.names → 0 < length told.names → IsTrieOf store lists → All IsListedPhase lists
     → record { rules = set; phases = phases_of store } ≡ lexicon_told told
-lexicon_kept kept told automaton lists store rules set view same is_set last h forms is_trie listed =
-    let body = body_at_end kept.last kept automaton lists last h.stage in
-    let rule_set : set ≡ rules_told kept = is_set ∙ ap (λ (rs : List Rule). record { names = kept.names; grammar = kept.grammar; plain = kept.plain; rules = rs }) same in
-    let built = lists_built lists (length kept.names) listed body.as_many body.some in
-    let phases : phases_of store ≡ with_entries (replicate (length kept.names) []) kept.forms =
-    lists_tell store lists is_trie listed ∙ sym built ∙ ap (with_entries (replicate (length kept.names) [])) (sym forms) in
-    (λ i. record { rules = rule_set i; phases = phases i }) ∙ ap lexicon_told view
+lexicon_kept told lists store set is_set forms long some is_trie listed =
+    let phases : phases_of store ≡ with_entries (replicate (length told.names) []) told.forms =
+    lists_tell store lists is_trie listed ∙ sym (lists_built lists (length told.names) listed long some)
+    ∙ ap (with_entries (replicate (length told.names) [])) forms in
+    λ i. record { rules = is_set i; phases = phases i }

@@ -1,6 +1,7 @@
 -- One line more: what is read from the next line on is what is read from this one on, unless it is refused.
 use Rattle.std.proofs.Common.{◌≡◌, ℕ, ◌+◌, ◌⊎◌, inl, inr, Ok, Err, List, [], ◌∷◌, refl, sym, ap, subst}
 use Rattle.lexicon_definitions.specs.GrammarFaults.{IsGrammarTextWithinLimits}
+use Rattle.lexicon_definitions.specs.Lexicons.{Lexicon}
 use Rattle.lexicon_text_definitions.specs.FileFaults.{Why, NoEnd}
 use Rattle.lexicon_text_definitions.specs.FileLines.{Line, lines_of_bytes, Kind, Opening, Head, Phase, Grammar, Plain, Rule, Form, End}
 use Rattle.lexicon_text_definitions.specs.FileContents.{Told, nothing_told, lexicon_told}
@@ -8,7 +9,7 @@ use Rattle.lexicon_text_definitions.specs.FileSteps.{Taken, take_line}
 use Rattle.lexicon_text_definitions.specs.FileReadings.{Reading, asking, read_on, read_lines, at_end, reading_of, IsResult, IsReadAs, FileResult, fault_at}
 use Rattle.lexicon_text_definitions.specs.TextsOf.{IsTextOf}
 use Rattle.lexicon_text_definitions.proofs.WholeTexts.{read_text}
-use Rattle.form_file.specs.Told.{IsGrammarFault}
+use Rattle.form_file.specs.Told.{IsGrammarFault, IsReadToEnd}
 
 by_kind : (last : Kind) (number : ℕ) (after : Told) (rest : Reading) (result : FileResult) → (last ≡ Grammar → IsGrammarTextWithinLimits after.names after.grammar) → IsResult rest result
     → IsResult (asking last number after rest) result
@@ -49,40 +50,43 @@ pub not_ended : (last : Kind) (told : Told) (number : ℕ) → (last ≡ End →
 not_ended End told number n = absurd (n refl)
 not_ended last told number n = refl
 
--- at first
-pub first_reading : (bytes : List ℕ) (told : Told) → told ≡ nothing_told → (result : FileResult) → IsResult (read_lines told 1 (lines_of_bytes bytes)) result → IsReadAs bytes result
-unfolding reading_of
-first_reading bytes told e result r = subst (λ told. IsResult (read_lines told 1 (lines_of_bytes bytes)) result) e r
+-- what is read from here on is what is read in all
+abbrev pub Reads : Reading → Told → ℕ → List ℕ → Type 0
+Reads whole told number rest = (result : FileResult) → IsResult (read_lines told number (lines_of_bytes rest)) result → IsResult whole result
 
--- what is read from here on is what is read in the file
-abbrev pub Reads : List ℕ → Told → ℕ → List ℕ → Type 0
-Reads bytes told number rest = (result : FileResult) → IsResult (read_lines told number (lines_of_bytes rest)) result → IsReadAs bytes result
-
-pub reads_on : (bytes : List ℕ) (told after : Told) (number : ℕ) (rest following : List ℕ) (line : Line) → Reads bytes told number rest
+pub reads_on : (whole : Reading) (told after : Told) (number : ℕ) (rest following : List ℕ) (line : Line) → Reads whole told number rest
     → lines_of_bytes rest ≡ line ∷ lines_of_bytes following → take_line told line ≡ Ok after → (after.last ≡ Grammar → IsGrammarTextWithinLimits after.names after.grammar)
-    → Reads bytes after (number + 1) following
-reads_on bytes told after number rest following line h cut e g result r =
+    → Reads whole after (number + 1) following
+reads_on whole told after number rest following line h cut e g result r =
     h result (subst (λ lines. IsResult (read_lines told number lines) result) (sym cut) (taken_on told after number line (lines_of_bytes following) result e g r))
 
--- at the end the bytes are a text
-pub text_at_end : (bytes : List ℕ) (told : Told) (number : ℕ) (rest : List ℕ) → Reads bytes told number rest → rest ≡ [] → told.last ≡ End → IsTextOf (lexicon_told told) bytes
-text_at_end bytes told number rest h none last =
-    read_text bytes (lexicon_told told) (h (Ok (lexicon_told told))
-    (subst (λ bytes. IsResult (read_lines told number (lines_of_bytes bytes)) (Ok (lexicon_told told))) (sym none) (ended_by told.last told number last)))
-
--- a refused line is the file's first fault
-pub refused : (bytes : List ℕ) (told : Told) (number : ℕ) (rest following : List ℕ) (line : Line) (why : Why) → Reads bytes told number rest
-    → lines_of_bytes rest ≡ line ∷ lines_of_bytes following → (take_line told line ≡ Err why) ⊎ IsGrammarFault (take_line told line) why → IsReadAs bytes (fault_at number why)
-refused bytes told number rest following line why h cut (inl e) =
+-- a refused line is the first fault
+pub refused : (whole : Reading) (told : Told) (number : ℕ) (rest following : List ℕ) (line : Line) (why : Why) → Reads whole told number rest
+    → lines_of_bytes rest ≡ line ∷ lines_of_bytes following → (take_line told line ≡ Err why) ⊎ IsGrammarFault (take_line told line) why → IsResult whole (fault_at number why)
+refused whole told number rest following line why h cut (inl e) =
     h (fault_at number why) (subst (λ lines. IsResult (read_lines told number lines) (fault_at number why)) (sym cut) (refused_at told number line (lines_of_bytes following) why e))
-refused bytes told number rest following line why h cut (inr g) =
+refused whole told number rest following line why h cut (inr g) =
     h (fault_at number why) (subst (λ lines. IsResult (read_lines told number lines) (fault_at number why)) (sym cut) (grammar_refused told number line (lines_of_bytes following) why g))
 
--- and so is the end that is missing
-pub end_missing : (bytes : List ℕ) (told : Told) (number : ℕ) (rest : List ℕ) → Reads bytes told number rest → rest ≡ [] → (told.last ≡ End → ⊥) → IsReadAs bytes (fault_at number NoEnd)
-end_missing bytes told number rest h none n =
-    h (fault_at number NoEnd) (subst (λ bytes. IsResult (read_lines told number (lines_of_bytes bytes)) (fault_at number NoEnd)) (sym none) (not_ended told.last told number n))
+-- at the end of the lines
+pub ends : (told after : Told) (number : ℕ) (bytes rest : List ℕ) → Reads (read_lines told 1 (lines_of_bytes bytes)) after number rest → rest ≡ []
+    → IsReadToEnd told (lines_of_bytes bytes) after number
+ends told after number bytes rest h none result r = h result (subst (λ bytes. IsResult (read_lines after number (lines_of_bytes bytes)) result) (sym none) r)
 
-pub read_at_end : (bytes : List ℕ) (told : Told) (number : ℕ) (rest : List ℕ) → Reads bytes told number rest → rest ≡ [] → told.last ≡ End → IsReadAs bytes (Ok (lexicon_told told))
-read_at_end bytes told number rest h none last =
-    h (Ok (lexicon_told told)) (subst (λ bytes. IsResult (read_lines told number (lines_of_bytes bytes)) (Ok (lexicon_told told))) (sym none) (ended_by told.last told number last))
+-- what is read of all lines is what is read in the file
+pub read_as : (bytes : List ℕ) (after : Told) (number : ℕ) (result : FileResult) → IsReadToEnd nothing_told (lines_of_bytes bytes) after number
+    → IsResult (at_end after.last number after) result → IsReadAs bytes result
+unfolding reading_of
+read_as bytes after number result h r = h result r
+
+-- after the end the bytes are a text
+pub text_told : (bytes : List ℕ) (after : Told) (number : ℕ) → IsReadToEnd nothing_told (lines_of_bytes bytes) after number → after.last ≡ End
+    → IsTextOf (lexicon_told after) bytes
+text_told bytes after number h last =
+    read_text bytes (lexicon_told after) (read_as bytes after number (Ok (lexicon_told after)) h (ended_by after.last after number last))
+
+-- and are read as what was told
+pub read_at_end : (bytes : List ℕ) (after : Told) (number : ℕ) (lexicon : Lexicon) → IsReadToEnd nothing_told (lines_of_bytes bytes) after number → after.last ≡ End
+    → lexicon ≡ lexicon_told after → IsReadAs bytes (Ok lexicon)
+read_at_end bytes after number lexicon h last is =
+    subst (λ (lexicon : Lexicon). IsReadAs bytes (Ok lexicon)) (sym is) (read_as bytes after number (Ok (lexicon_told after)) h (ended_by after.last after number last))

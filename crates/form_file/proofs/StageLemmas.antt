@@ -1,15 +1,36 @@
--- What is kept before a line of each kind, by the kinds that it may follow.
-use Rattle.std.proofs.Common.{◌≡◌, true, Option, List}
+-- What is kept once lines of the body were told, and when they were.
+use Rattle.std.proofs.Common.{◌≡◌, true, Option, List, sym, subst}
 use Rattle.lexicon_definitions.specs.Lexicons.{Form}
 use Rattle.phase_automaton.specs.Automata.{StateMachine}
 use Rattle.lexicon_text_definitions.specs.FileLines as lines
 use Rattle.lexicon_text_definitions.specs.FileLines.{may_follow}
 use Rattle.lexicon_text_definitions.specs.FileContents.{Told}
-use Rattle.form_file.specs.Told.{IsBody, IsStage}
+use Rattle.form_file.specs.Told.{HasBody, IsBody, IsStage, IsKept}
 
-pub body_before_end : (last : lines.Kind) (told : Told) (automaton : Option StateMachine) (lists : List (List Form)) → may_follow last lines.End ≡ true
+body_at : (last : lines.Kind) (told : Told) (automaton : Option StateMachine) (lists : List (List Form)) → HasBody last
     → IsStage last told automaton lists → IsBody told.names told.grammar automaton lists
-body_before_end lines.Opening told automaton lists f h = absurd (cc)
-body_before_end lines.Head told automaton lists f h = absurd (cc)
-body_before_end lines.Phase told automaton lists f h = absurd (cc)
-body_before_end last told automaton lists f h = h
+body_at lines.Opening told automaton lists has h = absurd has
+body_at lines.Head told automaton lists has h = absurd has
+body_at lines.Phase told automaton lists has h = absurd has
+body_at last told automaton lists has h = h
+
+pub body_kept : (kept told : Told) (automaton : Option StateMachine) (lists : List (List Form)) → kept ≡ told → HasBody told.last → IsKept kept automaton lists
+    → IsBody kept.names kept.grammar automaton lists
+body_kept kept told automaton lists view has h =
+    body_at kept.last kept automaton lists (subst (λ (told : Told). HasBody told.last) (sym view) has) h.stage
+
+-- before a form, before the end, and at the end
+pub before_form : (last : lines.Kind) → may_follow last lines.Form ≡ true → HasBody last
+before_form lines.Opening f = absurd (cc)
+before_form lines.Head f = absurd (cc)
+before_form lines.Phase f = absurd (cc)
+before_form last f = tt
+
+pub before_end : (last : lines.Kind) → may_follow last lines.End ≡ true → HasBody last
+before_end lines.Opening f = absurd (cc)
+before_end lines.Head f = absurd (cc)
+before_end lines.Phase f = absurd (cc)
+before_end last f = tt
+
+pub at_end : (last : lines.Kind) → last ≡ lines.End → HasBody last
+at_end last e = subst HasBody (sym e) tt

@@ -11,6 +11,7 @@ use Rattle.form_file.specs.declared.take_error.TakeError.TheVariants.{Why}
 use Rattle.sandhi_rules.specs.declared.triple.Triple.{Triple}
 use Rattle.form_file.specs.Added.{IsAdded, has_twin}
 use Rattle.sandhi_rules.specs.Triples.{triple_of}
+use Rattle.list_laws.proofs.Booleans.{not_of_each_other}
 use Rattle.list_laws.proofs.Texts.{bytes_same, bytes_itself}
 use Rattle.std.specs.Cmp.{both_ways}
 use Rattle.sandhi_rules.proofs.TripleLemmas.{twin_told as twin_by_test}
@@ -36,7 +37,15 @@ pub twin_told : (old before : List Rule) (rule : Rule) (triples : List Triple) (
 twin_told old before rule triples triple is_new same alike is added =
     sym (same_tests rule old) ∙ twin_by_test old before rule triples triple is_new same alike is added
 
--- where it was there the rules stay
+-- where it was there the triples stay
+pub triples_kept : (rules : List Rule) (triples after : List Triple) (triple : Triple) (is_new : Bool) → triples ≡ map triple_of rules
+    → after ≡ (if list_any (triple_eq.it triple) triples then triples else triples ++ triple ∷ []) → is_new ≡ not (list_any (triple_eq.it triple) triples)
+    → is_new ≡ false → after ≡ map triple_of rules
+triples_kept rules triples after triple is_new alike put added old =
+    put ∙ ap (λ (there : Bool). if there then triples else triples ++ triple ∷ []) (not_of_each_other (list_any (triple_eq.it triple) triples) is_new added ∙ ap not old)
+    ∙ alike
+
+-- and so do the rules
 pub refused : (old now : List Rule) (rule : Rule) (error : TakeError) → error ≡ Why Twice → has_twin old rule ≡ true → now ≡ old
     → IsAdded {A = Unit {0}} old rule (Err error) now
 refused old now rule error why twin same = subst (λ (e : TakeError). IsAdded {A = Unit {0}} old rule (Err e) now) (sym why) (refl, twin, same)

@@ -9,6 +9,7 @@ use Rattle.lexicon_text_definitions.specs.FileFaults as faults
 use Rattle.lexicon_text_definitions.specs.FileLines as lines
 use Rattle.lexicon_text_definitions.specs.FileContents.{Told}
 use Rattle.lexicon_text_definitions.specs.FileSteps.{Taken}
+use Rattle.lexicon_text_definitions.specs.FileReadings.{FileResult, IsResult, at_end, read_lines}
 use Rattle.form_file.specs.declared.take_error.TakeError.{TakeError}
 use Rattle.form_file.specs.declared.take_error.TakeError.TheVariants.{Why, Memory}
 use Rattle.form_file.specs.declared.error.FileWhy.TheVariants.{NoEnd}
@@ -28,6 +29,13 @@ IsStage lines.Opening told automaton lists = lists ≡ []
 IsStage lines.Head told automaton lists = lists ≡ []
 IsStage lines.Phase told automaton lists = (0 < length told.names) × (lists ≡ [])
 IsStage kind told automaton lists = IsBody told.names told.grammar automaton lists
+
+-- after a line of this kind the grammar was told
+abbrev pub HasBody : lines.Kind → Type 0
+HasBody lines.Opening = ⊥
+HasBody lines.Head = ⊥
+HasBody lines.Phase = ⊥
+HasBody kind = Unit {0}
 
 pub record IsKept (told : Told) (automaton : Option StateMachine) (lists : List (List Form)) : Type 0 where
   pub few : length told.names ≤ MOST_PHASES
@@ -58,3 +66,13 @@ IsLineAnswer taken (Err Memory) after = Unit {0}
 abbrev pub IsNoEnd : TakeError → Type 0 → Type 0
 IsNoEnd (Why why) Ended = (why ≡ NoEnd) × (Ended → ⊥)
 IsNoEnd Memory Ended = Unit {0}
+
+-- the only reason is that a grammar's text over these names has this first fault; memory may be wanting
+abbrev pub IsTextFault : TakeError → List (List ℕ) → List ℕ → Type 0
+IsTextFault (Why why) names text = (fault : Fault) × IsFirstFault names text fault × (why_of why ≡ faults.Grammar fault)
+IsTextFault Memory names text = Unit {0}
+
+-- what is read of these lines, where those before them told the first, is what is read at their end, where all told the second
+abbrev pub IsReadToEnd : Told → List lines.Line → Told → ℕ → Type 0
+IsReadToEnd told lines after number =
+    (result : FileResult) → IsResult (at_end after.last number after) result → IsResult (read_lines told 1 lines) result

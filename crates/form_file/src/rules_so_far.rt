@@ -1,7 +1,8 @@
-ghost use Rattle.std.specs.Prelude.{◌≡◌, ◌<◌, ◌||◌, nat_le, nat_lt, [], length, IsOk, IfOk, OnOk};
+ghost use Rattle.std.specs.Prelude.{◌≡◌, ◌<◌, ◌||◌, ◌++◌, ◌∷◌, if◌then◌else◌, not, nat_le, nat_lt, List, [], length, IsOk, IfOk, IfErr, OnOk};
+ghost use Rattle.lexicon_definitions.specs.Rules.{Rule as RuleValue};
 ghost use Rattle.lexicon_text_definitions.specs.FileContents.{with_v, different_v};
 ghost use Rattle.lexicon_definitions.specs.Leads.{leads_of};
-ghost use Rattle.form_file.specs.Added.{IsAdded, IsAddedWithin};
+ghost use Rattle.form_file.specs.Added.{AreKept, has_twin, IsAdded, IsAddedWithin};
 ghost use Rattle.indexmap.specs.IndexSet.{spare};
 
 use crate::FileWhy;
@@ -15,7 +16,7 @@ use std::marker::Model;
 
 /// The rules that were read, in their order, their triples, and their different `v` that are not empty; and their leads, rising, as
 /// long as each rule is told with its sets of phases.
-#[derive(Debug, Drop)]
+#[derive(Drop)]
 pub(crate) struct RulesSoFar {
     rules: Vec<Rule>,
     triples: IndexSet<Triple>,
@@ -45,6 +46,29 @@ fn add_lead(leads: &mut IndexSet<Word>, v: Word) -> Result<(), Memory>
         leads.insert(v)?;
     }
     Ok(())
+}
+
+/// Puts the rule's triple among the triples and its `v` among the leads, unless one of the same triple is there, and answers whether
+/// none was. Where memory is wanting both stay as they were.
+fn add_keys(
+    triples: &mut IndexSet<Triple>,
+    leads: &mut IndexSet<Word>,
+    rule: &Rule,
+) -> Result<bool, Memory>
+    ensures ok { IfOk result (λ is_new. (rules : List RuleValue) → AreKept rules triples.old.keys leads.old.keys
+        → (has_twin rules rule.now ≡ not is_new) × AreKept (if is_new then rules ++ rule.now ∷ [] else rules) triples.new.keys leads.new.keys) }
+    ensures err { IfErr result (λ error. (triples.new.keys ≡ triples.old.keys) × (leads.new.keys ≡ leads.old.keys)) }
+{
+    let alloc = *triples.allocator();
+    let triple = Triple::of(alloc, rule)?;
+    let lead = rule.v.copy(alloc)?;
+    // Room for the lead is taken first, so that it is put in wherever its triple was.
+    leads.reserve(1)?;
+    if !triples.insert(triple)? {
+        return Ok(false);
+    }
+    add_lead(leads, lead)?;
+    Ok(true)
 }
 
 impl RulesSoFar {
@@ -103,16 +127,11 @@ impl RulesSoFar {
         ensures { IsAdded self.old rule result self.new }
     {
         self.limited_leads = None;
-        let alloc = *self.rules.allocator();
-        let triple = Triple::of(alloc, &rule)?;
-        let lead = rule.v.copy(alloc)?;
-        // Room is taken first, so that the rule and its lead are put in wherever its triple was.
+        // Room for the rule is taken first, so that it is put in wherever its triple was.
         self.rules.reserve(1)?;
-        self.leads.reserve(1)?;
-        if !self.triples.insert(triple)? {
+        if !add_keys(&mut self.triples, &mut self.leads, &rule)? {
             return Err(FileWhy::Twice.into());
         }
-        add_lead(&mut self.leads, lead)?;
         self.rules.push(rule)?;
         Ok(())
     }

@@ -1,17 +1,18 @@
-ghost use Rattle.std.specs.Prelude.{◌≡◌, ◌<◌, ◌||◌, nat_le, nat_lt, ◌≤◌, ◌^◌, length, map, true, IfOk, IfErr, Some, IfSome};
+ghost use Rattle.std.specs.Prelude.{◌≡◌, ◌<◌, ◌||◌, nat_le, nat_lt, ◌≤◌, ◌^◌, length, map, true, IfOk, IfErr, OnOk, Some, IfSome, string_bytes};
 ghost use Rattle.std.specs.List.{list_all, position};
 ghost use Rattle.std.specs.Str.{bytes_eq};
-ghost use Rattle.std.specs.String.{string_bytes};
+ghost use Rattle.lexicon_definitions.specs.GrammarTexts.{grammar_of};
+ghost use Rattle.lexicon_definitions.specs.GrammarFaults.{IsGrammarTextWithinLimits};
 ghost use Rattle.lexicon_definitions.specs.Lexicons.{IsRuleSet, tree_of, compare_pairs};
 ghost use Rattle.lexicon_definitions.specs.Limits.{IsRuleSetWithinLimits};
 ghost use Rattle.lexicon_definitions.specs.Tries.{IsTrieOf};
 ghost use Rattle.trie_text_definitions.specs.TrieForms.{phases_of};
 ghost use Rattle.phase_automaton.specs.Automata.{Recognizes};
 ghost use Rattle.lexicon_text_definitions.specs.FileLines.{Opening, Head as HeadLine, End, may_follow, Phase, Grammar, Plain, Rule as RuleLine, Form, fields_of, parts_of};
-ghost use Rattle.lexicon_text_definitions.specs.FileContents.{Told as ToldValue, nothing_told, rules_told, lexicon_told, compare_entries, compare_last as compare_last_of};
+ghost use Rattle.lexicon_text_definitions.specs.FileContents.{Told as ToldValue, entries_from, nothing_told, rules_told, lexicon_told, compare_entries, compare_last as compare_last_of};
 ghost use Rattle.lexicon_text_definitions.specs.FileSteps.{if_rising, passes_rule_limits as passes_rule_limits_of, take_triple as take_triple_of, take_line as take_line_of, take_head as take_head_of, take_end as take_end_of, take_phase as take_phase_of, take_grammar as take_grammar_of, take_plain as take_plain_of, take_rule as take_rule_of, take_form as take_form_of, take_kind as take_kind_of, take_parts as take_parts_of, take_form_line};
 ghost use Rattle.form_tags.specs.Entries.{text_entry};
-ghost use Rattle.form_file.specs.Told.{IsAnswer, IsLineAnswer, IsNoEnd};
+ghost use Rattle.form_file.specs.Told.{IsAnswer, IsLineAnswer, IsTextFault, HasBody, IsBody, IsNoEnd};
 ghost use Rattle.form_file.specs.LimitedRules.{take_limited as take_limited_of};
 ghost use Rattle.form_file.specs.Fields.{text_of_rest};
 ghost use Rattle.form_file.specs.Contents.{lexicon_of};
@@ -48,7 +49,7 @@ pub struct Told {
 
 impl Model for Told {
     ghost use Rattle.std.specs.Prelude.{map, string_bytes};
-    ghost use Rattle.lexicon_text_definitions.specs.FileContents.{Told as ToldValue, entries_from};
+    ghost use Rattle.lexicon_text_definitions.specs.FileContents.{Told as ToldValue, entries_from, entries_from};
     ghost use Rattle.form_file.specs.Kinds.{kind_of};
     ghost use Rattle.form_file.specs.Told.{IsKept};
 
@@ -96,6 +97,22 @@ fn is_long(rule: &Rule) -> bool
     rule.u.len() > MOST_RULE_LETTERS
         || rule.v.len() > MOST_RULE_LETTERS
         || rule.w.len() > MOST_RULE_LETTERS
+}
+
+/// The automaton of a grammar's text over the phases with these names.
+fn automaton_of(alloc: Global, text: &[u8], names: &[String]) -> Result<Automaton, TakeError>
+    requires some { 0 < length names.now }
+    requires few { length names.now ≤ MOST_PHASES }
+    ensures text { OnOk result (IsGrammarTextWithinLimits (map string_bytes names.now) text.now) }
+    ensures grammar { IfOk result (λ automaton. Recognizes automaton (grammar_of (map string_bytes names.now) text.now)) }
+    ensures phases { IfOk result (λ automaton. automaton.phases ≡ length names.now) }
+    ensures fault { IfErr result (λ error. IsTextFault error (map string_bytes names.now) text.now) }
+{
+    match read_grammar(alloc, text, names) {
+        Ok(automaton) => Ok(automaton),
+        Err(GrammarError::Fault(fault)) => Err(FileWhy::Grammar(fault).into()),
+        Err(GrammarError::Memory) => Err(TakeError::Memory),
+    }
 }
 
 impl Told {
@@ -183,21 +200,28 @@ impl Told {
         Ok(())
     }
 
+    /// Keeps the grammar's text with its automaton, and the trie to which the forms of each phase are to be added.
+    fn keep_grammar(&mut self, grammar: Vec<u8>, automaton: Automaton, forms: StoreBuilder)
+        requires { IsBody self.old.names grammar.items (Some automaton) forms }
+        ensures { self.new ≡ record self.old { last = Grammar; grammar = grammar.items; forms = entries_from 0 forms } }
+    {
+        self.grammar = grammar;
+        self.automaton = Some(automaton);
+        self.forms = forms;
+        self.last = Kind::Grammar;
+    }
+
     /// Takes the line of the grammar, with what comes after its blank. It may come next.
     pub fn take_grammar(&mut self, alloc: Global, text: &[u8]) -> Result<(), TakeError>
         requires follows { may_follow self.old.last Grammar ≡ true }
         requires fits { length text.now < 2 ^ 32 }
         ensures { IsLineAnswer (take_grammar_of self.old (Some text.now)) result self.new }
     {
-        let automaton = match read_grammar(alloc, text, self.names.as_slice()) {
-            Ok(automaton) => automaton,
-            Err(GrammarError::Fault(fault)) => return Err(FileWhy::Grammar(fault).into()),
-            Err(GrammarError::Memory) => return Err(TakeError::Memory),
-        };
-        self.grammar = Vec::from_slice(alloc, text)?;
-        self.forms = StoreBuilder::new(alloc, self.names.len() as u32)?;
-        self.automaton = Some(automaton);
-        self.last = Kind::Grammar;
+        let names = self.names.as_slice();
+        let automaton = automaton_of(alloc, text, names)?;
+        let grammar = Vec::from_slice(alloc, text)?;
+        let forms = StoreBuilder::new(alloc, names.len() as u32)?;
+        self.keep_grammar(grammar, automaton, forms);
         Ok(())
     }
 
@@ -404,6 +428,33 @@ impl Told {
         self.take_parts(alloc, line)
     }
 
+    /// The rule set, the automaton of its grammar, and the trie of the forms so far, where lines of the body were told.
+    fn into_parts(self, alloc: Global) -> Result<(RuleSet, Automaton, StoreBuilder), Memory>
+        requires body { HasBody self.last }
+        requires set { IsRuleSet (rules_told self) }
+        requires limits { IsRuleSetWithinLimits (rules_told self) }
+        ensures rules { IfOk result (λ parts. parts.0 ≡ rules_told self) }
+        ensures automaton { IfOk result (λ parts. Recognizes parts.1 (tree_of (rules_told self))) }
+        ensures phases { IfOk result (λ parts. parts.1.phases ≡ length self.names) }
+        ensures forms { IfOk result (λ parts. entries_from 0 parts.2 ≡ self.forms) }
+        ensures lists { IfOk result (λ parts. length parts.2 ≡ length self.names) }
+    {
+        let Told {
+            last: _,
+            names,
+            grammar,
+            automaton,
+            plain,
+            rules,
+            forms,
+        } = self;
+        let Some(automaton) = automaton else {
+            unreachable!();
+        };
+        let rules = RuleSet::new(alloc, names, grammar, plain, rules.into_rules())?;
+        Ok((rules, automaton, forms))
+    }
+
     /// The rule set with the automaton of its grammar, where lines of the body were told, but no end.
     pub fn into_rules(self, alloc: Global) -> Result<(RuleSet, Automaton), Memory>
         requires body { may_follow self.last End ≡ true }
@@ -413,20 +464,15 @@ impl Told {
         ensures automaton { IfOk result (λ parts. Recognizes parts.1 (tree_of (rules_told self))) }
         ensures phases { IfOk result (λ parts. parts.1.phases ≡ length self.names) }
     {
-        let Told {
-            last: _,
-            names,
-            grammar,
-            automaton,
-            plain,
-            rules,
-            forms: _,
-        } = self;
-        let Some(automaton) = automaton else {
-            unreachable!();
-        };
-        let rules = RuleSet::new(alloc, names, grammar, plain, rules.into_rules())?;
+        let (rules, automaton, _) = self.into_parts(alloc)?;
         Ok((rules, automaton))
+    }
+
+    /// The kind of the last line.
+    fn last_kind(&self) -> Kind
+        ensures { kind_of result ≡ self.now.last }
+    {
+        self.last
     }
 
     /// The contents of the file, where the last line was its end.
@@ -439,22 +485,10 @@ impl Told {
         ensures phases { IfOk result (λ contents. contents.automaton.phases ≡ length contents.rules.names) }
         ensures no_end { IfErr result (λ error. IsNoEnd error (self.last ≡ End)) }
     {
-        let Told {
-            last,
-            names,
-            grammar,
-            automaton,
-            plain,
-            rules,
-            forms,
-        } = self;
-        let Some(automaton) = automaton else {
+        let Kind::End = self.last_kind() else {
             return Err(FileWhy::NoEnd.into());
         };
-        let Kind::End = last else {
-            return Err(FileWhy::NoEnd.into());
-        };
-        let rules = RuleSet::new(alloc, names, grammar, plain, rules.into_rules())?;
+        let (rules, automaton, forms) = self.into_parts(alloc)?;
         let store = forms.finish(alloc)?;
         Ok(Contents {
             rules,

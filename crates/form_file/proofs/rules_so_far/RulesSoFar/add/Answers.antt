@@ -1,34 +1,27 @@
--- A triple that is new goes last with its rule, whose v is put among the leads; one that is there is a twin.
-use Rattle.std.proofs.Common.{◌≡◌, not, List, [], ◌∷◌, ◌++◌, ap, ◌∙◌}
+-- Where no rule has the triple the rule goes last, and the triples and leads are those of the rules with it.
+use Rattle.std.proofs.Common.{◌≡◌, Bool, not, if◌then◌else◌, List, [], ◌∷◌, ◌++◌, sym, ◌∙◌, ap, subst}
 use Rattle.lexicon_definitions.specs.Rules.{Rule}
-use Rattle.form_file.proofs.LeadLemmas.{leads_put}
-use Rattle.sandhi_rules.proofs.TripleLemmas.{triples_pushed}
-use Rattle.form_file.proofs.TripleLemmas.{twin_told, refused}
+use Rattle.form_file.specs.Added.{AreKept, has_twin}
+use Rattle.form_file.proofs.TripleLemmas.{refused}
 use Rattle.form_file.proofs.rules_so_far.RulesSoFar.add.Goals as goal
 
 pub invariant_of-self-2 : goal.invariant_of-self-2
 invariant_of-self-2 c =
     let rules : c.push.new.self.items ≡ c.self.inside.rules.items ++ c.args.rule ∷ [] =
-    c.in_ok-push.ensures.items ∙ ap (λ (rs : List Rule). rs ++ c.args.rule ∷ []) c.reserve.ensures.items in (
-      record {
-        alike = triples_pushed c.self.inside.rules.items _ c.args.rule c.self.inside.triples.keys _ c.in_ok-triple.triple c.in_ok-insert.field-0
-            c.self.invariant.0.alike c.in_ok-triple.ensures c.in_ok-insert.ensures.keys c.in_ok-insert.ensures.added c.if-not-branch.false rules;
-        leading = leads_put c.self.inside.rules.items _ c.args.rule c.self.inside.leads.keys c.reserve-2.new.self.keys _ c.in_ok-lead.lead c.self.invariant.0.leading
-            c.reserve-2.ensures.keys (c.in_ok-lead.ensures ∙ ap (λ rule. rule.v) c.rule.view_is) c.in_ok-add_lead.ensures.ok rules;
-      },
-      tt,
-    )
+    c.in_ok-push.ensures.items ∙ ap (λ (rs : List Rule). rs ++ c.args.rule ∷ []) c.reserve.ensures.items in
+    let keys = (c.in_ok-add_keys.ensures.ok c.self.inside.rules.items c.self.invariant.0).1 in
+    let new = subst (λ (is_new : Bool). AreKept (if is_new then c.self.inside.rules.items ++ c.args.rule ∷ [] else c.self.inside.rules.items) c.add_keys.new.triples.keys c.add_keys.new.leads.keys)
+    c.if-not-branch.false keys in
+    (subst (λ rules. AreKept rules c.add_keys.new.triples.keys c.add_keys.new.leads.keys) (sym rules) new, tt)
 
 pub returns-then-not-branch : goal.returns-then-not-branch
 returns-then-not-branch c =
     refused c.args.self.now c.reserve.new.self.items c.args.rule c.into.result c.into.ensures
-    (twin_told c.args.self.now c.self.inside.rules.items c.args.rule c.self.inside.triples.keys c.in_ok-triple.triple c.in_ok-insert.field-0 c.self.view_is
-    c.self.invariant.0.alike c.in_ok-triple.ensures c.in_ok-insert.ensures.added ∙ ap not c.if-not-branch.true)
+    (ap (λ (rs : List Rule). has_twin rs c.args.rule) (sym c.self.view_is) ∙ (c.in_ok-add_keys.ensures.ok c.self.inside.rules.items c.self.invariant.0).0 ∙ ap not c.if-not-branch.true)
     (c.reserve.ensures.items ∙ c.self.view_is)
 
 pub returns : goal.returns
 returns c = (
-  twin_told c.args.self.now c.self.inside.rules.items c.args.rule c.self.inside.triples.keys c.in_ok-triple.triple c.in_ok-insert.field-0 c.self.view_is
-      c.self.invariant.0.alike c.in_ok-triple.ensures c.in_ok-insert.ensures.added ∙ ap not c.if-not-branch.false,
+  ap (λ (rs : List Rule). has_twin rs c.args.rule) (sym c.self.view_is) ∙ (c.in_ok-add_keys.ensures.ok c.self.inside.rules.items c.self.invariant.0).0 ∙ ap not c.if-not-branch.false,
   c.in_ok-push.ensures.items ∙ ap (λ (rs : List Rule). rs ++ c.args.rule ∷ []) (c.reserve.ensures.items ∙ c.self.view_is),
 )

@@ -1,11 +1,8 @@
 -- A line with a blank is refused; after the end everything else is kept.
-use Rattle.std.proofs.Common.{◌≡◌, true, sym, subst}
-use Rattle.lexicon_text_definitions.specs.FileLines.{End, may_follow}
-use Rattle.lexicon_text_definitions.specs.FileContents.{Told}
 use Rattle.lexicon_text_definitions.specs.FileSteps.{take_end as take_end_of}
 use Rattle.form_file.specs.declared.error.FileWhy.TheVariants.{Field}
 use Rattle.form_file.specs.Fields.{text_of_rest}
-use Rattle.form_file.proofs.StageLemmas.{body_before_end}
+use Rattle.form_file.proofs.StageLemmas.{body_kept, before_end}
 use Rattle.form_file.proofs.AnswerLemmas.{refused_for, end_refused, end_taken}
 use Rattle.form_file.proofs.told.Told.take_end.Goals as goal
 
@@ -16,8 +13,7 @@ returns-then-is_some c =
 pub invariant_of-self : goal.invariant_of-self
 invariant_of-self c = record {
   few = c.self.invariant.few;
-  stage = body_before_end _ _ c.self.inside.automaton c.self.inside.forms
-      (subst (λ (told : Told). may_follow told.last End ≡ true) (sym c.self.view_is) c.requires) c.self.invariant.stage;
+  stage = body_kept _ c.args.self.now c.self.inside.automaton c.self.inside.forms c.self.view_is (before_end _ c.requires) c.self.invariant;
 }
 
 pub returns : goal.returns

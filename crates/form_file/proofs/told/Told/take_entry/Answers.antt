@@ -6,7 +6,7 @@ use Rattle.lexicon_text_definitions.specs.FileContents.{Told}
 use Rattle.lexicon_text_definitions.specs.FileSteps.{take_form_line}
 use Rattle.form_file.specs.declared.error.FileWhy.TheVariants.{Limit}
 use Rattle.form_file.proofs.AnswerLemmas.{refused_for}
-use Rattle.form_file.proofs.FormLemmas.{body_kept}
+use Rattle.form_file.proofs.StageLemmas.{body_kept, before_form}
 use Rattle.shared_trie.proofs.EntriesEnd.{lawful_lists}
 use Rattle.form_file.proofs.EntryLemmas.{limits_are, few_lines, passed_limits, above_last, not_above, taken_with, body_with}
 use Rattle.form_file.proofs.told.Told.take_entry.Goals as goal
@@ -37,7 +37,7 @@ push-requires-clause-above c = above_last _ c.args.self.now (text_entry c.args.e
 pub invariant_of-self-2 : goal.invariant_of-self-2
 invariant_of-self-2 c =
     let lawful = lawful_lists c.self.inside.forms c.lines.ensures.lists.each in
-    let body = body_kept _ c.args.self.now c.self.inside.automaton c.self.inside.forms c.self.view_is c.requires.follows c.self.invariant in
+    let body = body_kept _ c.args.self.now c.self.inside.automaton c.self.inside.forms c.self.view_is (before_form _ c.requires.follows) c.self.invariant in
     let phase = subst (λ (told : Told). c.args.entry.phase < length told.names) (sym c.self.view_is) c.requires.phase in
     let long = body.as_many in
     record {
@@ -48,7 +48,7 @@ invariant_of-self-2 c =
 pub returns : goal.returns
 returns c =
     let lawful = lawful_lists c.self.inside.forms c.lines.ensures.lists.each in
-    let body = body_kept _ c.args.self.now c.self.inside.automaton c.self.inside.forms c.self.view_is c.requires.follows c.self.invariant in
+    let body = body_kept _ c.args.self.now c.self.inside.automaton c.self.inside.forms c.self.view_is (before_form _ c.requires.follows) c.self.invariant in
     let phase = subst (λ (told : Told). c.args.entry.phase < length told.names) (sym c.self.view_is) c.requires.phase in
     let long = body.as_many in
     let test = limits_are _ c.args.self.now c.self.inside.forms c.lines.result (text_entry c.args.entry) c.passes_form_limits.result c.self.view_is refl c.lines.ensures.value c.passes_form_limits.ensures in

@@ -1,0 +1,16 @@
+-- The names stay as they were.
+use Rattle.std.proofs.Common.{Some, sym, ap, subst}
+use Rattle.lexicon_text_definitions.specs.FileLines.{Grammar}
+use Rattle.lexicon_text_definitions.specs.FileContents.{Told, entries_from}
+use Rattle.form_file.specs.Told.{IsBody}
+use Rattle.form_file.proofs.told.Told.keep_grammar.Goals as goal
+
+pub invariant_of-self : goal.invariant_of-self
+invariant_of-self c = record {
+  few = c.self.invariant.few;
+  stage = subst (λ (told : Told). IsBody told.names c.args.grammar.items (Some c.args.automaton) c.args.forms) (sym c.self.view_is) c.requires;
+}
+
+pub returns : goal.returns
+returns c =
+    ap (λ (told : Told). record told { last = Grammar; grammar = c.args.grammar.items; forms = entries_from 0 c.args.forms }) c.self.view_is
