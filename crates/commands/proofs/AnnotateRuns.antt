@@ -1,6 +1,6 @@
 -- What a run of `annotate` leaves: the first answers that were listed are the first and the next after it; the choices of a bookmark are
 -- over its lexicon; and each way in which it ends is that of an outcome.
-use Rattle.std.proofs.Common.{◌≡◌, ℕ, ◌<◌, ◌++◌, inl, inr, List, [], ◌∷◌, length, Option, Some, None, codes, refl, sym, ◌∙◌, ap, subst, arith}
+use Rattle.std.proofs.Common.{◌≡◌, ℕ, ◌<◌, ◌++◌, inl, inr, List, [], ◌∷◌, length, Option, Some, codes, refl, sym, ◌∙◌, ap, subst, arith}
 use Rattle.std.specs.Fmt.{decimal}
 use Rattle.std.specs.List.{All, AllByRecursion}
 use Rattle.std.specs.declared.cmp.Ordering.TheVariants.{Less, Greater}
@@ -8,7 +8,7 @@ use Rattle.std.specs.Ordering.{ordering_reverse}
 use Rattle.std.proofs.lemmas.List.Elements.{All-head, All-tail, All-from_recursion, recursion_from_All}
 use Rattle.std.proofs.lemmas.Map.Keys.{sorted_tail}
 use Rattle.list_laws.proofs.Sorted.{Contains-first, Contains-later, Contains-cons_cases, Less-from_later, not_Less-itself}
-use Rattle.outside.specs.Files.{Files, contents_of, with_file}
+use Rattle.outside.specs.Files.{Files, with_file}
 use Rattle.text_definitions.specs.Lines.{Line}
 use Rattle.lexicon_definitions.specs.Lexicons.{Lexicon}
 use Rattle.segmentation_definitions.specs.Derivations.{Step}
@@ -32,13 +32,13 @@ use Rattle.reader_session.specs.Marks.{IsMarked}
 use Rattle.run_definitions.specs.Commands.{FileWord}
 use Rattle.run_definitions.specs.Ends as ends
 use Rattle.run_definitions.specs.Ends.{Outcome, outcome_over}
-use Rattle.run_definitions.specs.Refusals.{file_refusal}
-use Rattle.run_definitions.specs.LexiconTells.{NotThere, Refused, Holds, DoesTell, IsMissing}
+use Rattle.run_definitions.specs.LexiconTells.{NotThere, Refused, Holds, DoesTell}
 use Rattle.run_definitions.specs.AnnotateOutcomes.{IsNotedOutcome, OfOnly, OfSeveral, IsMarkOutcome, OfMark, IsAnnotateOutcome}
 use Rattle.commands.specs.declared.status.Status.{Status}
 use Rattle.commands.specs.declared.status.Status.TheVariants.{Done, Usage}
 use Rattle.commands.specs.Faults.{Tells}
 use Rattle.commands.specs.RunEnds.{HasOutcome}
+use Rattle.commands.specs.Openings.{IsUnopened, Missing, Faulty}
 use Rattle.commands.specs.Annotations.{IsPrintedSeveral, TellsSeveral}
 
 -- ---- the first two answers
@@ -199,12 +199,10 @@ several_not_usage lexicon line choices status output s e =
 -- ---- the lexicon file
 
 module _ (lex : FileWord) (mark : List ℕ) (out : FileWord) where
-  pub annotate_missing : (told : Files) → contents_of told lex.name ≡ None → IsAnnotateOutcome lex mark out told (outcome_over told [] ends.ReadFault)
-  annotate_missing told missing = record { tells = NotThere; does_tell = IsMissing missing refl; is_outcome = refl }
-
-  pub annotate_refused : (told : Files) (fault : ends.AnyFault) → DoesTell told lex.name (Refused fault)
-      → IsAnnotateOutcome lex mark out told (outcome_over told (file_refusal lex.name fault) (ends.BadFile lex.place fault))
-  annotate_refused told fault tells = record { tells = Refused fault; does_tell = tells; is_outcome = refl }
+  -- a run without a lexicon has its outcome
+  pub annotate_unopened : (told : Files) (outcome : Outcome) → IsUnopened lex told outcome → IsAnnotateOutcome lex mark out told outcome
+  annotate_unopened told outcome (Missing tells is) = record { tells = NotThere; does_tell = tells; is_outcome = is }
+  annotate_unopened told outcome (Faulty fault tells is) = record { tells = Refused fault; does_tell = tells; is_outcome = is }
 
   -- with the lexicon it goes on with the bookmark
   pub annotate_goes_on : (lexicon : Lexicon) (files : Option Files) → ((told : Files) → files ≡ Some told → DoesTell told lex.name (Holds lexicon))

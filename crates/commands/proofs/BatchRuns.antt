@@ -22,10 +22,10 @@ use Rattle.commands.specs.declared.status.AnyFault.TheVariants.{Large}
 use Rattle.commands.specs.Faults.{Tells, file_fault}
 use Rattle.commands.specs.Headline.{WrotePrefix, IsNoFault}
 use Rattle.commands.specs.RunEnds.{WroteOutcome, Devices, HasOutcome}
-use Rattle.commands.specs.Sessions.{WritesRefusal}
+use Rattle.commands.specs.Openings as openings
+use Rattle.commands.specs.Openings.{IsUnopened}
 use Rattle.commands.specs.Batches.{RepliesToText, RepliesInBatch}
 use Rattle.commands.proofs.FilesRead.{first_content, whole, within, longer}
-use Rattle.commands.proofs.SegmentRuns.{refused_file}
 
 -- ---- what the replies leave
 
@@ -80,24 +80,10 @@ module _ (lex : FileWord) (scheme : Scheme) (file : FileWord) (count : ℕ) (res
 -- ---- the lexicon file
 
 module _ (lex : FileWord) (scheme : Scheme) (file : FileWord) (count : ℕ) where
-  pub batch_missing : (told : Files) → contents_of told lex.name ≡ None → IsBatchOutcome lex scheme file count told (outcome_over told [] ends.ReadFault)
-  batch_missing told missing = record { tells = NotThere; does_tell = lexicons.IsMissing missing refl; is_outcome = refl }
-
-  -- the refusal of the lexicon file is the outcome
-  pub batch_refused : (bytes : List ℕ) (files : Option Files) → AreFirstBytes files lex.name (MOST_FILE_BYTES + 1) bytes
-      → (told : Files) → files ≡ Some told → (status : Status) (output : List ℕ) → WritesRefusal lex bytes status output
-      → HasOutcome (IsBatchOutcome lex scheme file count told) status output told
-  batch_refused bytes files first told f status output w =
-      let (content, there, e) = first_content told lex.name (MOST_FILE_BYTES + 1) bytes
-      (subst (λ (x : Option Files). AreFirstBytes x lex.name (MOST_FILE_BYTES + 1) bytes) f first) in record {
-        end = ends.BadFile lex.place (file_fault w.fault);
-        told = subst (λ (x : Status). Tells x (ends.BadFile lex.place (file_fault w.fault))) (sym w.ends) refl;
-        is_it = record {
-          tells = lexicons.Refused (file_fault w.fault);
-          does_tell = refused_file told lex.name content bytes w.fault there e w.refused;
-          is_outcome = ap (λ out. outcome_over told out (ends.BadFile lex.place (file_fault w.fault))) w.printed;
-        };
-      }
+  -- a run without a lexicon has its outcome
+  pub batch_unopened : (told : Files) (outcome : Outcome) → IsUnopened lex told outcome → IsBatchOutcome lex scheme file count told outcome
+  batch_unopened told outcome (openings.Missing tells is) = record { tells = NotThere; does_tell = tells; is_outcome = is }
+  batch_unopened told outcome (openings.Faulty fault tells is) = record { tells = lexicons.Refused fault; does_tell = tells; is_outcome = is }
 
   -- with the lexicon it goes on with the text file
   pub batch_goes_on : (lexicon : Lexicon) (files : Option Files) → ((told : Files) → files ≡ Some told → DoesTell told lex.name (lexicons.Holds lexicon))

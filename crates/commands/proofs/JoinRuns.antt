@@ -1,6 +1,6 @@
 -- What a run of `join` writes is the output of an outcome; and an overlap that a chain has can be printed.
-use Rattle.std.proofs.Common.{◌≡◌, ℕ, List, [], ◌∷◌, None, refl, sym, ◌∙◌, ap, subst, inl, inr, arith, ◌++◌, codes, append_assoc}
-use Rattle.outside.specs.Files.{Files, contents_of}
+use Rattle.std.proofs.Common.{◌≡◌, ℕ, List, [], ◌∷◌, refl, sym, ◌∙◌, ap, subst, inl, inr, arith, ◌++◌, codes, append_assoc}
+use Rattle.outside.specs.Files.{Files}
 use Rattle.lexicon_definitions.specs.Lexicons.{Lexicon, IsLexicon}
 use Rattle.segmentation_definitions.specs.Derivations.{Step}
 use Rattle.segmentation_definitions.specs.Overlaps as overlaps
@@ -9,9 +9,8 @@ use Rattle.segmentation_definitions.proofs.Coverings.{phase_within}
 use Rattle.chain_definitions.specs.JoinedChains.{Overlap, IsFirstOverlap}
 use Rattle.run_definitions.specs.Commands.{FileWord}
 use Rattle.run_definitions.specs.Ends as ends
-use Rattle.run_definitions.specs.Ends.{outcome_over}
-use Rattle.run_definitions.specs.Refusals.{file_refusal}
-use Rattle.run_definitions.specs.LexiconTells.{NotThere, Refused, Holds, DoesTell, IsMissing}
+use Rattle.run_definitions.specs.Ends.{Outcome, outcome_over}
+use Rattle.run_definitions.specs.LexiconTells.{NotThere, Refused, Holds, DoesTell}
 use Rattle.run_definitions.specs.JoinOutcomes as outcomes
 use Rattle.run_definitions.specs.JoinOutcomes.{IsJoinOutcome}
 use Rattle.joiner.specs.Faults.{fault_of}
@@ -19,6 +18,7 @@ use Rattle.commands.specs.declared.status.Status.{Status}
 use Rattle.commands.specs.declared.status.Status.TheVariants.{Done, Usage, BadChain}
 use Rattle.commands.specs.Faults.{Tells}
 use Rattle.commands.specs.RunEnds.{HasOutcome}
+use Rattle.commands.specs.Openings.{IsUnopened, Missing, Faulty}
 use Rattle.commands.specs.Checks.{CanBePrinted}
 use Rattle.commands.specs.Joins.{WritesChain, Told, OfChain}
 
@@ -51,14 +51,10 @@ module _ (lex : FileWord) (chain : List ℕ) where
     };
   }
 
-  -- the refusal of its file is an outcome
-  pub join_refused : (files : Files) (fault : ends.AnyFault) → DoesTell files lex.name (Refused fault)
-      → IsJoinOutcome lex chain files (outcome_over files (file_refusal lex.name fault) (ends.BadFile lex.place fault))
-  join_refused files fault tells = record { tells = Refused fault; does_tell = tells; is_outcome = refl }
-
-  -- a missing file has its outcome
-  pub join_missing : (files : Files) → contents_of files lex.name ≡ None → IsJoinOutcome lex chain files (outcome_over files [] ends.ReadFault)
-  join_missing files missing = record { tells = NotThere; does_tell = IsMissing missing refl; is_outcome = refl }
+  -- a run without a lexicon has its outcome
+  pub join_unopened : (told : Files) (outcome : Outcome) → IsUnopened lex told outcome → IsJoinOutcome lex chain told outcome
+  join_unopened told outcome (Missing tells is) = record { tells = NotThere; does_tell = tells; is_outcome = is }
+  join_unopened told outcome (Faulty fault tells is) = record { tells = Refused fault; does_tell = tells; is_outcome = is }
 
   -- words that are refused are written by no command
   pub chain_not_usage : (lexicon : Lexicon) (status : Status) (output : List ℕ) → WritesChain chain lexicon status output → status ≡ Usage → ⊥

@@ -1,7 +1,7 @@
 -- What a run of `migrate` leaves: its text is written, or its lexicon file is refused; and the nodes that are counted are those of the
 -- only trie that the text tells.
-use Rattle.std.proofs.Common.{◌≡◌, ℕ, ◌≤◌, List, [], length, Option, Some, None, string_bytes, refl, sym, ◌∙◌, ap, subst}
-use Rattle.outside.specs.Files.{Files, contents_of, with_file}
+use Rattle.std.proofs.Common.{◌≡◌, ℕ, ◌≤◌, List, length, Option, Some, string_bytes, refl, sym, ◌∙◌, ap, subst}
+use Rattle.outside.specs.Files.{Files, with_file}
 use Rattle.lexicon_definitions.specs.Lexicons.{Lexicon, Form}
 use Rattle.lexicon_definitions.specs.Tries.{Trie}
 use Rattle.lexicon_text_definitions.specs.declared.limits.TheConstants.{MOST_FILE_BYTES}
@@ -11,13 +11,14 @@ use Rattle.run_definitions.specs.Commands.{FileWord}
 use Rattle.run_definitions.specs.Ends as ends
 use Rattle.run_definitions.specs.Ends.{Outcome, outcome_over}
 use Rattle.run_definitions.specs.Refusals.{file_refusal}
-use Rattle.run_definitions.specs.LexiconTells.{NotThere, Refused, Holds, DoesTell, IsMissing}
+use Rattle.run_definitions.specs.LexiconTells.{NotThere, Refused, Holds, DoesTell}
 use Rattle.run_definitions.specs.LongTexts.{HasLongText}
 use Rattle.run_definitions.specs.MigrateOutcomes.{text_fault, printed_nodes, IsMigratedOutcome, OfLimit, OfText, IsMigrateOutcome}
 use Rattle.commands.specs.declared.status.Status.TheVariants.{Done, BadFile}
 use Rattle.commands.specs.declared.status.AnyFault.{AnyFault}
 use Rattle.commands.specs.declared.migrate.Migrated.{Migrated}
 use Rattle.commands.specs.Faults.{file_fault}
+use Rattle.commands.specs.Openings.{IsUnopened, Missing, Faulty}
 use Rattle.commands.specs.Migrations.{IsMigrated}
 use Rattle.commands.specs.RunEnds.{HasOutcome}
 
@@ -63,12 +64,10 @@ module _ (lexicon : Lexicon) (lex out : FileWord) where
 -- ---- the lexicon file
 
 module _ (lex out : FileWord) where
-  pub migrate_missing : (told : Files) → contents_of told lex.name ≡ None → IsMigrateOutcome lex out told (outcome_over told [] ends.ReadFault)
-  migrate_missing told missing = record { tells = NotThere; does_tell = IsMissing missing refl; is_outcome = refl }
-
-  pub migrate_refused : (told : Files) (fault : ends.AnyFault) → DoesTell told lex.name (Refused fault)
-      → IsMigrateOutcome lex out told (outcome_over told (file_refusal lex.name fault) (ends.BadFile lex.place fault))
-  migrate_refused told fault tells = record { tells = Refused fault; does_tell = tells; is_outcome = refl }
+  -- a run without a lexicon has its outcome
+  pub migrate_unopened : (told : Files) (outcome : Outcome) → IsUnopened lex told outcome → IsMigrateOutcome lex out told outcome
+  migrate_unopened told outcome (Missing tells is) = record { tells = NotThere; does_tell = tells; is_outcome = is }
+  migrate_unopened told outcome (Faulty fault tells is) = record { tells = Refused fault; does_tell = tells; is_outcome = is }
 
   -- with the lexicon it goes on to write it
   pub migrate_goes_on : (lexicon : Lexicon) (files : Option Files) → ((told : Files) → files ≡ Some told → DoesTell told lex.name (Holds lexicon))

@@ -17,6 +17,8 @@ use Rattle.commands.specs.declared.status.AnyFault.{AnyFault}
 use Rattle.commands.specs.Faults.{file_fault}
 use Rattle.commands.specs.RunEnds.{HasOutcome}
 use Rattle.commands.specs.Sources.{IsRefusedSource}
+use Rattle.commands.specs.Openings as openings
+use Rattle.commands.specs.Openings.{IsUnopened}
 use Rattle.commands.specs.Rereads.{IsPrintedNote}
 use Rattle.commands.proofs.BuildRuns.{AreRead, told_held, told_refused}
 
@@ -54,12 +56,10 @@ module _ (lexicon : Lexicon) (file : FileWord) where
 -- ---- the lexicon file
 
 module _ (lex file : FileWord) where
-  pub reread_missing : (told : Files) → contents_of told lex.name ≡ None → IsRereadOutcome lex file told (outcome_over told [] ends.ReadFault)
-  reread_missing told missing = record { tells = NotThere; does_tell = lexicons.IsMissing missing refl; is_outcome = refl }
-
-  pub reread_refused : (told : Files) (fault : ends.AnyFault) → DoesTell told lex.name (lexicons.Refused fault)
-      → IsRereadOutcome lex file told (outcome_over told (file_refusal lex.name fault) (ends.BadFile lex.place fault))
-  reread_refused told fault tells = record { tells = lexicons.Refused fault; does_tell = tells; is_outcome = refl }
+  -- a run without a lexicon has its outcome
+  pub reread_unopened : (told : Files) (outcome : Outcome) → IsUnopened lex told outcome → IsRereadOutcome lex file told outcome
+  reread_unopened told outcome (openings.Missing tells is) = record { tells = NotThere; does_tell = tells; is_outcome = is }
+  reread_unopened told outcome (openings.Faulty fault tells is) = record { tells = lexicons.Refused fault; does_tell = tells; is_outcome = is }
 
   -- with the lexicon it goes on with the file of the note
   pub reread_goes_on : (lexicon : Lexicon) (files : Option Files)

@@ -12,7 +12,7 @@ use Rattle.form_file.specs.declared.contents.Contents.{Contents}
 use Rattle.form_file.specs.Contents.{lexicon_of}
 use Rattle.lexicon_file.specs.Writing.{HasNewestText}
 use Rattle.lexicon_file.proofs.NewestTexts.{newest_by_text}
-use Rattle.commands.specs.Segments.{IsBuildable}
+use Rattle.commands.specs.LexiconFiles.{IsBuildable}
 
 has_newest_text : (contents : Contents) (bytes : List ℕ) → IsReadAs bytes (Ok (lexicon_of contents)) → HasNewestText (lexicon_of contents)
 has_newest_text contents bytes read =

@@ -1,28 +1,25 @@
--- What a run of `read` leaves, from what the session that it served did; and what it writes where its file is refused.
-use Rattle.std.proofs.Common.{◌≡◌, ℕ, ◌+◌, List, [], Option, Some, None, Ok, refl, sym, ap, subst, ◌∙◌, inr}
+-- What a run of `read` leaves, from what the session that it served did.
+use Rattle.std.proofs.Common.{◌≡◌, ℕ, List, Option, Some, refl, sym, ap, subst, ◌∙◌, inr}
 use Rattle.outside.specs.Counts.{Rose}
-use Rattle.outside.specs.Files.{Files, contents_of, AreFirstBytes}
+use Rattle.outside.specs.Files.{Files}
 use Rattle.lexicon_definitions.specs.Lexicons.{Lexicon}
-use Rattle.lexicon_text_definitions.specs.declared.limits.TheConstants.{MOST_FILE_BYTES}
-use Rattle.trie_text_definitions.specs.VersionReadings.{IsReadAs}
 use Rattle.session_definitions.specs.Sessions as sessions
 use Rattle.reader_session.specs.declared.serve_end.ServeEnd.{ServeEnd}
 use Rattle.reader_session.specs.declared.serve_end.ServeEnd.TheVariants as serve
 use Rattle.reader_session.specs.Served as served
 use Rattle.reader_session.specs.Served.{IsEnd, WroteSession}
 use Rattle.run_definitions.specs.Commands.{FileWord}
-use Rattle.run_definitions.specs.Ends as ends
-use Rattle.run_definitions.specs.Ends.{outcome_over}
-use Rattle.run_definitions.specs.LexiconTells.{NotThere, Refused, Holds, DoesTell, IsMissing, IsLexicon}
+use Rattle.run_definitions.specs.Ends.{Outcome, outcome_over}
+use Rattle.run_definitions.specs.LexiconTells.{NotThere, Refused, Holds}
 use Rattle.run_definitions.specs.ReadOutcomes.{end_with, IsReadOutcome, IsReadSoFar}
 use Rattle.commands.specs.declared.status.Status.{Status}
-use Rattle.commands.specs.declared.status.Status.TheVariants.{Usage, ReadFault, WriteFault, BadFile}
-use Rattle.commands.specs.Faults.{Tells, file_fault}
+use Rattle.commands.specs.declared.status.Status.TheVariants.{Usage, ReadFault, WriteFault}
+use Rattle.commands.specs.Faults.{Tells}
 use Rattle.commands.specs.Headline.{WrotePrefix, IsNoFault}
-use Rattle.commands.specs.RunEnds.{WroteOutcome, Devices, HasOutcome}
-use Rattle.commands.specs.Sessions.{status_at, SourceTold, IsLexiconFile, WritesRefusal, Serves}
-use Rattle.commands.proofs.FilesRead.{first_content, whole, within}
-use Rattle.commands.proofs.SegmentRuns.{refused_file}
+use Rattle.commands.specs.RunEnds.{WroteOutcome, Devices}
+use Rattle.commands.specs.Openings.{HasOpened, IsUnopened, Missing, Faulty}
+use Rattle.commands.specs.Sessions.{status_at, SourceTold, sink_told, HasServed, Serves}
+use Rattle.commands.proofs.OpenedFiles.{holds_on}
 
 -- ---- ends
 
@@ -103,39 +100,26 @@ module _ (lex : FileWord) (result : Status) (old new : Devices) (source source_n
   pub serves_write_fault : result ≡ WriteFault → Rose old.faults new.faults
   serves_write_fault w = s.served.write_fault (write_fault_at s.end (sym s.is ∙ w))
 
--- ---- the file, as read
+-- ---- the lexicon file
 
-module _ (lex : FileWord) (bytes : List ℕ) where
-  -- a lexicon file that was read is the told one
-  pub told_lexicon : (files : Option Files) (lexicon : Lexicon) → AreFirstBytes files lex.name (MOST_FILE_BYTES + 1) bytes
-      → IsLexiconFile bytes lexicon → (told : Files) → files ≡ Some told → DoesTell told lex.name (Holds lexicon)
-  told_lexicon files lexicon first is told f =
-      let (content, there, e) = first_content told lex.name (MOST_FILE_BYTES + 1) bytes
-      (subst (λ (x : Option Files). AreFirstBytes x lex.name (MOST_FILE_BYTES + 1) bytes) f first) in
-      let low = within content bytes e is.within in
-      let same = whole content bytes e low in
-      IsLexicon content there low lexicon (subst (λ b. IsReadAs b (Ok lexicon)) (sym same) is.read) refl
+-- over the lexicon of the file that was opened, a session was served
+pub served_over : (lex : FileWord) (lexicon : Lexicon) (result : Status) (old mid new : Devices) (source source_now : SourceTold)
+    → HasOpened lex lexicon old mid → (end : ServeEnd) → result ≡ status_at end → new.files ≡ mid.files → new.failed_writes ≡ mid.failed_writes
+    → HasServed lexicon end source source_now (sink_told mid.written mid.faults) (sink_told new.written new.faults)
+    → Serves lex result old new source source_now
+served_over lex lexicon result old mid new source source_now opened end is files failed_writes served =
+    subst (λ (d : Devices). Serves lex result d new source source_now) opened.same (record {
+      lexicon = lexicon;
+      holds = holds_on lex lexicon old mid opened;
+      end = end;
+      is = is;
+      files = files;
+      failed_writes = failed_writes;
+      served = served;
+    })
 
-  -- the refusal of a file is the outcome
-  pub refusal_outcome : (input : Option (List ℕ)) (files : Option Files) → AreFirstBytes files lex.name (MOST_FILE_BYTES + 1) bytes
-      → (told : Files) → files ≡ Some told → (status : Status) (output : List ℕ) → WritesRefusal lex bytes status output
-      → HasOutcome (IsReadOutcome lex told input) status output told
-  refusal_outcome input files first told f status output w =
-      let (content, there, e) = first_content told lex.name (MOST_FILE_BYTES + 1) bytes
-      (subst (λ (x : Option Files). AreFirstBytes x lex.name (MOST_FILE_BYTES + 1) bytes) f first) in record {
-        end = ends.BadFile lex.place (file_fault w.fault);
-        told = subst (λ (x : Status). Tells x (ends.BadFile lex.place (file_fault w.fault))) (sym w.ends) refl;
-        is_it = record {
-          tells = Refused (file_fault w.fault);
-          does_tell = refused_file told lex.name content bytes w.fault there e w.refused;
-          is_outcome = ap (λ out. outcome_over told out (ends.BadFile lex.place (file_fault w.fault))) w.printed;
-        };
-      }
-
-  pub refusal_not_usage : (status : Status) (output : List ℕ) → WritesRefusal lex bytes status output → status ≡ Usage → ⊥
-  refusal_not_usage status output w u = let d : BadFile lex.place w.fault ≡ Usage = sym w.ends ∙ u in cc (d)
-
--- a missing file has its outcome, whatever the input is
-pub read_missing : (lex : FileWord) (input : Option (List ℕ)) (files : Files) → contents_of files lex.name ≡ None
-    → IsReadOutcome lex files input (outcome_over files [] ends.ReadFault)
-read_missing lex input files missing = record { tells = NotThere; does_tell = IsMissing missing refl; is_outcome = refl }
+-- a run without a lexicon has its outcome, whatever the input is
+pub read_unopened : (lex : FileWord) (input : Option (List ℕ)) (files : Files) (outcome : Outcome) → IsUnopened lex files outcome
+    → IsReadOutcome lex files input outcome
+read_unopened lex input files outcome (Missing tells is) = record { tells = NotThere; does_tell = tells; is_outcome = is }
+read_unopened lex input files outcome (Faulty fault tells is) = record { tells = Refused fault; does_tell = tells; is_outcome = is }

@@ -1,14 +1,13 @@
 -- What a run of `split` writes is the output of an outcome; and the texts of answers, a line each, are the printed page.
-use Rattle.std.proofs.Common.{◌≡◌, ℕ, ◌++◌, List, [], ◌∷◌, None, refl, sym, ◌∙◌, ap, subst}
-use Rattle.outside.specs.Files.{Files, contents_of}
+use Rattle.std.proofs.Common.{◌≡◌, ℕ, ◌++◌, List, [], ◌∷◌, refl, sym, ◌∙◌, ap, subst}
+use Rattle.outside.specs.Files.{Files}
 use Rattle.lexicon_definitions.specs.Lexicons.{Lexicon, RuleSet}
 use Rattle.segmentation_definitions.specs.Derivations.{Step}
 use Rattle.segmentation_definitions.specs.PrintedAnswers.{output_line, printed_answer, printed_answers, next_number}
 use Rattle.run_definitions.specs.Commands.{FileWord}
 use Rattle.run_definitions.specs.Ends as ends
-use Rattle.run_definitions.specs.Ends.{outcome_over}
-use Rattle.run_definitions.specs.Refusals.{file_refusal}
-use Rattle.run_definitions.specs.LexiconTells.{NotThere, Refused, Holds, DoesTell, IsMissing}
+use Rattle.run_definitions.specs.Ends.{Outcome, outcome_over}
+use Rattle.run_definitions.specs.LexiconTells.{NotThere, Refused, Holds, DoesTell}
 use Rattle.run_definitions.specs.SplitOutcomes as outcomes
 use Rattle.run_definitions.specs.SplitOutcomes.{IsSplitOutcome}
 use Rattle.search_split.specs.PrintedPages.{answer_texts}
@@ -17,6 +16,7 @@ use Rattle.commands.specs.declared.status.Status.{Status}
 use Rattle.commands.specs.declared.status.Status.TheVariants.{Done, Usage, BadText}
 use Rattle.commands.specs.Faults.{Tells}
 use Rattle.commands.specs.RunEnds.{HasOutcome}
+use Rattle.commands.specs.Openings.{IsUnopened, Missing, Faulty}
 use Rattle.commands.specs.Splits.{text_lines, WritesSplit, Page, OfText}
 
 -- ---- the outcome
@@ -49,15 +49,10 @@ module _ (lex : FileWord) (text : List ℕ) (count : ℕ) where
     };
   }
 
-  -- the refusal of its file is an outcome
-  pub split_refused : (files : Files) (fault : ends.AnyFault) → DoesTell files lex.name (Refused fault)
-      → IsSplitOutcome lex text count files (outcome_over files (file_refusal lex.name fault) (ends.BadFile lex.place fault))
-  split_refused files fault tells = record { tells = Refused fault; does_tell = tells; is_outcome = refl }
-
-  -- a missing file has its outcome
-  pub split_missing : (files : Files) → contents_of files lex.name ≡ None
-      → IsSplitOutcome lex text count files (outcome_over files [] ends.ReadFault)
-  split_missing files missing = record { tells = NotThere; does_tell = IsMissing missing refl; is_outcome = refl }
+  -- a run without a lexicon has its outcome
+  pub split_unopened : (told : Files) (outcome : Outcome) → IsUnopened lex told outcome → IsSplitOutcome lex text count told outcome
+  split_unopened told outcome (Missing tells is) = record { tells = NotThere; does_tell = tells; is_outcome = is }
+  split_unopened told outcome (Faulty fault tells is) = record { tells = Refused fault; does_tell = tells; is_outcome = is }
 
   -- words that are refused are written by no command
   pub split_not_usage : (lexicon : Lexicon) (status : Status) (output : List ℕ) → WritesSplit text count lexicon status output

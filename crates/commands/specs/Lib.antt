@@ -5,14 +5,15 @@ pub mod RunEnds
 pub mod ReadFaults
 pub mod RepliedSoFar
 pub mod Refusals
-pub mod SegmentErrors
+pub mod FaultRefusals
+pub mod LexiconFiles
+pub mod Openings
 pub mod Segments
 pub mod Checks
 pub mod Conversions
 pub mod Batches
 pub mod Demos
 pub mod Sessions
-pub mod OverLexicons
 pub mod Joins
 pub mod Splits
 pub mod Sources

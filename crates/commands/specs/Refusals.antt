@@ -1,9 +1,4 @@
 -- How the refusals of a part are those of the whole; want of memory stays what it is.
-use Rattle.std.specs.Prelude.{Result, Ok, Err}
-use Rattle.phoneme.specs.declared.memory.Memory.{Memory}
-use Rattle.text_line.specs.declared.line_error.LineError.{LineError}
-use Rattle.text_line.specs.declared.text_fault.TextFault.{TextFault}
-use Rattle.text_line.specs.Values.{fault_of_error}
 use Rattle.lexicon_file.specs.declared.error.FileError.{FileError}
 use Rattle.lexicon_file.specs.declared.error.FileError.TheVariants as file
 use Rattle.rule_file.specs.declared.error.RuleError.{RuleError}
@@ -22,27 +17,11 @@ use Rattle.lexicon_builder.specs.declared.error.BuildError.TheVariants as built
 use Rattle.commands.specs.declared.status.AnyFault.TheVariants as fault_is
 use Rattle.commands.specs.declared.any_error.AnyError.{AnyError}
 use Rattle.commands.specs.declared.any_error.AnyError.TheVariants as any
-use Rattle.commands.specs.declared.segment.SegmentError.{SegmentError}
-use Rattle.commands.specs.declared.segment.SegmentError.TheVariants as segment
 
 -- a fault of the lexicon file
 abbrev pub error_of_file : FileError → AnyError
 error_of_file (file.Fault fault) = any.Fault (fault_is.Lexicon fault)
 error_of_file file.Memory = any.Memory
-
--- a fault of a file, where a text is read too
-abbrev pub error_of_any : AnyError → SegmentError
-error_of_any (any.Fault fault) = segment.BadFile fault
-error_of_any any.Memory = segment.Memory
-
--- a fault of the text, where a lexicon file is read too
-abbrev pub error_of_text : Result TextFault Memory → SegmentError
-error_of_text (Ok fault) = segment.BadText fault
-error_of_text (Err memory) = segment.Memory
-
--- the same of what reads the text
-abbrev pub error_of_line : LineError → SegmentError
-error_of_line error = error_of_text (fault_of_error error)
 
 -- a fault of the rule file
 abbrev pub error_of_rules : RuleError → AnyError

@@ -1,25 +1,18 @@
 -- How a run of `read` ends, which may also read the source, and so that of any command.
-use Rattle.std.specs.Prelude.{◌≡◌, ℕ, ◌≤◌, List, length, Option, Some, Ok}
+use Rattle.std.specs.Prelude.{◌≡◌, ℕ, List, Option, Some}
 use Rattle.outside.specs.Counts.{Rose}
 use Rattle.outside.specs.Files.{Files}
 use Rattle.text_definitions.specs.Schemes.{Scheme}
 use Rattle.lexicon_definitions.specs.Lexicons.{Lexicon}
-use Rattle.lexicon_text_definitions.specs.declared.limits.TheConstants.{MOST_FILE_BYTES}
-use Rattle.trie_text_definitions.specs.VersionReadings.{IsReadAs}
 use Rattle.reader_session.specs.declared.serve_end.ServeEnd.{ServeEnd}
 use Rattle.reader_session.specs.declared.serve_end.ServeEnd.TheVariants as serve
 use Rattle.reader_session.specs.Served.{IsEnd, WroteSession, WroteFront, RepliedToTaken}
 use Rattle.run_definitions.specs.Commands.{Command, Read, Batch, FileWord, files_of, out_of}
-use Rattle.run_definitions.specs.Refusals.{file_refusal}
 use Rattle.run_definitions.specs.LexiconTells.{Holds, DoesTell}
 use Rattle.run_definitions.specs.Outcomes.{IsOutcomeOf}
 use Rattle.commands.specs.declared.status.Status.{Status}
-use Rattle.commands.specs.declared.status.Status.TheVariants.{Done, Memory, ReadFault, WriteFault, BadFile, TooMuch}
-use Rattle.commands.specs.declared.status.AnyFault.{AnyFault}
-use Rattle.commands.specs.Faults.{file_fault}
-use Rattle.commands.specs.Ends.{Wrote}
+use Rattle.commands.specs.declared.status.Status.TheVariants.{Done, Memory, ReadFault, WriteFault, TooMuch}
 use Rattle.commands.specs.RunEnds.{Devices, Ran}
-use Rattle.commands.specs.Segments.{IsRefusedFile}
 use Rattle.commands.specs.Batches.{RepliesInBatch}
 
 -- how a run ends with the session that it served
@@ -56,28 +49,6 @@ pub record HasServed (lexicon : Lexicon) (end : ServeEnd) (source source_now : S
       → RepliedToTaken lexicon input old source_now.left sink_now.written
   pub read_fault : end ≡ serve.ReadFault → Rose source.faults source_now.faults
   pub write_fault : end ≡ serve.WriteFault → Rose sink.faults sink_now.faults
-
--- the bytes are those of the lexicon's file
-pub record IsLexiconFile (bytes : List ℕ) (lexicon : Lexicon) : Type 0 where
-  pub within : length bytes ≤ MOST_FILE_BYTES
-  pub read : IsReadAs bytes (Ok lexicon)
-
--- what is written before the status where the bytes of a lexicon file are refused
-pub record WritesRefusal (lex : FileWord) (bytes : List ℕ) (status : Status) (output : List ℕ) : Type 0 where
-  pub fault : AnyFault
-  pub ends : status ≡ BadFile lex.place fault
-  pub refused : IsRefusedFile bytes fault
-  pub printed : output ≡ file_refusal lex.name (file_fault fault)
-
--- how `read` goes on with the bytes of a lexicon file: they are refused, or nothing is written for want of memory, and the
--- source stays; or a session is served
-pub data WentOn (lex : FileWord) (bytes : List ℕ) (SourceStays : Type 0) (result : Status) (source source_now : SourceTold)
-    (sink sink_now : SinkTold) : Type 0 where
-  Unserved : SourceStays → Wrote (WritesRefusal lex bytes) result sink.written sink_now.written sink.faults sink_now.faults
-      → WentOn lex bytes SourceStays result source source_now sink sink_now
-  Served : (lexicon : Lexicon) → IsLexiconFile bytes lexicon → (end : ServeEnd) → result ≡ status_at end
-      → HasServed lexicon end source source_now sink sink_now
-      → WentOn lex bytes SourceStays result source source_now sink sink_now
 
 -- a session was served over the lexicon of the file, and no file was written
 pub record Serves (lex : FileWord) (result : Status) (old new : Devices) (source source_now : SourceTold) : Type 0 where

@@ -5,9 +5,8 @@ ghost use Rattle.command_words.specs.Meant.{word_meant};
 ghost use Rattle.commands.specs.RunEnds.{devices};
 ghost use Rattle.commands.specs.Batches.{HasReplied, RanOverText, RanBatch};
 
-use super::any_error::AnyError;
 use super::ending::refuse_file;
-use super::read::read_lexicon;
+use super::opening::open_lexicon;
 use super::reading::read_file;
 use super::status::{AnyFault, Status};
 use batch_reader::Batch;
@@ -30,11 +29,7 @@ pub(crate) fn run_batch<R: Threads + Sync, H: Shelf, O: Sink, G: Gate + Sync>(
         (devices (H.files shelf.old) (H.failed_reads shelf.old) (H.failed_writes shelf.old) (O.written out.old) (O.faults out.old))
         (devices (H.files shelf.new) (H.failed_reads shelf.new) (H.failed_writes shelf.new) (O.written out.new) (O.faults out.new)) }
 {
-    let bytes = match read_file(alloc, &words.lex, shelf) {
-        Ok(bytes) => bytes,
-        Err(status) => return status,
-    };
-    match read_lexicon(alloc, bytes.as_slice()) {
+    match open_lexicon(alloc, &words.lex, shelf, out) {
         Ok(lexicon) => {
             let batch = Batch {
                 lexicon: &lexicon,
@@ -44,8 +39,7 @@ pub(crate) fn run_batch<R: Threads + Sync, H: Shelf, O: Sink, G: Gate + Sync>(
             };
             batch_over(rt, alloc, &words.file, &batch, shelf, out)
         }
-        Err(AnyError::Fault(fault)) => refuse_file(alloc, &words.lex, fault, out),
-        Err(AnyError::Memory) => Status::Memory,
+        Err(status) => status,
     }
 }
 

@@ -2,16 +2,22 @@ ghost use Rattle.std.specs.Prelude.{◌≡◌, ◌≤◌, length, map, ◌++◌,
 ghost use Rattle.std.specs.Fmt.{decimal};
 ghost use Rattle.segmentation_definitions.specs.PrintedAnswers.{output_line};
 ghost use Rattle.lexicon_definitions.specs.declared.limits.TheConstants.{MOST_PHASES};
+ghost use Rattle.lexicon_definitions.specs.Limits.{count_lines};
+ghost use Rattle.lexicon_definitions.specs.Tries.{IsTrieOf};
+ghost use Rattle.trie_text_definitions.specs.TrieForms.{phases_of};
+ghost use Rattle.form_file.specs.Contents.{lexicon_of};
+ghost use Rattle.lexicon_file.specs.Writing.{HasNewestText};
 ghost use Rattle.rule_file_definitions.specs.RuleFileReadings.{IsReadAs};
 ghost use Rattle.run_definitions.specs.BuildOutcomes.{AreTables, AreStems};
 ghost use Rattle.run_definitions.specs.Ends.{Rules, Tables as OfTables, Stems as OfStems};
-ghost use Rattle.lexicon_builder.specs.Sources.{AreSources};
+ghost use Rattle.run_definitions.specs.SourceLexicons.{IsLexiconOf};
+ghost use Rattle.lexicon_builder.specs.Sources.{AreSources, HaveTooManyLines, IfLimit};
 ghost use Rattle.commands.specs.Sources.{HoldsSource, IsBuilt};
 ghost use Rattle.commands.specs.SourceErrors.{IsSourceError, IsLimitError};
 
 use super::any_error::AnyError;
 use super::status::AnyFault;
-use lexicon_builder::{build_lexicon, lexicon_text};
+use lexicon_builder::{BuildError, BuiltLexicon, build_lexicon, lexicon_text};
 use lexicon_text_definitions::MOST_FILE_BYTES;
 use paradigms::{Stems, Tables, read_stems, read_tables};
 use phoneme::Memory;
@@ -61,8 +67,22 @@ pub(crate) fn read_stem_file(
     Ok(read_stems(alloc, tables, bytes)?)
 }
 
+/// What was read of a rule file and of a table file.
+#[derive(Drop)]
+pub(crate) struct ReadTables {
+    pub file: RuleFile,
+    pub tables: Tables,
+}
+
+/// What was read of all three source files.
+#[derive(Drop)]
+pub(crate) struct ReadSources {
+    pub read: ReadTables,
+    pub stems: Stems,
+}
+
 /// The text of the lexicon file that is built, and what is printed of it.
-#[derive(Debug, Drop)]
+#[derive(Drop)]
 pub(crate) struct Built {
     pub text: Vec<u8>,
     pub output: String,
@@ -75,20 +95,35 @@ fn print_forms(alloc: Global, forms: u32) -> Result<String, Memory>
     Ok(format!(in alloc; "forms {forms}\n")?)
 }
 
+/// The lexicon of what was read of the three files, of which nothing else is kept.
+fn build_sources(
+    rt: &(impl Threads + Sync),
+    alloc: Global,
+    sources: ReadSources,
+) -> Result<BuiltLexicon, BuildError>
+    requires { AreSources sources.read.file.rules sources.read.tables sources.stems }
+    ensures ok { IfOk result (λ built. IsLexiconOf sources.read.file.rules sources.read.tables sources.stems (lexicon_of built.contents)) }
+    ensures trie { IfOk result (λ built. IsTrieOf built.contents.store (phases_of built.contents.store)) }
+    ensures text { IfOk result (λ built. HasNewestText (lexicon_of built.contents)) }
+    ensures lines { IfOk result (λ built. built.lines ≡ count_lines (phases_of built.contents.store)) }
+    ensures limit { IfErr result (λ error. IfLimit error (HaveTooManyLines sources.read.file.rules sources.read.tables sources.stems)) }
+{
+    let ReadSources { read, stems } = sources;
+    let ReadTables { file, tables } = read;
+    build_lexicon(rt, alloc, file.rules, file.automaton, &tables, &stems)
+}
+
 /// The lexicon of the sources in its newest text, and how many lines of forms it has.
 pub(crate) fn build(
     rt: &(impl Threads + Sync),
     alloc: Global,
-    file: RuleFile,
-    tables: &Tables,
-    stems: &Stems,
+    sources: ReadSources,
 ) -> Result<Built, AnyError>
-    requires { AreSources file.rules tables.now stems.now }
-    ensures ok { IfOk result (IsBuilt file.rules tables.now stems.now) }
-    ensures refused { IfErr result (IsLimitError file.rules tables.now stems.now) }
+    requires { AreSources sources.read.file.rules sources.read.tables sources.stems }
+    ensures ok { IfOk result (IsBuilt sources.read.file.rules sources.read.tables sources.stems) }
+    ensures refused { IfErr result (IsLimitError sources.read.file.rules sources.read.tables sources.stems) }
 {
-    let RuleFile { rules, automaton } = file;
-    let built = build_lexicon(rt, alloc, rules, automaton, tables, stems)?;
+    let built = build_sources(rt, alloc, sources)?;
     let text = lexicon_text(alloc, &built.contents)?;
     let output = print_forms(alloc, built.lines)?;
     Ok(Built { text, output })

@@ -1,4 +1,4 @@
-ghost use Rattle.std.specs.Prelude.{◌≡◌, ◌<◌, ◌≤◌, [], ◌∷◌, ◌++◌, length, All, IfOk, IfErr, OnOk, None, string_bytes};
+ghost use Rattle.std.specs.Prelude.{◌≡◌, ◌≤◌, [], ◌∷◌, ◌++◌, length, All, IfOk, OnOk, None, string_bytes};
 ghost use Rattle.lexicon_definitions.specs.Rules.{printed_rule};
 ghost use Rattle.lexicon_definitions.specs.declared.limits.TheConstants.{MOST_FORM_LINES};
 ghost use Rattle.lexicon_definitions.specs.Lexicons.{rule_of};
@@ -6,18 +6,17 @@ ghost use Rattle.lexicon_definitions.specs.Limits.{count_lines};
 ghost use Rattle.trie_text_definitions.specs.TrieForms.{phases_of, count_pairs as count_pairs_of};
 ghost use Rattle.segmentation_definitions.specs.Derivations.{IsRuleNumber};
 ghost use Rattle.segmentation_definitions.specs.PrintedAnswers.{output_line};
+ghost use Rattle.form_file.specs.Contents.{lexicon_of};
 ghost use Rattle.run_definitions.specs.Overlaps.{AreFirstOverlaps, printed_counts, printed_overlap, printed_overlaps};
 ghost use Rattle.run_definitions.specs.CheckOutcomes.{IsCheckOutcome};
 ghost use Rattle.command_words.specs.Meant.{word_meant};
 ghost use Rattle.commands.specs.Ends.{Wrote};
 ghost use Rattle.commands.specs.RunEnds.{devices, Ran};
-ghost use Rattle.commands.specs.Checks.{CanBePrinted, IsPrintedCheck, IsChecked, WritesCheck};
-ghost use Rattle.commands.specs.SegmentErrors.{IsFileError};
+ghost use Rattle.commands.specs.LexiconFiles.{IsBuildable};
+ghost use Rattle.commands.specs.Checks.{CanBePrinted, IsPrintedCheck, WritesCheck};
 
-use super::any_error::AnyError;
-use super::ending::{finish, refuse_file};
-use super::reading::read_file;
-use super::segment::read_contents;
+use super::ending::finish;
+use super::opening::open_contents;
 use super::status::Status;
 use answer_printing::rest_line;
 use command_words::PlacedWord;
@@ -33,7 +32,7 @@ use strictness::{Overlap, overlaps};
 use trie_checks::count_pairs;
 
 /// The first overlaps of a lexicon, and whether one is left after them.
-#[derive(Debug, Drop)]
+#[derive(Drop)]
 struct FirstOverlaps {
     overlaps: Vec<Overlap>,
     more: bool,
@@ -117,37 +116,30 @@ fn print_counts(alloc: Global, rules: &RuleSet, store: &Store) -> Result<String,
 }
 
 /// The counts of the lexicon, its first overlaps a line each, then `more` or `end`.
-fn print_check(alloc: Global, rules: &RuleSet, store: &Store) -> Result<String, Memory>
-    requires roots { length store.now.roots ≡ length rules.now.names }
-    requires count { length (phases_of store.now) ≡ length rules.now.names }
-    requires pairs { count_pairs_of store.now ≡ count_lines (phases_of store.now) }
-    requires few { count_lines (phases_of store.now) ≤ MOST_FORM_LINES }
-    ensures ok { IfOk result (λ output. IsPrintedCheck (record { rules = rules.now; phases = phases_of store.now }) (string_bytes output)) }
+fn print_check(alloc: Global, contents: &Contents) -> Result<String, Memory>
+    requires { IsBuildable contents.now }
+    ensures ok { IfOk result (λ output. IsPrintedCheck (lexicon_of contents.now) (string_bytes output)) }
 {
-    let found = first_overlaps(alloc, rules, store)?;
-    let mut output = print_counts(alloc, rules, store)?;
-    push_overlaps(alloc, &mut output, rules, found.overlaps.as_slice())?;
+    let found = first_overlaps(alloc, &contents.rules, &contents.store)?;
+    let mut output = print_counts(alloc, &contents.rules, &contents.store)?;
+    push_overlaps(
+        alloc,
+        &mut output,
+        &contents.rules,
+        found.overlaps.as_slice(),
+    )?;
     output.push_str(rest_line(found.more))?;
     Ok(output)
 }
 
-/// What `check` writes for the bytes of a lexicon file.
-pub(crate) fn check(alloc: Global, bytes: &[u8]) -> Result<String, AnyError>
-    ensures ok { IfOk result (λ output. IsChecked bytes.now (string_bytes output)) }
-    ensures refused { IfErr result (IsFileError bytes.now) }
+/// Writes the counts of the lexicon and its first overlaps.
+fn write_check<O: Sink>(alloc: Global, contents: &Contents, out: &mut O) -> Status
+    requires { IsBuildable contents.now }
+    ensures { Wrote (WritesCheck (lexicon_of contents.now)) result (O.written out.old) (O.written out.new) (O.faults out.old) (O.faults out.new) }
 {
-    let Contents { rules, store, .. } = read_contents(alloc, bytes)?;
-    Ok(print_check(alloc, &rules, &store)?)
-}
-
-/// Writes what `check` answers for the bytes of the lexicon file.
-fn write_check<O: Sink>(alloc: Global, lex: &PlacedWord<'_>, bytes: &[u8], out: &mut O) -> Status
-    ensures { Wrote (WritesCheck (word_meant lex.now) bytes.now) result (O.written out.old) (O.written out.new) (O.faults out.old) (O.faults out.new) }
-{
-    match check(alloc, bytes) {
+    match print_check(alloc, contents) {
         Ok(output) => finish(out, output.as_bytes(), Status::Done),
-        Err(AnyError::Fault(fault)) => refuse_file(alloc, lex, fault, out),
-        Err(AnyError::Memory) => Status::Memory,
+        Err(Memory) => Status::Memory,
     }
 }
 
@@ -162,8 +154,8 @@ pub(crate) fn run_check<H: Shelf, O: Sink>(
         (devices (H.files shelf.old) (H.failed_reads shelf.old) (H.failed_writes shelf.old) (O.written out.old) (O.faults out.old))
         (devices (H.files shelf.new) (H.failed_reads shelf.new) (H.failed_writes shelf.new) (O.written out.new) (O.faults out.new)) }
 {
-    match read_file(alloc, lex, shelf) {
-        Ok(bytes) => write_check(alloc, lex, bytes.as_slice(), out),
+    match open_contents(alloc, lex, shelf, out) {
+        Ok(contents) => write_check(alloc, &contents, out),
         Err(status) => status,
     }
 }

@@ -21,7 +21,7 @@ use phoneme::Memory;
 use std::alloc::Global;
 
 /// A text in another scheme, and what is printed of it.
-#[derive(Debug, Drop)]
+#[derive(Drop)]
 pub(crate) struct ConvertedFile {
     pub text: Vec<u8>,
     pub output: String,

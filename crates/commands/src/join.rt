@@ -4,14 +4,11 @@ ghost use Rattle.run_definitions.specs.JoinOutcomes.{printed_answer, IsJoinOutco
 ghost use Rattle.command_words.specs.Meant.{word_meant};
 ghost use Rattle.commands.specs.Ends.{Wrote};
 ghost use Rattle.commands.specs.RunEnds.{devices, Ran};
-ghost use Rattle.commands.specs.OverLexicons.{WritesOver};
 ghost use Rattle.commands.specs.Joins.{IsPrintedJoined, WritesChain};
 
-use super::any_error::AnyError;
 use super::check::print_overlap;
-use super::ending::{finish, refuse_chain, refuse_file};
-use super::read::read_lexicon;
-use super::reading::read_file;
+use super::ending::{finish, refuse_chain};
+use super::opening::open_lexicon;
 use super::status::Status;
 use annotated_trie::Lexicon;
 use command_words::JoinWords;
@@ -60,17 +57,6 @@ fn write_chain<O: Sink>(alloc: Global, lexicon: &Lexicon, chain: &str, out: &mut
     }
 }
 
-/// Goes on to the chain with the lexicon of the bytes, or refuses the file.
-fn write_join<O: Sink>(alloc: Global, words: &JoinWords<'_>, bytes: &[u8], out: &mut O) -> Status
-    ensures { Wrote (WritesOver (WritesChain words.now.chain.name.now) (word_meant words.now.lex) bytes.now) result (O.written out.old) (O.written out.new) (O.faults out.old) (O.faults out.new) }
-{
-    match read_lexicon(alloc, bytes) {
-        Ok(lexicon) => write_chain(alloc, &lexicon, words.chain.name, out),
-        Err(AnyError::Fault(fault)) => refuse_file(alloc, &words.lex, fault, out),
-        Err(AnyError::Memory) => Status::Memory,
-    }
-}
-
 /// `join LEX CHAIN`: reads the lexicon, and then the text of the chain, and writes what the chain is joined to.
 pub(crate) fn run_join<H: Shelf, O: Sink>(
     alloc: Global,
@@ -82,8 +68,8 @@ pub(crate) fn run_join<H: Shelf, O: Sink>(
         (devices (H.files shelf.old) (H.failed_reads shelf.old) (H.failed_writes shelf.old) (O.written out.old) (O.faults out.old))
         (devices (H.files shelf.new) (H.failed_reads shelf.new) (H.failed_writes shelf.new) (O.written out.new) (O.faults out.new)) }
 {
-    match read_file(alloc, &words.lex, shelf) {
-        Ok(bytes) => write_join(alloc, words, bytes.as_slice(), out),
+    match open_lexicon(alloc, &words.lex, shelf, out) {
+        Ok(lexicon) => write_chain(alloc, &lexicon, words.chain.name, out),
         Err(status) => status,
     }
 }

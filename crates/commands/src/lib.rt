@@ -19,6 +19,7 @@ mod demo;
 mod ending;
 mod join;
 mod migrate;
+mod opening;
 mod read;
 mod reading;
 mod refusal;
@@ -31,6 +32,6 @@ mod split;
 mod status;
 
 pub use any_error::AnyError;
-pub use read::read_lexicon;
+pub use opening::read_lexicon;
 pub use running::run;
 pub use status::{AnyFault, Status};

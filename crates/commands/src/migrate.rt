@@ -8,14 +8,12 @@ ghost use Rattle.command_words.specs.Meant.{word_meant};
 ghost use Rattle.run_definitions.specs.LongTexts.{HasLongText};
 ghost use Rattle.run_definitions.specs.MigrateOutcomes.{text_fault, printed_nodes, IsMigratedOutcome, IsMigrateOutcome};
 ghost use Rattle.commands.specs.Faults.{file_fault};
+ghost use Rattle.commands.specs.LexiconFiles.{IsBuildable};
 ghost use Rattle.commands.specs.Migrations.{IsMigrated};
 ghost use Rattle.commands.specs.RunEnds.{devices, Ran};
-ghost use Rattle.commands.specs.Segments.{IsBuildable};
 
-use super::any_error::AnyError;
 use super::ending::{finish, refuse_file};
-use super::reading::read_file;
-use super::segment::read_contents;
+use super::opening::open_contents;
 use super::status::{AnyFault, Status};
 use command_words::MigrateWords;
 use lexicon_file::{Contents, FileFault, FileWhy, write_within};
@@ -26,7 +24,7 @@ use shared_trie::{Node, Store};
 use std::alloc::Global;
 
 /// The newest text of a lexicon, and what is printed of it.
-#[derive(Debug, Drop)]
+#[derive(Drop)]
 pub(crate) struct Migrated {
     pub text: Vec<u8>,
     pub output: String,
@@ -123,13 +121,8 @@ pub(crate) fn run_migrate<H: Shelf, O: Sink>(
         (devices (H.files shelf.old) (H.failed_reads shelf.old) (H.failed_writes shelf.old) (O.written sink.old) (O.faults sink.old))
         (devices (H.files shelf.new) (H.failed_reads shelf.new) (H.failed_writes shelf.new) (O.written sink.new) (O.faults sink.new)) }
 {
-    let bytes = match read_file(alloc, &words.lex, shelf) {
-        Ok(bytes) => bytes,
-        Err(status) => return status,
-    };
-    match read_contents(alloc, bytes.as_slice()) {
+    match open_contents(alloc, &words.lex, shelf, sink) {
         Ok(contents) => migrate_contents(alloc, &contents, words, shelf, sink),
-        Err(AnyError::Fault(fault)) => refuse_file(alloc, &words.lex, fault, sink),
-        Err(AnyError::Memory) => Status::Memory,
+        Err(status) => status,
     }
 }

@@ -1,16 +1,21 @@
 ghost use Rattle.std.specs.Prelude.{◌≡◌, IfOk, string_bytes};
+ghost use Rattle.lexicon_file.specs.Contents as files;
 ghost use Rattle.lexicon_file.specs.Faults.{why_of};
+ghost use Rattle.more_schemes.specs.Values.{conversion_fault};
 ghost use Rattle.joiner.specs.Faults as chains;
 ghost use Rattle.annotation.specs.Readings as notes;
+ghost use Rattle.run_definitions.specs.Ends as ends;
 ghost use Rattle.run_definitions.specs.Refusals.{name_of_why, file_refusal, text_refusal, name_of_chain_why, chain_refusal, name_of_note_why};
 ghost use Rattle.text_line.specs.Values.{text_fault};
 ghost use Rattle.commands.specs.Faults.{file_fault};
+ghost use Rattle.commands.specs.FaultRefusals.{fault_refusal};
 
 use super::source_refusal::{name_of_stem_why, name_of_table_why, record_refusal, rules_refusal};
 use super::status::AnyFault;
 use annotation::NoteWhy;
 use joiner::{ChainFault, ChainWhy};
-use lexicon_file::FileWhy;
+use lexicon_file::{FileFault, FileWhy};
+use more_schemes::ConvertFault;
 use phoneme::Memory;
 use std::alloc::Global;
 use text_line::TextFault;
@@ -53,8 +58,50 @@ fn name_of_note_why(why: NoteWhy) -> &'static str
     }
 }
 
-/// `bad file NAME: Large`, `bad file NAME line N: WHY` of a lexicon file, and so on of the source files; `bad file NAME line N:
-/// spelling AT` of a text; `bad file NAME: WHY` of a note.
+/// ` line N: WHY`, what is said of a lexicon file.
+fn lexicon_refusal(alloc: Global, fault: FileFault) -> Result<String, Memory>
+    ensures ok { IfOk result (λ text. string_bytes text ≡ fault_refusal (ends.Lexicon (files.fault_of fault))) }
+{
+    let line = fault.line;
+    let why = name_of(fault.why);
+    Ok(format!(in alloc; " line {line}: {why}")?)
+}
+
+/// ` line N: spelling AT`, what is said of a text.
+fn spelling_refusal(alloc: Global, fault: ConvertFault) -> Result<String, Memory>
+    ensures ok { IfOk result (λ text. string_bytes text ≡ fault_refusal (ends.Spelling (conversion_fault fault))) }
+{
+    let line = fault.line;
+    let at = fault.fault.place();
+    Ok(format!(in alloc; " line {line}: spelling {at}")?)
+}
+
+/// `: WHY`, what is said of a note.
+fn note_refusal(alloc: Global, why: NoteWhy) -> Result<String, Memory>
+    ensures ok { IfOk result (λ text. string_bytes text ≡ fault_refusal (ends.Note (notes.why_of why))) }
+{
+    let why = name_of_note_why(why);
+    Ok(format!(in alloc; ": {why}")?)
+}
+
+/// What a refusal says after the name of a file.
+fn fault_refusal(alloc: Global, fault: AnyFault) -> Result<String, Memory>
+    ensures ok { IfOk result (λ text. string_bytes text ≡ fault_refusal (file_fault fault)) }
+{
+    match fault {
+        AnyFault::Large => Ok(String::from_str(alloc, ": Large")?),
+        AnyFault::Lexicon(fault) => lexicon_refusal(alloc, fault),
+        AnyFault::Rules(fault) => rules_refusal(alloc, fault),
+        AnyFault::Tables(fault) => {
+            record_refusal(alloc, fault.number, name_of_table_why(fault.why))
+        }
+        AnyFault::Stems(fault) => record_refusal(alloc, fault.number, name_of_stem_why(fault.why)),
+        AnyFault::Spelling(fault) => spelling_refusal(alloc, fault),
+        AnyFault::Note(why) => note_refusal(alloc, why),
+    }
+}
+
+/// `bad file NAME`, and what is said of its fault.
 pub(crate) fn print_file_refusal(
     alloc: Global,
     name: &str,
@@ -62,35 +109,8 @@ pub(crate) fn print_file_refusal(
 ) -> Result<String, Memory>
     ensures ok { IfOk result (λ text. string_bytes text ≡ file_refusal name.now (file_fault fault)) }
 {
-    match fault {
-        AnyFault::Large => Ok(format!(in alloc; "bad file {name}: Large\n")?),
-        AnyFault::Lexicon(fault) => {
-            let why = name_of(fault.why);
-            let line = fault.line;
-            Ok(format!(in alloc; "bad file {name} line {line}: {why}\n")?)
-        }
-        AnyFault::Rules(fault) => {
-            let rest = rules_refusal(alloc, fault)?;
-            Ok(format!(in alloc; "bad file {name}{rest}\n")?)
-        }
-        AnyFault::Tables(fault) => {
-            let rest = record_refusal(alloc, fault.number, name_of_table_why(fault.why))?;
-            Ok(format!(in alloc; "bad file {name}{rest}\n")?)
-        }
-        AnyFault::Stems(fault) => {
-            let rest = record_refusal(alloc, fault.number, name_of_stem_why(fault.why))?;
-            Ok(format!(in alloc; "bad file {name}{rest}\n")?)
-        }
-        AnyFault::Spelling(fault) => {
-            let line = fault.line;
-            let at = fault.fault.place();
-            Ok(format!(in alloc; "bad file {name} line {line}: spelling {at}\n")?)
-        }
-        AnyFault::Note(why) => {
-            let why = name_of_note_why(why);
-            Ok(format!(in alloc; "bad file {name}: {why}\n")?)
-        }
-    }
+    let rest = fault_refusal(alloc, fault)?;
+    Ok(format!(in alloc; "bad file {name}{rest}\n")?)
 }
 
 /// `bad text spelling AT`, `bad text no letters` or `bad text too long`.

@@ -11,7 +11,7 @@ ghost use Rattle.commands.specs.SourceErrors.{IsSourceError};
 
 use super::any_error::AnyError;
 use super::ending::{finish, refuse_file};
-use super::read::read_lexicon;
+use super::opening::open_lexicon;
 use super::reading::read_file;
 use super::status::{AnyFault, Status};
 use annotated_trie::Lexicon;
@@ -80,13 +80,8 @@ pub(crate) fn run_reread<H: Shelf, O: Sink>(
         (devices (H.files shelf.old) (H.failed_reads shelf.old) (H.failed_writes shelf.old) (O.written out.old) (O.faults out.old))
         (devices (H.files shelf.new) (H.failed_reads shelf.new) (H.failed_writes shelf.new) (O.written out.new) (O.faults out.new)) }
 {
-    let bytes = match read_file(alloc, &words.lex, shelf) {
-        Ok(bytes) => bytes,
-        Err(status) => return status,
-    };
-    match read_lexicon(alloc, bytes.as_slice()) {
+    match open_lexicon(alloc, &words.lex, shelf, out) {
         Ok(lexicon) => reread_over(alloc, &lexicon, &words.file, shelf, out),
-        Err(AnyError::Fault(fault)) => refuse_file(alloc, &words.lex, fault, out),
-        Err(AnyError::Memory) => Status::Memory,
+        Err(status) => status,
     }
 }

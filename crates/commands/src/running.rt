@@ -36,15 +36,21 @@ use phoneme::Memory;
 use std::alloc::Global;
 use std::thread::Threads;
 
+/// What the workers of a command are given: the threads that they run in, and the gate that each of them passes.
+#[derive(Drop)]
+struct Workers<'a, R, G> {
+    rt: &'a R,
+    gate: &'a G,
+}
+
 /// Does what the command says.
 fn run_command<R: Threads + Sync, H: Shelf, I: Source, O: Sink, G: Gate + Sync>(
-    rt: &R,
+    workers: &Workers<'_, R, G>,
     alloc: Global,
     command: &Command<'_>,
     shelf: &mut H,
     input: &mut I,
     out: &mut O,
-    gate: &G,
 ) -> Status
     ensures ran { RanCommand (command_meant command.now) (input.new ≡ input.old) result
         (devices (H.files shelf.old) (H.failed_reads shelf.old) (H.failed_writes shelf.old) (O.written out.old) (O.faults out.old))
@@ -54,6 +60,8 @@ fn run_command<R: Threads + Sync, H: Shelf, I: Source, O: Sink, G: Gate + Sync>(
         → shelf.new ≡ shelf.old }
     ensures failed_reads { files_of (command_meant command.now) ≡ [] → H.failed_reads shelf.new ≡ H.failed_reads shelf.old }
 {
+    let rt = workers.rt;
+    let gate = workers.gate;
     match command {
         Command::Segment { lex, scheme, text } => {
             run_segment(alloc, lex, *scheme, text.name, shelf, out)
@@ -155,7 +163,10 @@ pub fn run<R: Threads + Sync, H: Shelf, I: Source, O: Sink, G: Gate + Sync>(
         → (input.new ≡ input.old) ⊎ ((lexicon : Lexicon) × DoesTell files lex.name (Holds lexicon)) }
 {
     match command_of(alloc, words.as_slice()) {
-        Ok(Some(command)) => run_command(rt, alloc, &command, shelf, input, out, gate),
+        Ok(Some(command)) => {
+            let workers = Workers { rt, gate };
+            run_command(&workers, alloc, &command, shelf, input, out)
+        }
         Ok(None) => finish(out, b"usage\n", Status::Usage),
         Err(Memory) => Status::Memory,
     }

@@ -8,31 +8,17 @@ ghost use Rattle.commands.specs.RunEnds.{devices, Ran};
 ghost use Rattle.commands.specs.Sources.{AreReadRules, AreReadTables, IsBuilt};
 
 use super::any_error::AnyError;
-use super::build::{Built, build, read_rule_file, read_stem_file, read_table_file};
+use super::build::{
+    Built, ReadSources, ReadTables, build, read_rule_file, read_stem_file, read_table_file,
+};
 use super::ending::{finish, refuse_file};
 use super::reading::read_file;
 use super::status::Status;
 use command_words::BuildWords;
 use outside::{Shelf, Sink, WriteError};
-use paradigms::{Stems, Tables};
 use rule_file::RuleFile;
 use std::alloc::Global;
 use std::thread::Threads;
-
-/// What was read of a rule file and of a table file.
-#[derive(Drop)]
-struct ReadTables {
-    file: RuleFile,
-    tables: Tables,
-}
-
-/// What was read of all three source files.
-#[derive(Drop)]
-struct ReadSources {
-    file: RuleFile,
-    tables: Tables,
-    stems: Stems,
-}
 
 /// `build RULES TABLES STEMS OUT`: reads and checks each source file before the next is read, inflects all stems, writes the
 /// lexicon file, and only then the number of its forms.
@@ -101,18 +87,13 @@ fn build_with_tables<H: Shelf, O: Sink>(
         (devices (H.files shelf.old) (H.failed_reads shelf.old) (H.failed_writes shelf.old) (O.written sink.old) (O.faults sink.old))
         (devices (H.files shelf.new) (H.failed_reads shelf.new) (H.failed_writes shelf.new) (O.written sink.new) (O.faults sink.new)) }
 {
-    let ReadTables { file, tables } = read;
     let bytes = match read_file(alloc, &words.stems, shelf) {
         Ok(bytes) => bytes,
         Err(status) => return status,
     };
-    match read_stem_file(alloc, &tables, bytes.as_slice()) {
+    match read_stem_file(alloc, &read.tables, bytes.as_slice()) {
         Ok(stems) => {
-            let sources = ReadSources {
-                file,
-                tables,
-                stems,
-            };
+            let sources = ReadSources { read, stems };
             build_with_stems(rt, alloc, words, sources, shelf, sink)
         }
         Err(AnyError::Fault(fault)) => refuse_file(alloc, &words.stems, fault, sink),
@@ -129,17 +110,12 @@ fn build_with_stems<H: Shelf, O: Sink>(
     shelf: &mut H,
     sink: &mut O,
 ) -> Status
-    requires sources { AreSources sources.file.rules sources.tables sources.stems }
-    ensures { Ran (IsLexiconOutcome sources.file.rules sources.tables sources.stems (word_meant words.now.stems) (word_meant words.now.out)) ([]) (Some (word_meant words.now.out)) result
+    requires sources { AreSources sources.read.file.rules sources.read.tables sources.stems }
+    ensures { Ran (IsLexiconOutcome sources.read.file.rules sources.read.tables sources.stems (word_meant words.now.stems) (word_meant words.now.out)) ([]) (Some (word_meant words.now.out)) result
         (devices (H.files shelf.old) (H.failed_reads shelf.old) (H.failed_writes shelf.old) (O.written sink.old) (O.faults sink.old))
         (devices (H.files shelf.new) (H.failed_reads shelf.new) (H.failed_writes shelf.new) (O.written sink.new) (O.faults sink.new)) }
 {
-    let ReadSources {
-        file,
-        tables,
-        stems,
-    } = sources;
-    match build(rt, alloc, file, &tables, &stems) {
+    match build(rt, alloc, sources) {
         Ok(built) => write_built(words, &built, shelf, sink),
         Err(AnyError::Fault(fault)) => refuse_file(alloc, &words.stems, fault, sink),
         Err(AnyError::Memory) => Status::Memory,

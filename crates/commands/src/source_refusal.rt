@@ -1,4 +1,6 @@
-ghost use Rattle.std.specs.Prelude.{◌≡◌, IfOk, string_bytes};
+ghost use Rattle.std.specs.Prelude.{◌≡◌, ◌++◌, codes, IfOk, string_bytes};
+ghost use Rattle.std.specs.Fmt.{decimal};
+ghost use Rattle.rule_file_definitions.specs.RuleFileFaults as rule_files;
 ghost use Rattle.rule_file.specs.Faults as rules;
 ghost use Rattle.paradigms.specs.Answers.{table_why, stem_why};
 ghost use Rattle.run_definitions.specs.Refusals as defined;
@@ -52,6 +54,21 @@ pub(crate) fn name_of_stem_why(why: StemWhy) -> &'static str
     }
 }
 
+/// ` rule N: WHY`.
+fn rule_refusal(alloc: Global, number: u32, why: RuleWhy) -> Result<String, Memory>
+    ensures ok { IfOk result (λ text. string_bytes text ≡ defined.rules_refusal (rule_files.Rule number (rules.why_of why))) }
+{
+    let why = name_of_entry_why(why);
+    Ok(format!(in alloc; " rule {number}: {why}")?)
+}
+
+/// ` KIND N`, where only the number of an entry is said.
+fn entry_refusal(alloc: Global, kind: &str, number: u32) -> Result<String, Memory>
+    ensures ok { IfOk result (λ text. string_bytes text ≡ codes " " ++ kind.now ++ codes " " ++ decimal number) }
+{
+    Ok(format!(in alloc; " {kind} {number}")?)
+}
+
 /// What a refusal says after the name of a rule file.
 pub(crate) fn rules_refusal(alloc: Global, fault: RuleFault) -> Result<String, Memory>
     ensures ok { IfOk result (λ text. string_bytes text ≡ defined.rules_refusal (rules.fault_of fault)) }
@@ -59,13 +76,10 @@ pub(crate) fn rules_refusal(alloc: Global, fault: RuleFault) -> Result<String, M
     match fault {
         RuleFault::Toml => Ok(String::from_str(alloc, ": Toml")?),
         RuleFault::Shape => Ok(String::from_str(alloc, ": Shape")?),
-        RuleFault::Phase(number) => Ok(format!(in alloc; " phase {number}")?),
-        RuleFault::Class(number) => Ok(format!(in alloc; " class {number}")?),
-        RuleFault::Plain(number) => Ok(format!(in alloc; " plain {number}")?),
-        RuleFault::Rule(number, why) => {
-            let why = name_of_entry_why(why);
-            Ok(format!(in alloc; " rule {number}: {why}")?)
-        }
+        RuleFault::Phase(number) => entry_refusal(alloc, "phase", number),
+        RuleFault::Class(number) => entry_refusal(alloc, "class", number),
+        RuleFault::Plain(number) => entry_refusal(alloc, "plain", number),
+        RuleFault::Rule(number, why) => rule_refusal(alloc, number, why),
         RuleFault::Grammar(_) => Ok(String::from_str(alloc, ": Grammar")?),
     }
 }

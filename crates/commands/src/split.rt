@@ -3,13 +3,10 @@ ghost use Rattle.run_definitions.specs.SplitOutcomes.{IsSplitOutcome};
 ghost use Rattle.command_words.specs.Meant.{word_meant};
 ghost use Rattle.commands.specs.Ends.{Wrote};
 ghost use Rattle.commands.specs.RunEnds.{devices, Ran};
-ghost use Rattle.commands.specs.OverLexicons.{WritesOver};
 ghost use Rattle.commands.specs.Splits.{text_lines, IsPrintedSplit, WritesSplit};
 
-use super::any_error::AnyError;
-use super::ending::{finish, refuse_file, refuse_text};
-use super::read::read_lexicon;
-use super::reading::read_file;
+use super::ending::{finish, refuse_text};
+use super::opening::open_lexicon;
 use super::status::Status;
 use annotated_trie::Lexicon;
 use answer_printing::rest_line;
@@ -66,7 +63,7 @@ fn print_split<R: Threads + Sync, G: Gate + Sync>(
 }
 
 /// Writes the page of the text's line, or refuses the text.
-fn write_split_page<R: Threads + Sync, O: Sink, G: Gate + Sync>(
+fn write_split<R: Threads + Sync, O: Sink, G: Gate + Sync>(
     rt: &R,
     alloc: Global,
     lexicon: &Lexicon,
@@ -89,24 +86,6 @@ fn write_split_page<R: Threads + Sync, O: Sink, G: Gate + Sync>(
     }
 }
 
-/// Goes on to the text with the lexicon of the bytes, or refuses the file.
-fn write_split<R: Threads + Sync, O: Sink, G: Gate + Sync>(
-    rt: &R,
-    alloc: Global,
-    words: &SplitWords<'_>,
-    bytes: &[u8],
-    out: &mut O,
-    gate: &G,
-) -> Status
-    ensures { Wrote (WritesOver (WritesSplit words.now.text.name.now words.now.count) (word_meant words.now.lex) bytes.now) result (O.written out.old) (O.written out.new) (O.faults out.old) (O.faults out.new) }
-{
-    match read_lexicon(alloc, bytes) {
-        Ok(lexicon) => write_split_page(rt, alloc, &lexicon, words, out, gate),
-        Err(AnyError::Fault(fault)) => refuse_file(alloc, &words.lex, fault, out),
-        Err(AnyError::Memory) => Status::Memory,
-    }
-}
-
 /// `split LEX TEXT N DEPTH`: reads the lexicon and the text, and writes one page of the answers, whose parts are listed side by side.
 pub(crate) fn run_split<R: Threads + Sync, H: Shelf, O: Sink, G: Gate + Sync>(
     rt: &R,
@@ -120,8 +99,8 @@ pub(crate) fn run_split<R: Threads + Sync, H: Shelf, O: Sink, G: Gate + Sync>(
         (devices (H.files shelf.old) (H.failed_reads shelf.old) (H.failed_writes shelf.old) (O.written out.old) (O.faults out.old))
         (devices (H.files shelf.new) (H.failed_reads shelf.new) (H.failed_writes shelf.new) (O.written out.new) (O.faults out.new)) }
 {
-    match read_file(alloc, &words.lex, shelf) {
-        Ok(bytes) => write_split(rt, alloc, words, bytes.as_slice(), out, gate),
+    match open_lexicon(alloc, &words.lex, shelf, out) {
+        Ok(lexicon) => write_split(rt, alloc, &lexicon, words, out, gate),
         Err(status) => status,
     }
 }

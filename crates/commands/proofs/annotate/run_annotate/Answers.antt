@@ -1,53 +1,28 @@
--- The lexicon file is not read, or is refused, or it goes on with the bookmark.
-use Rattle.std.proofs.Common.{List, ℕ, [], refl, subst}
-use Rattle.list_laws.proofs.Sorted.{Contains-first, Contains-later}
+-- It goes on with the bookmark over the lexicon, or ends without one.
+use Rattle.std.proofs.Common.{[]}
+use Rattle.std.specs.Prelude.{Some}
+use Rattle.list_laws.proofs.Sorted.{Contains-later}
 use Rattle.command_words.specs.Meant.{word_meant}
 use Rattle.run_definitions.specs.AnnotateOutcomes.{IsMarkOutcome, IsAnnotateOutcome}
-use Rattle.commands.specs.declared.status.Status.TheVariants.{BadFile}
-use Rattle.commands.specs.SegmentErrors.{IsFileError}
-use Rattle.commands.specs.Segments.{IsRefusedFile}
-use Rattle.commands.specs.Sessions.{IsLexiconFile}
-use Rattle.commands.proofs.Runs.{unread, refused, goes_on, same_devices}
-use Rattle.commands.proofs.BuildRuns.{not_usage}
-use Rattle.commands.proofs.OverLexiconRuns.{lexicon_refused}
-use Rattle.commands.proofs.SessionRuns.{told_lexicon}
-use Rattle.commands.proofs.AnnotateRuns.{annotate_missing, annotate_refused, annotate_goes_on}
+use Rattle.commands.specs.Openings.{IsUnopened}
+use Rattle.commands.proofs.Runs.{embedded, goes_on}
+use Rattle.commands.proofs.AnnotateRuns.{annotate_unopened, annotate_goes_on}
 use Rattle.commands.proofs.annotate.run_annotate.Goals as goal
+
+pub returns-in-Ok : goal.returns-in-Ok
+returns-in-Ok g c =
+    let lex = word_meant c.args.words.now.lex in
+    let mark = c.args.words.now.mark.name.now in
+    let out = word_meant c.args.words.now.out in
+    let lexicon = c.in-Ok.lexicon.lexicon in
+    let opened = c.in-Ok.ensures.opened in
+    goes_on (IsMarkOutcome lexicon mark out) (IsAnnotateOutcome lex mark out) [] _ _ _ _ _ (annotate_goes_on lex mark out lexicon _ opened.holds)
+    (λ word m. Contains-later lex [] word m) _ opened.same c.annotate_over.ensures
 
 pub returns-in-Err : goal.returns-in-Err
 returns-in-Err g c =
     let lex = word_meant c.args.words.now.lex in
     let mark = c.args.words.now.mark.name.now in
     let out = word_meant c.args.words.now.out in
-    unread (IsAnnotateOutcome lex mark out) _ _ _ _ _ lex (Contains-first lex []) (annotate_missing lex mark out)
-    (record { files = c.read_file.ensures.files; failed_writes = c.read_file.ensures.writes; written = refl }) c.in-Err.ensures.unread
-
-pub returns-in-Ok-read_lexicon : goal.returns-in-Ok-read_lexicon
-returns-in-Ok-read_lexicon g c =
-    let lex = word_meant c.args.words.now.lex in
-    let mark = c.args.words.now.mark.name.now in
-    let out = word_meant c.args.words.now.out in
-    let bytes = c.in-Ok.bytes.items in
-    let lexicon = c.in-Ok-read_lexicon.lexicon.lexicon in
-    let is : IsLexiconFile bytes lexicon = subst (λ (b : List ℕ). IsLexiconFile b lexicon) c.as_slice.ensures.value c.in-Ok-read_lexicon.ensures.ok in
-    let same = same_devices _ _ _ _ _ _ _ _ c.read_file.ensures.files c.in-Ok.ensures.reads c.read_file.ensures.writes in
-    goes_on (IsMarkOutcome lexicon mark out) (IsAnnotateOutcome lex mark out) [] _ _ _ _ _
-    (annotate_goes_on lex mark out lexicon _ (told_lexicon lex bytes _ lexicon c.in-Ok.ensures.ok is)) (λ word m. Contains-later lex [] word m) _
-    same c.annotate_over.ensures
-
-pub returns-in-Err-Fault : goal.returns-in-Err-Fault
-returns-in-Err-Fault g c =
-    let lex = word_meant c.args.words.now.lex in
-    let mark = c.args.words.now.mark.name.now in
-    let out = word_meant c.args.words.now.out in
-    let bytes = c.in-Ok.bytes.items in
-    let fault = c.in-Err-Fault.fault in
-    refused (IsAnnotateOutcome lex mark out) _ _ _ _ _ (BadFile lex.place fault) _ (not_usage lex.place fault)
-    c.read_file.ensures.files c.read_file.ensures.writes
-    (λ told e. lexicon_refused (IsAnnotateOutcome lex mark out) lex (annotate_refused lex mark out) bytes _ c.in-Ok.ensures.ok told e _ _ (record {
-      fault = fault;
-      ends = refl;
-      refused = subst (λ (b : List ℕ). IsRefusedFile b fault) c.as_slice.ensures.value (subst (IsFileError c.as_slice.result.now) c.in-Err-Fault.field-0-is c.in-Err-Fault.ensures.refused);
-      printed = refl;
-    }))
-    c.refuse_file.ensures
+    embedded (IsUnopened lex) (IsAnnotateOutcome lex mark out) _ _ _ _ _ _ (λ told e outcome is. annotate_unopened lex mark out told outcome is)
+    (λ word m. m) (c.in-Err.ensures.ended (Some out))

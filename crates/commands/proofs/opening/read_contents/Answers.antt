@@ -1,6 +1,6 @@
 -- What is read can be built.
 use Rattle.commands.proofs.SearchedLexicons.{can_be_built}
-use Rattle.commands.proofs.segment.read_contents.Goals as goal
+use Rattle.commands.proofs.opening.read_contents.Goals as goal
 
 pub returns-clause-buildable : goal.returns-clause-buildable
 returns-clause-buildable c =
