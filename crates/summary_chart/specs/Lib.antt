@@ -7,3 +7,4 @@ pub mod Summaries
 pub mod PlaceWays
 pub mod Effects
 pub mod Memos
+pub mod Sites

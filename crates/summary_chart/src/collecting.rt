@@ -17,6 +17,7 @@ ghost use Rattle.summary_chart.specs.Summaries.{item_with, made_of, AddsItems, H
 use super::collected::Collected;
 use super::gathering::{states_by_key, states_by_way};
 use super::items::item_of_step;
+use super::site::{Site, SiteAhead};
 use super::state_set::StateSet;
 use super::state_steps::states_after;
 use super::table::Table;
@@ -55,7 +56,13 @@ fn collect_way<L>(
     ensures steps { steps.new ≤ steps.old + 2 }
     ensures counted { steps.old ≤ steps.new }
 {
-    if states_by_way(lexicon, line, choices, place, states, way, table).is_empty() {
+    let site = Site {
+        lexicon,
+        line,
+        choices,
+        place,
+    };
+    if states_by_way(site, states, way, table).is_empty() {
         return Ok(());
     }
     put_item(alloc, lexicon, line, place, way.key, collected, steps)
@@ -164,7 +171,13 @@ fn collect_key<L>(
     ensures steps { steps.new ≤ steps.old + 2 }
     ensures counted { steps.old ≤ steps.new }
 {
-    if states_by_key(lexicon, line, choices, place, ahead, states, key, table).is_empty() {
+    let site = Site {
+        lexicon,
+        line,
+        choices,
+        place,
+    };
+    if states_by_key(SiteAhead { site, ahead }, states, key, table).is_empty() {
         return Ok(());
     }
     put_item(alloc, lexicon, line, place, key, collected, steps)
@@ -301,7 +314,13 @@ fn collect_phase<L>(
     ensures adds { OnOk result (AddsItems (IsItemInPhase lexicon.now line.now choices.now table.now place.now.at place.now.entrance states phase) collected.old.items.items collected.new.items.items) }
     ensures steps { (most : ℕ) → HasAtMostRules lexicon.now.tries most → steps.new ≤ steps.old + steps_of_fronts most }
 {
-    walk_fronts(lexicon, line, place, phase, ahead.limit, nodes, steps)?;
+    let site = Site {
+        lexicon,
+        line,
+        choices,
+        place,
+    };
+    walk_fronts(site, phase, ahead.limit, nodes, steps)?;
     for taken in 0..nodes.len() {
         collect_front(
             alloc,

@@ -13,6 +13,7 @@ ghost use Rattle.summary_chart.specs.Fronts.{IsFrontAt};
 ghost use Rattle.summary_chart.specs.PlaceWays.{HasEachKey};
 ghost use Rattle.summary_chart.specs.Effects.{AreEffects};
 ghost use Rattle.summary_chart.specs.Memos.{AreLiving, EndFrom, LivesBy};
+ghost use Rattle.summary_chart.specs.Sites.{IsSite, IsSiteAhead};
 ghost use Rattle.summary_chart.specs.StateSets.{HasState};
 ghost use Rattle.summary_chart.specs.Tables.{IsTable};
 ghost use Rattle.summary_chart.specs.Spreading.{AreGoingFurther, GathersMore, EveryKey, OnlyKey, IsByRule, IsAtFront, IsInPhase, leads_in};
@@ -20,6 +21,7 @@ ghost use Rattle.summary_chart.specs.Summaries.{steps_of_front, steps_of_fronts,
 
 use super::memo::{Memo, Work};
 use super::same_effect::Effects;
+use super::site::{Site, SiteAhead};
 use super::state_set::StateSet;
 use super::state_steps::{accepted_states, accepting_states, states_after, states_into};
 use super::table::Table;
@@ -35,27 +37,24 @@ use shared_trie::Node;
 /// The states of the set from which the key, which is possible at the place, ends the line or leads on to a place of the table. The
 /// place's own state is not looked at.
 pub(crate) fn states_by_key(
-    lexicon: &Lexicon,
-    line: &Line,
-    choices: &Choices,
-    place: &Configuration,
-    ahead: Ahead,
+    here: SiteAhead<'_>,
     states: StateSet,
     key: Key,
     table: &Table,
 ) -> StateSet
-    requires searched { IsSearchedLexicon lexicon.now }
-    requires line { IsLine line.now }
-    requires place { IsConfigurationIn lexicon.now line.now place.now }
-    requires ahead { IsAhead lexicon.now.lexicon.rules line.now place.now.at (numbered_of lexicon.now place.now).entrance ahead }
-    requires limit { place.now.at + key.taken ≤ ahead.limit }
-    requires begins { MayBegin (numbered_of lexicon.now place.now).entrance key.phase }
-    requires possible { IsPossible lexicon.now line.now (numbered_of lexicon.now place.now) (key_meant key) }
-    requires table { IsTable (leads_in lexicon.now) (length line.now.letters) table.now }
-    ensures { AreGoingFurther lexicon.now line.now choices.now table.now place.now.at place.now.entrance states (OnlyKey (key_meant key)) result }
+    requires here { IsSiteAhead here }
+    requires limit { here.site.place.now.at + key.taken ≤ here.ahead.limit }
+    requires begins { MayBegin (numbered_of here.site.lexicon.now here.site.place.now).entrance key.phase }
+    requires possible { IsPossible here.site.lexicon.now here.site.line.now (numbered_of here.site.lexicon.now here.site.place.now) (key_meant key) }
+    requires table { IsTable (leads_in here.site.lexicon.now) (length here.site.line.now.letters) table.now }
+    ensures { AreGoingFurther here.entry.site.lexicon.now here.entry.site.line.now here.entry.site.choices.now table.now here.entry.site.place.now.at here.entry.site.place.now.entrance states (OnlyKey (key_meant key)) result }
 {
-    let automaton = lexicon.automaton();
-    match ahead.test(lexicon, line, choices, place, key) {
+    let site = here.site;
+    let automaton = site.lexicon.automaton();
+    match here
+        .ahead
+        .test(site.lexicon, site.line, site.choices, site.place, key)
+    {
         LetterTest::Refused => StateSet::empty(),
         LetterTest::Ends => accepted_states(automaton, states, key.phase),
         LetterTest::LeadsOn { at, entrance } => {
@@ -87,7 +86,13 @@ fn gather_key(
     requires table { IsTable (leads_in lexicon.now) (length line.now.letters) table.now }
     ensures { GathersMore lexicon.now line.now choices.now table.now place.now.at place.now.entrance states (OnlyKey (key_meant key)) further result }
 {
-    further.union(states_by_key(lexicon, line, choices, place, ahead, states, key, table))
+    let site = Site {
+        lexicon,
+        line,
+        choices,
+        place,
+    };
+    further.union(states_by_key(SiteAhead { site, ahead }, states, key, table))
 }
 
 /// The same for the keys with these rules, each of which is possible after this front.
@@ -340,7 +345,13 @@ fn gather_phase<L>(
     ensures gathers { IfOk result (λ gathered. GathersMore lexicon.now line.now choices.now table.now place.now.at place.now.entrance states (IsInPhase phase) further gathered) }
     ensures steps { (most : ℕ) → HasAtMostRules lexicon.now.tries most → steps.new ≤ steps.old + steps_of_fronts most }
 {
-    walk_fronts(lexicon, line, place, phase, ahead.limit, nodes, steps)?;
+    let site = Site {
+        lexicon,
+        line,
+        choices,
+        place,
+    };
+    walk_fronts(site, phase, ahead.limit, nodes, steps)?;
     let mut gathered = further;
     for taken in 0..nodes.len() {
         gathered = gather_front(
@@ -406,22 +417,13 @@ pub(crate) fn gather<L>(
 }
 
 /// The states of the set from which the way ends the line or leads on to a place of the table. The place's own state is not looked at.
-pub(crate) fn states_by_way(
-    lexicon: &Lexicon,
-    line: &Line,
-    choices: &Choices,
-    place: &Configuration,
-    states: StateSet,
-    way: &Way,
-    table: &Table,
-) -> StateSet
-    requires searched { IsSearchedLexicon lexicon.now }
-    requires place { IsConfigurationIn lexicon.now line.now place.now }
-    requires way { IsWayFrom lexicon.now line.now choices.now (numbered_of lexicon.now place.now) way.now }
-    requires table { IsTable (leads_in lexicon.now) (length line.now.letters) table.now }
-    ensures { AreGoingFurther lexicon.now line.now choices.now table.now place.now.at place.now.entrance states (OnlyKey (key_of_way way.now)) result }
+pub(crate) fn states_by_way(site: Site<'_>, states: StateSet, way: &Way, table: &Table) -> StateSet
+    requires site { IsSite site }
+    requires way { IsWayFrom site.lexicon.now site.line.now site.choices.now (numbered_of site.lexicon.now site.place.now) way.now }
+    requires table { IsTable (leads_in site.lexicon.now) (length site.line.now.letters) table.now }
+    ensures { AreGoingFurther site.entry.lexicon.now site.entry.line.now site.entry.choices.now table.now site.entry.place.now.at site.entry.place.now.entrance states (OnlyKey (key_of_way way.now)) result }
 {
-    let automaton = lexicon.automaton();
+    let automaton = site.lexicon.automaton();
     match way.test {
         LetterTest::Refused => StateSet::empty(),
         LetterTest::Ends => accepted_states(automaton, states, way.key.phase),
@@ -455,7 +457,13 @@ pub(crate) fn gather_ways<L>(
     let mut further = StateSet::empty();
     for way in ways {
         steps.tick();
-        further = further.union(states_by_way(lexicon, line, choices, place, states, way, table));
+        let site = Site {
+            lexicon,
+            line,
+            choices,
+            place,
+        };
+        further = further.union(states_by_way(site, states, way, table));
     }
     further
 }

@@ -30,6 +30,7 @@ mod place_ways;
 mod same_effect;
 mod same_u;
 mod sharing;
+mod site;
 mod spreading;
 mod state_set;
 mod state_steps;

@@ -15,6 +15,7 @@ ghost use Rattle.summary_chart.specs.PlaceWays.{AppendsWays};
 ghost use Rattle.summary_chart.specs.Spreading.{IsLedByPhase, OnlyKey, IsByRule, IsAtFront, IsInPhase};
 ghost use Rattle.summary_chart.specs.Summaries.{steps_of_front, steps_of_fronts, steps_of_items};
 
+use super::site::Site;
 use super::state_set::StateSet;
 use super::state_steps::states_after;
 use super::walking::walk_fronts;
@@ -167,7 +168,13 @@ fn push_phase<L>(
     ensures many { IfOk result (λ all. OnFalse all (first + MOST_WAYS < length ways.new.items)) }
     ensures steps { (most : ℕ) → HasAtMostRules lexicon.now.tries most → steps.new ≤ steps.old + steps_of_fronts most }
 {
-    walk_fronts(lexicon, line, place, phase, ahead.limit, nodes, steps)?;
+    let site = Site {
+        lexicon,
+        line,
+        choices,
+        place,
+    };
+    walk_fronts(site, phase, ahead.limit, nodes, steps)?;
     for taken in (0..nodes.len()).rev() {
         push_front(
             lexicon,

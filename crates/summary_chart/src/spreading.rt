@@ -20,6 +20,7 @@ ghost use Rattle.summary_chart.specs.Summaries.{steps_of_front, steps_of_fronts,
 
 use super::memo::{Memo, Work};
 use super::same_effect::Effects;
+use super::site::Site;
 use super::state_set::StateSet;
 use super::state_steps::states_after;
 use super::table::Table;
@@ -360,7 +361,13 @@ fn spread_phase<L>(
     ensures spreads { OnOk result (Spreads lexicon.now line.now choices.now place.now.at place.now.entrance states (IsInPhase phase) table.old table.new) }
     ensures steps { (most : ℕ) → HasAtMostRules lexicon.now.tries most → steps.new ≤ steps.old + steps_of_fronts most }
 {
-    walk_fronts(lexicon, line, place, phase, ahead.limit, nodes, steps)?;
+    let site = Site {
+        lexicon,
+        line,
+        choices,
+        place,
+    };
+    walk_fronts(site, phase, ahead.limit, nodes, steps)?;
     for taken in 0..nodes.len() {
         spread_front(
             lexicon,

@@ -1,15 +1,15 @@
 ghost use Rattle.std.specs.Prelude.{◌≡◌, ◌+◌, ◌<◌, ◌≤◌, ℕ, List, length, take, drop, MatchOption, IfSome, IsSome, OnOk, [], Some, None};
 ghost use Rattle.lexicon_definitions.specs.Tries.{walk};
 ghost use Rattle.lexicon_definitions.specs.declared.limits.TheConstants.{MOST_RULE_LETTERS};
-ghost use Rattle.annotated_trie.specs.Searched.{IsSearchedLexicon};
-ghost use Rattle.search_frames.specs.Frames.{IsConfigurationIn, numbered_of};
+ghost use Rattle.search_frames.specs.Frames.{numbered_of};
 ghost use Rattle.search_frames.specs.declared.frame.TheConstants.{NODES_OF_FRAME};
 ghost use Rattle.summary_chart.specs.Fronts.{AreFronts, AreWalkedFrom};
+ghost use Rattle.summary_chart.specs.Sites.{IsSite};
 
-use annotated_trie::Lexicon;
+use super::site::Site;
 use outside::Steps;
-use phoneme::{Letter, Line, Memory};
-use search_frames::{Configuration, supplied_letters};
+use phoneme::{Letter, Memory};
+use search_frames::supplied_letters;
 use shared_trie::{Node, Store};
 
 /// Where the word leads from the node. Takes at most a step for each letter.
@@ -58,28 +58,26 @@ fn walk_letters<L>(
 /// on.
 /// Refused only for want of memory.
 pub(crate) fn walk_fronts<L>(
-    lexicon: &Lexicon,
-    line: &Line,
-    place: &Configuration,
+    site: Site<'_>,
     phase: u32,
     limit: u32,
     nodes: &mut Vec<Node>,
     steps: &mut Steps<L>,
 ) -> Result<(), Memory>
-    requires searched { IsSearchedLexicon lexicon.now }
-    requires place { IsConfigurationIn lexicon.now line.now place.now }
-    requires phase { phase < length lexicon.now.lexicon.rules.names }
-    requires low { place.now.at ≤ limit }
-    requires within { limit ≤ length line.now.letters }
-    ensures fronts { OnOk result (AreFronts lexicon.now line.now (numbered_of lexicon.now place.now) phase limit nodes.new.items) }
+    requires site { IsSite site }
+    requires phase { phase < length site.lexicon.now.lexicon.rules.names }
+    requires low { site.place.now.at ≤ limit }
+    requires within { limit ≤ length site.line.now.letters }
+    ensures fronts { OnOk result (AreFronts site.entry.lexicon.now site.entry.line.now (numbered_of site.entry.lexicon.now site.entry.place.now) phase limit nodes.new.items) }
     ensures steps { steps.new ≤ steps.old + MOST_RULE_LETTERS + NODES_OF_FRAME }
 {
     nodes.clear();
+    let lexicon = site.lexicon;
     let store = lexicon.tries().store();
-    let lead = supplied_letters(lexicon.rules(), place.entrance);
+    let lead = supplied_letters(lexicon.rules(), site.place.entrance);
     let Some(entered) = walk_word(store, store.root(phase), lead, steps) else {
         return Ok(());
     };
-    let letters = &line.letters.as_slice()[place.at as usize..limit as usize];
+    let letters = &site.line.letters.as_slice()[site.place.at as usize..limit as usize];
     walk_letters(store, entered, letters, nodes, steps)
 }

@@ -1,0 +1,47 @@
+ghost use Rattle.std.specs.Prelude.{◌≡◌};
+ghost use Rattle.summary_chart.specs.Sites.{IsSite, IsSiteAhead};
+
+use annotated_trie::Lexicon;
+use phoneme::Line;
+use reader_choices::Choices;
+use search_frames::{Ahead, Configuration};
+use shared_trie::Node;
+
+/// A place of a line, over a lexicon and under a reader's choices.
+#[derive(Clone, Copy)]
+pub(crate) struct Site<'a> {
+    pub lexicon: &'a Lexicon,
+    pub line: &'a Line,
+    pub choices: &'a Choices,
+    pub place: &'a Configuration,
+}
+
+/// A site, and what the line tells of every form that begins there.
+#[derive(Clone, Copy)]
+pub(crate) struct SiteAhead<'a> {
+    pub site: Site<'a>,
+    pub ahead: Ahead,
+}
+
+/// The node to which the letters that the rule before supplies, and then `taken` letters of the line, lead in the trie of the phase, which
+/// is counted from 0.
+#[derive(Clone, Copy)]
+pub(crate) struct Front {
+    pub phase: u32,
+    pub taken: u32,
+    pub node: Node,
+}
+
+impl<'a> SiteAhead<'a> {
+    /// The site, with what the line tells there.
+    pub(crate) fn of(site: Site<'a>) -> SiteAhead<'a>
+        requires { IsSite site }
+        ensures site { result.site ≡ site.entry }
+        ensures ahead { IsSiteAhead result }
+    {
+        SiteAhead {
+            site,
+            ahead: Ahead::of(site.lexicon.rules(), site.line, site.place),
+        }
+    }
+}
