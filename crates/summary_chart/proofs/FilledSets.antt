@@ -1,11 +1,11 @@
 -- Sets that are empty since their bits are not set: from an index up to the next bit of its word, and from the last bit before an index;
 -- and a set and its bit that are put.
-use Rattle.std.proofs.Common.{◌≡◌, ◌≢◌, ℕ, ◌+◌, ◌-◌, ◌*◌, ◌/◌, ◌%◌, ◌^◌, ◌<◌, ◌≤◌, inl, inr, List, length, slice_index_or, slice_set, bit_or, sym, ap, subst, ◌∙◌, arith}
-use Rattle.std.specs.Int.{IsBitSet, bit_at, trailing_zeros, leading_zeros, w64}
+use Rattle.std.proofs.Common.{◌≡◌, ◌≢◌, ℕ, ◌+◌, ◌-◌, ◌*◌, ◌/◌, ◌%◌, ◌^◌, ◌<◌, ◌≤◌, inl, inr, List, length, slice_index_or, slice_set, bit_and, bit_or, sym, ap, subst, ◌∙◌, arith}
+use Rattle.std.specs.Int.{IsBitSet, bit_at, bit_not, trailing_zeros, leading_zeros, w64}
 use Rattle.std.proofs.Math.Nat.{div-le_self}
 use Rattle.std.proofs.lemmas.Bool.{cases_eq, cases_lt}
 use Rattle.std.proofs.lemmas.List.{length-set, get_or-set_same, get_or-set_other}
-use Rattle.std.proofs.lemmas.Nat.Bits.{bit_at-zero, bit_at_above, bit_at-trailing_zeros, bit_at_set_same, bit_at_set_other}
+use Rattle.std.proofs.lemmas.Nat.Bits.{bit_at-zero, bit_at_above, bit_at-trailing_zeros, bit_at_set_same, bit_at_set_other, bit_at_clear_other}
 use Rattle.summary_chart.specs.declared.state_set.StateSet.{StateSet}
 use Rattle.summary_chart.specs.StateSets.{HasState}
 use Rattle.summary_chart.specs.Tables.{HaveBits, AreEmptyBetween}
@@ -177,3 +177,12 @@ bit_set sets filled index word states have below word_is =
     with_word sets filled index word (bit_or word (1 * 2 ^ (index % 64) % 2 ^ 64)) states have below word_is
     (λ number has. bit_at_set_same w64 word (index % 64) (omega arith))
     (λ place low apart. bit_at_set_other w64 word (index % 64) (omega arith) place apart)
+
+-- a set without states is put at an index, and its bit is taken away
+pub bit_cleared : (sets : List StateSet) (filled : List ℕ) (index word : ℕ) (states : StateSet) → HaveBits sets filled → index < length sets
+    → word ≡ slice_index_or filled (index / 64) 0 → ((number : ℕ) → HasState states number → ⊥)
+    → HaveBits (slice_set sets index states) (slice_set filled (index / 64) (bit_and word (bit_not w64 (1 * 2 ^ (index % 64) % 2 ^ 64))))
+bit_cleared sets filled index word states have below word_is none =
+    with_word sets filled index word (bit_and word (bit_not w64 (1 * 2 ^ (index % 64) % 2 ^ 64))) states have below word_is
+    (λ number has. absurd (none number has))
+    (λ place low apart. bit_at_clear_other w64 word (index % 64) (omega arith) place low apart)

@@ -1,5 +1,5 @@
 -- What keys of a place do to a table by which they lead on, and to the states that go further by them (`VisitedKeys`).
-use Rattle.std.proofs.Common.{◌≡◌, ◌⊎◌, ℕ, inl, inr, IsSome, Option, Some, None, List, refl, subst}
+use Rattle.std.proofs.Common.{◌≡◌, ◌↔◌, ◌⊎◌, ℕ, inl, inr, IsSome, Option, Some, None, List, refl, subst}
 use Rattle.std.specs.Prelude.{IsTrue}
 use Rattle.text_definitions.specs.Lines.{Line}
 use Rattle.segmentation_definitions.specs.Items.{Choice}
@@ -114,13 +114,62 @@ module _ (searched : SearchedLexicon) (line : Line) (choices : List Choice) (pla
       leads = λ key does. further_leads key does.0 does.1 does.2;
     }
 
-    -- those that were put to no state are all that go further
-    pub all_further : (empty gathered : StateSet) → ((number : ℕ) → HasState empty number → ⊥)
-        → GathersMore searched line choices table place.at place.entrance set EveryKey empty gathered
-        → AreGoingFurther searched line choices table place.at place.entrance set EveryKey gathered
-    all_further empty gathered none gathers number = (
+    -- those that were put to no state are all that go further by the keys
+    pub all_further : (IsTold : Key → Type 0) (empty gathered : StateSet) → ((number : ℕ) → HasState empty number → ⊥)
+        → GathersMore searched line choices table place.at place.entrance set IsTold empty gathered
+        → AreGoingFurther searched line choices table place.at place.entrance set IsTold gathered
+    all_further IsTold empty gathered none gathers number = (
       λ has. elim ((gathers number).0 has) [
         | inl nothing ↦ absurd (none number nothing)
+        | inr goes ↦ goes
+      ],
+      λ goes. (gathers number).1 (inr goes),
+    )
+
+    -- no key is told, so none goes further
+    pub none_further : (IsTold : Key → Type 0) (first : StateSet) → ((key : Key) → IsTold key → ⊥) → ((number : ℕ) → HasState first number → ⊥)
+        → (empty : StateSet) → ((number : ℕ) → HasState empty number → ⊥) → GathersMore searched line choices table place.at place.entrance set IsTold empty first
+    none_further IsTold first untold none empty nothing number = (
+      λ has. absurd (none number has),
+      λ either. elim either [
+        | inl had ↦ absurd (nothing number had)
+        | inr goes ↦ absurd (untold goes.1.0 goes.1.1)
+      ],
+    )
+
+    -- those that were found are put to others
+    pub gathers_found : (IsTold : Key → Type 0) (before found later : StateSet) → AreGoingFurther searched line choices table place.at place.entrance set IsTold found
+        → ((number : ℕ) → HasState later number ↔ (HasState before number ⊎ HasState found number)) → GathersMore searched line choices table place.at place.entrance set IsTold before later
+    gathers_found IsTold before found later are union number = (
+      λ has. elim ((union number).0 has) [
+        | inl had ↦ inl had
+        | inr more ↦ inr ((are number).0 more)
+      ],
+      λ either. (union number).1 (elim either [
+        | inl had ↦ inl had
+        | inr goes ↦ inr ((are number).1 goes)
+      ]),
+    )
+
+    -- those that were found are put to themselves
+    pub gathers_same : (IsTold : Key → Type 0) (found : StateSet) → AreGoingFurther searched line choices table place.at place.entrance set IsTold found → GathersMore searched line choices table place.at place.entrance set IsTold found found
+    gathers_same IsTold found are number = (
+      λ has. inl has,
+      λ either. elim either [
+        | inl has ↦ has
+        | inr goes ↦ (are number).1 goes
+      ],
+    )
+
+    -- those that go further by more keys were put to those that do by some of them
+    pub further_by_more : (IsTold IsMore : Key → Type 0) (found gathered : StateSet) → ((key : Key) → IsTold key → IsMore key)
+        → AreGoingFurther searched line choices table place.at place.entrance set IsTold found → GathersMore searched line choices table place.at place.entrance set IsMore found gathered
+        → AreGoingFurther searched line choices table place.at place.entrance set IsMore gathered
+    further_by_more IsTold IsMore found gathered more are gathers number = (
+      λ has. elim ((gathers number).0 has) [
+        | inl had ↦
+            let goes = (are number).0 had in
+            (goes.0, (goes.1.0, more goes.1.0 goes.1.1, goes.1.2))
         | inr goes ↦ goes
       ],
       λ goes. (gathers number).1 (inr goes),

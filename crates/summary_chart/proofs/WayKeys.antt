@@ -97,23 +97,6 @@ module _ (searched : SearchedLexicon) (line : Line) (choices : List Choice) (pla
   has_if_further table key number state (inl ends) = each number key state (inl ends)
   has_if_further table key number state (inr (next, leads, there)) = each number key state (inr (next, leads))
 
--- those that go further by a way are put to those before
-pub gathers_way : (searched : SearchedLexicon) (line : Line) (choices : List Choice) (table : Table) (place : Configuration) (set : StateSet) (key : Key)
-    (before one later : StateSet)
-    → AreGoingFurther searched line choices table place.at place.entrance set (OnlyKey key) one
-    → ((number : ℕ) → HasState later number ↔ (HasState before number ⊎ HasState one number))
-    → GathersMore searched line choices table place.at place.entrance set (OnlyKey key) before later
-gathers_way searched line choices table place set key before one later are union number = (
-  λ has. elim ((union number).0 has) [
-    | inl had ↦ inl had
-    | inr more ↦ inr ((are number).0 more)
-  ],
-  λ either. (union number).1 (elim either [
-    | inl had ↦ inl had
-    | inr goes ↦ inr ((are number).1 goes)
-  ]),
-)
-
 -- ---- items
 
 -- the item of one of the first so many ways by which some state goes further

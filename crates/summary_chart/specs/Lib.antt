@@ -8,3 +8,4 @@ pub mod PlaceWays
 pub mod Effects
 pub mod Memos
 pub mod Sites
+pub mod Onward

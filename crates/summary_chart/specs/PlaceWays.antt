@@ -23,7 +23,7 @@ use Rattle.summary_chart.specs.declared.table.Table.{Table}
 use Rattle.summary_chart.specs.declared.passes.TheConstants.{SETS_FOR_A_WAY}
 use Rattle.summary_chart.specs.StateSets.{IsStateOf}
 use Rattle.summary_chart.specs.Spreading.{IsLedByPhase, standing_with}
-use Rattle.summary_chart.specs.Tables.{IsIn, IsEntrance}
+use Rattle.summary_chart.specs.Tables.{IsIn, IsEntrance, set_of}
 use Rattle.summary_chart.specs.Charts.{IsChartTable, index_of_place, set_count}
 
 -- the ways of a stop
@@ -75,6 +75,12 @@ abbrev pub HasKept : SearchedLexicon → Line → List Choice → NumberedConfig
     → Type 0
 HasKept searched line choices here set index most old new None = (new.stops.items ≡ old.stops.items) × (new.ways.items ≡ old.ways.items)
 HasKept searched line choices here set index most old new (Some stop) = AddsStop searched line choices here set index most old new stop
+
+-- the same, for the states at the index of the table, where so many stops and ways are few beside its sets
+abbrev pub HasKeptFew : SearchedLexicon → Line → List Choice → NumberedConfiguration → Table → ℕ → PlaceWays → PlaceWays → Option Stop → Type 0
+HasKeptFew searched line choices here table index old new stop = (most : ℕ)
+    × (SETS_FOR_A_WAY * most ≤ length table.sets.items * length (rules_in searched).names)
+    × HasKept searched line choices here (set_of table index) index most old new stop
 
 -- each key that leads on from a place with one of these states, or ends the line, is that of a way
 abbrev pub HasEachKey : SearchedLexicon → Line → List Choice → ℕ → Entrance → StateSet → List Way → Type 0

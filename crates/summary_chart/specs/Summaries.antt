@@ -1,7 +1,8 @@
 -- The items of the steps by which places of a table go further (own; after Goyal and Huet 2016).
-use Rattle.std.specs.Prelude.{◌≡◌, ℕ, ◌+◌, ◌*◌, ◌<◌, ◌≤◌, ◌⊎◌, List, length, slice_index_or, Contains}
+use Rattle.std.specs.Prelude.{◌≡◌, ◌≢◌, ℕ, ◌+◌, ◌*◌, ◌<◌, ◌≤◌, ◌⊎◌, List, [], length, slice_index_or, Contains}
 use Rattle.text_definitions.specs.Lines.{Line}
 use Rattle.lexicon_definitions.specs.Lexicons.{RuleSet, rule_of}
+use Rattle.lexicon_definitions.specs.Tries.{row_of}
 use Rattle.lexicon_definitions.specs.declared.limits.TheConstants.{MOST_RULE_LETTERS}
 use Rattle.segmentation_definitions.specs.Items.{Item, Choice, item_of}
 use Rattle.segmentation_definitions.specs.Listings.{Key}
@@ -52,6 +53,11 @@ key_with phase taken rule = record { phase = phase; taken = taken; rule = rule }
 abbrev pub IsItemByRule : SearchedLexicon → Line → List Choice → Table → ℕ → Entrance → StateSet → ℕ → ℕ → List ℕ → Item → Type 0
 IsItemByRule searched line choices table at entrance set phase taken rules item =
     (rule : ℕ) × Contains rules rule × IsItemBy searched line choices table at entrance set (key_with phase taken rule) item
+
+-- and by no change after that front, where a form ends at its node
+abbrev pub IsItemUnchanged : SearchedLexicon → Line → List Choice → Table → ℕ → Entrance → StateSet → ℕ → ℕ → ℕ → Item → Type 0
+IsItemUnchanged searched line choices table at entrance set phase taken node item =
+    ((row_of searched.tries.trie.rows node).deltas ≢ []) × IsItemBy searched line choices table at entrance set (key_with phase taken 0) item
 
 -- the list has the items that it had and those that are told by this, and no others
 pub record AddsItems (IsTold : Item → Type 0) (old new : List Item) : Type 0 where

@@ -11,6 +11,8 @@ ghost use Rattle.summary_chart.specs.Spreading.{leads_in};
 use super::memo::Memo;
 use super::passes::{keep_living, reach};
 use super::place_ways::PlaceWays;
+use super::room::Room;
+use super::site::Reading;
 use super::state_set::StateSet;
 use super::table::Table;
 use annotated_trie::Lexicon;
@@ -109,15 +111,19 @@ impl Chart {
         let mut table = open_table(self.table, lexicon, line)?;
         let mut kept = self.kept;
         kept.clear();
-        let mut nodes = self.nodes;
-        let mut memo = Memo::new(alloc);
-        reach(
-            lexicon, line, choices, &mut nodes, &mut table, &mut kept, &mut memo, steps,
-        )?;
-        memo.clear();
-        keep_living(
-            lexicon, line, choices, &kept, &mut nodes, &mut table, &mut memo, steps,
-        )?;
+        let mut room = Room {
+            nodes: self.nodes,
+            memo: Memo::new(alloc),
+        };
+        let reading = Reading {
+            lexicon,
+            line,
+            choices,
+        };
+        reach(reading, &mut table, &mut kept, &mut room, steps)?;
+        room.memo.clear();
+        keep_living(reading, &mut table, &kept, &mut room, steps)?;
+        let Room { nodes, .. } = room;
         Ok(Chart { table, kept, nodes })
     }
 }

@@ -20,6 +20,7 @@ pub(crate) struct Collected {
     pub same_u: Vec<u32>,
     pub made: Vec<usize>,
     pub by_u: bool,
+    pub alloc: Global,
 }
 
 impl Collected {
@@ -36,18 +37,19 @@ impl Collected {
             same_u,
             made,
             by_u: false,
+            alloc,
         })
     }
 
     /// Tells rules by their `u` from now on, where so many are to be looked at after a front that it is worth its time. Refused only for
     /// want of memory.
-    pub fn expect(&mut self, alloc: Global, rules: &RuleSet, count: usize) -> Result<(), Memory>
+    pub fn expect(&mut self, rules: &RuleSet, count: usize) -> Result<(), Memory>
         requires collected { IsCollected rules.now self.old }
         ensures collected { OnOk result (IsCollected rules.now self.new) }
         ensures items { OnOk result (self.new.items.items ≡ self.old.items.items) }
     {
         if count > FEW_RULES && !self.by_u {
-            self.same_u = rules_with_same_u(alloc, rules)?;
+            self.same_u = rules_with_same_u(self.alloc, rules)?;
             self.by_u = true;
         }
         Ok(())

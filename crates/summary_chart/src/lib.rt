@@ -27,6 +27,7 @@ mod listing;
 mod memo;
 mod passes;
 mod place_ways;
+mod room;
 mod same_effect;
 mod same_u;
 mod sharing;

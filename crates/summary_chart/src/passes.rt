@@ -2,7 +2,7 @@ ghost use Rattle.std.specs.Prelude.{◌≡◌, ◌<◌, ◌+◌, ◌*◌, ◌≤
 ghost use Rattle.text_definitions.specs.Lines.{IsLine};
 ghost use Rattle.annotated_trie.specs.Searched.{IsSearchedLexicon};
 ghost use Rattle.search_frames.specs.Costs.{HasAtMostRules};
-ghost use Rattle.search_frames.specs.Frames.{IsConfigurationIn, numbered_of};
+ghost use Rattle.search_frames.specs.Frames.{numbered_of};
 ghost use Rattle.summary_chart.specs.declared.passes.TheConstants.{SETS_FOR_A_WAY};
 ghost use Rattle.summary_chart.specs.declared.memo.Done.{Done as DoneValue};
 ghost use Rattle.summary_chart.specs.Effects.{AreEffects};
@@ -10,20 +10,21 @@ ghost use Rattle.summary_chart.specs.Memos.{AreLiving, AreSpread, EndFrom, IsKno
 ghost use Rattle.summary_chart.specs.Tables.{IsTable, IsIndexed, set_of};
 ghost use Rattle.summary_chart.specs.Spreading.{AreGoingFurther, EveryKey, leads_in};
 ghost use Rattle.summary_chart.specs.Charts.{HasReached, IsChartTable, IsOpenTable, IsReachedBefore};
-ghost use Rattle.summary_chart.specs.PlaceWays.{AreFew, HasKept, HaveWays, HaveWaysBefore};
+ghost use Rattle.summary_chart.specs.PlaceWays.{AreFew, HasKeptFew, HaveWays, HaveWaysBefore};
+ghost use Rattle.summary_chart.specs.Sites.{IsSite};
 ghost use Rattle.summary_chart.specs.Summaries.{steps_of_items, steps_of_summary};
 
 use super::gathering::{gather, gather_ways};
 use super::listing::push_ways;
-use super::memo::Memo;
 use super::place_ways::{PlaceWays, Stop};
+use super::room::Room;
+use super::site::{Reading, Site};
 use super::spreading::{spread, spread_ways};
 use super::state_set::StateSet;
 use super::table::Table;
 use annotated_trie::Lexicon;
 use outside::Steps;
 use phoneme::{Line, Memory};
-use reader_choices::Choices;
 use search_frames::Configuration;
 use shared_trie::Node;
 
@@ -40,41 +41,30 @@ fn most_kept(lexicon: &Lexicon, line: &Line, table: &Table) -> usize
     table.sets.len() * lexicon.rules().phases().len() / SETS_FOR_A_WAY
 }
 
-/// Keeps the ways from the place with the states of the set, and tells their stop, which is for the index: if they are few, and ways and
-/// stops are then no more than this together. Otherwise all stays as it was. The place's own state is not looked at. Refused only for
-/// want of memory.
+/// Keeps the ways from the place with the states at its index of the table, and tells their stop: if they are few, and ways and stops are
+/// then no more than there is room for beside the table. Otherwise all stays as it was. The place's own state is not looked at. Refused
+/// only for want of memory.
 fn keep_ways<L>(
-    lexicon: &Lexicon,
-    line: &Line,
-    choices: &Choices,
-    place: &Configuration,
-    states: StateSet,
+    site: Site<'_>,
     index: usize,
-    most: usize,
+    table: &Table,
     nodes: &mut Vec<Node>,
     kept: &mut PlaceWays,
     steps: &mut Steps<L>,
 ) -> Result<Option<Stop>, Memory>
-    requires searched { IsSearchedLexicon lexicon.now }
-    requires line { IsLine line.now }
-    requires place { IsConfigurationIn lexicon.now line.now place.now }
-    ensures kept { IfOk result (λ stop. HasKept lexicon.now line.now choices.now (numbered_of lexicon.now place.now) states index most kept.old kept.new stop) }
-    ensures steps { (most : ℕ) → HasAtMostRules lexicon.now.tries most → steps.new ≤ steps.old + steps_of_items lexicon.now most }
+    requires site { IsSite site }
+    requires there { index < length table.now.sets.items }
+    requires table { IsTable (leads_in site.lexicon.now) (length site.line.now.letters) table.now }
+    ensures kept { IfOk result (λ stop. HasKeptFew site.entry.lexicon.now site.entry.line.now site.entry.choices.now (numbered_of site.entry.lexicon.now site.entry.place.now) table.now index kept.old kept.new stop) }
+    ensures steps { (most : ℕ) → HasAtMostRules site.entry.lexicon.now.tries most → steps.new ≤ steps.old + steps_of_items site.entry.lexicon.now most }
 {
+    let most = most_kept(site.lexicon, site.line, table);
     if !kept.has_room(most) {
         return Ok(None);
     }
+    let states = table.sets[index];
     let first = kept.ways.len();
-    let all = push_ways(
-        lexicon,
-        line,
-        choices,
-        place,
-        states,
-        nodes,
-        &mut kept.ways,
-        steps,
-    )?;
+    let all = push_ways(site, states, nodes, &mut kept.ways, steps)?;
     if !all || !kept.has_room(most) {
         kept.ways.truncate(first);
         return Ok(None);
@@ -91,44 +81,31 @@ fn keep_ways<L>(
 /// Puts into the table where any key leads on to from the places at the index, of which this is one; and keeps the ways from there, if they
 /// are few and there is room for them. The place's own state is not looked at. Refused only for want of memory.
 fn reach_from<L>(
-    lexicon: &Lexicon,
-    line: &Line,
-    choices: &Choices,
-    place: &Configuration,
+    site: Site<'_>,
     index: usize,
-    nodes: &mut Vec<Node>,
     table: &mut Table,
     kept: &mut PlaceWays,
-    memo: &mut Memo,
+    room: &mut Room,
     steps: &mut Steps<L>,
 ) -> Result<(), Memory>
-    requires searched { IsSearchedLexicon lexicon.now }
-    requires line { IsLine line.now }
-    requires place { IsConfigurationIn lexicon.now line.now place.now }
+    requires site { IsSite site }
     requires there { index < length table.old.sets.items }
-    requires indexed { IsIndexed (leads_in lexicon.now) (length line.now.letters) index place.now.at place.now.entrance }
-    requires before { IsReachedBefore lexicon.now line.now choices.now index table.old }
-    requires kept { HaveWaysBefore lexicon.now line.now choices.now index table.old kept.old.stops.items kept.old.ways.items }
-    requires few { AreFew lexicon.now line.now kept.old.stops.items kept.old.ways.items }
-    requires memo { AreSpread lexicon.now line.now table.old memo.old }
-    ensures memo { OnOk result (AreSpread lexicon.now line.now table.new memo.new) }
-    ensures before { OnOk result (IsReachedBefore lexicon.now line.now choices.now (index + 1) table.new) }
-    ensures kept { OnOk result (HaveWaysBefore lexicon.now line.now choices.now (index + 1) table.new kept.new.stops.items kept.new.ways.items) }
-    ensures few { OnOk result (AreFew lexicon.now line.now kept.new.stops.items kept.new.ways.items) }
-    ensures steps { (most : ℕ) → HasAtMostRules lexicon.now.tries most → steps.new ≤ steps.old + 2 * steps_of_items lexicon.now most }
+    requires indexed { IsIndexed (leads_in site.lexicon.now) (length site.line.now.letters) index site.place.now.at site.place.now.entrance }
+    requires before { IsReachedBefore site.lexicon.now site.line.now site.choices.now index table.old }
+    requires kept { HaveWaysBefore site.lexicon.now site.line.now site.choices.now index table.old kept.old.stops.items kept.old.ways.items }
+    requires few { AreFew site.lexicon.now site.line.now kept.old.stops.items kept.old.ways.items }
+    requires memo { AreSpread site.lexicon.now site.line.now table.old room.old.memo }
+    ensures memo { OnOk result (AreSpread site.entry.lexicon.now site.entry.line.now table.new room.new.memo) }
+    ensures before { OnOk result (IsReachedBefore site.entry.lexicon.now site.entry.line.now site.entry.choices.now (index + 1) table.new) }
+    ensures kept { OnOk result (HaveWaysBefore site.entry.lexicon.now site.entry.line.now site.entry.choices.now (index + 1) table.new kept.new.stops.items kept.new.ways.items) }
+    ensures few { OnOk result (AreFew site.entry.lexicon.now site.entry.line.now kept.new.stops.items kept.new.ways.items) }
+    ensures steps { (most : ℕ) → HasAtMostRules site.entry.lexicon.now.tries most → steps.new ≤ steps.old + 2 * steps_of_items site.entry.lexicon.now most }
 {
     let states = table.sets[index];
-    let most = most_kept(lexicon, line, table);
-    let Some(stop) = keep_ways(
-        lexicon, line, choices, place, states, index, most, nodes, kept, steps,
-    )?
-    else {
-        return spread(
-            lexicon, line, choices, place, states, nodes, table, memo, steps,
-        );
+    let Some(stop) = keep_ways(site, index, table, &mut room.nodes, kept, steps)? else {
+        return spread(site, states, table, room, steps);
     };
-    let ways = kept.of(stop);
-    spread_ways(lexicon, line, choices, place, states, ways, table, steps);
+    spread_ways(site, states, kept.of(stop), table, steps);
     Ok(())
 }
 
@@ -136,29 +113,26 @@ fn reach_from<L>(
 /// wherever a key leads on to. A key leads only to places that stand later in the table. Keeps the ways from places that have few, while
 /// there is room for them. Refused only for want of memory.
 pub(crate) fn reach<L>(
-    lexicon: &Lexicon,
-    line: &Line,
-    choices: &Choices,
-    nodes: &mut Vec<Node>,
+    reading: Reading<'_>,
     table: &mut Table,
     kept: &mut PlaceWays,
-    memo: &mut Memo,
+    room: &mut Room,
     steps: &mut Steps<L>,
 ) -> Result<(), Memory>
-    requires searched { IsSearchedLexicon lexicon.now }
-    requires line { IsLine line.now }
-    requires opening { IsOpenTable lexicon.now line.now table.old }
+    requires searched { IsSearchedLexicon reading.lexicon.now }
+    requires line { IsLine reading.line.now }
+    requires opening { IsOpenTable reading.lexicon.now reading.line.now table.old }
     requires stops { kept.old.stops.items ≡ [] }
     requires ways { kept.old.ways.items ≡ [] }
-    requires memo { (done : DoneValue) → IsKnown memo.old done → ⊥ }
-    requires effects { AreEffects lexicon.now.lexicon.rules memo.old.effects }
-    ensures effects { OnOk result (AreEffects lexicon.now.lexicon.rules memo.new.effects) }
-    ensures reached { OnOk result (HasReached lexicon.now line.now choices.now table.new) }
-    ensures kept { OnOk result (HaveWays lexicon.now line.now choices.now table.new kept.new.stops.items kept.new.ways.items) }
-    ensures few { OnOk result (AreFew lexicon.now line.now kept.new.stops.items kept.new.ways.items) }
-    ensures steps { (most : ℕ) → HasAtMostRules lexicon.now.tries most → steps.new ≤ steps.old + 2 * steps_of_summary lexicon.now line.now most }
+    requires memo { (done : DoneValue) → IsKnown room.old.memo done → ⊥ }
+    requires effects { AreEffects reading.lexicon.now.lexicon.rules room.old.memo.effects }
+    ensures effects { OnOk result (AreEffects reading.entry.lexicon.now.lexicon.rules room.new.memo.effects) }
+    ensures reached { OnOk result (HasReached reading.entry.lexicon.now reading.entry.line.now reading.entry.choices.now table.new) }
+    ensures kept { OnOk result (HaveWays reading.entry.lexicon.now reading.entry.line.now reading.entry.choices.now table.new kept.new.stops.items kept.new.ways.items) }
+    ensures few { OnOk result (AreFew reading.entry.lexicon.now reading.entry.line.now kept.new.stops.items kept.new.ways.items) }
+    ensures steps { (most : ℕ) → HasAtMostRules reading.entry.lexicon.now.tries most → steps.new ≤ steps.old + 2 * steps_of_summary reading.entry.lexicon.now reading.entry.line.now most }
 {
-    let state = lexicon.automaton().start();
+    let state = reading.lexicon.automaton().start();
     let mut index = table.next_filled(0);
     while index < table.sets.len() {
         let (at, entrance) = table.place(index);
@@ -167,9 +141,13 @@ pub(crate) fn reach<L>(
             entrance,
             state,
         };
-        reach_from(
-            lexicon, line, choices, &place, index, nodes, table, kept, memo, steps,
-        )?;
+        let site = Site {
+            lexicon: reading.lexicon,
+            line: reading.line,
+            choices: reading.choices,
+            place: &place,
+        };
+        reach_from(site, index, table, kept, room, steps)?;
         index = table.next_filled(index + 1);
     }
     Ok(())
@@ -179,62 +157,51 @@ pub(crate) fn reach<L>(
 /// the ways that are kept from there, or else by all that the lexicon has. The place's own state is not looked at. Refused only for want
 /// of memory.
 fn gather_from<L>(
-    lexicon: &Lexicon,
-    line: &Line,
-    choices: &Choices,
-    place: &Configuration,
+    site: Site<'_>,
     index: usize,
-    kept: &PlaceWays,
-    nodes: &mut Vec<Node>,
     table: &Table,
-    memo: &mut Memo,
+    kept: &PlaceWays,
+    room: &mut Room,
     steps: &mut Steps<L>,
 ) -> Result<StateSet, Memory>
-    requires searched { IsSearchedLexicon lexicon.now }
-    requires line { IsLine line.now }
-    requires place { IsConfigurationIn lexicon.now line.now place.now }
+    requires site { IsSite site }
     requires there { index < length table.now.sets.items }
-    requires indexed { IsIndexed (leads_in lexicon.now) (length line.now.letters) index place.now.at place.now.entrance }
-    requires table { IsTable (leads_in lexicon.now) (length line.now.letters) table.now }
-    requires kept { HaveWays lexicon.now line.now choices.now table.now kept.now.stops.items kept.now.ways.items }
-    requires memo { AreLiving lexicon.now line.now table.now memo.old }
-    ensures memo { OnOk result (AreLiving lexicon.now line.now table.now memo.new) }
-    ensures ends { OnOk result (EndFrom place.now.at memo.old → EndFrom place.now.at memo.new) }
-    ensures gathers { IfOk result (λ gathered. AreGoingFurther lexicon.now line.now choices.now table.now place.now.at place.now.entrance (set_of table.now index) EveryKey gathered) }
-    ensures steps { (most : ℕ) → HasAtMostRules lexicon.now.tries most → steps.new ≤ steps.old + steps_of_items lexicon.now most }
+    requires indexed { IsIndexed (leads_in site.lexicon.now) (length site.line.now.letters) index site.place.now.at site.place.now.entrance }
+    requires table { IsTable (leads_in site.lexicon.now) (length site.line.now.letters) table.now }
+    requires kept { HaveWays site.lexicon.now site.line.now site.choices.now table.now kept.now.stops.items kept.now.ways.items }
+    requires memo { AreLiving site.lexicon.now site.line.now table.now room.old.memo }
+    ensures memo { OnOk result (AreLiving site.entry.lexicon.now site.entry.line.now table.now room.new.memo) }
+    ensures ends { OnOk result (EndFrom site.entry.place.now.at room.old.memo → EndFrom site.entry.place.now.at room.new.memo) }
+    ensures gathers { IfOk result (λ gathered. AreGoingFurther site.entry.lexicon.now site.entry.line.now site.entry.choices.now table.now site.entry.place.now.at site.entry.place.now.entrance (set_of table.now index) EveryKey gathered) }
+    ensures steps { (most : ℕ) → HasAtMostRules site.entry.lexicon.now.tries most → steps.new ≤ steps.old + steps_of_items site.entry.lexicon.now most }
 {
     let states = table.sets[index];
     let Some(ways) = kept.at(index) else {
-        return gather(
-            lexicon, line, choices, place, states, nodes, table, memo, steps,
-        );
+        return gather(site, states, table, room, steps);
     };
-    Ok(gather_ways(lexicon, line, choices, place, states, ways, table, steps))
+    Ok(gather_ways(site, states, ways, table, steps))
 }
 
 /// Leaves in the table, which has every place that a search comes to, those alone from which there is a path to an answer: from the
 /// last place in the order of the table to the first. The ways that are kept stay those of its places. Refused only for want of memory.
 pub(crate) fn keep_living<L>(
-    lexicon: &Lexicon,
-    line: &Line,
-    choices: &Choices,
-    kept: &PlaceWays,
-    nodes: &mut Vec<Node>,
+    reading: Reading<'_>,
     table: &mut Table,
-    memo: &mut Memo,
+    kept: &PlaceWays,
+    room: &mut Room,
     steps: &mut Steps<L>,
 ) -> Result<(), Memory>
-    requires searched { IsSearchedLexicon lexicon.now }
-    requires line { IsLine line.now }
-    requires reached { HasReached lexicon.now line.now choices.now table.old }
-    requires kept { HaveWays lexicon.now line.now choices.now table.old kept.now.stops.items kept.now.ways.items }
-    requires memo { (done : DoneValue) → IsKnown memo.old done → ⊥ }
-    requires effects { AreEffects lexicon.now.lexicon.rules memo.old.effects }
-    ensures living { OnOk result (IsChartTable lexicon.now line.now choices.now table.new) }
-    ensures kept { OnOk result (HaveWays lexicon.now line.now choices.now table.new kept.now.stops.items kept.now.ways.items) }
-    ensures steps { (most : ℕ) → HasAtMostRules lexicon.now.tries most → steps.new ≤ steps.old + steps_of_summary lexicon.now line.now most }
+    requires searched { IsSearchedLexicon reading.lexicon.now }
+    requires line { IsLine reading.line.now }
+    requires reached { HasReached reading.lexicon.now reading.line.now reading.choices.now table.old }
+    requires kept { HaveWays reading.lexicon.now reading.line.now reading.choices.now table.old kept.now.stops.items kept.now.ways.items }
+    requires memo { (done : DoneValue) → IsKnown room.old.memo done → ⊥ }
+    requires effects { AreEffects reading.lexicon.now.lexicon.rules room.old.memo.effects }
+    ensures living { OnOk result (IsChartTable reading.entry.lexicon.now reading.entry.line.now reading.entry.choices.now table.new) }
+    ensures kept { OnOk result (HaveWays reading.entry.lexicon.now reading.entry.line.now reading.entry.choices.now table.new kept.now.stops.items kept.now.ways.items) }
+    ensures steps { (most : ℕ) → HasAtMostRules reading.entry.lexicon.now.tries most → steps.new ≤ steps.old + steps_of_summary reading.entry.lexicon.now reading.entry.line.now most }
 {
-    let state = lexicon.automaton().start();
+    let state = reading.lexicon.automaton().start();
     let mut until = table.filled_until(table.sets.len());
     while until > 0 {
         let index = until - 1;
@@ -244,9 +211,13 @@ pub(crate) fn keep_living<L>(
             entrance,
             state,
         };
-        let living = gather_from(
-            lexicon, line, choices, &place, index, kept, nodes, table, memo, steps,
-        )?;
+        let site = Site {
+            lexicon: reading.lexicon,
+            line: reading.line,
+            choices: reading.choices,
+            place: &place,
+        };
+        let living = gather_from(site, index, table, kept, room, steps)?;
         table.replace(index, living);
         until = table.filled_until(index);
     }

@@ -1,11 +1,16 @@
-ghost use Rattle.std.specs.Prelude.{◌≡◌};
-ghost use Rattle.summary_chart.specs.Sites.{IsSite, IsSiteAhead};
-
 use annotated_trie::Lexicon;
 use phoneme::Line;
 use reader_choices::Choices;
 use search_frames::{Ahead, Configuration};
 use shared_trie::Node;
+
+/// A line that is read over a lexicon, under a reader's choices.
+#[derive(Clone, Copy)]
+pub(crate) struct Reading<'a> {
+    pub lexicon: &'a Lexicon,
+    pub line: &'a Line,
+    pub choices: &'a Choices,
+}
 
 /// A place of a line, over a lexicon and under a reader's choices.
 #[derive(Clone, Copy)]
@@ -30,18 +35,4 @@ pub(crate) struct Front {
     pub phase: u32,
     pub taken: u32,
     pub node: Node,
-}
-
-impl<'a> SiteAhead<'a> {
-    /// The site, with what the line tells there.
-    pub(crate) fn of(site: Site<'a>) -> SiteAhead<'a>
-        requires { IsSite site }
-        ensures site { result.site ≡ site.entry }
-        ensures ahead { IsSiteAhead result }
-    {
-        SiteAhead {
-            site,
-            ahead: Ahead::of(site.lexicon.rules(), site.line, site.place),
-        }
-    }
 }

@@ -4,19 +4,17 @@ ghost use Rattle.segmentation_definitions.specs.Listings.{IsSummary};
 ghost use Rattle.segmentation_definitions.specs.StepBounds.{chart_bound};
 ghost use Rattle.annotated_trie.specs.Searched.{IsSearchedLexicon};
 ghost use Rattle.search_frames.specs.Costs.{HasAtMostRules};
-ghost use Rattle.search_frames.specs.Frames.{IsConfigurationIn};
-ghost use Rattle.summary_chart.specs.Charts.{IsChartTable};
-ghost use Rattle.summary_chart.specs.PlaceWays.{HaveWays, IsChartOf};
+ghost use Rattle.summary_chart.specs.PlaceWays.{IsChartOf};
+ghost use Rattle.summary_chart.specs.Sites.{IsSite};
 ghost use Rattle.summary_chart.specs.Spreading.{leads_in};
-ghost use Rattle.summary_chart.specs.Tables.{IsTable, IsIndexed, set_of};
+ghost use Rattle.summary_chart.specs.Tables.{IsIndexed, set_of};
 ghost use Rattle.summary_chart.specs.Summaries.{AddsItems, HasItemsBefore, IsCollected, IsItemFrom, steps_of_items, steps_of_summary};
 
 use super::Chart;
 use super::collected::Collected;
-use super::collecting::{collect, collect_ways};
+use super::collecting::{Standing, collect, collect_ways};
 use super::items::sort_items;
-use super::place_ways::PlaceWays;
-use super::table::Table;
+use super::site::Site;
 use annotated_trie::Lexicon;
 use derivation::Item;
 use outside::Steps;
@@ -26,91 +24,76 @@ use search_frames::{Configuration, NODES_OF_FRAME};
 use shared_trie::Node;
 use std::alloc::Global;
 
-/// Puts in the items of the keys by which places at the index, of which this is one, go further: of the ways that are kept from there, or
-/// else of all that the lexicon has. The place's own state is not looked at. Refused only for want of memory.
-fn collect_from<L>(
-    alloc: Global,
-    lexicon: &Lexicon,
-    line: &Line,
-    choices: &Choices,
-    place: &Configuration,
-    index: usize,
-    kept: &PlaceWays,
-    nodes: &mut Vec<Node>,
-    table: &Table,
-    collected: &mut Collected,
-    steps: &mut Steps<L>,
-) -> Result<(), Memory>
-    requires searched { IsSearchedLexicon lexicon.now }
-    requires line { IsLine line.now }
-    requires place { IsConfigurationIn lexicon.now line.now place.now }
-    requires there { index < length table.now.sets.items }
-    requires indexed { IsIndexed (leads_in lexicon.now) (length line.now.letters) index place.now.at place.now.entrance }
-    requires table { IsTable (leads_in lexicon.now) (length line.now.letters) table.now }
-    requires kept { HaveWays lexicon.now line.now choices.now table.now kept.now.stops.items kept.now.ways.items }
-    requires collected { IsCollected lexicon.now.lexicon.rules collected.old }
-    ensures collected { OnOk result (IsCollected lexicon.now.lexicon.rules collected.new) }
-    ensures adds { OnOk result (AddsItems (IsItemFrom lexicon.now line.now choices.now table.now place.now.at place.now.entrance (set_of table.now index)) collected.old.items.items collected.new.items.items) }
-    ensures steps { (most : ℕ) → HasAtMostRules lexicon.now.tries most → steps.new ≤ steps.old + steps_of_items lexicon.now most }
-{
-    let states = table.sets[index];
-    let Some(ways) = kept.at(index) else {
-        return collect(
-            alloc, lexicon, line, choices, place, states, nodes, table, collected, steps,
-        );
-    };
-    collect_ways(
-        alloc, lexicon, line, choices, place, states, ways, table, collected, steps,
-    )
-}
-
-/// The items of the keys by which places of the table go further, in any order. Refused only for want of memory.
-fn items_of_table<L>(
-    alloc: Global,
-    lexicon: &Lexicon,
-    line: &Line,
-    choices: &Choices,
-    table: &Table,
-    kept: &PlaceWays,
-    steps: &mut Steps<L>,
-) -> Result<Vec<Item>, Memory>
-    requires searched { IsSearchedLexicon lexicon.now }
-    requires line { IsLine line.now }
-    requires chart { IsChartTable lexicon.now line.now choices.now table.now }
-    requires kept { HaveWays lexicon.now line.now choices.now table.now kept.now.stops.items kept.now.ways.items }
-    ensures items { IfOk result (λ items. HasItemsBefore lexicon.now line.now choices.now table.now (length table.now.sets.items) items.items) }
-    ensures steps { (most : ℕ) → HasAtMostRules lexicon.now.tries most → steps.new ≤ steps.old + steps_of_summary lexicon.now line.now most }
-{
-    let mut collected = Collected::new(alloc, lexicon.rules())?;
-    let mut nodes = Vec::with_capacity(alloc, NODES_OF_FRAME)?;
-    let state = lexicon.automaton().start();
-    let mut index = table.next_filled(0);
-    while index < table.sets.len() {
-        let (at, entrance) = table.place(index);
-        let place = Configuration {
-            at,
-            entrance,
-            state,
-        };
-        collect_from(
-            alloc,
-            lexicon,
-            line,
-            choices,
-            &place,
-            index,
-            kept,
-            &mut nodes,
-            table,
-            &mut collected,
-            steps,
-        )?;
-        index = table.next_filled(index + 1);
-    }
-    Ok(collected.items)
-}
-
 impl Chart {
+    /// Puts in the items of the keys by which places at the index, of which the site's is one, go further: of the ways that are kept from
+    /// there, or else of all that the lexicon has. The place's own state is not looked at. Refused only for want of memory.
+    fn collect_from<L>(
+        &self,
+        site: Site<'_>,
+        index: usize,
+        nodes: &mut Vec<Node>,
+        collected: &mut Collected,
+        steps: &mut Steps<L>,
+    ) -> Result<(), Memory>
+        requires site { IsSite site }
+        requires chart { IsChartOf site.lexicon.now site.line.now site.choices.now self.now }
+        requires there { index < length self.now.table.sets.items }
+        requires indexed { IsIndexed (leads_in site.lexicon.now) (length site.line.now.letters) index site.place.now.at site.place.now.entrance }
+        requires collected { IsCollected site.lexicon.now.lexicon.rules collected.old }
+        ensures collected { OnOk result (IsCollected site.entry.lexicon.now.lexicon.rules collected.new) }
+        ensures adds { let here = site.entry in OnOk result (AddsItems (IsItemFrom here.lexicon.now here.line.now here.choices.now self.now.table here.place.now.at here.place.now.entrance (set_of self.now.table index)) collected.old.items.items collected.new.items.items) }
+        ensures steps { (most : ℕ) → HasAtMostRules site.entry.lexicon.now.tries most → steps.new ≤ steps.old + steps_of_items site.entry.lexicon.now most }
+    {
+        let states = self.table.sets[index];
+        let standing = Standing {
+            states,
+            table: &self.table,
+        };
+        let Some(ways) = self.kept.at(index) else {
+            return collect(site, standing, nodes, collected, steps);
+        };
+        collect_ways(site, standing, ways, collected, steps)
+    }
+
+    /// The items of the keys by which places of the table go further, in any order. Refused only for want of memory.
+    fn unsorted_items<L>(
+        &self,
+        alloc: Global,
+        lexicon: &Lexicon,
+        line: &Line,
+        choices: &Choices,
+        steps: &mut Steps<L>,
+    ) -> Result<Vec<Item>, Memory>
+        requires searched { IsSearchedLexicon lexicon.now }
+        requires line { IsLine line.now }
+        requires chart { IsChartOf lexicon.now line.now choices.now self.now }
+        ensures items { IfOk result (λ items. HasItemsBefore lexicon.now line.now choices.now self.now.table (length self.now.table.sets.items) items.items) }
+        ensures steps { (most : ℕ) → HasAtMostRules lexicon.now.tries most → steps.new ≤ steps.old + steps_of_summary lexicon.now line.now most }
+    {
+        let mut collected = Collected::new(alloc, lexicon.rules())?;
+        let mut nodes = Vec::with_capacity(alloc, NODES_OF_FRAME)?;
+        let state = lexicon.automaton().start();
+        let table = &self.table;
+        let mut index = table.next_filled(0);
+        while index < table.sets.len() {
+            let (at, entrance) = table.place(index);
+            let place = Configuration {
+                at,
+                entrance,
+                state,
+            };
+            let site = Site {
+                lexicon,
+                line,
+                choices,
+                place: &place,
+            };
+            self.collect_from(site, index, &mut nodes, &mut collected, steps)?;
+            index = table.next_filled(index + 1);
+        }
+        Ok(collected.items)
+    }
+
     /// The summary of the line: the item of each step of some answer, once, ordered by the letters before it, then those with a lead
     /// before those without, then by phase, form and the length of the lead (Goyal and Huet 2016; the order is our own). The
     /// lexicon, the line and the choices are those with which the chart was built. `steps` counts each phase, node and rule that is looked
@@ -132,15 +115,7 @@ impl Chart {
         // The proof knows what holds of a line and of a lexicon only of those that are read.
         let _letters = &line.letters;
         let _rules = lexicon.rules();
-        let mut items = items_of_table(
-            alloc,
-            lexicon,
-            line,
-            choices,
-            &self.table,
-            &self.kept,
-            steps,
-        )?;
+        let mut items = self.unsorted_items(alloc, lexicon, line, choices, steps)?;
         sort_items(&mut items);
         Ok(items)
     }

@@ -78,6 +78,7 @@ pub(crate) fn walk_fronts<L>(
     let Some(entered) = walk_word(store, store.root(phase), lead, steps) else {
         return Ok(());
     };
-    let letters = &site.line.letters.as_slice()[site.place.at as usize..limit as usize];
+    let line = site.line;
+    let letters = &line.letters.as_slice()[site.place.at as usize..limit as usize];
     walk_letters(store, entered, letters, nodes, steps)
 }

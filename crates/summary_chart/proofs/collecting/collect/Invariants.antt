@@ -8,9 +8,9 @@ use Rattle.summary_chart.proofs.collecting.collect.Given as goal
 
 abbrev pub invariant-loop-phase : goal.invariant-loop-phase
 invariant-loop-phase g l = record {
-  end : l.phase-end ≡ length (rules_in l.lexicon).names;
-  low : l.phase ≤ length (rules_in l.lexicon).names;
-  collected : IsCollected l.lexicon.lexicon.rules l.collected;
-  adds : AddsItems (IsItemEarlier l.lexicon l.line l.choices l.table l.place l.states l.phase) l.fn.collected.items.items l.collected.items.items;
-  spent : (most : ℕ) → HasAtMostRules l.lexicon.tries most → l.steps ≤ l.fn.steps + l.phase * (1 + steps_of_fronts most);
+  end : l.phase-end ≡ length (rules_in l.site.lexicon.now).names;
+  low : l.phase ≤ length (rules_in l.site.lexicon.now).names;
+  collected : IsCollected l.site.lexicon.now.lexicon.rules l.collected;
+  adds : AddsItems (IsItemEarlier l.site.lexicon.now l.site.line.now l.site.choices.now l.standing.table.now l.site.place.now l.standing.states l.phase) l.fn.collected.items.items l.collected.items.items;
+  spent : (most : ℕ) → HasAtMostRules l.site.lexicon.now.tries most → l.steps ≤ l.fn.steps + l.phase * (1 + steps_of_fronts most);
 }

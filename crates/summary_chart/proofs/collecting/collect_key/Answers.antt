@@ -14,27 +14,27 @@ both_ok (Err e) f p q = tt
 
 pub returns-then-is_empty-clause-adds : goal.returns-then-is_empty-clause-adds
 returns-then-is_empty-clause-adds g c =
-    let place = c.args.place.now in
-    none_added c.args.lexicon.now c.args.line.now c.args.choices.now c.args.table.now place.at place.entrance c.args.states (key_meant c.args.key)
+    let place = c.args.here.site.place.now in
+    none_added c.args.here.site.lexicon.now c.args.here.site.line.now c.args.here.site.choices.now c.args.standing.table.now place.at place.entrance c.args.standing.states (key_meant c.args.key)
     c.states_by_key.result c.states_by_key.ensures c.args.collected.now.items.items c.if-is_empty.ensures
 
 pub returns-clause-adds : goal.returns-clause-adds
 returns-clause-adds g c =
-    let searched = c.args.lexicon.now in
-    let line = c.args.line.now in
-    let place = c.args.place.now in
+    let searched = c.args.here.site.lexicon.now in
+    let line = c.args.here.site.line.now in
+    let place = c.args.here.site.place.now in
     let key = key_meant c.args.key in
     on_ok_weaker c.put_item.result
-    (λ put. one_added searched line c.args.choices.now c.args.table.now place.at place.entrance c.args.states key
+    (λ put. one_added searched line c.args.here.site.choices.now c.args.standing.table.now place.at place.entrance c.args.standing.states key
     c.states_by_key.result c.states_by_key.ensures c.args.collected.now.items.items c.put_item.new.collected.items.items
     (item_with searched line place.at place.entrance key) c.if-is_empty.ensures refl put)
     c.put_item.ensures.items
 
 pub returns-clause-seen : goal.returns-clause-seen
 returns-clause-seen g c =
-    let searched = c.args.lexicon.now in
-    let line = c.args.line.now in
-    let place = c.args.place.now in
+    let searched = c.args.here.site.lexicon.now in
+    let line = c.args.here.site.line.now in
+    let place = c.args.here.site.place.now in
     let key = key_meant c.args.key in
     both_ok c.put_item.result
     (λ put made since seen. seen_more searched line place.at place.entrance c.args.key.phase c.args.key.taken since c.args.key.rule c.args.collected.now c.put_item.new.collected

@@ -21,7 +21,7 @@ loop-taken-preserved g c =
       end = inv.end;
       low = omega (arith, c.loop-taken-test.true, inv.end);
       collected = c.in_ok-collect_front.ensures.collected;
-      adds = front_more c.args.lexicon.now c.args.line.now c.args.choices.now c.args.table.now c.args.place.now c.args.states c.args.phase c.loop-taken.taken
+      adds = front_more c.args.here.site.lexicon.now c.args.here.site.line.now c.args.here.site.choices.now c.args.standing.table.now c.args.here.site.place.now c.args.standing.states c.args.phase c.loop-taken.taken
           c.args.collected.now.items.items c.loop-taken.collected.items.items c.collect_front.new.collected.items.items inv.adds c.in_ok-collect_front.ensures.adds;
       spent = λ most few. one_more_within (c.args.steps.now + MOST_RULE_LETTERS + NODES_OF_FRAME) c.loop-taken.taken (steps_of_front most) c.loop-taken.steps c.collect_front.new.steps
           (inv.spent most few) (c.collect_front.ensures.steps most few);
@@ -39,7 +39,7 @@ returns-in_err-collect_front-clause-steps g c most few =
 pub returns-clause-adds : goal.returns-clause-adds
 returns-clause-adds g c =
     let inv = c.loop-taken.invariant in
-    fronts_at_last c.args.lexicon.now c.args.line.now c.args.choices.now c.args.table.now c.args.place.now c.args.states c.args.phase c.args.ahead c.requires.ahead c.loop-taken.taken
+    fronts_at_last c.args.here.site.lexicon.now c.args.here.site.line.now c.args.here.site.choices.now c.args.standing.table.now c.args.here.site.place.now c.args.standing.states c.args.phase c.args.here.ahead c.requires.here.ahead c.loop-taken.taken
     c.walk_fronts.new.nodes.items (omega (arith, c.loop-taken-test.false, inv.end)) inv.fronts c.args.collected.now.items.items c.loop-taken.collected.items.items inv.adds
 
 pub returns-clause-steps : goal.returns-clause-steps

@@ -11,11 +11,11 @@ use Rattle.summary_chart.proofs.collecting.collect_phase.Given as goal
 
 abbrev pub invariant-loop-taken : goal.invariant-loop-taken
 invariant-loop-taken g l = record {
-  fronts : AreFronts l.lexicon l.line (numbered_of l.lexicon l.place) l.phase l.ahead.limit l.nodes.items;
+  fronts : AreFronts l.here.site.lexicon.now l.here.site.line.now (numbered_of l.here.site.lexicon.now l.here.site.place.now) l.phase l.here.ahead.limit l.nodes.items;
   end : l.taken-end ≡ length l.nodes.items;
   low : l.taken ≤ length l.nodes.items;
-  collected : IsCollected l.lexicon.lexicon.rules l.collected;
-  adds : AddsItems (IsItemBelow l.lexicon l.line l.choices l.table l.place l.states l.phase l.taken) l.fn.collected.items.items l.collected.items.items;
-  spent : (most : ℕ) → HasAtMostRules l.lexicon.tries most
+  collected : IsCollected l.here.site.lexicon.now.lexicon.rules l.collected;
+  adds : AddsItems (IsItemBelow l.here.site.lexicon.now l.here.site.line.now l.here.site.choices.now l.standing.table.now l.here.site.place.now l.standing.states l.phase l.taken) l.fn.collected.items.items l.collected.items.items;
+  spent : (most : ℕ) → HasAtMostRules l.here.site.lexicon.now.tries most
       → l.steps ≤ l.fn.steps + MOST_RULE_LETTERS + NODES_OF_FRAME + l.taken * steps_of_front most;
 }

@@ -9,14 +9,14 @@ use Rattle.summary_chart.proofs.collecting.collect_rules.Goals as goal
 
 pub loop-rule-init : goal.loop-rule-init
 loop-rule-init g c =
-    let place = c.args.place.now in
+    let place = c.args.here.site.place.now in
     let expected = c.in_ok-expect.ensures in
     let old = c.args.collected.now.items.items in
     record {
       collected = subst (λ (rules : RuleSet). IsCollected rules c.expect.new.self) c.rules.ensures.value expected.collected;
-      adds = subst (AddsItems (IsItemByRule c.args.lexicon.now c.args.line.now c.args.choices.now c.args.table.now place.at place.entrance c.args.states c.args.phase c.args.taken (take 0 c.args.rules.now)) old)
+      adds = subst (AddsItems (IsItemByRule c.args.here.site.lexicon.now c.args.here.site.line.now c.args.here.site.choices.now c.args.standing.table.now place.at place.entrance c.args.standing.states c.args.front.now.phase c.args.front.now.taken (take 0 c.args.rules.now)) old)
           (sym expected.items)
-          (rules_at_first c.args.lexicon.now c.args.line.now c.args.choices.now c.args.table.now place.at place.entrance c.args.states c.args.phase c.args.taken c.args.rules.now old);
+          (rules_at_first c.args.here.site.lexicon.now c.args.here.site.line.now c.args.here.site.choices.now c.args.standing.table.now place.at place.entrance c.args.standing.states c.args.front.now.phase c.args.front.now.taken c.args.rules.now old);
       seen = λ rule few above.
           let made = expected.collected.within (get_or c.expect.new.self.same_u.items rule 0) in
           absurd (omega (arith, made, above, c.len-since.ensures, c.expect.new.self.items.ok));
@@ -30,12 +30,12 @@ loop-rule-preserved-then-has g c =
     let rules = c.args.rules.now in
     let rule = get_or rules c.loop-rule.rule-index 0 in
     let is : rule ≡ get_or rules c.loop-rule.rule-index rule = get_or_default rules c.loop-rule.rule-index 0 rule c.loop-rule-test.true in
-    let place = c.args.place.now in
-    let few = possible_number c.args.lexicon.now c.args.line.now (numbered_of c.args.lexicon.now place) c.args.phase c.args.taken c.args.rules.now c.loop-rule.rule-index rule
+    let place = c.args.here.site.place.now in
+    let few = possible_number c.args.here.site.lexicon.now c.args.here.site.line.now (numbered_of c.args.here.site.lexicon.now place) c.args.front.now.phase c.args.front.now.taken c.args.rules.now c.loop-rule.rule-index rule
     c.loop-rule-test.true is c.requires.possible in
     record {
       collected = inv.collected;
-      adds = rule_seen c.args.lexicon.now c.args.line.now c.args.choices.now c.args.table.now place.at place.entrance c.args.states c.args.phase c.args.taken c.args.rules.now
+      adds = rule_seen c.args.here.site.lexicon.now c.args.here.site.line.now c.args.here.site.choices.now c.args.standing.table.now place.at place.entrance c.args.standing.states c.args.front.now.phase c.args.front.now.taken c.args.rules.now
           c.loop-rule.rule-index rule c.loop-rule-test.true is c.args.collected.now.items.items c.loop-rule.collected.items.items
           (inv.seen rule few (c.has.ensures.0 c.if-has.true)) inv.adds;
       seen = inv.seen;
@@ -49,10 +49,10 @@ loop-rule-preserved g c =
     let rules = c.args.rules.now in
     let rule = get_or rules c.loop-rule.rule-index 0 in
     let is : rule ≡ get_or rules c.loop-rule.rule-index rule = get_or_default rules c.loop-rule.rule-index 0 rule c.loop-rule-test.true in
-    let place = c.args.place.now in
+    let place = c.args.here.site.place.now in
     record {
       collected = c.in_ok-collect_key.ensures.collected;
-      adds = rule_more c.args.lexicon.now c.args.line.now c.args.choices.now c.args.table.now place.at place.entrance c.args.states c.args.phase c.args.taken c.args.rules.now
+      adds = rule_more c.args.here.site.lexicon.now c.args.here.site.line.now c.args.here.site.choices.now c.args.standing.table.now place.at place.entrance c.args.standing.states c.args.front.now.phase c.args.front.now.taken c.args.rules.now
           c.loop-rule.rule-index rule c.loop-rule-test.true is c.args.collected.now.items.items c.loop-rule.collected.items.items c.collect_key.new.collected.items.items
           inv.adds c.in_ok-collect_key.ensures.adds;
       seen = c.in_ok-collect_key.ensures.seen c.len-since.result inv.seen;

@@ -6,7 +6,7 @@ use Rattle.summary_chart.proofs.collecting.collect_ways.Goals as goal
 pub loop-way-init : goal.loop-way-init
 loop-way-init g c = record {
   collected = c.requires.collected;
-  adds = items_at_first c.args.lexicon.now c.args.line.now c.args.choices.now c.args.table.now c.args.place.now c.args.states c.args.ways.now
+  adds = items_at_first c.args.site.lexicon.now c.args.site.line.now c.args.site.choices.now c.args.standing.table.now c.args.site.place.now c.args.standing.states c.args.ways.now
       c.args.collected.now.items.items;
   spent = omega arith;
   counted = omega arith;
@@ -17,7 +17,7 @@ loop-way-preserved g c =
     let inv = c.loop-way.invariant in
     record {
       collected = c.in_ok-collect_way.ensures.collected;
-      adds = items_more c.args.lexicon.now c.args.line.now c.args.choices.now c.args.table.now c.args.place.now c.args.states c.args.ways.now c.loop-way.way-index
+      adds = items_more c.args.site.lexicon.now c.args.site.line.now c.args.site.choices.now c.args.standing.table.now c.args.site.place.now c.args.standing.states c.args.ways.now c.loop-way.way-index
           c.way-item.result (record { below = c.loop-way-test.true; is = c.way-item.is })
           c.args.collected.now.items.items c.loop-way.collected.items.items c.collect_way.new.collected.items.items inv.adds c.in_ok-collect_way.ensures.adds;
       spent = omega (arith, inv.spent, c.tick.ensures, c.collect_way.ensures.steps);
@@ -26,5 +26,5 @@ loop-way-preserved g c =
 
 pub returns-clause-adds : goal.returns-clause-adds
 returns-clause-adds g c =
-    items_at_last c.args.lexicon.now c.args.line.now c.args.choices.now c.args.table.now c.args.place.now c.args.states c.args.ways.now c.loop-way.way-index
+    items_at_last c.args.site.lexicon.now c.args.site.line.now c.args.site.choices.now c.args.standing.table.now c.args.site.place.now c.args.standing.states c.args.ways.now c.loop-way.way-index
     c.loop-way-test.false c.requires.all c.args.collected.now.items.items c.loop-way.collected.items.items c.loop-way.invariant.adds

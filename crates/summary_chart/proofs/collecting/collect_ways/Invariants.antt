@@ -6,8 +6,8 @@ use Rattle.summary_chart.proofs.collecting.collect_ways.Given as goal
 
 abbrev pub invariant-loop-way : goal.invariant-loop-way
 invariant-loop-way g l = record {
-  collected : IsCollected l.lexicon.lexicon.rules l.collected;
-  adds : AddsItems (IsItemAmongFirst l.lexicon l.line l.choices l.table l.place l.states l.ways l.way-index) l.fn.collected.items.items l.collected.items.items;
+  collected : IsCollected l.site.lexicon.now.lexicon.rules l.collected;
+  adds : AddsItems (IsItemAmongFirst l.site.lexicon.now l.site.line.now l.site.choices.now l.standing.table.now l.site.place.now l.standing.states l.ways l.way-index) l.fn.collected.items.items l.collected.items.items;
   spent : l.steps ≤ l.fn.steps + 3 * l.way-index;
   counted : l.fn.steps + l.way-index ≤ l.steps;
 }

@@ -15,9 +15,9 @@ use Rattle.summary_chart.proofs.collecting.put_item.Goals as goal
 
 pub overflow_cast-step : goal.overflow_cast-step
 overflow_cast-step g c =
-    let rules = c.args.lexicon.now.lexicon.rules in
-    let entrance = c.args.place.now.entrance in
-    let short = short_supplied rules entrance c.requires.searched.limits c.requires.place.over in
+    let rules = c.args.site.lexicon.now.lexicon.rules in
+    let entrance = c.args.site.place.now.entrance in
+    let short = short_supplied rules entrance c.requires.site.searched.limits c.requires.site.place.over in
     let is : c.supplied_letters.result.now ≡ supplied (entrance_of (leads_of rules.rules) entrance) =
     c.supplied_letters.ensures ∙ ap (λ (r : RuleSet). supplied (entrance_of (leads_of r.rules) entrance)) c.rules-rules.ensures.value in
     let same = ap length is in
@@ -25,9 +25,9 @@ overflow_cast-step g c =
 
 pub returns-clause-items : goal.returns-clause-items
 returns-clause-items g c =
-    let searched = c.args.lexicon.now in
-    let line = c.args.line.now in
-    let place = c.args.place.now in
+    let searched = c.args.site.lexicon.now in
+    let line = c.args.site.line.now in
+    let place = c.args.site.place.now in
     let key = key_meant c.args.key in
     let with_rules : RuleSet → Item = λ rules. item_of (placed_at rules line place.at (entrance_of (leads_of rules.rules) place.entrance) key) in
     let is : c.in_ok-item.item ≡ item_with searched line place.at place.entrance key = c.in_ok-item.ensures.ok ∙ ap with_rules c.rules-rules.ensures.value in

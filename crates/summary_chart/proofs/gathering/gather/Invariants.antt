@@ -12,11 +12,11 @@ use Rattle.summary_chart.proofs.gathering.gather.Given as goal
 
 abbrev pub invariant-loop-phase : goal.invariant-loop-phase
 invariant-loop-phase g l = record {
-  end : l.phase-end ≡ length (rules_in l.lexicon).names;
-  low : l.phase ≤ length (rules_in l.lexicon).names;
+  end : l.phase-end ≡ length (rules_in l.site.lexicon.now).names;
+  low : l.phase ≤ length (rules_in l.site.lexicon.now).names;
   gathers : (empty : StateSet) → ((number : ℕ) → HasState empty number → ⊥)
-      → GathersMore l.lexicon l.line l.choices l.table l.place.at l.place.entrance l.states (IsEarlier l.phase) empty l.gathered;
-  memo : AreLiving l.lexicon l.line l.table l.memo;
-  ends : EndFrom l.place.at l.fn.memo → EndFrom l.place.at l.memo;
-  spent : (most : ℕ) → HasAtMostRules l.lexicon.tries most → l.steps ≤ l.fn.steps + l.phase * (1 + steps_of_fronts most);
+      → GathersMore l.site.lexicon.now l.site.line.now l.site.choices.now l.table l.site.place.now.at l.site.place.now.entrance l.states (IsEarlier l.phase) empty l.gathered;
+  memo : AreLiving l.site.lexicon.now l.site.line.now l.table l.room.memo;
+  ends : EndFrom l.site.place.now.at l.fn.room.memo → EndFrom l.site.place.now.at l.room.memo;
+  spent : (most : ℕ) → HasAtMostRules l.site.lexicon.now.tries most → l.steps ≤ l.fn.steps + l.phase * (1 + steps_of_fronts most);
 }

@@ -4,29 +4,33 @@ use Rattle.lexicon_definitions.specs.Tries.{Trie, row_of}
 use Rattle.annotated_trie.specs.Choices.{AnnotatedTrie}
 use Rattle.search_frames.specs.Frames.{numbered_of}
 use Rattle.summary_chart.specs.declared.state_set.StateSet.{StateSet}
+use Rattle.summary_chart.specs.Spreading.{OnlyKey}
+use Rattle.summary_chart.specs.Summaries.{key_with}
 use Rattle.summary_chart.proofs.FrontKeys.{front_node, unchanged_possible}
 use Rattle.summary_chart.proofs.VisitedKeys.{visit_not_unchanged}
-use Rattle.summary_chart.proofs.Visits.{gather_visit}
+use Rattle.summary_chart.proofs.Visits.{gather_visit, all_further}
 use Rattle.summary_chart.proofs.gathering.gather_unchanged.Goals as goal
 
 pub accepts-requires : goal.accepts-requires
 accepts-requires c =
-    let searched = c.args.lexicon.now in
-    subst (λ (t : Trie). c.args.node < length t.rows) (sym (c.store.ensures ∙ ap (λ (t : AnnotatedTrie). t.trie) c.tries.ensures.value))
-    (front_node searched c.requires.searched c.args.line.now (numbered_of searched c.args.place.now) c.args.phase c.args.taken c.args.node c.requires.front)
+    let searched = c.args.here.site.lexicon.now in
+    subst (λ (t : Trie). c.args.front.now.node < length t.rows) (sym (c.store.ensures ∙ ap (λ (t : AnnotatedTrie). t.trie) c.tries.ensures.value))
+    (front_node searched c.requires.here.site.searched c.args.here.site.line.now (numbered_of searched c.args.here.site.place.now) c.args.front.now.phase c.args.front.now.taken c.args.front.now.node c.requires.front)
 
-pub gather_key-requires-clause-possible : goal.gather_key-requires-clause-possible
-gather_key-requires-clause-possible c =
-    let searched = c.args.lexicon.now in
+pub states_by_key-requires-clause-possible : goal.states_by_key-requires-clause-possible
+states_by_key-requires-clause-possible c =
+    let searched = c.args.here.site.lexicon.now in
     let trie : c.store.result.now ≡ searched.tries.trie = c.store.ensures ∙ ap (λ (t : AnnotatedTrie). t.trie) c.tries.ensures.value in
-    unchanged_possible searched c.requires.searched c.args.line.now (numbered_of searched c.args.place.now) c.args.phase c.args.taken c.args.node c.requires.front
-    (subst (λ (t : Trie). (row_of t.rows c.args.node).deltas ≢ []) trie (c.accepts.ensures.0 c.if-not-accepts.false))
+    unchanged_possible searched c.requires.here.site.searched c.args.here.site.line.now (numbered_of searched c.args.here.site.place.now) c.args.front.now.phase c.args.front.now.taken c.args.front.now.node c.requires.front
+    (subst (λ (t : Trie). (row_of t.rows c.args.front.now.node).deltas ≢ []) trie (c.accepts.ensures.0 c.if-not-accepts.false))
 
 pub returns-then-not-accepts : goal.returns-then-not-accepts
 returns-then-not-accepts c =
-    let searched = c.args.lexicon.now in
+    let searched = c.args.here.site.lexicon.now in
     let trie : c.store.result.now ≡ searched.tries.trie = c.store.ensures ∙ ap (λ (t : AnnotatedTrie). t.trie) c.tries.ensures.value in
-    visit_not_unchanged searched c.args.line.now c.args.choices.now c.args.place.now c.args.states StateSet
-    (gather_visit searched c.args.line.now c.args.choices.now c.args.place.now c.args.states c.args.table.now) c.requires.searched c.args.phase c.args.taken c.args.node
-    c.requires.front c.args.further
-    (λ ends. (let yes = c.accepts.ensures.1 (subst (λ (t : Trie). (row_of t.rows c.args.node).deltas ≢ []) (sym trie) ends) in let no = c.if-not-accepts.true in cc (yes, no)))
+    all_further searched c.args.here.site.line.now c.args.here.site.choices.now c.args.here.site.place.now c.args.states c.args.table.now
+    (OnlyKey (key_with c.args.front.now.phase c.args.front.now.taken 0)) c.empty.result c.empty.result c.empty.ensures.none
+    (visit_not_unchanged searched c.args.here.site.line.now c.args.here.site.choices.now c.args.here.site.place.now c.args.states StateSet
+    (gather_visit searched c.args.here.site.line.now c.args.here.site.choices.now c.args.here.site.place.now c.args.states c.args.table.now) c.requires.here.site.searched c.args.front.now.phase c.args.front.now.taken c.args.front.now.node
+    c.requires.front c.empty.result
+    (λ ends. (let yes = c.accepts.ensures.1 (subst (λ (t : Trie). (row_of t.rows c.args.front.now.node).deltas ≢ []) (sym trie) ends) in let no = c.if-not-accepts.true in cc (yes, no))))

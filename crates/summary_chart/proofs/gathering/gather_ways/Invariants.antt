@@ -10,6 +10,6 @@ abbrev pub invariant-loop-way : goal.invariant-loop-way
 invariant-loop-way g l = record {
   low : l.way-index ≤ length l.ways;
   gathers : (empty : StateSet) → ((number : ℕ) → HasState empty number → ⊥)
-      → GathersMore l.lexicon l.line l.choices l.table l.place.at l.place.entrance l.states (IsAmongFirst l.way-index l.ways) empty l.further;
+      → GathersMore l.site.lexicon.now l.site.line.now l.site.choices.now l.table l.site.place.now.at l.site.place.now.entrance l.states (IsAmongFirst l.way-index l.ways) empty l.further;
   spent : l.steps ≡ l.fn.steps + l.way-index;
 }

@@ -17,25 +17,25 @@ get-requires-clause-nodes g c = subst (λ (t : AnnotatedTrie). HasNodes t c.args
 
 pub returns-in-Some-clause-living : goal.returns-in-Some-clause-living
 returns-in-Some-clause-living g c =
-    let searched = c.args.lexicon.now in
+    let searched = c.args.site.lexicon.now in
     let (done, known, same, states) = c.in-Some.ensures in
-    same_work searched c.args.line.now c.args.table.now done c.args.work.now c.in-Some.states
+    same_work searched c.args.site.line.now c.args.table.now done c.args.work.now c.in-Some.states
     (subst (λ (t : AnnotatedTrie). IsSameWork t done.work c.args.work.now) c.tries-tries.ensures.value same) states (c.requires.memo.living done known)
 
 pub living_by_rules-requires-clause-rules : goal.living_by_rules-requires-clause-rules
 living_by_rules-requires-clause-rules g c =
-    let searched = c.args.lexicon.now in
+    let searched = c.args.site.lexicon.now in
     let node = c.args.work.now.node in
     let Named = λ (rule : ℕ). (0 < rule) × (rule ≤ length (rules_in searched).rules) in
     let rules : c.choices_with-rules.result.now ≡ choices_with searched.tries node c.args.letter =
     c.choices_with-rules.ensures.value ∙ ap (λ (t : AnnotatedTrie). choices_with t node c.args.letter) c.tries-tries.ensures.value in
     subst (All Named) (sym rules)
     (All-from_Contains Named (choices_with searched.tries node c.args.letter)
-    (λ rule among. choice_number searched node rule c.requires.searched c.requires.node (choice_if_written searched.tries node c.args.letter rule among)))
+    (λ rule among. choice_number searched node rule c.requires.site.searched c.requires.node (choice_if_written searched.tries node c.args.letter rule among)))
 
 pub returns-in_err-keep-clause-steps : goal.returns-in_err-keep-clause-steps
 returns-in_err-keep-clause-steps g c most few =
-    let searched = c.args.lexicon.now in
+    let searched = c.args.site.lexicon.now in
     let node = c.args.work.now.node in
     let rules : c.choices_with-rules.result.now ≡ choices_with searched.tries node c.args.letter =
     c.choices_with-rules.ensures.value ∙ ap (λ (t : AnnotatedTrie). choices_with t node c.args.letter) c.tries-tries.ensures.value in
@@ -46,7 +46,7 @@ returns-in_err-keep-clause-steps g c most few =
 
 pub returns-in_err-living-clause-steps : goal.returns-in_err-living-clause-steps
 returns-in_err-living-clause-steps g c most few =
-    let searched = c.args.lexicon.now in
+    let searched = c.args.site.lexicon.now in
     let node = c.args.work.now.node in
     let rules : c.choices_with-rules.result.now ≡ choices_with searched.tries node c.args.letter =
     c.choices_with-rules.ensures.value ∙ ap (λ (t : AnnotatedTrie). choices_with t node c.args.letter) c.tries-tries.ensures.value in
@@ -57,15 +57,15 @@ returns-in_err-living-clause-steps g c most few =
 
 pub returns-clause-memo : goal.returns-clause-memo
 returns-clause-memo g c =
-    let searched = c.args.lexicon.now in
+    let searched = c.args.site.lexicon.now in
     let work = c.args.work.now in
     let living = c.in_ok-living.living in
     let rules : c.choices_with-rules.result.now ≡ choices_with searched.tries work.node c.args.letter =
     c.choices_with-rules.ensures.value ∙ ap (λ (t : AnnotatedTrie). choices_with t work.node c.args.letter) c.tries-tries.ensures.value in
-    let are = lives_written searched c.args.line.now c.args.table.now work c.args.letter c.requires.searched c.requires.node c.requires.end c.requires.letter living
-    (subst (λ (some : List ℕ). (number : ℕ) → HasState living number ↔ LivesBy searched c.args.line.now c.args.table.now work (Contains some) number)
+    let are = lives_written searched c.args.site.line.now c.args.table.now work c.args.letter c.requires.site.searched c.requires.node c.requires.end c.requires.letter living
+    (subst (λ (some : List ℕ). (number : ℕ) → HasState living number ↔ LivesBy searched c.args.site.line.now c.args.table.now work (Contains some) number)
     rules c.in_ok-living.ensures.living) in
-    living_kept searched c.args.line.now c.args.table.now work living c.args.memo.now c.keep.new.self c.requires.memo c.requires.node are c.in_ok-keep.ensures.keeps
+    living_kept searched c.args.site.line.now c.args.table.now work living c.args.memo.now c.keep.new.self c.requires.memo c.requires.node are c.in_ok-keep.ensures.keeps
     (subst (AreEffects (rules_in searched)) (sym c.in_ok-keep.ensures.effects) c.in_ok-living.ensures.effects)
 
 pub returns-clause-ends : goal.returns-clause-ends
@@ -74,18 +74,18 @@ returns-clause-ends g c at low ends =
 
 pub returns-clause-living : goal.returns-clause-living
 returns-clause-living g c =
-    let searched = c.args.lexicon.now in
+    let searched = c.args.site.lexicon.now in
     let work = c.args.work.now in
     let living = c.in_ok-living.living in
     let rules : c.choices_with-rules.result.now ≡ choices_with searched.tries work.node c.args.letter =
     c.choices_with-rules.ensures.value ∙ ap (λ (t : AnnotatedTrie). choices_with t work.node c.args.letter) c.tries-tries.ensures.value in
-    lives_written searched c.args.line.now c.args.table.now work c.args.letter c.requires.searched c.requires.node c.requires.end c.requires.letter living
-    (subst (λ (some : List ℕ). (number : ℕ) → HasState living number ↔ LivesBy searched c.args.line.now c.args.table.now work (Contains some) number)
+    lives_written searched c.args.site.line.now c.args.table.now work c.args.letter c.requires.site.searched c.requires.node c.requires.end c.requires.letter living
+    (subst (λ (some : List ℕ). (number : ℕ) → HasState living number ↔ LivesBy searched c.args.site.line.now c.args.table.now work (Contains some) number)
     rules c.in_ok-living.ensures.living)
 
 pub returns-clause-steps : goal.returns-clause-steps
 returns-clause-steps g c most few =
-    let searched = c.args.lexicon.now in
+    let searched = c.args.site.lexicon.now in
     let node = c.args.work.now.node in
     let rules : c.choices_with-rules.result.now ≡ choices_with searched.tries node c.args.letter =
     c.choices_with-rules.ensures.value ∙ ap (λ (t : AnnotatedTrie). choices_with t node c.args.letter) c.tries-tries.ensures.value in

@@ -12,7 +12,7 @@ loop-rule-init g c = record {
   low = omega arith;
   effects = subst (λ (rules : RuleSet). AreEffects rules c.begin.new.self) c.rules.ensures.value c.in_ok-begin.ensures.effects;
   looked = subst (λ (rules : RuleSet). HaveLooked rules [] c.begin.new.self) c.rules.ensures.value c.in_ok-begin.ensures.none;
-  living = lives_first c.args.lexicon.now c.args.line.now c.args.table.now c.args.work.now c.args.rules.now c.empty-living.result c.empty-living.ensures.none;
+  living = lives_first c.args.site.lexicon.now c.args.site.line.now c.args.table.now c.args.work.now c.args.rules.now c.empty-living.result c.empty-living.ensures.none;
   spent = omega arith;
 }
 
@@ -25,7 +25,7 @@ pub loop-rule-preserved-then-repeats : goal.loop-rule-preserved-then-repeats
 loop-rule-preserved-then-repeats g c =
     let inv = c.loop-rule.invariant in
     let rules = c.args.rules.now in
-    let set = c.args.lexicon.now.lexicon.rules in
+    let set = c.args.site.lexicon.now.lexicon.rules in
     let rule = get_or rules c.loop-rule.rule-index 0 in
     let is : rule ≡ get_or rules c.loop-rule.rule-index rule = get_or_default rules c.loop-rule.rule-index 0 rule c.loop-rule-test.true in
     let value = c.rules-in-loop-rule.ensures.value in
@@ -38,7 +38,7 @@ loop-rule-preserved-then-repeats g c =
           (sym (take_more rules c.loop-rule.rule-index rule c.loop-rule-test.true ∙ ap (λ (r : ℕ). take c.loop-rule.rule-index rules ++ r ∷ []) (sym is)))
           (subst (λ (s : RuleSet). HaveLooked s (take c.loop-rule.rule-index rules ++ rule ∷ []) c.repeats.new.self) value
           (c.repeats.ensures.looked (take c.loop-rule.rule-index rules) have));
-      living = lives_passed rules c.loop-rule.rule-index rule c.loop-rule-test.true is one.0 one.1 c.args.lexicon.now c.args.line.now c.args.table.now
+      living = lives_passed rules c.loop-rule.rule-index rule c.loop-rule-test.true is one.0 one.1 c.args.site.lexicon.now c.args.site.line.now c.args.table.now
           c.args.work.now (subst (λ (s : RuleSet). DoSame s one.0 rule) value one.2) c.loop-rule.living inv.living;
       spent = omega (arith, inv.spent, c.tick.ensures);
     }
@@ -47,7 +47,7 @@ pub loop-rule-preserved : goal.loop-rule-preserved
 loop-rule-preserved g c =
     let inv = c.loop-rule.invariant in
     let rules = c.args.rules.now in
-    let set = c.args.lexicon.now.lexicon.rules in
+    let set = c.args.site.lexicon.now.lexicon.rules in
     let rule = get_or rules c.loop-rule.rule-index 0 in
     let is : rule ≡ get_or rules c.loop-rule.rule-index rule = get_or_default rules c.loop-rule.rule-index 0 rule c.loop-rule-test.true in
     let value = c.rules-in-loop-rule.ensures.value in
@@ -59,7 +59,7 @@ loop-rule-preserved g c =
           (sym (take_more rules c.loop-rule.rule-index rule c.loop-rule-test.true ∙ ap (λ (r : ℕ). take c.loop-rule.rule-index rules ++ r ∷ []) (sym is)))
           (subst (λ (s : RuleSet). HaveLooked s (take c.loop-rule.rule-index rules ++ rule ∷ []) c.repeats.new.self) value
           (c.repeats.ensures.looked (take c.loop-rule.rule-index rules) have));
-      living = lives_more c.args.lexicon.now c.args.line.now c.args.table.now c.args.work.now rules c.loop-rule.rule-index rule c.loop-rule-test.true is
+      living = lives_more c.args.site.lexicon.now c.args.site.line.now c.args.table.now c.args.work.now rules c.loop-rule.rule-index rule c.loop-rule-test.true is
           c.loop-rule.living c.living_by_rule.result c.union-living.result inv.living c.living_by_rule.ensures c.union-living.ensures;
       spent = omega (arith, inv.spent, c.tick.ensures);
     }
@@ -67,5 +67,5 @@ loop-rule-preserved g c =
 pub returns-clause-living : goal.returns-clause-living
 returns-clause-living g c =
     let inv = c.loop-rule.invariant in
-    lives_all c.args.lexicon.now c.args.line.now c.args.table.now c.args.work.now c.args.rules.now c.loop-rule.rule-index c.loop-rule-test.false
+    lives_all c.args.site.lexicon.now c.args.site.line.now c.args.table.now c.args.work.now c.args.rules.now c.loop-rule.rule-index c.loop-rule-test.false
     c.loop-rule.living inv.living

@@ -9,8 +9,8 @@ use Rattle.summary_chart.proofs.gathering.living_by_rules.Given as goal
 abbrev pub invariant-loop-rule : goal.invariant-loop-rule
 invariant-loop-rule g l = record {
   low : l.rule-index ≤ length l.rules;
-  effects : AreEffects l.lexicon.lexicon.rules l.effects;
-  looked : HaveLooked l.lexicon.lexicon.rules (take l.rule-index l.rules) l.effects;
-  living : (number : ℕ) → HasState l.living number ↔ LivesBy l.lexicon l.line l.table l.work (Contains (take l.rule-index l.rules)) number;
+  effects : AreEffects l.site.lexicon.now.lexicon.rules l.effects;
+  looked : HaveLooked l.site.lexicon.now.lexicon.rules (take l.rule-index l.rules) l.effects;
+  living : (number : ℕ) → HasState l.living number ↔ LivesBy l.site.lexicon.now l.site.line.now l.table l.work (Contains (take l.rule-index l.rules)) number;
   spent : l.steps ≡ l.fn.steps + l.rule-index;
 }

@@ -11,23 +11,23 @@ use Rattle.summary_chart.proofs.gathering.states_by_key.Goals as goal
 pub get-requires : goal.get-requires
 get-requires c =
     let may = c.in-LeadsOn.ensures.exact in
-    has_set (leads_in c.args.lexicon.now) (length c.args.line.now.letters) c.args.table.now c.in-LeadsOn.at c.in-LeadsOn.entrance c.requires.table may.within may.over
+    has_set (leads_in c.args.here.site.lexicon.now) (length c.args.here.site.line.now.letters) c.args.table.now c.in-LeadsOn.at c.in-LeadsOn.entrance c.requires.table may.within may.over
 
 pub returns-in-Refused : goal.returns-in-Refused
 returns-in-Refused c =
-    further_neither c.args.lexicon.now c.args.line.now c.args.choices.now c.args.table.now c.args.place.now c.args.states (key_meant c.args.key)
+    further_neither c.args.here.site.lexicon.now c.args.here.site.line.now c.args.here.site.choices.now c.args.table.now c.args.here.site.place.now c.args.states (key_meant c.args.key)
     c.empty.result c.in-Refused.ensures.exact c.empty.ensures.none
 
 pub returns-in-Ends : goal.returns-in-Ends
 returns-in-Ends c =
     let accepted = subst (λ (machine : StateMachine). (number : ℕ) → HasState c.accepted_states.result number ↔ IsAcceptedBy machine c.args.states c.args.key.phase number)
     c.automaton-automaton.ensures.value c.accepted_states.ensures in
-    further_ends c.args.lexicon.now c.args.line.now c.args.choices.now c.args.table.now c.args.place.now c.args.states (key_meant c.args.key)
+    further_ends c.args.here.site.lexicon.now c.args.here.site.line.now c.args.here.site.choices.now c.args.table.now c.args.here.site.place.now c.args.states (key_meant c.args.key)
     c.accepted_states.result c.in-Ends.ensures.exact accepted
 
 pub returns-in-LeadsOn : goal.returns-in-LeadsOn
 returns-in-LeadsOn c =
     let into = subst (λ (machine : StateMachine). (number : ℕ) → HasState c.states_into.result number ↔ LeadsInto machine c.args.states c.args.key.phase c.get.result number)
     c.automaton-automaton.ensures.value c.states_into.ensures in
-    further_on c.args.lexicon.now c.args.line.now c.args.choices.now c.args.table.now c.args.place.now c.args.states (key_meant c.args.key) c.in-LeadsOn.at c.in-LeadsOn.entrance
+    further_on c.args.here.site.lexicon.now c.args.here.site.line.now c.args.here.site.choices.now c.args.table.now c.args.here.site.place.now c.args.states (key_meant c.args.key) c.in-LeadsOn.at c.in-LeadsOn.entrance
     c.get.result c.states_into.result c.in-LeadsOn.ensures.exact c.get.ensures.entrance c.get.ensures.set into

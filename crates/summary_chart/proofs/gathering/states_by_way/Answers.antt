@@ -10,10 +10,10 @@ use Rattle.summary_chart.proofs.gathering.states_by_way.Goals as goal
 
 pub returns-in-LeadsOn : goal.returns-in-LeadsOn
 returns-in-LeadsOn c =
-    let searched = c.args.lexicon.now in
-    let line = c.args.line.now in
-    let choices = c.args.choices.now in
-    let place = c.args.place.now in
+    let searched = c.args.site.lexicon.now in
+    let line = c.args.site.line.now in
+    let choices = c.args.site.choices.now in
+    let place = c.args.site.place.now in
     let may = way_may_lead searched line choices (numbered_of searched place) c.args.way.now c.in-LeadsOn.at c.in-LeadsOn.entrance c.requires.way c.in-LeadsOn.is in
     let into = subst (λ (machine : StateMachine). (number : ℕ) → HasState c.states_into.result number ↔ LeadsInto machine c.args.states c.args.way.now.key.phase c.get.result number)
     c.automaton-automaton.ensures.value c.states_into.ensures in

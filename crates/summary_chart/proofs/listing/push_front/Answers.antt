@@ -1,131 +1,93 @@
 -- What may stand after the front is no change, where a form ends there, and the choices that begin with the next letter (`OrderedKeys`).
-use Rattle.std.proofs.Common.{◌≡◌, ◌≢◌, ℕ, ◌+◌, ◌<◌, ◌≤◌, [], List, length, All, get_or, sym, ap, subst, ◌∙◌, arith}
+use Rattle.std.proofs.Common.{◌≡◌, ℕ, ◌+◌, ◌<◌, ◌≤◌, List, length, All, get_or, sym, ap, subst, ◌∙◌, arith}
 use Rattle.std.specs.Ordering.{nat_cmp}
 use Rattle.std.specs.List.Sorted.{IsStrictlySortedBy}
 use Rattle.std.proofs.lemmas.Result.{on_ok_weaker}
 use Rattle.phoneme.specs.declared.line.Line.{Line}
-use Rattle.lexicon_definitions.specs.Tries.{Trie, row_of}
 use Rattle.annotated_trie.specs.Choices.{AnnotatedTrie, choices_with}
 use Rattle.search_frames.specs.Configurations.{IsPossible}
 use Rattle.search_frames.specs.Frames.{numbered_of}
 use Rattle.search_frames.proofs.GroupedRules.{group_rises}
 use Rattle.summary_chart.specs.PlaceWays.{AppendsWays}
-use Rattle.summary_chart.specs.Spreading.{OnlyKey, IsByRule}
+use Rattle.summary_chart.specs.Spreading.{IsByRule}
 use Rattle.summary_chart.specs.Summaries.{key_with}
-use Rattle.summary_chart.proofs.FrontKeys.{front_node, unchanged_possible, choices_possible, few_written}
-use Rattle.summary_chart.proofs.OrderedKeys.{append_not_unchanged, append_without_letter, append_with_letter}
+use Rattle.summary_chart.proofs.FrontKeys.{front_node, choices_possible, few_written}
+use Rattle.summary_chart.proofs.OrderedKeys.{append_without_letter, append_with_letter}
 use Rattle.summary_chart.proofs.listing.push_front.Goals as goal
-use Rattle.summary_chart.proofs.listing.push_front.Goals.{then-accepts+in_ok-push_key, else-accepts}
-
-pub accepts-requires : goal.accepts-requires
-accepts-requires g c =
-    let searched = c.args.lexicon.now in
-    subst (λ (t : Trie). c.args.node < length t.rows) (sym (c.store.ensures ∙ ap (λ (t : AnnotatedTrie). t.trie) c.tries-tries.ensures.value))
-    (front_node searched c.requires.searched c.args.line.now (numbered_of searched c.args.place.now) c.args.phase c.args.taken c.args.node c.requires.front)
-
-pub push_key-requires-clause-possible : goal.push_key-requires-clause-possible
-push_key-requires-clause-possible g c =
-    let searched = c.args.lexicon.now in
-    let trie : c.store.result.now ≡ searched.tries.trie = c.store.ensures ∙ ap (λ (t : AnnotatedTrie). t.trie) c.tries-tries.ensures.value in
-    unchanged_possible searched c.requires.searched c.args.line.now (numbered_of searched c.args.place.now) c.args.phase c.args.taken c.args.node c.requires.front
-    (subst (λ (t : Trie). (row_of t.rows c.args.node).deltas ≢ []) trie (c.accepts.ensures.0 c.if-accepts.true))
 
 pub returns-in_default-clause-appends : goal.returns-in_default-clause-appends
 returns-in_default-clause-appends g c =
-    let searched = c.args.lexicon.now in
-    let line = c.args.line.now in
-    let choices = c.args.choices.now in
-    let place = c.args.place.now in
-    let here = numbered_of searched place in
-    let node = c.args.node in
-    let trie : c.store.result.now ≡ searched.tries.trie = c.store.ensures ∙ ap (λ (t : AnnotatedTrie). t.trie) c.tries-tries.ensures.value in
-    let before = c.args.ways.now.items in
-    let unchanged : AppendsWays searched line choices here (OnlyKey (key_with c.args.phase c.args.taken 0)) before c.if-accepts.ways.items =
-    elim c.if-accepts.branch [
-      | then-accepts+in_ok-push_key w ↦ subst (λ ways. AppendsWays searched line choices here (OnlyKey (key_with c.args.phase c.args.taken 0)) before ways.items)
-          (sym w.ways-is) w.in_ok-push_key.ensures.appends
-      | else-accepts w ↦ subst (λ ways. AppendsWays searched line choices here (OnlyKey (key_with c.args.phase c.args.taken 0)) before ways.items)
-          (sym w.ways-is)
-          (append_not_unchanged searched line choices here c.requires.searched c.args.phase c.args.taken node c.requires.front before
-          (λ ends. (let yes = c.accepts.ensures.1 (subst (λ (t : Trie). (row_of t.rows node).deltas ≢ []) (sym trie) ends) in let no = w.if-accepts.false in cc (yes, no))))
-    ] in
+    let site = c.args.here.site in
+    let searched = site.lexicon.now in
+    let line = site.line.now in
+    let front = c.args.front.now in
     let whole : c.as_slice.result.now ≡ line.letters = c.as_slice.ensures.value ∙ ap (λ (l : Line). l.letters) c.line.view_is in
     let past = c.in_default.ensures.lookup.3 in
     let long = ap length whole in
-    append_without_letter searched line choices here c.requires.searched c.args.phase c.args.taken node c.requires.front before c.if-accepts.ways.items
-    (omega (arith, past, long)) unchanged
+    append_without_letter searched line site.choices.now (numbered_of searched site.place.now) c.requires.here.site.searched front.phase front.taken front.node c.requires.front
+    c.args.ways.now.items c.push_unchanged.new.ways.items (omega (arith, past, long)) c.in_ok-push_unchanged.ensures.appends
 
 pub choices_with-rules-requires : goal.choices_with-rules-requires
 choices_with-rules-requires g c =
-    let searched = c.args.lexicon.now in
-    subst (λ (t : AnnotatedTrie). c.args.node < length t.trie.rows) (sym c.tries-tries.ensures.value)
-    (front_node searched c.requires.searched c.args.line.now (numbered_of searched c.args.place.now) c.args.phase c.args.taken c.args.node c.requires.front)
+    let site = c.args.here.site in
+    let searched = site.lexicon.now in
+    let front = c.args.front.now in
+    subst (λ (t : AnnotatedTrie). front.node < length t.trie.rows) (sym c.tries.ensures.value)
+    (front_node searched c.requires.here.site.searched site.line.now (numbered_of searched site.place.now) front.phase front.taken front.node c.requires.front)
 
 pub push_rules-requires-clause-possible : goal.push_rules-requires-clause-possible
 push_rules-requires-clause-possible g c =
-    let searched = c.args.lexicon.now in
-    let line = c.args.line.now in
-    let here = numbered_of searched c.args.place.now in
+    let site = c.args.here.site in
+    let searched = site.lexicon.now in
+    let here = numbered_of searched site.place.now in
+    let front = c.args.front.now in
     let letter = c.in-Some.letter.now in
-    let rules : c.choices_with-rules.result.now ≡ choices_with searched.tries c.args.node letter =
-    c.choices_with-rules.ensures.value ∙ ap (λ (t : AnnotatedTrie). choices_with t c.args.node letter) c.tries-tries.ensures.value in
-    subst (All (λ (rule : ℕ). IsPossible searched line here (key_with c.args.phase c.args.taken rule))) (sym rules)
-    (choices_possible searched c.requires.searched line here c.args.phase c.args.taken c.args.node c.requires.front letter)
+    let rules : c.choices_with-rules.result.now ≡ choices_with searched.tries front.node letter =
+    c.choices_with-rules.ensures.value ∙ ap (λ (t : AnnotatedTrie). choices_with t front.node letter) c.tries.ensures.value in
+    subst (All (λ (rule : ℕ). IsPossible searched site.line.now here (key_with front.phase front.taken rule))) (sym rules)
+    (choices_possible searched c.requires.here.site.searched site.line.now here front.phase front.taken front.node c.requires.front letter)
 
 pub push_rules-requires-clause-rising : goal.push_rules-requires-clause-rising
 push_rules-requires-clause-rising g c =
-    let searched = c.args.lexicon.now in
+    let site = c.args.here.site in
+    let searched = site.lexicon.now in
+    let front = c.args.front.now in
     let letter = c.in-Some.letter.now in
-    let there = front_node searched c.requires.searched c.args.line.now (numbered_of searched c.args.place.now) c.args.phase c.args.taken c.args.node c.requires.front in
-    let rules : c.choices_with-rules.result.now ≡ choices_with searched.tries c.args.node letter =
-    c.choices_with-rules.ensures.value ∙ ap (λ (t : AnnotatedTrie). choices_with t c.args.node letter) c.tries-tries.ensures.value in
-    subst (IsStrictlySortedBy nat_cmp) (sym rules) (group_rises searched c.requires.searched c.args.node letter there)
+    let there = front_node searched c.requires.here.site.searched site.line.now (numbered_of searched site.place.now) front.phase front.taken front.node c.requires.front in
+    let rules : c.choices_with-rules.result.now ≡ choices_with searched.tries front.node letter =
+    c.choices_with-rules.ensures.value ∙ ap (λ (t : AnnotatedTrie). choices_with t front.node letter) c.tries.ensures.value in
+    subst (IsStrictlySortedBy nat_cmp) (sym rules) (group_rises searched c.requires.here.site.searched front.node letter there)
 
 pub returns-clause-appends : goal.returns-clause-appends
 returns-clause-appends g c =
-    let searched = c.args.lexicon.now in
-    let line = c.args.line.now in
-    let choices = c.args.choices.now in
-    let place = c.args.place.now in
+    let site = c.args.here.site in
+    let searched = site.lexicon.now in
+    let line = site.line.now in
+    let place = site.place.now in
     let here = numbered_of searched place in
-    let node = c.args.node in
+    let front = c.args.front.now in
     let letter = c.in-Some.letter.now in
-    let trie : c.store.result.now ≡ searched.tries.trie = c.store.ensures ∙ ap (λ (t : AnnotatedTrie). t.trie) c.tries-tries.ensures.value in
-    let rules : c.choices_with-rules.result.now ≡ choices_with searched.tries node letter =
-    c.choices_with-rules.ensures.value ∙ ap (λ (t : AnnotatedTrie). choices_with t node letter) c.tries-tries.ensures.value in
-    let before = c.args.ways.now.items in
-    let mid = c.if-accepts.ways.items in
-    let unchanged : AppendsWays searched line choices here (OnlyKey (key_with c.args.phase c.args.taken 0)) before mid =
-    elim c.if-accepts.branch [
-      | then-accepts+in_ok-push_key w ↦ subst (λ ways. AppendsWays searched line choices here (OnlyKey (key_with c.args.phase c.args.taken 0)) before ways.items)
-          (sym w.ways-is) w.in_ok-push_key.ensures.appends
-      | else-accepts w ↦ subst (λ ways. AppendsWays searched line choices here (OnlyKey (key_with c.args.phase c.args.taken 0)) before ways.items)
-          (sym w.ways-is)
-          (append_not_unchanged searched line choices here c.requires.searched c.args.phase c.args.taken node c.requires.front before
-          (λ ends. (let yes = c.accepts.ensures.1 (subst (λ (t : Trie). (row_of t.rows node).deltas ≢ []) (sym trie) ends) in let no = w.if-accepts.false in cc (yes, no))))
-    ] in
+    let rules : c.choices_with-rules.result.now ≡ choices_with searched.tries front.node letter =
+    c.choices_with-rules.ensures.value ∙ ap (λ (t : AnnotatedTrie). choices_with t front.node letter) c.tries.ensures.value in
+    let mid = c.push_unchanged.new.ways.items in
     let whole : c.as_slice.result.now ≡ line.letters = c.as_slice.ensures.value ∙ ap (λ (l : Line). l.letters) c.line.view_is in
-    let next : letter ≡ get_or line.letters (place.at + c.args.taken) letter =
-    c.in-Some.ensures.lookup.1 ∙ ap (λ (letters : List ℕ). get_or letters (place.at + c.args.taken) letter) whole in
+    let next : letter ≡ get_or line.letters (place.at + front.taken) letter =
+    c.in-Some.ensures.lookup.1 ∙ ap (λ (letters : List ℕ). get_or letters (place.at + front.taken) letter) whole in
     on_ok_weaker c.push_rules.result
-    (λ changed. append_with_letter searched line choices here c.requires.searched c.args.phase c.args.taken node c.requires.front letter next
-    before mid c.push_rules.new.ways.items unchanged
-    (subst (λ (some : List ℕ). AppendsWays searched line choices here (IsByRule c.args.phase c.args.taken some) mid c.push_rules.new.ways.items) rules changed))
+    (λ changed. append_with_letter searched line site.choices.now here c.requires.here.site.searched front.phase front.taken front.node c.requires.front letter next
+    c.args.ways.now.items mid c.push_rules.new.ways.items c.in_ok-push_unchanged.ensures.appends
+    (subst (λ (some : List ℕ). AppendsWays searched line site.choices.now here (IsByRule front.phase front.taken some) mid c.push_rules.new.ways.items) rules changed))
     c.push_rules.ensures.appends
 
 pub returns-clause-steps : goal.returns-clause-steps
 returns-clause-steps g c most few =
-    let searched = c.args.lexicon.now in
+    let site = c.args.here.site in
+    let searched = site.lexicon.now in
+    let front = c.args.front.now in
     let letter = c.in-Some.letter.now in
-    let rules : c.choices_with-rules.result.now ≡ choices_with searched.tries c.args.node letter =
-    c.choices_with-rules.ensures.value ∙ ap (λ (t : AnnotatedTrie). choices_with t c.args.node letter) c.tries-tries.ensures.value in
+    let rules : c.choices_with-rules.result.now ≡ choices_with searched.tries front.node letter =
+    c.choices_with-rules.ensures.value ∙ ap (λ (t : AnnotatedTrie). choices_with t front.node letter) c.tries.ensures.value in
     let count = ap length rules in
-    let short = few_written searched.tries c.args.node letter in
-    let there = front_node searched c.requires.searched c.args.line.now (numbered_of searched c.args.place.now) c.args.phase c.args.taken c.args.node c.requires.front in
-    let all = few c.args.node there in
-    let first : c.if-accepts.steps ≤ c.args.steps.now + 2 =
-    elim c.if-accepts.branch [
-      | then-accepts+in_ok-push_key w ↦ omega (arith, w.steps-is, w.push_key.ensures.steps, c.tick.ensures)
-      | else-accepts w ↦ omega (arith, w.steps-is, c.tick.ensures)
-    ] in
-    omega (arith, first, c.choices_with-rules.ensures.steps, c.push_rules.ensures.steps, count, short, all)
+    let short = few_written searched.tries front.node letter in
+    let all = few front.node (front_node searched c.requires.here.site.searched site.line.now (numbered_of searched site.place.now) front.phase front.taken front.node c.requires.front) in
+    omega (arith, c.tick.ensures, c.push_unchanged.ensures.steps, c.choices_with-rules.ensures.steps, c.push_rules.ensures.steps, count, short, all)

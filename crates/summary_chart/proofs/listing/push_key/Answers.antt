@@ -9,15 +9,15 @@ use Rattle.summary_chart.proofs.listing.push_key.Goals as goal
 
 pub returns-in-Refused-clause-appends : goal.returns-in-Refused-clause-appends
 returns-in-Refused-clause-appends g c =
-    append_refused c.args.lexicon.now c.args.line.now c.args.choices.now (numbered_of c.args.lexicon.now c.args.place.now) (key_meant c.args.key)
+    append_refused c.args.here.site.lexicon.now c.args.here.site.line.now c.args.here.site.choices.now (numbered_of c.args.here.site.lexicon.now c.args.here.site.place.now) (key_meant c.args.key)
     c.args.ways.now.items c.in-Refused.ensures.exact
 
 pub returns-in_ok-push-in_default : goal.returns-in_ok-push-in_default
 returns-in_ok-push-in_default g c =
-    let searched = c.args.lexicon.now in
-    let line = c.args.line.now in
-    let choices = c.args.choices.now in
-    let here = numbered_of searched c.args.place.now in
+    let searched = c.args.here.site.lexicon.now in
+    let line = c.args.here.site.line.now in
+    let choices = c.args.here.site.choices.now in
+    let here = numbered_of searched c.args.here.site.place.now in
     let way : Way = record { key = c.args.key; test = c.test.result } in
     let is : IsWayFrom searched line choices here way = record {
       possible = c.requires.possible;

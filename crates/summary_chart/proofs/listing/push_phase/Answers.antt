@@ -19,15 +19,15 @@ one_less left each now then all spent more =
 
 pub loop-taken-init : goal.loop-taken-init
 loop-taken-init g c =
-    let searched = c.args.lexicon.now in
+    let searched = c.args.here.site.lexicon.now in
     let nodes = c.walk_fronts.new.nodes.items in
     let end : c.len-taken.result ≡ length nodes = omega (arith, c.len-taken.ensures, c.walk_fronts.new.nodes.ok) in
     record {
       fronts = c.in_ok-walk_fronts.ensures.fronts;
       low = omega (arith, end);
-      appends = subst (λ (n : ℕ). AppendsWays searched c.args.line.now c.args.choices.now (numbered_of searched c.args.place.now) (IsFromFront c.args.phase n) c.args.ways.now.items c.args.ways.now.items)
+      appends = subst (λ (n : ℕ). AppendsWays searched c.args.here.site.line.now c.args.here.site.choices.now (numbered_of searched c.args.here.site.place.now) (IsFromFront c.args.phase n) c.args.ways.now.items c.args.ways.now.items)
           (sym end)
-          (append_no_front searched c.args.line.now c.args.choices.now (numbered_of searched c.args.place.now) c.args.phase c.args.ahead c.requires.ahead nodes c.args.ways.now.items
+          (append_no_front searched c.args.here.site.line.now c.args.here.site.choices.now (numbered_of searched c.args.here.site.place.now) c.args.phase c.args.here.ahead c.requires.here.ahead nodes c.args.ways.now.items
           c.in_ok-walk_fronts.ensures.fronts);
       above = c.requires.first;
       few = c.requires.few;
@@ -44,20 +44,20 @@ push_front-requires-clause-limit g c =
 pub loop-taken-preserved : goal.loop-taken-preserved
 loop-taken-preserved g c =
     let inv = c.loop-taken.invariant in
-    let searched = c.args.lexicon.now in
-    let here = numbered_of searched c.args.place.now in
+    let searched = c.args.here.site.lexicon.now in
+    let here = numbered_of searched c.args.here.site.place.now in
     let taken = c.loop-taken.taken - 1 in
     let some = c.loop-taken-test.true in
     let low = inv.low in
     let above = inv.above in
     let next : c.loop-taken.taken ≡ taken + 1 = omega (arith, some) in
-    let longer = append_longer searched c.args.line.now c.args.choices.now here (IsAtFront c.args.phase taken) c.loop-taken.ways.items c.push_front.new.ways.items
+    let longer = append_longer searched c.args.here.site.line.now c.args.here.site.choices.now here (IsAtFront c.args.phase taken) c.loop-taken.ways.items c.push_front.new.ways.items
     c.in_ok-push_front.ensures.appends in
     record {
       fronts = inv.fronts;
       low = omega (arith, low);
-      appends = append_front searched c.args.line.now c.args.choices.now here c.args.phase taken c.args.ways.now.items c.loop-taken.ways.items c.push_front.new.ways.items
-          (subst (λ (n : ℕ). AppendsWays searched c.args.line.now c.args.choices.now here (IsFromFront c.args.phase n) c.args.ways.now.items c.loop-taken.ways.items) next inv.appends)
+      appends = append_front searched c.args.here.site.line.now c.args.here.site.choices.now here c.args.phase taken c.args.ways.now.items c.loop-taken.ways.items c.push_front.new.ways.items
+          (subst (λ (n : ℕ). AppendsWays searched c.args.here.site.line.now c.args.here.site.choices.now here (IsFromFront c.args.phase n) c.args.ways.now.items c.loop-taken.ways.items) next inv.appends)
           c.in_ok-push_front.ensures.appends;
       above = omega (arith, above, longer);
       few = omega (arith, c.if-len-first-gt-MOST_WAYS.false, c.len.ensures, c.push_front.new.ways.ok);

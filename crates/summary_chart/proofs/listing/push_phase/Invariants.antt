@@ -13,11 +13,11 @@ use Rattle.summary_chart.proofs.listing.push_phase.Given as goal
 
 abbrev pub invariant-loop-taken : goal.invariant-loop-taken
 invariant-loop-taken g l = record {
-  fronts : AreFronts l.lexicon l.line (numbered_of l.lexicon l.place) l.phase l.ahead.limit l.nodes.items;
+  fronts : AreFronts l.here.site.lexicon.now l.here.site.line.now (numbered_of l.here.site.lexicon.now l.here.site.place.now) l.phase l.here.ahead.limit l.nodes.items;
   low : l.taken ≤ length l.nodes.items;
-  appends : AppendsWays l.lexicon l.line l.choices (numbered_of l.lexicon l.place) (IsFromFront l.phase l.taken) l.fn.ways.items l.ways.items;
+  appends : AppendsWays l.here.site.lexicon.now l.here.site.line.now l.here.site.choices.now (numbered_of l.here.site.lexicon.now l.here.site.place.now) (IsFromFront l.phase l.taken) l.fn.ways.items l.ways.items;
   above : l.first ≤ length l.ways.items;
   few : length l.ways.items ≤ l.first + MOST_WAYS;
-  spent : (most : ℕ) → HasAtMostRules l.lexicon.tries most
+  spent : (most : ℕ) → HasAtMostRules l.here.site.lexicon.now.tries most
       → l.steps + l.taken * steps_of_front most ≤ l.fn.steps + MOST_RULE_LETTERS + NODES_OF_FRAME + length l.nodes.items * steps_of_front most;
 }

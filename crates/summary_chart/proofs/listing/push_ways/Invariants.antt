@@ -11,9 +11,9 @@ use Rattle.summary_chart.proofs.listing.push_ways.Given as goal
 
 abbrev pub invariant-loop-phase : goal.invariant-loop-phase
 invariant-loop-phase g l = record {
-  end : l.phase-end ≡ length (rules_in l.lexicon).names;
-  low : l.phase ≤ length (rules_in l.lexicon).names;
-  appends : AppendsWays l.lexicon l.line l.choices (numbered_of l.lexicon l.place) (IsLedEarlier l.lexicon.machine l.states l.phase) l.fn.ways.items l.ways.items;
+  end : l.phase-end ≡ length (rules_in l.site.lexicon.now).names;
+  low : l.phase ≤ length (rules_in l.site.lexicon.now).names;
+  appends : AppendsWays l.site.lexicon.now l.site.line.now l.site.choices.now (numbered_of l.site.lexicon.now l.site.place.now) (IsLedEarlier l.site.lexicon.now.machine l.states l.phase) l.fn.ways.items l.ways.items;
   few : length l.ways.items ≤ length l.fn.ways.items + MOST_WAYS;
-  spent : (most : ℕ) → HasAtMostRules l.lexicon.tries most → l.steps ≤ l.fn.steps + l.phase * (1 + steps_of_fronts most);
+  spent : (most : ℕ) → HasAtMostRules l.site.lexicon.now.tries most → l.steps ≤ l.fn.steps + l.phase * (1 + steps_of_fronts most);
 }

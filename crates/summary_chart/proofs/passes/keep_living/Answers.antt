@@ -13,9 +13,9 @@ use Rattle.summary_chart.proofs.passes.keep_living.Goals as goal
 
 pub loop-until-init : goal.loop-until-init
 loop-until-init g c =
-    let searched = c.args.lexicon.now in
-    let line = c.args.line.now in
-    let choices = c.args.choices.now in
+    let searched = c.args.reading.lexicon.now in
+    let line = c.args.reading.line.now in
+    let choices = c.args.reading.choices.now in
     let table = c.args.table.now in
     let first = c.filled_until-until.result in
     let empty = c.filled_until-until.ensures in
@@ -26,8 +26,8 @@ loop-until-init g c =
       from = living_down searched line choices first c.len.result table from (none_in_empty searched line choices table lawful first c.len.result empty);
       low = (let rises = empty.rises in let within = empty.within in omega (arith, rises, within));
       kept = c.requires.kept;
-      memo = nothing_living searched line table c.args.memo.now c.requires.memo c.requires.effects;
-      past = nothing_past searched first c.args.memo.now c.requires.memo;
+      memo = nothing_living searched line table c.args.room.now.memo c.requires.memo c.requires.effects;
+      past = nothing_past searched first c.args.room.now.memo c.requires.memo;
       steps = λ most few.
           let less = fewer_left (c.args.steps.now + steps_of_summary searched line most) c.len.result first (steps_of_items searched most) c.args.steps.now empty.rises
           (let same = ap (λ (n : ℕ). n * steps_of_items searched most) all in omega (arith, same)) in
@@ -36,9 +36,9 @@ loop-until-init g c =
 
 pub loop-until-preserved : goal.loop-until-preserved
 loop-until-preserved g c =
-    let searched = c.args.lexicon.now in
-    let line = c.args.line.now in
-    let choices = c.args.choices.now in
+    let searched = c.args.reading.lexicon.now in
+    let line = c.args.reading.line.now in
+    let choices = c.args.reading.choices.now in
     let index = c.loop-until.until - 1 in
     let old = c.loop-until.table in
     let new = c.replace.new.self in
@@ -53,17 +53,17 @@ loop-until-preserved g c =
     new living replace.changes replace.set gathers in
     let fewer = old_if_new searched line choices index c.place-at.result.0 c.place-at.result.1 old c.requires.searched from indexed
     new living replace.changes replace.set gathers in
-    let past : LeadPast searched (index + 1) c.gather_from.new.memo =
-    past_if_ends searched line index c.place-at.result.0 c.place-at.result.1 indexed c.gather_from.new.memo
-    (c.in_ok-living.ensures.ends (ends_if_past searched line index c.place-at.result.0 c.place-at.result.1 indexed c.loop-until.memo
-    (subst (λ (n : ℕ). LeadPast searched n c.loop-until.memo) here inv.past))) in
+    let past : LeadPast searched (index + 1) c.gather_from.new.room.memo =
+    past_if_ends searched line index c.place-at.result.0 c.place-at.result.1 indexed c.gather_from.new.room.memo
+    (c.in_ok-living.ensures.ends (ends_if_past searched line index c.place-at.result.0 c.place-at.result.1 indexed c.loop-until.room.memo
+    (subst (λ (n : ℕ). LeadPast searched n c.loop-until.room.memo) here inv.past))) in
     let next = c.filled_until-until-in-loop-until.result in
     let empty = c.filled_until-until-in-loop-until.ensures in
     record {
       from = living_down searched line choices next index new back (none_in_empty searched line choices new back.has.lawful next index empty);
       kept = fewer_places searched line choices old new c.args.kept.now.stops.items c.args.kept.now.ways.items fewer inv.kept;
-      memo = living_stays searched line index old new c.requires.searched from.has.lawful replace.changes c.gather_from.new.memo past c.in_ok-living.ensures.memo;
-      past = past_down searched next (index + 1) c.gather_from.new.memo (let rises = empty.rises in omega (arith, rises)) past;
+      memo = living_stays searched line index old new c.requires.searched from.has.lawful replace.changes c.gather_from.new.room.memo past c.in_ok-living.ensures.memo;
+      past = past_down searched next (index + 1) c.gather_from.new.room.memo (let rises = empty.rises in omega (arith, rises)) past;
       low = (let rises = empty.rises in let within = empty.within in omega (arith, rises, within));
       steps = λ most few.
           fewer_left (c.args.steps.now + steps_of_summary searched line most) index next (steps_of_items searched most) c.gather_from.new.steps empty.rises
@@ -73,8 +73,8 @@ loop-until-preserved g c =
 
 pub returns-in_err-living-clause-steps : goal.returns-in_err-living-clause-steps
 returns-in_err-living-clause-steps g c most few =
-    let searched = c.args.lexicon.now in
-    let line = c.args.line.now in
+    let searched = c.args.reading.lexicon.now in
+    let line = c.args.reading.line.now in
     let inv = c.loop-until.invariant in
     let one = one_frame_less (c.args.steps.now + steps_of_summary searched line most) c.loop-until.until (steps_of_items searched most)
     c.loop-until.steps c.gather_from.new.steps (omega (arith, c.loop-until-test.true)) (inv.steps most few) (c.gather_from.ensures.steps most few) in
@@ -83,5 +83,5 @@ returns-in_err-living-clause-steps g c most few =
 pub returns-clause-living : goal.returns-clause-living
 returns-clause-living g c =
     let none : c.loop-until.until ≡ 0 = omega (arith, c.loop-until-test.false) in
-    chart_if_alive c.args.lexicon.now c.args.line.now c.args.choices.now c.loop-until.table
-    (subst (λ (n : ℕ). IsAliveFrom c.args.lexicon.now c.args.line.now c.args.choices.now n c.loop-until.table) none c.loop-until.invariant.from)
+    chart_if_alive c.args.reading.lexicon.now c.args.reading.line.now c.args.reading.choices.now c.loop-until.table
+    (subst (λ (n : ℕ). IsAliveFrom c.args.reading.lexicon.now c.args.reading.line.now c.args.reading.choices.now n c.loop-until.table) none c.loop-until.invariant.from)

@@ -12,13 +12,13 @@ use Rattle.summary_chart.proofs.passes.keep_living.Given as goal
 abbrev pub invariant-loop-until : goal.invariant-loop-until
 invariant-loop-until g l =
     record {
-      from : IsAliveFrom l.lexicon l.line l.choices l.until l.table;
-      kept : HaveWays l.lexicon l.line l.choices l.table l.kept.stops.items l.kept.ways.items;
-      memo : AreLiving l.lexicon l.line l.table l.memo;
-      past : LeadPast l.lexicon l.until l.memo;
+      from : IsAliveFrom l.reading.lexicon.now l.reading.line.now l.reading.choices.now l.until l.table;
+      kept : HaveWays l.reading.lexicon.now l.reading.line.now l.reading.choices.now l.table l.kept.stops.items l.kept.ways.items;
+      memo : AreLiving l.reading.lexicon.now l.reading.line.now l.table l.room.memo;
+      past : LeadPast l.reading.lexicon.now l.until l.room.memo;
       low : l.until ≤ length l.table.sets.items;
-      steps : (most : ℕ) → HasAtMostRules l.lexicon.tries most
-          → l.steps + l.until * steps_of_items l.lexicon most ≤ l.fn.steps + steps_of_summary l.lexicon l.line most;
+      steps : (most : ℕ) → HasAtMostRules l.reading.lexicon.now.tries most
+          → l.steps + l.until * steps_of_items l.reading.lexicon.now most ≤ l.fn.steps + steps_of_summary l.reading.lexicon.now l.reading.line.now most;
     }
 
 abbrev pub decreases-loop-until : goal.decreases-loop-until

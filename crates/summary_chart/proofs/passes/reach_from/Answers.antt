@@ -1,11 +1,12 @@
 -- One turn by the lemmas on turns (`ReachedPlaces`), and what is kept by those on one index more (`KeptWays`).
-use Rattle.std.proofs.Common.{Result, Ok, Err, List, sym, subst, OnOk}
+use Rattle.std.proofs.Common.{Result, Ok, Err, List, refl, sym, subst, OnOk}
 use Rattle.std.specs.List.{All}
 use Rattle.search_frames.specs.declared.way.Way.{Way}
 use Rattle.search_frames.specs.Frames.{numbered_of}
 use Rattle.search_frames.specs.WaysFrom.{IsWayFrom}
 use Rattle.summary_chart.specs.declared.state_set.StateSet.{StateSet}
 use Rattle.summary_chart.specs.Spreading.{Spreads, EveryKey}
+use Rattle.summary_chart.specs.Tables.{set_of}
 use Rattle.summary_chart.specs.PlaceWays.{HasEachKey, ways_of}
 use Rattle.summary_chart.proofs.ReachedPlaces.{spread_on, old_before}
 use Rattle.summary_chart.proofs.KeptWays.{each_added, keys_added, left, put_in, with_stop, without_stop}
@@ -19,117 +20,117 @@ on_ok (Err e) First Second Third both first second = tt
 
 pub returns-in_default-clause-before : goal.returns-in_default-clause-before
 returns-in_default-clause-before g c =
-    let searched = c.args.lexicon.now in
-    let line = c.args.line.now in
-    let choices = c.args.choices.now in
-    let place = c.args.place.now in
+    let searched = c.args.site.lexicon.now in
+    let line = c.args.site.line.now in
+    let choices = c.args.site.choices.now in
+    let place = c.args.site.place.now in
     let index = c.args.index in
     let table = c.args.table.now in
     let new = c.spread.new.table in
     let read = read_set table index c.index-states.result.now c.requires.there c.index-states.ensures in
     on_ok c.spread.result _ _ _ (λ lawful spreads.
-    spread_on searched line choices index place.at place.entrance table c.requires.searched c.requires.before c.requires.indexed new lawful
+    spread_on searched line choices index place.at place.entrance table c.requires.site.searched c.requires.before c.requires.indexed new lawful
     (subst (λ (set : StateSet). Spreads searched line choices place.at place.entrance set EveryKey table new) (sym read) spreads))
     c.spread.ensures.table c.spread.ensures.spreads
 
 pub returns-in_default-clause-kept : goal.returns-in_default-clause-kept
 returns-in_default-clause-kept g c =
-    let searched = c.args.lexicon.now in
-    let line = c.args.line.now in
-    let choices = c.args.choices.now in
-    let place = c.args.place.now in
+    let searched = c.args.site.lexicon.now in
+    let line = c.args.site.line.now in
+    let choices = c.args.site.choices.now in
+    let place = c.args.site.place.now in
     let index = c.args.index in
     let table = c.args.table.now in
-    let most = c.most_kept-most.result in
+    let most = c.in_ok-stop.ensures.kept.0 in
     let old = c.args.kept.now in
     let kept = c.keep_ways.new.kept in
     let new = c.spread.new.table in
     let read = read_set table index c.index-states.result.now c.requires.there c.index-states.ensures in
     let same = left searched line choices index most place.at place.entrance place.state table c.requires.before.lawful c.requires.indexed
     old kept
-    c.index-states.result.now c.in_ok-stop.field-0 c.in_default.not-Some c.in_ok-stop.ensures.kept in
+    (set_of table index) c.in_ok-stop.field-0 c.in_default.not-Some c.in_ok-stop.ensures.kept.2 in
     on_ok c.spread.result _ _ _ (λ lawful spreads.
     without_stop searched line choices index most place.at place.entrance place.state table c.requires.before.lawful c.requires.indexed
     old kept new
-    (old_before searched line choices index place.at place.entrance table c.requires.searched c.requires.before c.requires.indexed new lawful
+    (old_before searched line choices index place.at place.entrance table c.requires.site.searched c.requires.before c.requires.indexed new lawful
     (subst (λ (set : StateSet). Spreads searched line choices place.at place.entrance set EveryKey table new) (sym read) spreads))
     c.requires.kept same)
     c.spread.ensures.table c.spread.ensures.spreads
 
 pub spread_ways-requires-clause-ways : goal.spread_ways-requires-clause-ways
 spread_ways-requires-clause-ways g c =
-    let searched = c.args.lexicon.now in
-    let line = c.args.line.now in
-    let choices = c.args.choices.now in
-    let place = c.args.place.now in
+    let searched = c.args.site.lexicon.now in
+    let line = c.args.site.line.now in
+    let choices = c.args.site.choices.now in
+    let place = c.args.site.place.now in
     let index = c.args.index in
     let table = c.args.table.now in
-    let most = c.most_kept-most.result in
+    let most = c.in_ok-stop.ensures.kept.0 in
     let old = c.args.kept.now in
     let kept = c.keep_ways.new.kept in
     let read = read_set table index c.index-states.result.now c.requires.there c.index-states.ensures in
     let adds = put_in searched line choices index most place.at place.entrance place.state table c.requires.before.lawful c.requires.indexed
     old kept
-    c.index-states.result.now c.in_ok-stop.field-0 c.in-Some.stop read c.in-Some.is c.in_ok-stop.ensures.kept in
-    subst (All (IsWayFrom searched line choices (numbered_of searched place))) (sym c.of-ways.ensures)
+    (set_of table index) c.in_ok-stop.field-0 c.in-Some.stop refl c.in-Some.is c.in_ok-stop.ensures.kept.2 in
+    subst (All (IsWayFrom searched line choices (numbered_of searched place))) (sym c.of.ensures)
     (each_added searched line choices index most place.at place.entrance place.state table c.requires.before.lawful c.requires.indexed
     old kept c.in-Some.stop adds)
 
 pub spread_ways-requires-clause-all : goal.spread_ways-requires-clause-all
 spread_ways-requires-clause-all g c =
-    let searched = c.args.lexicon.now in
-    let line = c.args.line.now in
-    let choices = c.args.choices.now in
-    let place = c.args.place.now in
+    let searched = c.args.site.lexicon.now in
+    let line = c.args.site.line.now in
+    let choices = c.args.site.choices.now in
+    let place = c.args.site.place.now in
     let index = c.args.index in
     let table = c.args.table.now in
-    let most = c.most_kept-most.result in
+    let most = c.in_ok-stop.ensures.kept.0 in
     let old = c.args.kept.now in
     let kept = c.keep_ways.new.kept in
     let read = read_set table index c.index-states.result.now c.requires.there c.index-states.ensures in
     let adds = put_in searched line choices index most place.at place.entrance place.state table c.requires.before.lawful c.requires.indexed
     old kept
-    c.index-states.result.now c.in_ok-stop.field-0 c.in-Some.stop read c.in-Some.is c.in_ok-stop.ensures.kept in
-    subst (λ (ways : List Way). HasEachKey searched line choices place.at place.entrance c.index-states.result.now ways) (sym c.of-ways.ensures)
+    (set_of table index) c.in_ok-stop.field-0 c.in-Some.stop refl c.in-Some.is c.in_ok-stop.ensures.kept.2 in
+    subst (λ (ways : List Way). HasEachKey searched line choices place.at place.entrance c.index-states.result.now ways) (sym c.of.ensures)
     (subst (λ (set : StateSet). HasEachKey searched line choices place.at place.entrance set (ways_of kept.ways.items c.in-Some.stop)) read
     (keys_added searched line choices index most place.at place.entrance place.state table c.requires.before.lawful c.requires.indexed
     old kept c.in-Some.stop adds))
 
 pub returns-clause-before : goal.returns-clause-before
 returns-clause-before g c =
-    let searched = c.args.lexicon.now in
-    let line = c.args.line.now in
-    let choices = c.args.choices.now in
-    let place = c.args.place.now in
+    let searched = c.args.site.lexicon.now in
+    let line = c.args.site.line.now in
+    let choices = c.args.site.choices.now in
+    let place = c.args.site.place.now in
     let index = c.args.index in
     let table = c.args.table.now in
     let new = c.spread_ways.new.table in
     let read = read_set table index c.index-states.result.now c.requires.there c.index-states.ensures in
-    spread_on searched line choices index place.at place.entrance table c.requires.searched c.requires.before c.requires.indexed new c.spread_ways.ensures.table
+    spread_on searched line choices index place.at place.entrance table c.requires.site.searched c.requires.before c.requires.indexed new c.spread_ways.ensures.table
     (subst (λ (set : StateSet). Spreads searched line choices place.at place.entrance set EveryKey table new) (sym read) c.spread_ways.ensures.spreads)
 
 pub returns-clause-kept : goal.returns-clause-kept
 returns-clause-kept g c =
-    let searched = c.args.lexicon.now in
-    let line = c.args.line.now in
-    let choices = c.args.choices.now in
-    let place = c.args.place.now in
+    let searched = c.args.site.lexicon.now in
+    let line = c.args.site.line.now in
+    let choices = c.args.site.choices.now in
+    let place = c.args.site.place.now in
     let index = c.args.index in
     let table = c.args.table.now in
-    let most = c.most_kept-most.result in
+    let most = c.in_ok-stop.ensures.kept.0 in
     let old = c.args.kept.now in
     let kept = c.keep_ways.new.kept in
     let new = c.spread_ways.new.table in
     let read = read_set table index c.index-states.result.now c.requires.there c.index-states.ensures in
     let adds = put_in searched line choices index most place.at place.entrance place.state table c.requires.before.lawful c.requires.indexed
     old kept
-    c.index-states.result.now c.in_ok-stop.field-0 c.in-Some.stop read c.in-Some.is c.in_ok-stop.ensures.kept in
+    (set_of table index) c.in_ok-stop.field-0 c.in-Some.stop refl c.in-Some.is c.in_ok-stop.ensures.kept.2 in
     with_stop searched line choices index most place.at place.entrance place.state table c.requires.before.lawful c.requires.indexed
     old kept new
-    (old_before searched line choices index place.at place.entrance table c.requires.searched c.requires.before c.requires.indexed new c.spread_ways.ensures.table
+    (old_before searched line choices index place.at place.entrance table c.requires.site.searched c.requires.before c.requires.indexed new c.spread_ways.ensures.table
     (subst (λ (set : StateSet). Spreads searched line choices place.at place.entrance set EveryKey table new) (sym read) c.spread_ways.ensures.spreads))
     c.requires.kept c.in-Some.stop adds
 
 pub returns-clause-memo : goal.returns-clause-memo
 returns-clause-memo g c =
-    all_grown c.args.lexicon.now c.args.line.now c.args.table.now c.spread_ways.new.table c.args.memo.now c.spread_ways.ensures.spreads.keeps c.requires.memo
+    all_grown c.args.site.lexicon.now c.args.site.line.now c.args.table.now c.spread_ways.new.table c.args.room.now.memo c.spread_ways.ensures.spreads.keeps c.requires.memo

@@ -11,10 +11,10 @@ use Rattle.summary_chart.proofs.spreading.spread.Given as goal
 
 abbrev pub invariant-loop-phase : goal.invariant-loop-phase
 invariant-loop-phase g l = record {
-  end : l.phase-end ≡ length (rules_in l.lexicon).names;
-  low : l.phase ≤ length (rules_in l.lexicon).names;
-  lawful : IsTable (leads_in l.lexicon) (length l.line.letters) l.table;
-  memo : AreSpread l.lexicon l.line l.table l.memo;
-  spreads : Spreads l.lexicon l.line l.choices l.place.at l.place.entrance l.states (IsEarlier l.phase) l.fn.table l.table;
-  spent : (most : ℕ) → HasAtMostRules l.lexicon.tries most → l.steps ≤ l.fn.steps + l.phase * (1 + steps_of_fronts most);
+  end : l.phase-end ≡ length (rules_in l.site.lexicon.now).names;
+  low : l.phase ≤ length (rules_in l.site.lexicon.now).names;
+  lawful : IsTable (leads_in l.site.lexicon.now) (length l.site.line.now.letters) l.table;
+  memo : AreSpread l.site.lexicon.now l.site.line.now l.table l.room.memo;
+  spreads : Spreads l.site.lexicon.now l.site.line.now l.site.choices.now l.site.place.now.at l.site.place.now.entrance l.states (IsEarlier l.phase) l.fn.table l.table;
+  spent : (most : ℕ) → HasAtMostRules l.site.lexicon.now.tries most → l.steps ≤ l.fn.steps + l.phase * (1 + steps_of_fronts most);
 }

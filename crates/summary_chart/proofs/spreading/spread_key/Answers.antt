@@ -10,22 +10,22 @@ use Rattle.summary_chart.proofs.spreading.spread_key.Goals as goal
 pub add-requires : goal.add-requires
 add-requires c =
     let may = c.in-LeadsOn.ensures.exact in
-    has_set (leads_in c.args.lexicon.now) (length c.args.line.now.letters) c.args.table.now c.in-LeadsOn.at c.in-LeadsOn.entrance c.requires.table may.within may.over
+    has_set (leads_in c.args.onward.here.site.lexicon.now) (length c.args.onward.here.site.line.now.letters) c.args.table.now c.in-LeadsOn.at c.in-LeadsOn.entrance c.requires.table may.within may.over
 
 pub returns-in-LeadsOn-clause-spreads : goal.returns-in-LeadsOn-clause-spreads
-returns-in-LeadsOn-clause-spreads c =
-    spreads_one c.args.lexicon.now c.args.line.now c.args.choices.now c.args.place.now c.args.states (key_meant c.args.key) c.in-LeadsOn.at c.in-LeadsOn.entrance
-    c.in-LeadsOn.ensures.exact c.args.after c.args.table.now c.add.new.self c.add.ensures.entrance c.requires.table c.requires.after
-    (grown_at c.in-LeadsOn.at c.in-LeadsOn.entrance c.args.after c.args.table.now c.add.new.self c.add.ensures.changes c.add.ensures.added)
+returns-in-LeadsOn-clause-spreads c states led =
+    spreads_one c.args.onward.here.site.lexicon.now c.args.onward.here.site.line.now c.args.onward.here.site.choices.now c.args.onward.here.site.place.now states (key_meant c.args.key) c.in-LeadsOn.at c.in-LeadsOn.entrance
+    c.in-LeadsOn.ensures.exact c.args.onward.after c.args.table.now c.add.new.self c.add.ensures.entrance c.requires.table led
+    (grown_at c.in-LeadsOn.at c.in-LeadsOn.entrance c.args.onward.after c.args.table.now c.add.new.self c.add.ensures.changes c.add.ensures.added)
 
 pub returns-in-LeadsOn-clause-table : goal.returns-in-LeadsOn-clause-table
 returns-in-LeadsOn-clause-table c =
-    still_table (leads_in c.args.lexicon.now) (length c.args.line.now.letters) (index_in c.args.table.now c.in-LeadsOn.at c.in-LeadsOn.entrance)
+    still_table (leads_in c.args.onward.here.site.lexicon.now) (length c.args.onward.here.site.line.now.letters) (index_in c.args.table.now c.in-LeadsOn.at c.in-LeadsOn.entrance)
     c.args.table.now c.add.new.self c.add.ensures.changes c.requires.table
 
 pub returns-in_default : goal.returns-in_default
 returns-in_default c = record {
   table = c.requires.table;
-  spreads = spreads_nothing c.args.lexicon.now c.args.line.now c.args.choices.now c.args.place.now c.args.states (key_meant c.args.key) c.test.result
+  spreads = λ states led. spreads_nothing c.args.onward.here.site.lexicon.now c.args.onward.here.site.line.now c.args.onward.here.site.choices.now c.args.onward.here.site.place.now states (key_meant c.args.key) c.test.result
       c.test.ensures.exact c.in_default.not-LeadsOn c.args.table.now;
 }

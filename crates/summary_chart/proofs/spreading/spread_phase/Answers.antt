@@ -17,8 +17,8 @@ loop-taken-init g c =
       low = omega arith;
       lawful = c.requires.table;
       memo = c.requires.memo;
-      spreads = visit_no_front c.args.lexicon.now c.args.line.now c.args.choices.now c.args.place.now c.args.states Table
-          (spread_visit c.args.lexicon.now c.args.line.now c.args.choices.now c.args.place.now c.args.states) c.args.phase c.args.table.now;
+      spreads = λ states led. visit_no_front c.args.onward.here.site.lexicon.now c.args.onward.here.site.line.now c.args.onward.here.site.choices.now c.args.onward.here.site.place.now states Table
+          (spread_visit c.args.onward.here.site.lexicon.now c.args.onward.here.site.line.now c.args.onward.here.site.choices.now c.args.onward.here.site.place.now states) c.args.phase c.args.table.now;
       spent = λ most few. omega (arith, c.walk_fronts.ensures.steps);
     }
 
@@ -31,9 +31,9 @@ loop-taken-preserved g c =
       low = omega (arith, c.loop-taken-test.true, inv.end);
       lawful = c.in_ok-spread_front.ensures.table;
       memo = c.in_ok-spread_front.ensures.memo;
-      spreads = visit_front c.args.lexicon.now c.args.line.now c.args.choices.now c.args.place.now c.args.states Table
-          (spread_visit c.args.lexicon.now c.args.line.now c.args.choices.now c.args.place.now c.args.states) c.args.phase c.loop-taken.taken
-          c.args.table.now c.loop-taken.table c.spread_front.new.table inv.spreads c.in_ok-spread_front.ensures.spreads;
+      spreads = λ states led. visit_front c.args.onward.here.site.lexicon.now c.args.onward.here.site.line.now c.args.onward.here.site.choices.now c.args.onward.here.site.place.now states Table
+          (spread_visit c.args.onward.here.site.lexicon.now c.args.onward.here.site.line.now c.args.onward.here.site.choices.now c.args.onward.here.site.place.now states) c.args.phase c.loop-taken.taken
+          c.args.table.now c.loop-taken.table c.spread_front.new.table (inv.spreads states led) (c.in_ok-spread_front.ensures.spreads states led);
       spent = λ most few. one_more_within (c.args.steps.now + MOST_RULE_LETTERS + NODES_OF_FRAME) c.loop-taken.taken (steps_of_front most) c.loop-taken.steps c.spread_front.new.steps
           (inv.spent most few) (c.spread_front.ensures.steps most few);
     }
@@ -54,11 +54,11 @@ returns-in_err-spread_front-clause-steps g c most few =
     omega (arith, one, all)
 
 pub returns-clause-spreads : goal.returns-clause-spreads
-returns-clause-spreads g c =
+returns-clause-spreads g c states led =
     let inv = c.loop-taken.invariant in
-    visit_all_fronts c.args.lexicon.now c.args.line.now c.args.choices.now c.args.place.now c.args.states Table
-    (spread_visit c.args.lexicon.now c.args.line.now c.args.choices.now c.args.place.now c.args.states) c.args.phase c.args.ahead c.requires.ahead
-    c.loop-taken.taken c.walk_fronts.new.nodes.items (omega (arith, c.loop-taken-test.false, inv.end)) inv.fronts c.args.table.now c.loop-taken.table inv.spreads
+    visit_all_fronts c.args.onward.here.site.lexicon.now c.args.onward.here.site.line.now c.args.onward.here.site.choices.now c.args.onward.here.site.place.now states Table
+    (spread_visit c.args.onward.here.site.lexicon.now c.args.onward.here.site.line.now c.args.onward.here.site.choices.now c.args.onward.here.site.place.now states) c.args.phase c.args.onward.here.ahead c.requires.onward.here.ahead
+    c.loop-taken.taken c.loop-taken.room.nodes.items (omega (arith, c.loop-taken-test.false, inv.end)) inv.fronts c.args.table.now c.loop-taken.table (inv.spreads states led)
 
 pub returns-clause-steps : goal.returns-clause-steps
 returns-clause-steps g c most few =

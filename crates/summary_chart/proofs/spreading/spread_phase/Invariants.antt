@@ -6,20 +6,21 @@ use Rattle.search_frames.specs.Costs.{HasAtMostRules}
 use Rattle.search_frames.specs.Frames.{numbered_of}
 use Rattle.summary_chart.specs.Fronts.{AreFronts}
 use Rattle.summary_chart.specs.Memos.{AreSpread}
+use Rattle.summary_chart.specs.Onward.{SpreadsOnward}
 use Rattle.summary_chart.specs.Tables.{IsTable}
-use Rattle.summary_chart.specs.Spreading.{Spreads, leads_in}
+use Rattle.summary_chart.specs.Spreading.{leads_in}
 use Rattle.summary_chart.specs.Summaries.{steps_of_front}
 use Rattle.summary_chart.proofs.VisitedKeys.{IsBelow}
 use Rattle.summary_chart.proofs.spreading.spread_phase.Given as goal
 
 abbrev pub invariant-loop-taken : goal.invariant-loop-taken
 invariant-loop-taken g l = record {
-  fronts : AreFronts l.lexicon l.line (numbered_of l.lexicon l.place) l.phase l.ahead.limit l.nodes.items;
-  end : l.taken-end ≡ length l.nodes.items;
-  low : l.taken ≤ length l.nodes.items;
-  lawful : IsTable (leads_in l.lexicon) (length l.line.letters) l.table;
-  memo : AreSpread l.lexicon l.line l.table l.memo;
-  spreads : Spreads l.lexicon l.line l.choices l.place.at l.place.entrance l.states (IsBelow l.phase l.taken) l.fn.table l.table;
-  spent : (most : ℕ) → HasAtMostRules l.lexicon.tries most
+  fronts : AreFronts l.onward.here.site.lexicon.now l.onward.here.site.line.now (numbered_of l.onward.here.site.lexicon.now l.onward.here.site.place.now) l.phase l.onward.here.ahead.limit l.room.nodes.items;
+  end : l.taken-end ≡ length l.room.nodes.items;
+  low : l.taken ≤ length l.room.nodes.items;
+  lawful : IsTable (leads_in l.onward.here.site.lexicon.now) (length l.onward.here.site.line.now.letters) l.table;
+  memo : AreSpread l.onward.here.site.lexicon.now l.onward.here.site.line.now l.table l.room.memo;
+  spreads : SpreadsOnward l.onward l.phase (IsBelow l.phase l.taken) l.fn.table l.table;
+  spent : (most : ℕ) → HasAtMostRules l.onward.here.site.lexicon.now.tries most
       → l.steps ≤ l.fn.steps + MOST_RULE_LETTERS + NODES_OF_FRAME + l.taken * steps_of_front most;
 }

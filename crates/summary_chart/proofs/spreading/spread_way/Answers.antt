@@ -12,18 +12,18 @@ use Rattle.summary_chart.proofs.spreading.spread_way.Goals as goal
 
 pub add-requires : goal.add-requires
 add-requires c =
-    let searched = c.args.lexicon.now in
-    let line = c.args.line.now in
-    let here = numbered_of searched c.args.place.now in
-    let may = way_may_lead searched line c.args.choices.now here c.args.way.now c.in-LeadsOn.at c.in-LeadsOn.entrance c.requires.way c.in-LeadsOn.is in
+    let searched = c.args.site.lexicon.now in
+    let line = c.args.site.line.now in
+    let here = numbered_of searched c.args.site.place.now in
+    let may = way_may_lead searched line c.args.site.choices.now here c.args.way.now c.in-LeadsOn.at c.in-LeadsOn.entrance c.requires.way c.in-LeadsOn.is in
     has_set (leads_in searched) (length line.letters) c.args.table.now c.in-LeadsOn.at c.in-LeadsOn.entrance c.requires.table may.within may.over
 
 pub returns-in-LeadsOn-clause-spreads : goal.returns-in-LeadsOn-clause-spreads
 returns-in-LeadsOn-clause-spreads c =
-    let searched = c.args.lexicon.now in
-    let line = c.args.line.now in
-    let choices = c.args.choices.now in
-    let place = c.args.place.now in
+    let searched = c.args.site.lexicon.now in
+    let line = c.args.site.line.now in
+    let choices = c.args.site.choices.now in
+    let place = c.args.site.place.now in
     let set = c.args.states in
     let may = way_may_lead searched line choices (numbered_of searched place) c.args.way.now c.in-LeadsOn.at c.in-LeadsOn.entrance c.requires.way c.in-LeadsOn.is in
     let led = subst (λ (machine : StateMachine). (number : ℕ) → HasState c.states_after.result number ↔ IsLedTo machine set c.args.way.now.key.phase number)

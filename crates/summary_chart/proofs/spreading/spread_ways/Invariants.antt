@@ -7,7 +7,7 @@ use Rattle.summary_chart.proofs.spreading.spread_ways.Given as goal
 
 abbrev pub invariant-loop-way : goal.invariant-loop-way
 invariant-loop-way g l = record {
-  lawful : IsTable (leads_in l.lexicon) (length l.line.letters) l.table;
-  spreads : Spreads l.lexicon l.line l.choices l.place.at l.place.entrance l.states (IsAmongFirst l.way-index l.ways) l.fn.table l.table;
+  lawful : IsTable (leads_in l.site.lexicon.now) (length l.site.line.now.letters) l.table;
+  spreads : Spreads l.site.lexicon.now l.site.line.now l.site.choices.now l.site.place.now.at l.site.place.now.entrance l.states (IsAmongFirst l.way-index l.ways) l.fn.table l.table;
   spent : l.steps ≡ l.fn.steps + l.way-index;
 }

@@ -2,7 +2,7 @@
 use Rattle.std.proofs.Common.{◌+◌, ◌*◌, ◌≤◌, ◌-◌, ℕ, length}
 use Rattle.search_frames.specs.Costs.{HasAtMostRules}
 use Rattle.summary_chart.specs.Summaries.{HasItemsBefore, IsCollected, steps_of_items}
-use Rattle.summary_chart.proofs.summary.items_of_table.Given as goal
+use Rattle.summary_chart.proofs.chart.Chart.unsorted_items.Given as goal
 
 abbrev pub invariant-loop-index : goal.invariant-loop-index
 invariant-loop-index g l = record {

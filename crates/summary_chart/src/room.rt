@@ -1,0 +1,9 @@
+use super::memo::Memo;
+use shared_trie::Node;
+
+/// What a pass uses again at each place: room for the nodes of a walk, and what is known of the work that was done.
+#[derive(Drop)]
+pub(crate) struct Room {
+    pub nodes: Vec<Node>,
+    pub memo: Memo,
+}
