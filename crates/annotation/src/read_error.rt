@@ -6,7 +6,7 @@ use std::alloc::{AllocError, AllocFailed};
 use thiserror::Error;
 
 /// Why bytes are not read as a note over a lexicon. The first reason in this order counts.
-#[derive(Clone, Copy, Debug, PartialEq, Eq, Error)]
+#[derive(Clone, Copy, Debug, Error)]
 pub enum NoteWhy {
     #[error("not a JSON text")]
     Json,
@@ -23,7 +23,7 @@ pub enum NoteWhy {
 }
 
 /// Why no note was read: the first fault of the bytes, or want of memory.
-#[derive(Clone, Copy, Debug, PartialEq, Eq, Error)]
+#[derive(Clone, Copy, Debug, Error)]
 pub enum ReadNoteError {
     #[error(transparent)]
     Fault(NoteWhy),

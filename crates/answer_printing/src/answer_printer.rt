@@ -16,7 +16,7 @@ use std::mem;
 
 /// Prints answers of a line: its letters are spelled once, and of each answer only the steps that differ from those of the answer
 /// before.
-#[derive(Debug, Drop)]
+#[derive(Drop)]
 pub struct AnswerPrinter<'a> {
     alloc: Global,
     texts: &'a RuleTexts<'a>,

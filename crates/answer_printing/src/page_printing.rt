@@ -76,7 +76,7 @@ fn number_of_next(number: u64) -> u64
 }
 
 /// The next answers that are asked for: at most `count`, the first of which has the number `number`, counted from 1.
-#[derive(Clone, Copy, Debug, PartialEq, Eq)]
+#[derive(Clone, Copy)]
 pub struct NextAnswers {
     pub number: u64,
     pub count: u32,

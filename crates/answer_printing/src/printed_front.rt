@@ -6,7 +6,7 @@ use derivation::Step;
 use std::alloc::Global;
 
 /// A step that was printed: where its text begins, and the number of the rule before it; 0 stands for no rule.
-#[derive(Clone, Copy, Debug)]
+#[derive(Clone, Copy)]
 pub(crate) struct PrintedStep {
     pub step: Step,
     pub at: usize,
@@ -15,7 +15,7 @@ pub(crate) struct PrintedStep {
 
 /// The printed steps of an answer. The next answer mostly begins with many of them, so only the steps after these are printed anew. Its
 /// memory may serve for the answers of another line.
-#[derive(Debug, Drop)]
+#[derive(Drop)]
 pub struct PrintedFront {
     pub(crate) steps: Vec<PrintedStep>,
     pub(crate) text: Vec<u8>,

@@ -11,7 +11,7 @@ use std::alloc::Global;
 use std::marker::Model;
 
 /// The words of a rule in SLP1: its `u`, its `v`, and its notation `u|v>w`.
-#[derive(Debug, Drop)]
+#[derive(Drop)]
 struct RuleText {
     u: String,
     v: String,
@@ -28,7 +28,7 @@ impl Model for RuleText {
 }
 
 /// A rule set with the texts of its rules, which are made once for all answers that are printed.
-#[derive(Debug, Drop)]
+#[derive(Drop)]
 pub struct RuleTexts<'a> {
     rules: &'a RuleSet,
     texts: Vec<RuleText>,

@@ -10,7 +10,7 @@ use phoneme::Memory;
 use std::alloc::Global;
 
 /// What a next word may be: any, the value of the `--in` before it, or an argument whatever it is, since `--` came.
-#[derive(Clone, Copy, Debug)]
+#[derive(Clone, Copy)]
 pub(crate) enum NextWord {
     Any,
     Value,

@@ -24,7 +24,7 @@ use std::alloc::Global;
 use text_line::{Scheme, count_up_to};
 
 /// A command with its arguments.
-#[derive(Clone, Copy, Debug)]
+#[derive(Clone, Copy)]
 pub enum Command<'a> {
     /// The lexicon file, the scheme of the text, and the text.
     Segment {

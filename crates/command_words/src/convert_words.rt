@@ -2,7 +2,7 @@ use super::placed_word::PlacedWord;
 use more_schemes::AnyScheme;
 
 /// The words of `convert`: the schemes of the text and of the result, and the names of the text file and of the file to write.
-#[derive(Clone, Copy, Debug)]
+#[derive(Clone, Copy)]
 pub struct ConvertWords<'a> {
     pub input: AnyScheme,
     pub output: AnyScheme,

@@ -10,7 +10,7 @@ use phoneme::Memory;
 use std::alloc::Global;
 
 /// What words give: the values of `--in`, and the arguments with their places.
-#[derive(Debug, Drop)]
+#[derive(Drop)]
 pub(crate) struct Given<'a> {
     pub values: Vec<&'a str>,
     pub arguments: Vec<PlacedWord<'a>>,

@@ -6,7 +6,7 @@ use super::placed_word::PlacedWord;
 
 /// The words of `split`: the name of the lexicon file, a text in SLP1, how many answers the page may have, and how many steps deep
 /// the search is divided. Both numbers are at least 1 and within their limits.
-#[derive(Clone, Copy, Debug)]
+#[derive(Clone, Copy)]
 pub struct SplitWords<'a> {
     pub lex: PlacedWord<'a>,
     pub text: PlacedWord<'a>,

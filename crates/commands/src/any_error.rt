@@ -10,7 +10,7 @@ use phoneme::Memory;
 use rule_file::RuleError;
 
 /// Why a file is refused, or that memory was wanting.
-#[derive(Clone, Copy, Debug, PartialEq, Eq)]
+#[derive(Clone, Copy)]
 pub enum AnyError {
     Fault(AnyFault),
     Memory,

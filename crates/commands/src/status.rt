@@ -11,7 +11,7 @@ use rule_file::RuleFault;
 use text_line::TextFault;
 
 /// How a run ended, and with which fault.
-#[derive(Debug, Drop, PartialEq, Eq)]
+#[derive(Drop)]
 pub enum Status {
     /// All input of the command was read and all output written.
     Done,
@@ -41,7 +41,7 @@ pub enum Status {
 
 /// Why a file is refused: it has more than `MOST_FILE_BYTES` bytes, or a fault of its format. The fault of stems with the
 /// number 0 is that the lexicon of the sources is too large.
-#[derive(Clone, Copy, Debug, PartialEq, Eq)]
+#[derive(Clone, Copy)]
 pub enum AnyFault {
     Large,
     Lexicon(FileFault),

@@ -12,7 +12,7 @@ use std::alloc::Global;
 use summary_chart::Chart;
 
 /// How many answers a page has, and whether one is left after them.
-#[derive(Clone, Copy, Debug, PartialEq, Eq)]
+#[derive(Clone, Copy)]
 pub(crate) struct PageCount {
     pub answers: u32,
     pub more: bool,

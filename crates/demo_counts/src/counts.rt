@@ -18,7 +18,7 @@ use std::thread::Threads;
 use text_line::{LineError, Scheme, read_line};
 
 /// What is counted of the input of a number.
-#[derive(Clone, Copy, Debug, PartialEq, Eq)]
+#[derive(Clone, Copy)]
 pub struct DemoCounts {
     /// The different stems.
     pub stems: u32,

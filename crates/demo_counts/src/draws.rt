@@ -4,7 +4,7 @@ ghost use Rattle.demo_definitions.specs.Draws.{next_seed, drawn_of};
 use std::marker::Model;
 
 /// Numbers that are drawn one after another from a seed (a linear congruential generator with Knuth's constants for MMIX).
-#[derive(Debug, Drop)]
+#[derive(Drop)]
 pub(crate) struct Draws {
     seed: u64,
 }

@@ -3,7 +3,7 @@ use std::marker::Model;
 
 /// A segment as a reader sees it (after Goyal and Huet 2016): how many letters of the line stand before it, how many of its
 /// form the rule before it supplies, its phase, counted from 0, and its form.
-#[derive(Debug, Drop)]
+#[derive(Drop)]
 pub struct Item {
     pub at: u32,
     pub lead: u32,
@@ -20,7 +20,7 @@ impl Model for Item {
 }
 
 /// A reader's choice: an item is kept, or rejected (after Goyal and Huet 2016).
-#[derive(Debug, Drop)]
+#[derive(Drop)]
 pub struct Choice {
     pub kept: bool,
     pub item: Item,

@@ -6,7 +6,7 @@ use std::cmp::Ordering;
 /// where rule 0 is no change. The form's letters are the `lead` letters that the rule before supplies, which are all of
 /// its `v`, then the `taken` letters of the line from `at` on, then the `u` of the rule. `at`, `lead` and `taken` count
 /// letters, `at` from 0.
-#[derive(Clone, Copy, Debug, PartialEq, Eq)]
+#[derive(Clone, Copy, PartialEq, Eq)]
 pub struct Step {
     pub phase: u32,
     pub rule: u32,

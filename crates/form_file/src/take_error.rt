@@ -6,7 +6,7 @@ use phoneme::Memory;
 use std::alloc::{AllocError, AllocFailed};
 
 /// Why a line was not taken: its first reason, or want of memory.
-#[derive(Clone, Copy, Debug)]
+#[derive(Clone, Copy)]
 pub enum TakeError {
     Why(FileWhy),
     Memory,

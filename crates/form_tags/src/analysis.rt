@@ -7,7 +7,7 @@ use std::alloc::Global;
 use std::cmp::Ordering;
 
 /// What is known of an inflected form: the stem that it comes from, and its tag.
-#[derive(Debug, Drop, PartialEq, Eq, Hash)]
+#[derive(Drop, PartialEq, Eq, Hash)]
 pub struct Analysis {
     pub stem: Word,
     pub tag: Tag,

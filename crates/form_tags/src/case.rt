@@ -3,7 +3,7 @@ ghost use Rattle.lexicon_definitions.specs.Tags.{IsOneOf, cases};
 ghost use Rattle.form_tags.specs.TagTexts.{case_text};
 
 /// Nominative, accusative, instrumental, dative, ablative, genitive, locative, vocative.
-#[derive(Clone, Copy, Debug, PartialEq, Eq, Hash)]
+#[derive(Clone, Copy, PartialEq, Eq, Hash)]
 pub enum Case {
     Nom,
     Acc,

@@ -9,7 +9,7 @@ use std::cmp::Ordering;
 
 /// How the stem of a form differs from the form at its end: the stem is the form without its last `cut` letters,
 /// followed by `append` (Huet's differential words).
-#[derive(Debug, Drop, PartialEq, Eq, Hash)]
+#[derive(Drop, PartialEq, Eq, Hash)]
 pub struct Delta {
     pub cut: u32,
     pub append: Word,

@@ -3,7 +3,7 @@ ghost use Rattle.lexicon_definitions.specs.Tags.{IsOneOf, genders};
 ghost use Rattle.form_tags.specs.TagTexts.{gender_text};
 
 /// Masculine, feminine, neuter.
-#[derive(Clone, Copy, Debug, PartialEq, Eq, Hash)]
+#[derive(Clone, Copy, PartialEq, Eq, Hash)]
 pub enum Gender {
     M,
     F,

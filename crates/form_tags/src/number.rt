@@ -3,7 +3,7 @@ ghost use Rattle.lexicon_definitions.specs.Tags.{IsOneOf, numbers};
 ghost use Rattle.form_tags.specs.TagTexts.{number_text};
 
 /// Singular, dual, plural.
-#[derive(Clone, Copy, Debug, PartialEq, Eq, Hash)]
+#[derive(Clone, Copy, PartialEq, Eq, Hash)]
 pub enum Number {
     Sg,
     Du,

@@ -3,7 +3,7 @@ ghost use Rattle.lexicon_definitions.specs.Tags.{IsOneOf, persons};
 ghost use Rattle.form_tags.specs.TagTexts.{person_text};
 
 /// First, second, third person.
-#[derive(Clone, Copy, Debug, PartialEq, Eq, Hash)]
+#[derive(Clone, Copy, PartialEq, Eq, Hash)]
 pub enum Person {
     First,
     Second,

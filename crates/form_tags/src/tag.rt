@@ -5,7 +5,7 @@ use std::fmt;
 
 /// What an inflected form is, as Huet's lexicons of forms tell it: of a noun, of a verb, or a form that is not
 /// inflected. Which of these there are, and how they are written, is this project's own choice.
-#[derive(Clone, Copy, Debug, PartialEq, Eq, Hash)]
+#[derive(Clone, Copy, PartialEq, Eq, Hash)]
 pub enum Tag {
     Nominal {
         gender: Gender,

@@ -3,7 +3,7 @@ ghost use Rattle.lexicon_definitions.specs.Tags.{IsOneOf, tenses};
 ghost use Rattle.form_tags.specs.TagTexts.{tense_text};
 
 /// Present, imperfect, imperative, optative, future, perfect, aorist.
-#[derive(Clone, Copy, Debug, PartialEq, Eq, Hash)]
+#[derive(Clone, Copy, PartialEq, Eq, Hash)]
 pub enum Tense {
     Pr,
     Impf,

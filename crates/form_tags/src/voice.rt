@@ -3,7 +3,7 @@ ghost use Rattle.lexicon_definitions.specs.Tags.{IsOneOf, voices};
 ghost use Rattle.form_tags.specs.TagTexts.{voice_text};
 
 /// Active, middle, passive.
-#[derive(Clone, Copy, Debug, PartialEq, Eq, Hash)]
+#[derive(Clone, Copy, PartialEq, Eq, Hash)]
 pub enum Voice {
     Ac,
     Md,

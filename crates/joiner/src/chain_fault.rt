@@ -7,7 +7,7 @@ use thiserror::Error;
 
 /// Why a text is not read as a chain: it has not the shape of one; a name is that of no phase; the phase has not the form;
 /// no rule has these words; the rule does not allow the phases; or two forms do not meet so.
-#[derive(Clone, Copy, Debug, PartialEq, Eq, Error)]
+#[derive(Clone, Copy, Debug, Error)]
 pub enum ChainWhy {
     #[error("not the shape of a chain")]
     Shape,
@@ -24,7 +24,7 @@ pub enum ChainWhy {
 }
 
 /// The first fault of a chain's text: its step, counted from 1, or 0 where the shape is at fault; and why.
-#[derive(Clone, Copy, Debug, PartialEq, Eq, Error)]
+#[derive(Clone, Copy, Debug, Error)]
 #[error("step {step}: {why}")]
 pub struct ChainFault {
     pub step: u32,
@@ -32,7 +32,7 @@ pub struct ChainFault {
 }
 
 /// Why a text was not read as a chain: its first fault, or want of memory.
-#[derive(Clone, Copy, Debug, PartialEq, Eq, Error)]
+#[derive(Clone, Copy, Debug, Error)]
 pub enum ChainError {
     #[error(transparent)]
     Fault(ChainFault),

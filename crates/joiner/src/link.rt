@@ -3,7 +3,7 @@ use std::marker::Model;
 
 /// A form of a chain with the number of its phase, counted from 0, and the number of the rule after it, counted from 1; 0
 /// where there is no change.
-#[derive(Debug, Drop)]
+#[derive(Drop)]
 pub struct Link {
     pub phase: u32,
     pub form: Word,

@@ -5,7 +5,7 @@ use phoneme::Memory;
 use std::alloc::{AllocError, AllocFailed};
 
 /// Why a part of a text was not read: it has not the shape of one, or want of memory.
-#[derive(Clone, Copy, Debug)]
+#[derive(Clone, Copy)]
 pub(crate) enum ShapeError {
     Shape,
     Memory,

@@ -3,7 +3,7 @@ use sandhi_rules::Triple;
 use std::marker::Model;
 
 /// A form as a chain's text writes it: its letters, and the name of its phase.
-#[derive(Debug, Drop)]
+#[derive(Drop)]
 pub(crate) struct WrittenForm {
     pub letters: Word,
     pub name: Vec<u8>,
@@ -18,7 +18,7 @@ impl Model for WrittenForm {
 }
 
 /// A written form, and the words of the rule after it; `None` where there is no change.
-#[derive(Debug, Drop)]
+#[derive(Drop)]
 pub(crate) struct WrittenStep {
     pub form: WrittenForm,
     pub change: Option<Triple>,

@@ -5,7 +5,7 @@ use phoneme::Memory;
 use thiserror::Error;
 
 /// Why a lexicon was not built.
-#[derive(Clone, Copy, Debug, PartialEq, Eq, Error)]
+#[derive(Clone, Copy, Debug, Error)]
 pub enum BuildError {
     /// The lexicon of the sources has too many lines of forms, or its text too many bytes.
     #[error("over a limit")]

@@ -8,7 +8,7 @@ use phoneme::Memory;
 use thiserror::Error;
 
 /// Why a line of a lexicon file of any version is refused. The first reason in this order counts.
-#[derive(Clone, Copy, Debug, PartialEq, Eq, Error)]
+#[derive(Clone, Copy, Debug, Error)]
 pub enum FileWhy {
     #[error("a line after the end")]
     Trailing,
@@ -45,7 +45,7 @@ pub enum FileWhy {
 }
 
 /// The first fault of a lexicon file: its line, counted from 1, and why this is refused.
-#[derive(Clone, Copy, Debug, PartialEq, Eq, Error)]
+#[derive(Clone, Copy, Debug, Error)]
 #[error("line {line}: {why}")]
 pub struct FileFault {
     pub line: u32,
@@ -53,7 +53,7 @@ pub struct FileFault {
 }
 
 /// Why a lexicon file was not read.
-#[derive(Clone, Copy, Debug, PartialEq, Eq, Error)]
+#[derive(Clone, Copy, Debug, Error)]
 pub enum FileError {
     #[error(transparent)]
     Fault(FileFault),

@@ -16,7 +16,7 @@ use phoneme::{Memory, Word};
 use std::alloc::Global;
 
 /// The spelling schemes between which a text may be converted.
-#[derive(Clone, Copy, Debug, PartialEq, Eq)]
+#[derive(Clone, Copy)]
 pub enum AnyScheme {
     /// One ASCII byte for each letter (Scharf and Hyman).
     Slp1,

@@ -5,14 +5,14 @@ use phoneme::Memory;
 
 /// Why a text can't be converted: the least line that has a fault, counted from 1, and the first fault of this line, whose place
 /// is counted in bytes from the beginning of the line, in IAST of the composed line.
-#[derive(Clone, Copy, Debug, PartialEq, Eq)]
+#[derive(Clone, Copy)]
 pub struct ConvertFault {
     pub line: u32,
     pub fault: SpellFault,
 }
 
 /// Why a text was not converted: its first fault, or want of memory.
-#[derive(Clone, Copy, Debug, PartialEq, Eq)]
+#[derive(Clone, Copy)]
 pub enum ConvertError {
     Fault(ConvertFault),
     Memory,

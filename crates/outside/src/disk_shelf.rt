@@ -16,7 +16,7 @@ use std::rt::{Clock, Files};
 const PIECE: usize = 8192;
 
 /// What a person may be told of a call that failed on a file of the machine. No clause speaks of it.
-#[derive(Debug, Drop)]
+#[derive(Drop)]
 pub struct DiskFault {
     /// The name of the file, where memory was found to keep it.
     pub name: Option<String>,

@@ -6,7 +6,7 @@ pub trait Gate {
 }
 
 /// The gate of the program, which does nothing.
-#[derive(Clone, Copy, Debug)]
+#[derive(Clone, Copy)]
 pub struct NoGate;
 
 impl Gate for NoGate {

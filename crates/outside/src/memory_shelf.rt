@@ -14,7 +14,7 @@ use std::marker::Model;
 
 /// A shelf in memory, which tells its files and fails at the calls that it is given, and at no other. A failed write
 /// changes no file.
-#[derive(Debug, Drop)]
+#[derive(Drop)]
 pub struct MemoryShelf {
     alloc: Global,
     files: BTreeMap<String, Vec<u8>>,

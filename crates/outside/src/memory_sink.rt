@@ -10,7 +10,7 @@ use std::marker::Model;
 
 /// A sink in memory, which tells the bytes written and fails at the calls that it is given, and at no other but for
 /// want of memory.
-#[derive(Debug, Drop)]
+#[derive(Drop)]
 pub struct MemorySink {
     written: Vec<u8>,
     piece: usize,

@@ -7,7 +7,7 @@ use super::{Failed, Source};
 use std::marker::Model;
 
 /// A source in memory, which tells the bytes left and fails at the calls that it is given, and at no other.
-#[derive(Debug, Drop)]
+#[derive(Drop)]
 pub struct MemorySource {
     bytes: Vec<u8>,
     taken: usize,

@@ -4,7 +4,7 @@ ghost use Rattle.outside.specs.States.{NextFails};
 
 /// Which calls of a device in memory are to fail, by their numbers, and how many calls there were. Calls are
 /// counted from 1; a call after number 2^64 - 1 has that number too.
-#[derive(Debug, Drop)]
+#[derive(Drop)]
 pub struct Schedule {
     pub failing: Vec<u64>,
     pub calls: u64,

@@ -6,7 +6,7 @@ use phoneme::Memory;
 use thiserror::Error;
 
 /// Why a record of a table file is refused. The first reason in this order counts.
-#[derive(Clone, Copy, Debug, PartialEq, Eq, Error)]
+#[derive(Clone, Copy, Debug, Error)]
 pub enum TableWhy {
     #[error("not the fields of a table's record")]
     Fields,
@@ -23,7 +23,7 @@ pub enum TableWhy {
 }
 
 /// Why a record of a stem file is refused. The first reason in this order counts.
-#[derive(Clone, Copy, Debug, PartialEq, Eq, Error)]
+#[derive(Clone, Copy, Debug, Error)]
 pub enum StemWhy {
     #[error("not the fields of a stem's record")]
     Fields,
@@ -40,7 +40,7 @@ pub enum StemWhy {
 }
 
 /// The first fault of a table file: its record, counted from 1, and why this is refused.
-#[derive(Clone, Copy, Debug, PartialEq, Eq, Error)]
+#[derive(Clone, Copy, Debug, Error)]
 #[error("record {number}: {why}")]
 pub struct TableFault {
     pub number: u32,
@@ -48,7 +48,7 @@ pub struct TableFault {
 }
 
 /// The first fault of a stem file: its record, counted from 1, and why this is refused.
-#[derive(Clone, Copy, Debug, PartialEq, Eq, Error)]
+#[derive(Clone, Copy, Debug, Error)]
 #[error("record {number}: {why}")]
 pub struct StemFault {
     pub number: u32,
@@ -56,7 +56,7 @@ pub struct StemFault {
 }
 
 /// Why a table file was not read.
-#[derive(Clone, Copy, Debug, PartialEq, Eq, Error)]
+#[derive(Clone, Copy, Debug, Error)]
 pub enum TableError {
     #[error(transparent)]
     Fault(TableFault),
@@ -73,7 +73,7 @@ impl From<Memory> for TableError {
 }
 
 /// Why a stem file was not read.
-#[derive(Clone, Copy, Debug, PartialEq, Eq, Error)]
+#[derive(Clone, Copy, Debug, Error)]
 pub enum StemError {
     #[error(transparent)]
     Fault(StemFault),

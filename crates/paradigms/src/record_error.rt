@@ -5,7 +5,7 @@ use phoneme::Memory;
 use std::alloc::{AllocError, AllocFailed};
 
 /// Why a record was not taken: its first reason, or want of memory.
-#[derive(Clone, Copy, Debug)]
+#[derive(Clone, Copy)]
 pub(crate) enum RecordError<W> {
     Why(W),
     Memory,

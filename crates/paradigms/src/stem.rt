@@ -1,7 +1,7 @@
 use phoneme::Word;
 
 /// A stem, and the number of its class in its tables, counted from 0.
-#[derive(Debug, Drop, PartialEq, Eq, Hash)]
+#[derive(Drop, PartialEq, Eq, Hash)]
 pub struct Stem {
     pub letters: Word,
     pub class: u32,

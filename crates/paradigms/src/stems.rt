@@ -19,7 +19,7 @@ use std::alloc::Global;
 use std::marker::Model;
 
 /// The stems of a stem file, in the order of its records.
-#[derive(Debug, Drop)]
+#[derive(Drop)]
 pub struct Stems {
     list: IndexSet<Stem>,
 }

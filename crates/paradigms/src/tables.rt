@@ -20,7 +20,7 @@ use std::alloc::Global;
 use std::marker::Model;
 
 /// The rows of a table file, by class. Classes are numbered from 0, as they first appear in the file.
-#[derive(Debug, Drop)]
+#[derive(Drop)]
 pub struct Tables {
     names: IndexSet<Vec<u8>>,
     rows: Vec<IndexSet<Row>>,

@@ -8,7 +8,7 @@ use std::marker::Model;
 /// The automaton of a phase grammar: its states are the sets of positions of the grammar at which the last of the phases so
 /// far can have been read (McNaughton and Yamada 1960; Glushkov 1961), numbered from 0, and the dead state, from which no
 /// phases lead to a word.
-#[derive(Debug, Drop)]
+#[derive(Drop)]
 pub struct Automaton {
     phases: u32,
     steps: Vec<State>,

@@ -21,7 +21,7 @@ pub enum GrammarFault {
 }
 
 /// Why a grammar was not read.
-#[derive(Clone, Copy, Debug, PartialEq, Eq, Error)]
+#[derive(Clone, Copy, Debug, Error)]
 pub enum GrammarError {
     #[error(transparent)]
     Fault(GrammarFault),

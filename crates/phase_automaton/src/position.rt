@@ -6,7 +6,7 @@ use super::position_set::{PositionSet, SET_BITS};
 
 /// A position of a grammar: the phase of the name that stands there, and the positions that may come right after it.
 /// Position 0 stands before all names, and its phase says nothing.
-#[derive(Clone, Copy, Debug)]
+#[derive(Clone, Copy)]
 pub(crate) struct Position {
     pub(crate) phase: u32,
     pub(crate) follow: PositionSet,

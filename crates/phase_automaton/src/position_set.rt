@@ -5,7 +5,7 @@ ghost use Rattle.phase_automaton.specs.PositionSets.{HasPosition};
 pub(crate) const SET_BITS: usize = 64;
 
 /// A set of positions of a grammar, each below the number of a set's bits.
-#[derive(Clone, Copy, Debug, PartialEq, Eq)]
+#[derive(Clone, Copy)]
 pub(crate) struct PositionSet {
     bits: u64,
 }

@@ -4,7 +4,7 @@ use std::marker::Model;
 
 /// A state of an automaton: one of its numbered states, counted from 0, or the dead state, which is apart from these and the
 /// same in every automaton.
-#[derive(Clone, Copy, Debug, PartialEq, Eq)]
+#[derive(Clone, Copy)]
 pub struct State {
     number: Option<u8>,
 }

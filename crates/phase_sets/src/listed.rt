@@ -6,7 +6,7 @@ use sandhi_rules::phase_named;
 use std::marker::Model;
 
 /// Phases that were named one after another: their set, how many they are, and the number from which on the next one may be.
-#[derive(Debug, Drop)]
+#[derive(Drop)]
 struct Listed {
     set: u16,
     count: usize,

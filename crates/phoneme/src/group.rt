@@ -1,5 +1,5 @@
 /// The groups of the fifty letters, in the order of their codes (SLP1's letters).
-#[derive(Clone, Copy, Debug, PartialEq, Eq)]
+#[derive(Clone, Copy)]
 pub enum Group {
     Vowel,
     Mark,

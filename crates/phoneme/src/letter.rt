@@ -6,7 +6,7 @@ use super::Group;
 use std::marker::Model;
 
 /// One of the fifty letters, by its code from 1 to 50 (SLP1's letters, in the order of the alphabet).
-#[derive(Clone, Copy, Debug, PartialEq, Eq, PartialOrd, Ord, Hash)]
+#[derive(Clone, Copy, PartialEq, Eq, PartialOrd, Ord, Hash)]
 pub struct Letter {
     code: u8,
 }

@@ -8,7 +8,7 @@ use text_definitions::MOST_LINE_LETTERS;
 
 /// A line of text: 1 to `MOST_LINE_LETTERS` letters, and the places of its blanks. A blank at place `b` stands between
 /// the letters `b - 1` and `b`, counted from 0; the places rise and lie strictly inside the word (own).
-#[derive(Debug, Drop)]
+#[derive(Drop)]
 pub struct Line {
     pub letters: Word,
     pub blanks: Vec<u32>,

@@ -13,7 +13,7 @@ use std::hash::{Hash, Hasher};
 use std::marker::Model;
 
 /// A word: letters in the order in which they are spoken (after Huet 2005).
-#[derive(Debug, Drop)]
+#[derive(Drop)]
 pub struct Word {
     letters: Vec<Letter>,
 }

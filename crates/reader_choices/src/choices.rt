@@ -15,7 +15,7 @@ use std::marker::Model;
 
 /// The choices of a reader, oldest first: items that are kept and items that are rejected (Goyal and Huet 2016), at most
 /// `MOST_CHOICES`. An item may be both; then there is no answer.
-#[derive(Debug, Drop)]
+#[derive(Drop)]
 pub struct Choices {
     list: Vec<Choice>,
 }

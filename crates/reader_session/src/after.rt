@@ -1,5 +1,5 @@
 /// Whether a session goes on after a reply, or is over.
-#[derive(Clone, Copy, Debug, PartialEq, Eq)]
+#[derive(Clone, Copy)]
 pub(crate) enum After {
     Open,
     Over,

@@ -10,7 +10,7 @@ use reader_choices::Choices;
 use std::alloc::Global;
 
 /// The line of a bookmark, and its choices.
-#[derive(Debug, Drop)]
+#[derive(Drop)]
 pub struct MarkedLine {
     pub line: Line,
     pub choices: Choices,

@@ -7,7 +7,7 @@ use phoneme::Memory;
 use std::alloc::Global;
 
 /// Why there is no item with a number: there is no summary, the summary has no item of this number, or memory is wanting.
-#[derive(Clone, Copy, Debug, PartialEq, Eq)]
+#[derive(Clone, Copy)]
 pub(crate) enum NoItem {
     NoSummary,
     NoNumber,

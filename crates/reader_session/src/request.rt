@@ -20,7 +20,7 @@ use text_line::{Scheme, count_up_to};
 
 /// What a line of a session asks for. `None` stands for what could not be read: a word that is no scheme's name, a text that is no
 /// number of this kind, or a text that is no bookmark.
-#[derive(Debug, Drop)]
+#[derive(Drop)]
 pub(crate) enum Request<'a> {
     /// `text SCHEME TEXT`: a line of text is to be read.
     Text {

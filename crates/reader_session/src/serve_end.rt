@@ -1,5 +1,5 @@
 /// How serving a session ended.
-#[derive(Clone, Copy, Debug, PartialEq, Eq)]
+#[derive(Clone, Copy)]
 pub enum ServeEnd {
     /// The input was read to a `quit` line or to its end.
     Done,

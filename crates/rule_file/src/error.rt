@@ -8,7 +8,7 @@ use thiserror::Error;
 
 /// Why an entry of the rules is refused. The first reason in this order counts; of an entry that stands for several rules,
 /// a reason counts where it applies to any of them.
-#[derive(Clone, Copy, Debug, PartialEq, Eq, Error)]
+#[derive(Clone, Copy, Debug, Error)]
 pub enum RuleWhy {
     #[error("not the notation of a rule")]
     Shape,
@@ -30,7 +30,7 @@ pub enum RuleWhy {
 
 /// The first fault of a rule file, in this order. A number is that of an entry in its array, counted from 1; classes are
 /// counted by rising name. `Phase(0)` is a file that names no phase.
-#[derive(Clone, Copy, Debug, PartialEq, Eq, Error)]
+#[derive(Clone, Copy, Debug, Error)]
 pub enum RuleFault {
     #[error("not a TOML document")]
     Toml,
@@ -49,7 +49,7 @@ pub enum RuleFault {
 }
 
 /// Why a rule file was not read.
-#[derive(Clone, Copy, Debug, PartialEq, Eq, Error)]
+#[derive(Clone, Copy, Debug, Error)]
 pub enum RuleError {
     #[error(transparent)]
     Fault(RuleFault),

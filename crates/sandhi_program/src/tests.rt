@@ -484,7 +484,7 @@ fn a_source_that_waits_for_replies<R: Threads + Sync + AllocGlobal + Abort>(
         &mut sink,
         &NoGate,
     );
-    assert!(rt; status == Status::Done);
+    assert!(rt; matches!(status, Status::Done));
     assert_eq!(rt; sink.inner.bytes(), b"? word\n? word\n? word\n".as_slice());
     Ok(())
 }

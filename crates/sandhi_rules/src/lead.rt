@@ -13,7 +13,7 @@ use std::marker::Model;
 
 /// What an inner rule says of the form after it (own): this begins with `v` and is of a phase in `after`. Bit `k` of
 /// `after` stands for phase `k`, counted from 0.
-#[derive(Debug, Drop)]
+#[derive(Drop)]
 pub struct Lead {
     pub v: Word,
     pub after: u16,

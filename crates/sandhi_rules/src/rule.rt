@@ -10,7 +10,7 @@ use std::marker::Model;
 /// begins with `v`, of a phase in `after`, is written `w` at the seam. Where `v` is empty the rule is final: it changes
 /// the end of the last form of a line, and `after` is 0. Bit `k` of `before` and of `after` stands for phase `k`,
 /// counted from 0.
-#[derive(Debug, Drop)]
+#[derive(Drop)]
 pub struct Rule {
     pub u: Word,
     pub v: Word,

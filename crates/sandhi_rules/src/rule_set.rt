@@ -13,7 +13,7 @@ use std::marker::Model;
 
 /// Different names of phases, a grammar text over them, the plain pairs of letters, rising, and the rules, numbered
 /// from 1, no two of which are the same triple; all within the limits of a rule set (rules after Huet 2005).
-#[derive(Debug, Drop)]
+#[derive(Drop)]
 pub struct RuleSet {
     phases: Vec<String>,
     grammar: Vec<u8>,

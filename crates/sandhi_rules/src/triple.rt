@@ -6,7 +6,7 @@ use phoneme::{Memory, Word};
 use std::alloc::Global;
 
 /// What no two rules of a rule set share: `u`, `v` and `w` of a rule.
-#[derive(Debug, Drop, PartialEq, Eq, Hash)]
+#[derive(Drop, PartialEq, Eq, Hash)]
 pub struct Triple {
     pub u: Word,
     pub v: Word,

@@ -31,7 +31,7 @@ use sandhi_rules::RuleSet;
 /// itself where no form that takes a letter may be entered, else that of the first blank after the place, or of all letters where there
 /// is none; whether no blank stands after the place, so that the line may end with the form; and whether a form that takes a letter of
 /// the line may be entered.
-#[derive(Clone, Copy, Debug, PartialEq, Eq)]
+#[derive(Clone, Copy)]
 pub struct Ahead {
     pub limit: u32,
     pub may_end: bool,

@@ -8,7 +8,7 @@ use phase_automaton::State;
 
 /// How far a search has come between two forms: how many letters of the line are derived, how the next form is entered, and the
 /// state of the grammar after the phases so far.
-#[derive(Clone, Copy, Debug, PartialEq, Eq)]
+#[derive(Clone, Copy)]
 pub struct Configuration {
     pub at: u32,
     pub entrance: Entrance,

@@ -1,5 +1,5 @@
 /// Where a search stands among its answers: before the first, at one, or past the last.
-#[derive(Clone, Copy, Debug, PartialEq, Eq)]
+#[derive(Clone, Copy)]
 pub enum Cursor {
     Before,
     At,

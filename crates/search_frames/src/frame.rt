@@ -6,7 +6,7 @@ use phase_automaton::State;
 pub const NODES_OF_FRAME: usize = MOST_FORM_LETTERS + 1;
 
 /// What a search keeps of a configuration beside its step (Huet 2005): how the next form is entered, and the state of the grammar.
-#[derive(Clone, Copy, Debug, PartialEq, Eq)]
+#[derive(Clone, Copy)]
 pub struct Frame {
     pub entrance: Entrance,
     pub state: State,

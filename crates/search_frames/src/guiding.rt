@@ -15,7 +15,7 @@ use phoneme::Line;
 use reader_choices::Choices;
 
 /// What a frame has still to try: every key that is possible at its configuration, or just the keys after that of its step.
-#[derive(Clone, Copy, Debug, PartialEq, Eq)]
+#[derive(Clone, Copy)]
 pub enum ToTry {
     All,
     Later,

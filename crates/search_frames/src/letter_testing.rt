@@ -15,7 +15,7 @@ use reader_choices::Choices;
 
 /// What a key may do at a configuration, whatever the grammar says: neither lead on nor end the line; or end it; or lead on to a form
 /// that begins after `at` letters of the line and is entered so.
-#[derive(Clone, Copy, Debug, PartialEq, Eq)]
+#[derive(Clone, Copy)]
 pub enum LetterTest {
     Refused,
     Ends,

@@ -8,7 +8,7 @@ use std::alloc::Global;
 
 /// The state of a backtracking search (after Huet 2005). `steps` and `frames` have one length, the room of the search, and
 /// their first `depth` entries are in use. `nodes` is room for the nodes along a form (`NODES_OF_FRAME`).
-#[derive(Debug, Drop)]
+#[derive(Drop)]
 pub struct Resumption {
     pub(crate) cursor: Cursor,
     pub(crate) depth: u32,

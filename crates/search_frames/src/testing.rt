@@ -19,7 +19,7 @@ use reader_choices::Choices;
 
 /// What a key does at a configuration: it neither leads on nor ends the line, or there is no such key; or it ends the line; or it leads on
 /// to another configuration.
-#[derive(Clone, Copy, Debug, PartialEq, Eq)]
+#[derive(Clone, Copy)]
 pub enum Test {
     Refused,
     Ends,

@@ -5,7 +5,7 @@ use derivation::Key;
 pub const MOST_WAYS: usize = 64;
 
 /// A key that leads on from a configuration or ends the line there, whatever the grammar says, and which of the two (own).
-#[derive(Clone, Copy, Debug, PartialEq, Eq)]
+#[derive(Clone, Copy)]
 pub struct Way {
     pub key: Key,
     pub test: LetterTest,

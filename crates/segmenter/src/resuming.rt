@@ -28,7 +28,7 @@ use std::alloc::Global;
 use thiserror::Error;
 
 /// Why a search was not resumed at the keys: they are those of no answer, or want of memory.
-#[derive(Clone, Copy, Debug, PartialEq, Eq, Error)]
+#[derive(Clone, Copy, Debug, Error)]
 pub enum ResumeError {
     #[error("the keys are those of no answer")]
     NotAnAnswer,

@@ -18,7 +18,7 @@ pub(crate) struct Chains {
 }
 
 /// A number's hash, and one more than the number before it in the same bucket, or 0.
-#[derive(Clone, Copy, Debug)]
+#[derive(Clone, Copy)]
 struct Link {
     hash: u32,
     before: u32,

@@ -11,7 +11,7 @@ use std::alloc::Global;
 use std::marker::Model;
 
 /// A form, and how the stem of each of its analyses is made of it.
-#[derive(Clone, Copy, Debug)]
+#[derive(Clone, Copy)]
 pub struct WalkedForm<'a> {
     pub letters: &'a [Letter],
     /// Rising, and at least one.

@@ -1,7 +1,7 @@
 use super::Node;
 
 /// A node on the way to a form, and how many of its children were walked.
-#[derive(Clone, Copy, Debug)]
+#[derive(Clone, Copy)]
 pub(crate) struct Level {
     pub node: Node,
     pub walked: usize,

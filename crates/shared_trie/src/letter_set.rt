@@ -4,7 +4,7 @@ ghost use Rattle.shared_trie.specs.LetterSets.{letters_in};
 use phoneme::Letter;
 
 /// A set of letters. Contracts see it as the rising list of its letters (`letters_in`).
-#[derive(Clone, Copy, Debug)]
+#[derive(Clone, Copy)]
 pub(crate) struct LetterSet {
     bits: u64,
 }

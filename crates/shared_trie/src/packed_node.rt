@@ -8,7 +8,7 @@ use super::letter_set::LetterSet;
 use phoneme::Letter;
 
 /// A node as it is stored. Its children stand one after another among those of all nodes.
-#[derive(Clone, Copy, Debug)]
+#[derive(Clone, Copy)]
 pub(crate) struct PackedNode {
     /// The letters of its children, which tell how many it has.
     pub letters: LetterSet,

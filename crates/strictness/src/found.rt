@@ -5,7 +5,7 @@ use phoneme::Memory;
 use std::alloc::Global;
 
 /// The overlaps found so far, of which at most so many are wanted.
-#[derive(Debug, Drop)]
+#[derive(Drop)]
 pub(crate) struct Found {
     pub alloc: Global,
     pub overlaps: Vec<Overlap>,

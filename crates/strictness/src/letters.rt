@@ -14,7 +14,7 @@ const CODES: usize = 51;
 
 /// The numbers of the rules whose `v` begins with a letter, and of those whose `u` ends with it, rising, by the letter's
 /// code.
-#[derive(Debug, Drop)]
+#[derive(Drop)]
 pub(crate) struct LettersOfRules {
     pub firsts: Vec<Vec<u32>>,
     pub lasts: Vec<Vec<u32>>,

@@ -4,7 +4,7 @@ use std::marker::Model;
 /// A form of a phase, an inner rule whose `v` begins the form, and a rule whose `u` ends it, where `v` and `u` together are
 /// longer than the form. The phase is in the set after the one rule and in the set before the other. The phase counts from
 /// 0, the rules from 1.
-#[derive(Debug, Drop)]
+#[derive(Drop)]
 pub struct Overlap {
     pub phase: u32,
     pub form: Word,

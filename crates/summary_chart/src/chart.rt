@@ -28,7 +28,7 @@ use std::marker::Model;
 /// The chart of a line: an exact guide, which says of each configuration whether it stands in an answer (own; for the summary of
 /// Goyal and Huet 2016). It is one for the lexicon, the line and the choices with which it was built. Its memory may serve for the chart
 /// of another line.
-#[derive(Debug, Drop)]
+#[derive(Drop)]
 pub struct Chart {
     pub(crate) table: Table,
     pub(crate) kept: PlaceWays,

@@ -14,7 +14,7 @@ const FEW_RULES: usize = 16;
 /// The items that were made so far, in any order. For each rule there stands one with the same `u`, and for each of these it is kept how
 /// many items there were when the last one was made of a rule for which it stands. So an item is made once after a front for all rules for
 /// which one stands: at first each stands for itself, and once rules are told by their `u`, one for all with the same `u`.
-#[derive(Debug, Drop)]
+#[derive(Drop)]
 pub(crate) struct Collected {
     pub items: Vec<Item>,
     pub same_u: Vec<u32>,

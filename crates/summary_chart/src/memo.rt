@@ -18,7 +18,7 @@ const MOST_DONE: usize = 65_536;
 
 /// What rules do after a form: the node to which the letters before its `u` lead, after how many letters of the line these end, whether the
 /// line may end after it, and its phase, counted from 0. It is the same wherever the form begins.
-#[derive(Clone, Copy, Debug, PartialEq, Eq)]
+#[derive(Clone, Copy)]
 pub(crate) struct Work {
     pub node: Node,
     pub end: u32,
@@ -27,7 +27,7 @@ pub(crate) struct Work {
 }
 
 /// Work that was done, and the states that it gave.
-#[derive(Clone, Copy, Debug, PartialEq, Eq)]
+#[derive(Clone, Copy)]
 pub(crate) struct Done {
     pub work: Work,
     pub states: StateSet,
@@ -35,7 +35,7 @@ pub(crate) struct Done {
 
 /// Work that was done, so that it is not done once more (own). It may forget: each work has one place, where what was done last is kept.
 /// It takes no memory before something is kept. And besides, which rules do the same, so that of these one is looked at in a work.
-#[derive(Debug, Drop)]
+#[derive(Drop)]
 pub(crate) struct Memo {
     places: Vec<Option<Done>>,
     pub effects: Effects,

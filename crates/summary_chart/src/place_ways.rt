@@ -5,7 +5,7 @@ use search_frames::Way;
 use std::alloc::Global;
 
 /// Where the ways stand that lead from the places at an index of a table: from `first` to before `end` among all ways.
-#[derive(Clone, Copy, Debug, PartialEq, Eq)]
+#[derive(Clone, Copy)]
 pub(crate) struct Stop {
     pub index: usize,
     pub first: usize,
@@ -13,7 +13,7 @@ pub(crate) struct Stop {
 }
 
 /// The ways from places of a table, one stop after another in the order of the table. Not every place has a stop.
-#[derive(Debug, Drop)]
+#[derive(Drop)]
 pub(crate) struct PlaceWays {
     pub stops: Vec<Stop>,
     pub ways: Vec<Way>,

@@ -14,7 +14,7 @@ const TIMES_LOOKED_AT: usize = 8;
 
 /// Which rules do the same after a form, whatever their `u`: for each rule, by its number, one that does the same stands for it. And of
 /// which rules one was looked at in this turn: those for which the same one stands. At first there is none that stands for any.
-#[derive(Debug, Drop)]
+#[derive(Drop)]
 pub(crate) struct Effects {
     same: Vec<u32>,
     seen: Vec<u32>,

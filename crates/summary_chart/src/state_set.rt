@@ -2,7 +2,7 @@ ghost use Rattle.std.specs.Prelude.{◌≡◌, ◌<◌, ◌↔◌, ◌⊎◌, �
 ghost use Rattle.summary_chart.specs.StateSets.{HasState, IsSplitInto};
 
 /// A set of numbered states of an automaton, of which there are at most 32.
-#[derive(Clone, Copy, Debug, PartialEq, Eq)]
+#[derive(Clone, Copy, PartialEq, Eq)]
 pub(crate) struct StateSet {
     bits: u32,
 }

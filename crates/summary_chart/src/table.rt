@@ -21,7 +21,7 @@ const SETS_OF_WORD: usize = 64;
 
 /// For each number of letters derived and each entrance a set of states. The entrances stand in their columns: the leads by their
 /// places, the start, and the letters by their codes.
-#[derive(Debug, Drop)]
+#[derive(Drop)]
 pub(crate) struct Table {
     pub entrances: Vec<Entrance>,
     pub sets: Vec<StateSet>,

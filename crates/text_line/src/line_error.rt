@@ -8,7 +8,7 @@ use phoneme::Memory;
 use thiserror::Error;
 
 /// Why a text was not read as a line: its fault, as `TextFault` has it, or want of memory.
-#[derive(Clone, Copy, Debug, PartialEq, Eq, Error)]
+#[derive(Clone, Copy, Debug, Error)]
 pub enum LineError {
     #[error("{0}")]
     Spell(SpellFault),

@@ -10,7 +10,7 @@ use phoneme::Word;
 use std::alloc::Global;
 
 /// The spelling schemes in which a line may be written.
-#[derive(Clone, Copy, Debug, PartialEq, Eq)]
+#[derive(Clone, Copy)]
 pub enum Scheme {
     /// One ASCII byte for each letter (Scharf and Hyman).
     Slp1,

@@ -4,7 +4,7 @@ ghost use Rattle.trie_checks.specs.NumberSets.{HasNumber};
 use std::marker::Model;
 
 /// A set of numbers below 64. Contracts see it as the number of its bits, and ask which numbers are in it (`HasNumber`).
-#[derive(Clone, Copy, Debug)]
+#[derive(Clone, Copy)]
 pub(crate) struct NumberSet {
     bits: u64,
 }

@@ -71,7 +71,7 @@ fn two_lines_are_answered_at_once(rt: HostRuntime) -> Result<(), Fail> {
         &mut sink,
         &gate,
     );
-    assert!(rt; status == Status::Done);
+    assert!(rt; matches!(status, Status::Done));
     assert!(rt; gate.has_seen_both());
     Ok(())
 }
@@ -94,7 +94,7 @@ fn two_parts_are_listed_at_once(rt: HostRuntime) -> Result<(), Fail> {
         &mut sink,
         &gate,
     );
-    assert!(rt; status == Status::Done);
+    assert!(rt; matches!(status, Status::Done));
     assert!(rt; gate.has_seen_both());
     assert_eq!(rt;
         sink.bytes(),
