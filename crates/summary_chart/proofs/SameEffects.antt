@@ -1,5 +1,5 @@
 -- For each rule one that does the same: at first itself, and one that is put in place of another does the same. And of the rules
--- that have the turn, one that was looked at does the same, also after one more.
+-- that have the round, one that was looked at does the same, also after one more.
 use Rattle.std.proofs.Common.{◌≡◌, ◌≢◌, ◌⊎◌, ℕ, ◌<◌, ◌≤◌, inl, inr, List, [], ◌∷◌, ◌++◌, length, get_or, set, Contains, sym, ap, ◌∙◌, arith, length-set}
 use Rattle.std.proofs.lemmas.Bool.{cases_lt}
 use Rattle.std.proofs.lemmas.List.{get_or-set_same, get_or-set_other}
@@ -70,21 +70,21 @@ module _ (rules : RuleSet) where
           let size = are.size in
           ap (λ (n : ℕ). get_or (set same rule other) n 0) here ∙ get_or-set_same same rule other 0 (omega (arith, low, size))
 
-  -- the rule that stands for it has the turn now
+  -- the rule that stands for it has the round now
   module _ (effects : Effects) (rule same : ℕ) (low : same < length effects.seen.items) where
-    reads : (r : ℕ) → (r ≡ same) ⊎ (get_or (set effects.seen.items same effects.turn) r 0 ≡ get_or effects.seen.items r 0)
+    reads : (r : ℕ) → (r ≡ same) ⊎ (get_or (set effects.seen.items same effects.round) r 0 ≡ get_or effects.seen.items r 0)
     reads r = elim (same_or_other r same) [
       | inl here ↦ inl here
-      | inr apart ↦ inr (get_or-set_other effects.seen.items same r effects.turn 0 apart)
+      | inr apart ↦ inr (get_or-set_other effects.seen.items same r effects.round 0 apart)
     ]
 
     pub looked_put : (looked : List ℕ) → DoSame rules same rule → HaveLooked rules looked effects → (r : ℕ)
-        → r < length (set effects.seen.items same effects.turn) → get_or (set effects.seen.items same effects.turn) r 0 ≡ effects.turn
+        → r < length (set effects.seen.items same effects.round) → get_or (set effects.seen.items same effects.round) r 0 ≡ effects.round
         → (one : ℕ) × Contains (looked ++ rule ∷ []) one × DoSame rules one r
     looked_put looked does have r within now = elim (reads r) [
       | inl here ↦ (rule, Contains-push looked rule, does_on rule same r (does_back same rule does) (does_itself same r (sym here)))
       | inr was ↦
-          let size = length-set effects.seen.items same effects.turn in
+          let size = length-set effects.seen.items same effects.round in
           let one = have r (omega (arith, within, size)) (sym was ∙ now) in
           (one.0, Contains-append_left looked (rule ∷ []) one.0 one.1, one.2)
     ]

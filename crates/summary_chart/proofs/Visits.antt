@@ -12,7 +12,7 @@ use Rattle.search_frames.specs.Frames.{numbered_of}
 use Rattle.summary_chart.specs.declared.state_set.StateSet.{StateSet}
 use Rattle.summary_chart.specs.declared.table.Table.{Table}
 use Rattle.summary_chart.specs.StateSets.{HasState, IsStateOf, IsLedTo}
-use Rattle.summary_chart.specs.Spreading.{Spreads, IsLedOnTo, GathersMore, GoesFurtherBy, AreGoingFurther, EveryKey, standing_with}
+use Rattle.summary_chart.specs.Spreading.{Spreads, IsLedOnTo, GathersMore, GoesFurtherBy, AreGoingFurther, standing_with}
 use Rattle.summary_chart.proofs.SpreadKeys.{spreads_both, spreads_same, possible_if_led}
 use Rattle.summary_chart.proofs.FurtherKeys.{possible_if_further}
 use Rattle.summary_chart.proofs.VisitedKeys.{Visit}

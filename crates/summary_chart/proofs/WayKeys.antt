@@ -1,6 +1,6 @@
 -- The keys of the first ways of a list: at first no key, one more with each turn of a loop, and at its end all of them. A key that
 -- leads on or ends the line from some state of the set is then one of them.
-use Rattle.std.proofs.Common.{◌≡◌, ◌⊎◌, inl, inr, ℕ, ◌+◌, ◌<◌, ◌≤◌, ◌↔◌, List, [], ◌∷◌, ◌++◌, length, take, get_or, map, Contains, refl, sym, subst}
+use Rattle.std.proofs.Common.{◌≡◌, ◌⊎◌, inl, inr, ℕ, ◌+◌, ◌<◌, ◌≤◌, List, [], ◌∷◌, ◌++◌, length, take, get_or, map, Contains, refl, sym, subst}
 use Rattle.std.proofs.lemmas.List.{take_more, take_all, map-append}
 use Rattle.std.proofs.lemmas.List.Elements.{Contains-append_left, Contains-push, Contains-push_cases}
 use Rattle.list_laws.proofs.Sorted.{not_Contains-nil}
@@ -17,9 +17,9 @@ use Rattle.search_frames.specs.Configurations.{NumberedConfiguration}
 use Rattle.search_frames.specs.WaysFrom.{IsWayFrom, key_of_way}
 use Rattle.summary_chart.specs.declared.state_set.StateSet.{StateSet}
 use Rattle.summary_chart.specs.declared.table.Table.{Table}
-use Rattle.summary_chart.specs.StateSets.{HasState, IsStateOf}
+use Rattle.summary_chart.specs.StateSets.{IsStateOf}
 use Rattle.summary_chart.specs.PlaceWays.{HasEachKey}
-use Rattle.summary_chart.specs.Spreading.{IsLedOnTo, AreGoingFurther, GathersMore, GoesFurtherBy, OnlyKey, EveryKey, standing_with}
+use Rattle.summary_chart.specs.Spreading.{IsLedOnTo, GoesFurtherBy, OnlyKey, EveryKey, standing_with}
 use Rattle.summary_chart.specs.Summaries.{IsItemBy, IsItemFrom, AddsItems}
 use Rattle.summary_chart.proofs.VisitedKeys.{Visit}
 use Rattle.summary_chart.proofs.RisingItems.{adds_none, adds_both, adds_same}

@@ -16,13 +16,13 @@ pub record HaveSameEffect (rules : RuleSet) (same : List ℕ) : Type 0 where
   pub within : (rule : ℕ) → rule ≤ length rules.rules → slice_index_or same rule 0 ≤ length rules.rules
   pub each : (rule : ℕ) → rule ≤ length rules.rules → DoSame rules (slice_index_or same rule 0) rule
 
--- where a rule stands for another, it does the same, and has a turn, which is none that is still to come
+-- where a rule stands for another, it does the same, and has a round, which is none that is still to come
 pub record AreEffects (rules : RuleSet) (effects : Effects) : Type 0 where
   pub each : (rule : ℕ) → rule < length effects.same.items → DoSame rules (slice_index_or effects.same.items rule 0) rule
   pub within : (rule : ℕ) → rule < length effects.same.items → slice_index_or effects.same.items rule 0 < length effects.seen.items
-  pub turns : (rule : ℕ) → slice_index_or effects.seen.items rule 0 ≤ effects.turn
+  pub rounds : (rule : ℕ) → slice_index_or effects.seen.items rule 0 ≤ effects.round
 
--- for each rule that has this turn, one of these that were looked at does the same
+-- for each rule that has this round, one of these that were looked at does the same
 abbrev pub HaveLooked : RuleSet → List ℕ → Effects → Type 0
-HaveLooked rules looked effects = (rule : ℕ) → rule < length effects.seen.items → slice_index_or effects.seen.items rule 0 ≡ effects.turn
+HaveLooked rules looked effects = (rule : ℕ) → rule < length effects.seen.items → slice_index_or effects.seen.items rule 0 ≡ effects.round
     → (one : ℕ) × Contains looked one × DoSame rules one rule

@@ -12,7 +12,7 @@ use super::memo::Memo;
 use super::passes::{keep_living, reach};
 use super::place_ways::PlaceWays;
 use super::room::Room;
-use super::site::Reading;
+use super::site::Passage;
 use super::state_set::StateSet;
 use super::table::Table;
 use annotated_trie::Lexicon;
@@ -115,14 +115,14 @@ impl Chart {
             nodes: self.nodes,
             memo: Memo::new(alloc),
         };
-        let reading = Reading {
+        let passage = Passage {
             lexicon,
             line,
             choices,
         };
-        reach(reading, &mut table, &mut kept, &mut room, steps)?;
+        reach(passage, &mut table, &mut kept, &mut room, steps)?;
         room.memo.clear();
-        keep_living(reading, &mut table, &kept, &mut room, steps)?;
+        keep_living(passage, &mut table, &kept, &mut room, steps)?;
         let Room { nodes, .. } = room;
         Ok(Chart { table, kept, nodes })
     }

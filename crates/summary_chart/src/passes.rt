@@ -18,7 +18,7 @@ use super::gathering::{gather, gather_ways};
 use super::listing::push_ways;
 use super::place_ways::{PlaceWays, Stop};
 use super::room::Room;
-use super::site::{Reading, Site};
+use super::site::{Passage, Site};
 use super::spreading::{spread, spread_ways};
 use super::state_set::StateSet;
 use super::table::Table;
@@ -113,26 +113,26 @@ fn reach_from<L>(
 /// wherever a key leads on to. A key leads only to places that stand later in the table. Keeps the ways from places that have few, while
 /// there is room for them. Refused only for want of memory.
 pub(crate) fn reach<L>(
-    reading: Reading<'_>,
+    passage: Passage<'_>,
     table: &mut Table,
     kept: &mut PlaceWays,
     room: &mut Room,
     steps: &mut Steps<L>,
 ) -> Result<(), Memory>
-    requires searched { IsSearchedLexicon reading.lexicon.now }
-    requires line { IsLine reading.line.now }
-    requires opening { IsOpenTable reading.lexicon.now reading.line.now table.old }
+    requires searched { IsSearchedLexicon passage.lexicon.now }
+    requires line { IsLine passage.line.now }
+    requires opening { IsOpenTable passage.lexicon.now passage.line.now table.old }
     requires stops { kept.old.stops.items ≡ [] }
     requires ways { kept.old.ways.items ≡ [] }
     requires memo { (done : DoneValue) → IsKnown room.old.memo done → ⊥ }
-    requires effects { AreEffects reading.lexicon.now.lexicon.rules room.old.memo.effects }
-    ensures effects { OnOk result (AreEffects reading.entry.lexicon.now.lexicon.rules room.new.memo.effects) }
-    ensures reached { OnOk result (HasReached reading.entry.lexicon.now reading.entry.line.now reading.entry.choices.now table.new) }
-    ensures kept { OnOk result (HaveWays reading.entry.lexicon.now reading.entry.line.now reading.entry.choices.now table.new kept.new.stops.items kept.new.ways.items) }
-    ensures few { OnOk result (AreFew reading.entry.lexicon.now reading.entry.line.now kept.new.stops.items kept.new.ways.items) }
-    ensures steps { (most : ℕ) → HasAtMostRules reading.entry.lexicon.now.tries most → steps.new ≤ steps.old + 2 * steps_of_summary reading.entry.lexicon.now reading.entry.line.now most }
+    requires effects { AreEffects passage.lexicon.now.lexicon.rules room.old.memo.effects }
+    ensures effects { OnOk result (AreEffects passage.entry.lexicon.now.lexicon.rules room.new.memo.effects) }
+    ensures reached { OnOk result (HasReached passage.entry.lexicon.now passage.entry.line.now passage.entry.choices.now table.new) }
+    ensures kept { OnOk result (HaveWays passage.entry.lexicon.now passage.entry.line.now passage.entry.choices.now table.new kept.new.stops.items kept.new.ways.items) }
+    ensures few { OnOk result (AreFew passage.entry.lexicon.now passage.entry.line.now kept.new.stops.items kept.new.ways.items) }
+    ensures steps { (most : ℕ) → HasAtMostRules passage.entry.lexicon.now.tries most → steps.new ≤ steps.old + 2 * steps_of_summary passage.entry.lexicon.now passage.entry.line.now most }
 {
-    let state = reading.lexicon.automaton().start();
+    let state = passage.lexicon.automaton().start();
     let mut index = table.next_filled(0);
     while index < table.sets.len() {
         let (at, entrance) = table.place(index);
@@ -142,9 +142,9 @@ pub(crate) fn reach<L>(
             state,
         };
         let site = Site {
-            lexicon: reading.lexicon,
-            line: reading.line,
-            choices: reading.choices,
+            lexicon: passage.lexicon,
+            line: passage.line,
+            choices: passage.choices,
             place: &place,
         };
         reach_from(site, index, table, kept, room, steps)?;
@@ -185,23 +185,23 @@ fn gather_from<L>(
 /// Leaves in the table, which has every place that a search comes to, those alone from which there is a path to an answer: from the
 /// last place in the order of the table to the first. The ways that are kept stay those of its places. Refused only for want of memory.
 pub(crate) fn keep_living<L>(
-    reading: Reading<'_>,
+    passage: Passage<'_>,
     table: &mut Table,
     kept: &PlaceWays,
     room: &mut Room,
     steps: &mut Steps<L>,
 ) -> Result<(), Memory>
-    requires searched { IsSearchedLexicon reading.lexicon.now }
-    requires line { IsLine reading.line.now }
-    requires reached { HasReached reading.lexicon.now reading.line.now reading.choices.now table.old }
-    requires kept { HaveWays reading.lexicon.now reading.line.now reading.choices.now table.old kept.now.stops.items kept.now.ways.items }
+    requires searched { IsSearchedLexicon passage.lexicon.now }
+    requires line { IsLine passage.line.now }
+    requires reached { HasReached passage.lexicon.now passage.line.now passage.choices.now table.old }
+    requires kept { HaveWays passage.lexicon.now passage.line.now passage.choices.now table.old kept.now.stops.items kept.now.ways.items }
     requires memo { (done : DoneValue) → IsKnown room.old.memo done → ⊥ }
-    requires effects { AreEffects reading.lexicon.now.lexicon.rules room.old.memo.effects }
-    ensures living { OnOk result (IsChartTable reading.entry.lexicon.now reading.entry.line.now reading.entry.choices.now table.new) }
-    ensures kept { OnOk result (HaveWays reading.entry.lexicon.now reading.entry.line.now reading.entry.choices.now table.new kept.now.stops.items kept.now.ways.items) }
-    ensures steps { (most : ℕ) → HasAtMostRules reading.entry.lexicon.now.tries most → steps.new ≤ steps.old + steps_of_summary reading.entry.lexicon.now reading.entry.line.now most }
+    requires effects { AreEffects passage.lexicon.now.lexicon.rules room.old.memo.effects }
+    ensures living { OnOk result (IsChartTable passage.entry.lexicon.now passage.entry.line.now passage.entry.choices.now table.new) }
+    ensures kept { OnOk result (HaveWays passage.entry.lexicon.now passage.entry.line.now passage.entry.choices.now table.new kept.now.stops.items kept.now.ways.items) }
+    ensures steps { (most : ℕ) → HasAtMostRules passage.entry.lexicon.now.tries most → steps.new ≤ steps.old + steps_of_summary passage.entry.lexicon.now passage.entry.line.now most }
 {
-    let state = reading.lexicon.automaton().start();
+    let state = passage.lexicon.automaton().start();
     let mut until = table.filled_until(table.sets.len());
     while until > 0 {
         let index = until - 1;
@@ -212,9 +212,9 @@ pub(crate) fn keep_living<L>(
             state,
         };
         let site = Site {
-            lexicon: reading.lexicon,
-            line: reading.line,
-            choices: reading.choices,
+            lexicon: passage.lexicon,
+            line: passage.line,
+            choices: passage.choices,
             place: &place,
         };
         let living = gather_from(site, index, table, kept, room, steps)?;

@@ -13,12 +13,12 @@ use std::cmp::Ordering;
 const TIMES_LOOKED_AT: usize = 8;
 
 /// Which rules do the same after a form, whatever their `u`: for each rule, by its number, one that does the same stands for it. And of
-/// which rules one was looked at in this turn: those for which the same one stands. At first there is none that stands for any.
+/// which rules one was looked at in this round: those for which the same one stands. At first there is none that stands for any.
 #[derive(Drop)]
 pub(crate) struct Effects {
     same: Vec<u32>,
     seen: Vec<u32>,
-    turn: u32,
+    round: u32,
     looked_at: usize,
 }
 
@@ -90,7 +90,7 @@ impl Effects {
         Effects {
             same: Vec::new(alloc),
             seen: Vec::new(alloc),
-            turn: 0,
+            round: 0,
             looked_at: 0,
         }
     }
@@ -112,32 +112,32 @@ impl Effects {
         Ok(())
     }
 
-    /// Goes on to the next turn, in which no rule was looked at yet. After the last one there is no rule that stands for any.
-    fn next_turn(&mut self)
+    /// Goes on to the next round, in which no rule was looked at yet. After the last one there is no rule that stands for any.
+    fn next_round(&mut self)
         ensures effects { (rules : RuleSetValue) → AreEffects rules self.old → AreEffects rules self.new }
         ensures none { (rules : RuleSetValue) → AreEffects rules self.old → HaveLooked rules [] self.new }
     {
-        if self.turn == u32::MAX {
+        if self.round == u32::MAX {
             self.same.clear();
             self.seen.clear();
-            self.turn = 0;
+            self.round = 0;
             return;
         }
-        self.turn += 1;
+        self.round += 1;
     }
 
-    /// Begins a turn, in which so many rules are to be looked at and none was yet. Refused only for want of memory.
+    /// Begins a round, in which so many rules are to be looked at and none was yet. Refused only for want of memory.
     pub fn begin(&mut self, rules: &RuleSet, count: usize) -> Result<(), Memory>
         requires effects { AreEffects rules.now self.old }
         ensures effects { OnOk result (AreEffects rules.now self.new) }
         ensures none { OnOk result (HaveLooked rules.now [] self.new) }
     {
         self.expect(rules, count)?;
-        self.next_turn();
+        self.next_round();
         Ok(())
     }
 
-    /// Whether a rule that does the same was looked at in this turn; from now on, this one was.
+    /// Whether a rule that does the same was looked at in this round; from now on, this one was.
     pub fn repeats(&mut self, rules: &RuleSet, rule: u32) -> bool
         requires effects { AreEffects rules.now self.old }
         ensures effects { AreEffects rules.now self.new }
@@ -148,10 +148,10 @@ impl Effects {
             return false;
         };
         let same = *same as usize;
-        if self.seen[same] == self.turn {
+        if self.seen[same] == self.round {
             return true;
         }
-        self.seen[same] = self.turn;
+        self.seen[same] = self.round;
         false
     }
 }

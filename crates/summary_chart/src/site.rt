@@ -4,9 +4,9 @@ use reader_choices::Choices;
 use search_frames::{Ahead, Configuration};
 use shared_trie::Node;
 
-/// A line that is read over a lexicon, under a reader's choices.
+/// A line that is gone over, over a lexicon and under a reader's choices.
 #[derive(Clone, Copy)]
-pub(crate) struct Reading<'a> {
+pub(crate) struct Passage<'a> {
     pub lexicon: &'a Lexicon,
     pub line: &'a Line,
     pub choices: &'a Choices,

@@ -1,5 +1,5 @@
 -- What may stand after the front is no change, where a form ends there, and the choices that begin with the next letter (`FrontKeys`).
-use Rattle.std.proofs.Common.{◌≡◌, ℕ, ◌+◌, ◌<◌, ◌≤◌, List, length, All, get_or, sym, ap, subst, ◌∙◌, arith}
+use Rattle.std.proofs.Common.{◌≡◌, ℕ, ◌+◌, ◌<◌, List, length, All, get_or, sym, ap, subst, ◌∙◌, arith}
 use Rattle.std.proofs.lemmas.Result.{on_ok_weaker}
 use Rattle.phoneme.specs.declared.line.Line.{Line}
 use Rattle.annotated_trie.specs.Choices.{AnnotatedTrie, choices_with}

@@ -13,9 +13,9 @@ use Rattle.summary_chart.proofs.passes.keep_living.Goals as goal
 
 pub loop-until-init : goal.loop-until-init
 loop-until-init g c =
-    let searched = c.args.reading.lexicon.now in
-    let line = c.args.reading.line.now in
-    let choices = c.args.reading.choices.now in
+    let searched = c.args.passage.lexicon.now in
+    let line = c.args.passage.line.now in
+    let choices = c.args.passage.choices.now in
     let table = c.args.table.now in
     let first = c.filled_until-until.result in
     let empty = c.filled_until-until.ensures in
@@ -36,9 +36,9 @@ loop-until-init g c =
 
 pub loop-until-preserved : goal.loop-until-preserved
 loop-until-preserved g c =
-    let searched = c.args.reading.lexicon.now in
-    let line = c.args.reading.line.now in
-    let choices = c.args.reading.choices.now in
+    let searched = c.args.passage.lexicon.now in
+    let line = c.args.passage.line.now in
+    let choices = c.args.passage.choices.now in
     let index = c.loop-until.until - 1 in
     let old = c.loop-until.table in
     let new = c.replace.new.self in
@@ -73,8 +73,8 @@ loop-until-preserved g c =
 
 pub returns-in_err-living-clause-steps : goal.returns-in_err-living-clause-steps
 returns-in_err-living-clause-steps g c most few =
-    let searched = c.args.reading.lexicon.now in
-    let line = c.args.reading.line.now in
+    let searched = c.args.passage.lexicon.now in
+    let line = c.args.passage.line.now in
     let inv = c.loop-until.invariant in
     let one = one_frame_less (c.args.steps.now + steps_of_summary searched line most) c.loop-until.until (steps_of_items searched most)
     c.loop-until.steps c.gather_from.new.steps (omega (arith, c.loop-until-test.true)) (inv.steps most few) (c.gather_from.ensures.steps most few) in
@@ -83,5 +83,5 @@ returns-in_err-living-clause-steps g c most few =
 pub returns-clause-living : goal.returns-clause-living
 returns-clause-living g c =
     let none : c.loop-until.until ≡ 0 = omega (arith, c.loop-until-test.false) in
-    chart_if_alive c.args.reading.lexicon.now c.args.reading.line.now c.args.reading.choices.now c.loop-until.table
-    (subst (λ (n : ℕ). IsAliveFrom c.args.reading.lexicon.now c.args.reading.line.now c.args.reading.choices.now n c.loop-until.table) none c.loop-until.invariant.from)
+    chart_if_alive c.args.passage.lexicon.now c.args.passage.line.now c.args.passage.choices.now c.loop-until.table
+    (subst (λ (n : ℕ). IsAliveFrom c.args.passage.lexicon.now c.args.passage.line.now c.args.passage.choices.now n c.loop-until.table) none c.loop-until.invariant.from)

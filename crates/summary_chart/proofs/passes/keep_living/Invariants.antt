@@ -12,13 +12,13 @@ use Rattle.summary_chart.proofs.passes.keep_living.Given as goal
 abbrev pub invariant-loop-until : goal.invariant-loop-until
 invariant-loop-until g l =
     record {
-      from : IsAliveFrom l.reading.lexicon.now l.reading.line.now l.reading.choices.now l.until l.table;
-      kept : HaveWays l.reading.lexicon.now l.reading.line.now l.reading.choices.now l.table l.kept.stops.items l.kept.ways.items;
-      memo : AreLiving l.reading.lexicon.now l.reading.line.now l.table l.room.memo;
-      past : LeadPast l.reading.lexicon.now l.until l.room.memo;
+      from : IsAliveFrom l.passage.lexicon.now l.passage.line.now l.passage.choices.now l.until l.table;
+      kept : HaveWays l.passage.lexicon.now l.passage.line.now l.passage.choices.now l.table l.kept.stops.items l.kept.ways.items;
+      memo : AreLiving l.passage.lexicon.now l.passage.line.now l.table l.room.memo;
+      past : LeadPast l.passage.lexicon.now l.until l.room.memo;
       low : l.until ≤ length l.table.sets.items;
-      steps : (most : ℕ) → HasAtMostRules l.reading.lexicon.now.tries most
-          → l.steps + l.until * steps_of_items l.reading.lexicon.now most ≤ l.fn.steps + steps_of_summary l.reading.lexicon.now l.reading.line.now most;
+      steps : (most : ℕ) → HasAtMostRules l.passage.lexicon.now.tries most
+          → l.steps + l.until * steps_of_items l.passage.lexicon.now most ≤ l.fn.steps + steps_of_summary l.passage.lexicon.now l.passage.line.now most;
     }
 
 abbrev pub decreases-loop-until : goal.decreases-loop-until

@@ -15,9 +15,9 @@ use Rattle.summary_chart.proofs.passes.reach.Goals as goal
 
 pub loop-index-init : goal.loop-index-init
 loop-index-init g c =
-    let searched = c.args.reading.lexicon.now in
-    let line = c.args.reading.line.now in
-    let choices = c.args.reading.choices.now in
+    let searched = c.args.passage.lexicon.now in
+    let line = c.args.passage.line.now in
+    let choices = c.args.passage.choices.now in
     let table = c.args.table.now in
     let stops = c.args.kept.now.stops.items in
     let ways = c.args.kept.now.ways.items in
@@ -36,8 +36,8 @@ loop-index-init g c =
 
 pub returns-in_err-reach_from-clause-steps : goal.returns-in_err-reach_from-clause-steps
 returns-in_err-reach_from-clause-steps g c most few =
-    let searched = c.args.reading.lexicon.now in
-    let line = c.args.reading.line.now in
+    let searched = c.args.passage.lexicon.now in
+    let line = c.args.passage.line.now in
     let index = c.loop-index.index in
     let inv = c.loop-index.invariant in
     places_twice searched line most (index + 1) c.args.steps.now c.reach_from.new.steps
@@ -47,9 +47,9 @@ returns-in_err-reach_from-clause-steps g c most few =
 
 pub loop-index-preserved : goal.loop-index-preserved
 loop-index-preserved g c =
-    let searched = c.args.reading.lexicon.now in
-    let line = c.args.reading.line.now in
-    let choices = c.args.reading.choices.now in
+    let searched = c.args.passage.lexicon.now in
+    let line = c.args.passage.line.now in
+    let choices = c.args.passage.choices.now in
     let index = c.loop-index.index in
     let inv = c.loop-index.invariant in
     let next = c.next_filled-index-in-loop-index.result in
@@ -69,13 +69,13 @@ loop-index-preserved g c =
 pub returns-clause-reached : goal.returns-clause-reached
 returns-clause-reached g c =
     let inv = c.loop-index.invariant in
-    let all : c.loop-index.index ≡ set_count c.args.reading.lexicon.now c.args.reading.line.now =
+    let all : c.loop-index.index ≡ set_count c.args.passage.lexicon.now c.args.passage.line.now =
     omega (arith, c.loop-index-test.false, c.len.ensures, c.loop-index.table.sets.ok, inv.within, inv.before.lawful.count) in
-    has_reached c.args.reading.lexicon.now c.args.reading.line.now c.args.reading.choices.now c.loop-index.table c.requires.searched
-    (subst (λ (n : ℕ). IsReachedBefore c.args.reading.lexicon.now c.args.reading.line.now c.args.reading.choices.now n c.loop-index.table) all inv.before) c.requires.line
+    has_reached c.args.passage.lexicon.now c.args.passage.line.now c.args.passage.choices.now c.loop-index.table c.requires.searched
+    (subst (λ (n : ℕ). IsReachedBefore c.args.passage.lexicon.now c.args.passage.line.now c.args.passage.choices.now n c.loop-index.table) all inv.before) c.requires.line
 
 pub returns-clause-steps : goal.returns-clause-steps
 returns-clause-steps g c most few =
     let inv = c.loop-index.invariant in
-    places_twice c.args.reading.lexicon.now c.args.reading.line.now most c.loop-index.index c.args.steps.now c.loop-index.steps
+    places_twice c.args.passage.lexicon.now c.args.passage.line.now most c.loop-index.index c.args.steps.now c.loop-index.steps
     (let within = inv.within in let count = inv.before.lawful.count in omega (arith, within, count)) (inv.steps most few)

@@ -11,12 +11,12 @@ use Rattle.summary_chart.proofs.passes.reach.Given as goal
 abbrev pub invariant-loop-index : goal.invariant-loop-index
 invariant-loop-index g l =
     record {
-      before : IsReachedBefore l.reading.lexicon.now l.reading.line.now l.reading.choices.now l.index l.table;
-      kept : HaveWaysBefore l.reading.lexicon.now l.reading.line.now l.reading.choices.now l.index l.table l.kept.stops.items l.kept.ways.items;
-      few : AreFew l.reading.lexicon.now l.reading.line.now l.kept.stops.items l.kept.ways.items;
-      memo : AreSpread l.reading.lexicon.now l.reading.line.now l.table l.room.memo;
+      before : IsReachedBefore l.passage.lexicon.now l.passage.line.now l.passage.choices.now l.index l.table;
+      kept : HaveWaysBefore l.passage.lexicon.now l.passage.line.now l.passage.choices.now l.index l.table l.kept.stops.items l.kept.ways.items;
+      few : AreFew l.passage.lexicon.now l.passage.line.now l.kept.stops.items l.kept.ways.items;
+      memo : AreSpread l.passage.lexicon.now l.passage.line.now l.table l.room.memo;
       within : l.index ≤ length l.table.sets.items;
-      steps : (most : ℕ) → HasAtMostRules l.reading.lexicon.now.tries most → l.steps ≤ l.fn.steps + l.index * (2 * steps_of_items l.reading.lexicon.now most);
+      steps : (most : ℕ) → HasAtMostRules l.passage.lexicon.now.tries most → l.steps ≤ l.fn.steps + l.index * (2 * steps_of_items l.passage.lexicon.now most);
     }
 
 abbrev pub decreases-loop-index : goal.decreases-loop-index

@@ -1,4 +1,4 @@
--- Each rule stands for itself or for one that does the same, and none has a turn yet.
+-- Each rule stands for itself or for one that does the same, and none has a round yet.
 use Rattle.std.proofs.Common.{rules, ◌≡◌, inl, inr, length, arith}
 use Rattle.std.proofs.lemmas.Bool.{cases_lt}
 use Rattle.std.proofs.lemmas.List.{get_or_past}
@@ -12,7 +12,7 @@ returns c =
     record {
       each = λ rule few. are.each rule (omega (arith, few, size));
       within = λ rule few. (let low = are.within rule (omega (arith, few, size)) in omega (arith, low, size, as_many));
-      turns = λ rule. elim (cases_lt rule c.len.result) [
+      rounds = λ rule. elim (cases_lt rule c.len.result) [
         | inl low ↦ (let none = c.in_ok-resize.ensures.by_index.1 rule 0 (search rules) (omega (arith, c.clear.ensures.len)) low in omega (arith, none))
         | inr past ↦
             let none = get_or_past c.resize.new.self.items rule 0 (omega (arith, past, c.in_ok-resize.ensures.len, c.resize.new.self.ok)) in

@@ -1,4 +1,4 @@
--- The rule that stands for this one has the turn now, and this one does the same (`SameEffects`).
+-- The rule that stands for this one has the round now, and this one does the same (`SameEffects`).
 use Rattle.std.proofs.Common.{rules, ◌≡◌, ◌<◌, length, get_or, subst}
 use Rattle.summary_chart.specs.Effects.{DoSame}
 use Rattle.summary_chart.proofs.SameEffects.{looked_put}
