@@ -3,7 +3,7 @@ ghost use Rattle.lexicon_text_definitions.specs.FileLines.{kind_named, may_follo
 ghost use Rattle.form_file.specs.Kinds.{kind_of};
 
 /// What a line is. `Opening` is what comes before the first line, and `Head` is this line.
-#[derive(Clone, Copy)]
+#[derive(Clone, Copy, PartialEq, Eq)]
 pub(crate) enum Kind {
     Opening,
     Head,

@@ -3,7 +3,7 @@ ghost use Rattle.trie_text_definitions.specs.VersionSteps.{kind_named, may_follo
 ghost use Rattle.lexicon_file.specs.Kinds.{kind_of};
 
 /// What a line is. `Head` is the first line.
-#[derive(Clone, Copy)]
+#[derive(Clone, Copy, PartialEq, Eq)]
 pub(crate) enum Kind {
     Head,
     Phase,

@@ -3,7 +3,7 @@ ghost use Rattle.trie_text_definitions.specs.Versions.{version_told as version_t
 ghost use Rattle.lexicon_file.specs.Kinds.{version_of};
 
 /// A version of lexicon files that tells a trie. `Second` has unlimited rules alone, and `Third` a limited one at least.
-#[derive(Clone, Copy)]
+#[derive(Clone, Copy, PartialEq, Eq)]
 pub(crate) enum Version {
     Second,
     Third,
