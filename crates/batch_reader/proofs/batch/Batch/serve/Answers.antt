@@ -22,14 +22,14 @@ pub returns-in_err-write_replies-clause-prefix : goal.returns-in_err-write_repli
 returns-in_err-write_replies-clause-prefix g c =
     on_err c.from_residual-in_err-write_replies.result _ (stopped_within _ _ _ _ _ _ _ _ c.loop-rest.invariant.served c.in_ok-block.block c.in_ok-block.following.now
     _ c.in_ok-block.ensures
-    (λ texts read. replies_are_numbered _ _ _ _ texts _ _ _ read c.in_ok-pages.ensures) _ (rw c.as_slice.ensures.value at c.in_err-write_replies.ensures.prefix))
+    (λ texts read. replies_are_numbered _ _ _ _ texts _ _ _ read c.in_ok-pages.ensures) _ (rw c.as_slice.ensures.value at (rw c.as_slice-faults.ensures.value at c.in_err-write_replies.ensures.prefix)))
 
 pub loop-rest-preserved : goal.loop-rest-preserved
 loop-rest-preserved g c = record {
   served = subst (λ (n : ℕ). HasServedSoFar c.args.self.now.lexicon.now.lexicon (scheme_of c.args.self.now.scheme) c.args.self.now.count n c.args.text.now
-      c.in_ok-block.following.now (g.O.Sink.written c.args.sink.now) (g.O.Sink.written c.write_replies.new.out)) (omega (arith, c.len.ensures, c.in_ok-block.block.faults.ok))
+      c.in_ok-block.following.now (g.O.Sink.written c.args.sink.now) (g.O.Sink.written c.write_replies.new.sink)) (omega (arith, c.len.ensures, c.in_ok-block.block.faults.ok))
       (served_more _ _ _ _ _ _ _ _ c.loop-rest.invariant.served c.in_ok-block.block c.in_ok-block.following.now
       _ c.in_ok-block.ensures
-      (λ texts read. replies_are_numbered _ _ _ _ texts _ _ _ read c.in_ok-pages.ensures) _ (rw c.as_slice.ensures.value at c.in_ok-write_replies.ensures.ok));
+      (λ texts read. replies_are_numbered _ _ _ _ texts _ _ _ read c.in_ok-pages.ensures) _ (rw c.as_slice.ensures.value at (rw c.as_slice-faults.ensures.value at c.in_ok-write_replies.ensures.ok)));
   faults = c.in_ok-write_replies.ensures.faults ∙ c.loop-rest.invariant.faults;
 }
