@@ -1,15 +1,12 @@
 -- One line more: what is read from the next line on is what is read from this one on, unless it is refused.
 use Rattle.std.proofs.Common.{◌≡◌, ℕ, ◌+◌, ◌⊎◌, inl, inr, Ok, Err, List, [], ◌∷◌, refl, sym, ap, subst}
 use Rattle.lexicon_definitions.specs.GrammarFaults.{IsGrammarTextWithinLimits}
-use Rattle.lexicon_definitions.specs.Lexicons.{Lexicon}
 use Rattle.lexicon_text_definitions.specs.FileFaults.{Why, NoEnd}
 use Rattle.lexicon_text_definitions.specs.FileLines.{Line, lines_of_bytes, Kind, Opening, Head, Phase, Grammar, Plain, Rule, Form, End}
 use Rattle.lexicon_text_definitions.specs.FileContents.{Told, nothing_told, lexicon_told}
 use Rattle.lexicon_text_definitions.specs.FileSteps.{Taken, take_line}
 use Rattle.lexicon_text_definitions.specs.FileReadings.{Reading, asking, read_on, read_lines, at_end, reading_of, IsResult, IsReadAs, FileResult, fault_at}
-use Rattle.lexicon_text_definitions.specs.TextsOf.{IsTextOf}
-use Rattle.lexicon_text_definitions.proofs.WholeTexts.{read_text}
-use Rattle.form_file.specs.Told.{IsGrammarFault, IsReadToEnd}
+use Rattle.form_file.specs.Told.{IsGrammarFault}
 
 by_kind : (last : Kind) (number : ℕ) (after : Told) (rest : Reading) (result : FileResult) → (last ≡ Grammar → IsGrammarTextWithinLimits after.names after.grammar) → IsResult rest result
     → IsResult (asking last number after rest) result
@@ -43,10 +40,10 @@ grammar_refused told number line rest why h =
     (asked_by h.told.last number (read_lines h.told (number + 1) rest) why (take_line told line) h refl)
 
 -- after the last line
-pub ended_by : (last : Kind) (told : Told) (number : ℕ) → last ≡ End → IsResult (at_end last number told) (Ok (lexicon_told told))
+ended_by : (last : Kind) (told : Told) (number : ℕ) → last ≡ End → IsResult (at_end last number told) (Ok (lexicon_told told))
 ended_by last told number e = subst (λ last. IsResult (at_end last number told) (Ok (lexicon_told told))) (sym e) refl
 
-pub not_ended : (last : Kind) (told : Told) (number : ℕ) → (last ≡ End → ⊥) → IsResult (at_end last number told) (fault_at number NoEnd)
+not_ended : (last : Kind) (told : Told) (number : ℕ) → (last ≡ End → ⊥) → IsResult (at_end last number told) (fault_at number NoEnd)
 not_ended End told number n = absurd (n refl)
 not_ended last told number n = refl
 
@@ -68,25 +65,20 @@ refused whole told number rest following line why h cut (inl e) =
 refused whole told number rest following line why h cut (inr g) =
     h (fault_at number why) (subst (λ lines. IsResult (read_lines told number lines) (fault_at number why)) (sym cut) (grammar_refused told number line (lines_of_bytes following) why g))
 
--- at the end of the lines
-pub ends : (told after : Told) (number : ℕ) (bytes rest : List ℕ) → Reads (read_lines told 1 (lines_of_bytes bytes)) after number rest → rest ≡ []
-    → IsReadToEnd told (lines_of_bytes bytes) after number
-ends told after number bytes rest h none result r = h result (subst (λ bytes. IsResult (read_lines after number (lines_of_bytes bytes)) result) (sym none) r)
+-- after the last line all that was told is the lexicon, or the end is missing
+ends : (whole : Reading) (after : Told) (number : ℕ) (rest : List ℕ) (result : FileResult) → Reads whole after number rest → rest ≡ [] → IsResult (at_end after.last number after) result
+    → IsResult whole result
+ends whole after number rest result h none r = h result (subst (λ bytes. IsResult (read_lines after number (lines_of_bytes bytes)) result) (sym none) r)
+
+pub told_to_end : (whole : Reading) (after : Told) (number : ℕ) (rest : List ℕ) → Reads whole after number rest → rest ≡ [] → after.last ≡ End
+    → IsResult whole (Ok (lexicon_told after))
+told_to_end whole after number rest h none e = ends whole after number rest (Ok (lexicon_told after)) h none (ended_by after.last after number e)
+
+pub lacks_end : (whole : Reading) (after : Told) (number : ℕ) (rest : List ℕ) → Reads whole after number rest → rest ≡ [] → (after.last ≡ End → ⊥)
+    → IsResult whole (fault_at number NoEnd)
+lacks_end whole after number rest h none n = ends whole after number rest (fault_at number NoEnd) h none (not_ended after.last after number n)
 
 -- what is read of all lines is what is read in the file
-pub read_as : (bytes : List ℕ) (after : Told) (number : ℕ) (result : FileResult) → IsReadToEnd nothing_told (lines_of_bytes bytes) after number
-    → IsResult (at_end after.last number after) result → IsReadAs bytes result
+pub read_as : (bytes : List ℕ) (before : Told) (result : FileResult) → before ≡ nothing_told → IsResult (read_lines before 1 (lines_of_bytes bytes)) result → IsReadAs bytes result
 unfolding reading_of
-read_as bytes after number result h r = h result r
-
--- after the end the bytes are a text
-pub text_told : (bytes : List ℕ) (after : Told) (number : ℕ) → IsReadToEnd nothing_told (lines_of_bytes bytes) after number → after.last ≡ End
-    → IsTextOf (lexicon_told after) bytes
-text_told bytes after number h last =
-    read_text bytes (lexicon_told after) (read_as bytes after number (Ok (lexicon_told after)) h (ended_by after.last after number last))
-
--- and are read as what was told
-pub read_at_end : (bytes : List ℕ) (after : Told) (number : ℕ) (lexicon : Lexicon) → IsReadToEnd nothing_told (lines_of_bytes bytes) after number → after.last ≡ End
-    → lexicon ≡ lexicon_told after → IsReadAs bytes (Ok lexicon)
-read_at_end bytes after number lexicon h last is =
-    subst (λ (lexicon : Lexicon). IsReadAs bytes (Ok lexicon)) (sym is) (read_as bytes after number (Ok (lexicon_told after)) h (ended_by after.last after number last))
+read_as bytes before result e h = subst (λ told. IsResult (read_lines told 1 (lines_of_bytes bytes)) result) e h

@@ -1,17 +1,22 @@
 -- The answers to a line of a rule, by the field and the three words that its parts spell.
-use Rattle.std.proofs.Common.{◌≡◌, ℕ, ◌≤◌, Some, None, Ok, Err, List, [], ◌∷◌, ◌++◌, length, refl, sym, ◌∙◌, ap, arith}
-use Rattle.std.specs.List.{join_with_byte}
+use Rattle.std.proofs.Common.{◌≡◌, ℕ, ◌≤◌, Bool, true, false, ◌||◌, ◌↔◌, IsTrue, Some, None, Ok, Err, List, [], ◌∷◌, ◌++◌, length, refl, sym, ◌∙◌, ap, arith}
+use Rattle.std.specs.List.{join_with_byte, list_any}
 use Rattle.std.proofs.lemmas.List.{length-append}
 use Rattle.std.proofs.lemmas.List.Splits.{join_with_byte-slice_split}
+use Rattle.list_laws.specs.EmptyLists.{is_empty}
+use Rattle.list_laws.proofs.Booleans.{when_false}
+use Rattle.lexicon_definitions.specs.Rules.{Rule, unlimited_rule}
 use Rattle.text_definitions.specs.Spellings.{Reading}
 use Rattle.text_definitions.specs.Slp1.{word_of_slp1}
 use Rattle.lexicon_text_definitions.specs.FileFaults as faults
+use Rattle.lexicon_text_definitions.specs.FileLines as lines
 use Rattle.lexicon_text_definitions.specs.FileLines.{fields_of, Shape, shape_of}
-use Rattle.lexicon_text_definitions.specs.FileContents.{Told}
-use Rattle.lexicon_text_definitions.specs.FileSteps.{Taken, take_triple, take_words, take_shape, take_rule}
+use Rattle.lexicon_text_definitions.specs.FileContents.{Told, has_triple}
+use Rattle.lexicon_text_definitions.specs.FileSteps.{Taken, passes_rule_limits, take_triple, take_words, take_shape, take_rule}
 use Rattle.lexicon_text_definitions.proofs.LineCuts.{field_from_shape}
 use Rattle.form_file.specs.declared.take_error.TakeError.{TakeError}
 use Rattle.form_file.specs.declared.take_error.TakeError.TheVariants.{Why, Memory}
+use Rattle.form_file.specs.Added.{has_twin}
 use Rattle.form_file.specs.Fields.{one_of}
 use Rattle.form_file.specs.Faults.{why_of}
 use Rattle.form_file.specs.Words.{IsSpelled, word_of}
@@ -104,3 +109,22 @@ pub triple_decides : (told : Told) (fields : List (List ℕ)) (field u v w a b c
     → word_of (word_of_slp1 u) ≡ Some a → word_of (word_of_slp1 v) ≡ Some b → word_of (word_of_slp1 w) ≡ Some c → take_triple told a b c ≡ take_rule told fields
 triple_decides told fields field u v w a b c e h d f g =
     sym (shape_taken told fields field u v w e h ∙ words_by told (word_of_slp1 u) (word_of_slp1 v) (word_of_slp1 w) a b c d f g)
+
+-- ---- a triple
+
+pub filled : (test : Bool) (letters : List ℕ) → (IsTrue test ↔ letters ≡ []) → test ≡ false → is_empty letters ≡ false
+filled test [] h e = sym (h.1 refl) ∙ e
+filled test (letter ∷ letters) h e = refl
+
+-- one that is strict, within the limits and new goes last
+pub triple_told : (kept told : Told) (u v w : List ℕ) (count : ℕ) (before after : List Rule) (rule : Rule) → kept ≡ told → before ≡ kept.rules → is_empty u ≡ false → is_empty w ≡ false
+    → passes_rule_limits told u v w ≡ false → length told.names ≡ count → rule ≡ unlimited_rule count u v w → has_twin before rule ≡ false → after ≡ before ++ rule ∷ []
+    → take_triple told u v w ≡ Ok (record kept { last = lines.Rule; rules = after })
+triple_told kept told u v w count before after rule view same some_u some_w within many is new added =
+    let unlimited : rule ≡ unlimited_rule (length told.names) u v w = is ∙ ap (λ n. unlimited_rule n u v w) (sym many) in
+    let rules : before ≡ told.rules = same ∙ ap (λ (t : Told). t.rules) view in
+    let other : list_any (has_triple u v w) told.rules ≡ false = ap (list_any (has_triple u v w)) (sym rules) ∙ sym (ap (has_twin before) unlimited) ∙ new in
+    let more : told.rules ++ unlimited_rule (length told.names) u v w ∷ [] ≡ after = (λ i. sym rules i ++ sym unlimited i ∷ []) ∙ sym added in
+    when_false (is_empty u || is_empty w) _ _ _ (λ i. some_u i || some_w i)
+    (when_false (passes_rule_limits told u v w) _ _ _ within
+    (when_false (list_any (has_triple u v w) told.rules) _ _ _ other (λ i. Ok (record (sym view i) { last = lines.Rule; rules = more i }))))

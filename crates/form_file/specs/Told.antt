@@ -9,10 +9,8 @@ use Rattle.lexicon_text_definitions.specs.FileFaults as faults
 use Rattle.lexicon_text_definitions.specs.FileLines as lines
 use Rattle.lexicon_text_definitions.specs.FileContents.{Told}
 use Rattle.lexicon_text_definitions.specs.FileSteps.{Taken}
-use Rattle.lexicon_text_definitions.specs.FileReadings.{FileResult, IsResult, at_end, read_lines}
 use Rattle.form_file.specs.declared.take_error.TakeError.{TakeError}
 use Rattle.form_file.specs.declared.take_error.TakeError.TheVariants.{Why, Memory}
-use Rattle.form_file.specs.declared.error.FileWhy.TheVariants.{NoEnd}
 use Rattle.form_file.specs.Faults.{why_of}
 
 -- what is kept besides, once the grammar was told: its automaton, and a list for each phase
@@ -62,17 +60,7 @@ IsLineAnswer taken (Ok done) after = (taken ≡ Ok after) × (after.last ≡ lin
 IsLineAnswer taken (Err (Why why)) after = (taken ≡ Err (why_of why)) ⊎ IsGrammarFault taken (why_of why)
 IsLineAnswer taken (Err Memory) after = Unit {0}
 
--- the only reason is that the end is missing, and then it is; memory may be wanting
-abbrev pub IsNoEnd : TakeError → Type 0 → Type 0
-IsNoEnd (Why why) Ended = (why ≡ NoEnd) × (Ended → ⊥)
-IsNoEnd Memory Ended = Unit {0}
-
 -- the only reason is that a grammar's text over these names has this first fault; memory may be wanting
 abbrev pub IsTextFault : TakeError → List (List ℕ) → List ℕ → Type 0
 IsTextFault (Why why) names text = (fault : Fault) × IsFirstFault names text fault × (why_of why ≡ faults.Grammar fault)
 IsTextFault Memory names text = Unit {0}
-
--- what is read of these lines, where those before them told the first, is what is read at their end, where all told the second
-abbrev pub IsReadToEnd : Told → List lines.Line → Told → ℕ → Type 0
-IsReadToEnd told lines after number =
-    (result : FileResult) → IsResult (at_end after.last number after) result → IsResult (read_lines told 1 lines) result

@@ -1,18 +1,18 @@
-ghost use Rattle.std.specs.Prelude.{◌≡◌, ◌≤◌, length, Ok, Err, IfOk, IfErr};
+ghost use Rattle.std.specs.Prelude.{◌≡◌, ◌≤◌, length, Ok, Err, IfOk, IfErr, OnOk};
 ghost use Rattle.lexicon_definitions.specs.Lexicons.{tree_of};
 ghost use Rattle.lexicon_definitions.specs.Tries.{IsTrieOf};
 ghost use Rattle.phase_automaton.specs.Automata.{Recognizes};
-ghost use Rattle.lexicon_text_definitions.specs.FileLines.{lines_of_bytes};
-ghost use Rattle.lexicon_text_definitions.specs.FileContents.{nothing_told};
+ghost use Rattle.lexicon_text_definitions.specs.FileLines.{End, lines_of_bytes};
+ghost use Rattle.lexicon_text_definitions.specs.FileContents.{lexicon_told};
 ghost use Rattle.lexicon_text_definitions.specs.FileReadings.{read_lines, IsResult, IsReadAs};
 ghost use Rattle.trie_text_definitions.specs.TrieForms.{phases_of};
 ghost use Rattle.form_file.specs.Contents.{lexicon_of, error_of, IfFault};
-ghost use Rattle.form_file.specs.Told.{IsReadToEnd};
 
 use crate::cutting::first_line;
+use crate::kind::Kind;
 use crate::take_error::TakeError;
 use crate::told::Told;
-use crate::{Contents, FileError, FileFault};
+use crate::{Contents, FileError, FileFault, FileWhy};
 use lexicon_text_definitions::MOST_FILE_BYTES;
 use std::alloc::Global;
 
@@ -26,10 +26,11 @@ fn error_at(line: u32, error: TakeError) -> FileError
     }
 }
 
-/// Takes each line of the bytes, and answers the number of the line that would come after them.
-fn take_lines(alloc: Global, told: &mut Told, bytes: &[u8]) -> Result<u32, FileError>
+/// Takes each line of the bytes, the last of which is to be the end.
+fn take_lines(alloc: Global, told: &mut Told, bytes: &[u8]) -> Result<(), FileError>
     requires { length bytes.now ≤ MOST_FILE_BYTES }
-    ensures ok { IfOk result (λ number. IsReadToEnd told.old (lines_of_bytes bytes.now) told.new number) }
+    ensures ended { OnOk result (told.new.last ≡ End) }
+    ensures ok { OnOk result (IsResult (read_lines told.old 1 (lines_of_bytes bytes.now)) (Ok (lexicon_told told.new))) }
     ensures fault { IfErr result (λ error. IfFault error (λ fault. IsResult (read_lines told.old 1 (lines_of_bytes bytes.now)) (Err fault))) }
 {
     let mut rest = bytes;
@@ -41,18 +42,22 @@ fn take_lines(alloc: Global, told: &mut Told, bytes: &[u8]) -> Result<u32, FileE
         rest = following;
         number += 1;
     }
-    Ok(number)
+    let Kind::End = told.last_kind() else {
+        return Err(error_at(number, FileWhy::NoEnd.into()));
+    };
+    Ok(())
 }
 
-/// What all lines of the bytes tell, and the number of the line that would come after them.
-fn lines_told(alloc: Global, bytes: &[u8]) -> Result<(Told, u32), FileError>
+/// What all lines of the bytes tell, the last of which is the end.
+fn lines_told(alloc: Global, bytes: &[u8]) -> Result<Told, FileError>
     requires { length bytes.now ≤ MOST_FILE_BYTES }
-    ensures ok { IfOk result (λ lines. IsReadToEnd nothing_told (lines_of_bytes bytes.now) lines.0 lines.1) }
+    ensures ended { IfOk result (λ told. told.last ≡ End) }
+    ensures ok { IfOk result (λ told. IsReadAs bytes.now (Ok (lexicon_told told))) }
     ensures fault { IfErr result (λ error. IfFault error (λ fault. IsReadAs bytes.now (Err fault))) }
 {
     let mut told = Told::new(alloc)?;
-    let number = take_lines(alloc, &mut told, bytes)?;
-    Ok((told, number))
+    take_lines(alloc, &mut told, bytes)?;
+    Ok(told)
 }
 
 /// The contents of a lexicon file of version 1, or its first fault (own format).
@@ -64,9 +69,6 @@ pub fn read(alloc: Global, bytes: &[u8]) -> Result<Contents, FileError>
     ensures phases { IfOk result (λ contents. contents.automaton.phases ≡ length contents.rules.names) }
     ensures fault { IfErr result (λ error. IfFault error (λ fault. IsReadAs bytes.now (Err fault))) }
 {
-    let (told, number) = lines_told(alloc, bytes)?;
-    match told.finish(alloc) {
-        Ok(contents) => Ok(contents),
-        Err(error) => Err(error_at(number, error)),
-    }
+    let told = lines_told(alloc, bytes)?;
+    Ok(told.finish(alloc)?)
 }

@@ -60,10 +60,10 @@ fn add_keys(
     ensures err { IfErr result (λ error. (triples.new.keys ≡ triples.old.keys) × (leads.new.keys ≡ leads.old.keys)) }
 {
     let alloc = *triples.allocator();
-    let triple = Triple::of(alloc, rule)?;
-    let lead = rule.v.copy(alloc)?;
     // Room for the lead is taken first, so that it is put in wherever its triple was.
     leads.reserve(1)?;
+    let lead = rule.v.copy(alloc)?;
+    let triple = Triple::of(alloc, rule)?;
     if !triples.insert(triple)? {
         return Ok(false);
     }

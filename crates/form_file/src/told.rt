@@ -1,4 +1,4 @@
-ghost use Rattle.std.specs.Prelude.{◌≡◌, ◌<◌, ◌||◌, nat_le, nat_lt, ◌≤◌, ◌^◌, length, map, true, IfOk, IfErr, OnOk, Some, IfSome, string_bytes};
+ghost use Rattle.std.specs.Prelude.{◌≡◌, ◌<◌, ◌||◌, nat_le, nat_lt, ◌≤◌, ◌^◌, [], length, map, replicate, true, IfOk, IfErr, OnOk, Some, IfSome, string_bytes};
 ghost use Rattle.std.specs.List.{list_all, position};
 ghost use Rattle.std.specs.Str.{bytes_eq};
 ghost use Rattle.lexicon_definitions.specs.GrammarTexts.{grammar_of};
@@ -12,7 +12,7 @@ ghost use Rattle.lexicon_text_definitions.specs.FileLines.{Opening, Head as Head
 ghost use Rattle.lexicon_text_definitions.specs.FileContents.{Told as ToldValue, entries_from, nothing_told, rules_told, lexicon_told, compare_entries, compare_last as compare_last_of};
 ghost use Rattle.lexicon_text_definitions.specs.FileSteps.{if_rising, passes_rule_limits as passes_rule_limits_of, take_triple as take_triple_of, take_line as take_line_of, take_head as take_head_of, take_end as take_end_of, take_phase as take_phase_of, take_grammar as take_grammar_of, take_plain as take_plain_of, take_rule as take_rule_of, take_form as take_form_of, take_kind as take_kind_of, take_parts as take_parts_of, take_form_line};
 ghost use Rattle.form_tags.specs.Entries.{text_entry};
-ghost use Rattle.form_file.specs.Told.{IsAnswer, IsLineAnswer, IsTextFault, HasBody, IsBody, IsNoEnd};
+ghost use Rattle.form_file.specs.Told.{IsAnswer, IsLineAnswer, IsTextFault, HasBody, IsBody};
 ghost use Rattle.form_file.specs.LimitedRules.{take_limited as take_limited_of};
 ghost use Rattle.form_file.specs.Fields.{text_of_rest};
 ghost use Rattle.form_file.specs.Contents.{lexicon_of};
@@ -31,6 +31,7 @@ use phoneme::{Letter, Memory, Word};
 use sandhi_rules::{Rule, RuleSet, is_phase_name, phase_named};
 use shared_trie::StoreBuilder;
 use std::alloc::Global;
+use std::boxed::Box;
 use std::cmp::Ordering;
 use std::marker::Model;
 
@@ -43,21 +44,21 @@ pub struct Told {
     grammar: Vec<u8>,
     automaton: Option<Automaton>,
     plain: Vec<(Letter, Letter)>,
-    rules: RulesSoFar,
-    forms: StoreBuilder,
+    rules: Box<RulesSoFar>,
+    forms: Box<StoreBuilder>,
 }
 
 impl Model for Told {
     ghost use Rattle.std.specs.Prelude.{map, string_bytes};
-    ghost use Rattle.lexicon_text_definitions.specs.FileContents.{Told as ToldValue, entries_from, entries_from};
+    ghost use Rattle.lexicon_text_definitions.specs.FileContents.{Told as ToldValue, entries_from};
     ghost use Rattle.form_file.specs.Kinds.{kind_of};
     ghost use Rattle.form_file.specs.Told.{IsKept};
 
     ghost Value = { ToldValue };
 
-    ghost view = { λ t. record { last = kind_of t.last; names = map string_bytes t.names.items; grammar = t.grammar.items; plain = t.plain.items; rules = t.rules; forms = entries_from 0 t.forms } };
+    ghost view = { λ t. record { last = kind_of t.last; names = map string_bytes t.names.items; grammar = t.grammar.items; plain = t.plain.items; rules = t.rules.value; forms = entries_from 0 t.forms.value } };
 
-    ghost invariant = { λ t. IsKept (record { last = kind_of t.last; names = map string_bytes t.names.items; grammar = t.grammar.items; plain = t.plain.items; rules = t.rules; forms = entries_from 0 t.forms }) t.automaton t.forms };
+    ghost invariant = { λ t. IsKept (record { last = kind_of t.last; names = map string_bytes t.names.items; grammar = t.grammar.items; plain = t.plain.items; rules = t.rules.value; forms = entries_from 0 t.forms.value }) t.automaton t.forms.value };
 }
 
 /// The reason that comes from how a new one compares with the last before it.
@@ -115,18 +116,29 @@ fn automaton_of(alloc: Global, text: &[u8], names: &[String]) -> Result<Automato
     }
 }
 
+/// So many phases without forms.
+fn no_forms(alloc: Global, phases: u32) -> Result<Box<StoreBuilder>, Memory>
+    requires { phases ≤ MOST_PHASES }
+    ensures { IfOk result (λ forms. forms.value ≡ replicate phases []) }
+{
+    let forms = StoreBuilder::new(alloc, phases)?;
+    Ok(Box::new(alloc, forms)?)
+}
+
 impl Told {
     pub(crate) fn new(alloc: Global) -> Result<Told, Memory>
         ensures { IfOk result (λ told. told ≡ nothing_told) }
     {
+        let rules = Box::new(alloc, RulesSoFar::new(alloc))?;
+        let forms = no_forms(alloc, 0)?;
         Ok(Told {
             last: Kind::Opening,
             names: Vec::new(alloc),
             grammar: Vec::new(alloc),
             automaton: None,
             plain: Vec::new(alloc),
-            rules: RulesSoFar::new(alloc),
-            forms: StoreBuilder::new(alloc, 0)?,
+            rules,
+            forms,
         })
     }
 
@@ -201,9 +213,9 @@ impl Told {
     }
 
     /// Keeps the grammar's text with its automaton, and the trie to which the forms of each phase are to be added.
-    fn keep_grammar(&mut self, grammar: Vec<u8>, automaton: Automaton, forms: StoreBuilder)
-        requires { IsBody self.old.names grammar.items (Some automaton) forms }
-        ensures { self.new ≡ record self.old { last = Grammar; grammar = grammar.items; forms = entries_from 0 forms } }
+    fn keep_grammar(&mut self, grammar: Vec<u8>, automaton: Automaton, forms: Box<StoreBuilder>)
+        requires { IsBody self.old.names grammar.items (Some automaton) forms.value }
+        ensures { self.new ≡ record self.old { last = Grammar; grammar = grammar.items; forms = entries_from 0 forms.value } }
     {
         self.grammar = grammar;
         self.automaton = Some(automaton);
@@ -218,9 +230,9 @@ impl Told {
         ensures { IsLineAnswer (take_grammar_of self.old (Some text.now)) result self.new }
     {
         let names = self.names.as_slice();
-        let automaton = automaton_of(alloc, text, names)?;
+        let forms = no_forms(alloc, names.len() as u32)?;
         let grammar = Vec::from_slice(alloc, text)?;
-        let forms = StoreBuilder::new(alloc, names.len() as u32)?;
+        let automaton = automaton_of(alloc, text, names)?;
         self.keep_grammar(grammar, automaton, forms);
         Ok(())
     }
@@ -429,15 +441,15 @@ impl Told {
     }
 
     /// The rule set, the automaton of its grammar, and the trie of the forms so far, where lines of the body were told.
-    fn into_parts(self, alloc: Global) -> Result<(RuleSet, Automaton, StoreBuilder), Memory>
+    fn into_parts(self, alloc: Global) -> Result<(RuleSet, Automaton, Box<StoreBuilder>), Memory>
         requires body { HasBody self.last }
         requires set { IsRuleSet (rules_told self) }
         requires limits { IsRuleSetWithinLimits (rules_told self) }
         ensures rules { IfOk result (λ parts. parts.0 ≡ rules_told self) }
         ensures automaton { IfOk result (λ parts. Recognizes parts.1 (tree_of (rules_told self))) }
         ensures phases { IfOk result (λ parts. parts.1.phases ≡ length self.names) }
-        ensures forms { IfOk result (λ parts. entries_from 0 parts.2 ≡ self.forms) }
-        ensures lists { IfOk result (λ parts. length parts.2 ≡ length self.names) }
+        ensures forms { IfOk result (λ parts. entries_from 0 parts.2.value ≡ self.forms) }
+        ensures lists { IfOk result (λ parts. length parts.2.value ≡ length self.names) }
     {
         let Told {
             last: _,
@@ -451,7 +463,8 @@ impl Told {
         let Some(automaton) = automaton else {
             unreachable!();
         };
-        let rules = RuleSet::new(alloc, names, grammar, plain, rules.into_rules())?;
+        let rules = Box::into_inner(rules).into_rules();
+        let rules = RuleSet::new(alloc, names, grammar, plain, rules)?;
         Ok((rules, automaton, forms))
     }
 
@@ -469,27 +482,24 @@ impl Told {
     }
 
     /// The kind of the last line.
-    fn last_kind(&self) -> Kind
+    pub(crate) fn last_kind(&self) -> Kind
         ensures { kind_of result ≡ self.now.last }
     {
         self.last
     }
 
-    /// The contents of the file, where the last line was its end.
-    pub(crate) fn finish(self, alloc: Global) -> Result<Contents, TakeError>
-        requires set { self.last ≡ End → IsRuleSet (rules_told self) }
-        requires limits { self.last ≡ End → IsRuleSetWithinLimits (rules_told self) }
-        ensures ok { IfOk result (λ contents. (self.last ≡ End) × (lexicon_of contents ≡ lexicon_told self)) }
+    /// The contents of the file, whose last line was its end.
+    pub(crate) fn finish(self, alloc: Global) -> Result<Contents, Memory>
+        requires ended { self.last ≡ End }
+        requires set { IsRuleSet (rules_told self) }
+        requires limits { IsRuleSetWithinLimits (rules_told self) }
+        ensures ok { IfOk result (λ contents. lexicon_of contents ≡ lexicon_told self) }
         ensures trie { IfOk result (λ contents. IsTrieOf contents.store (phases_of contents.store)) }
         ensures automaton { IfOk result (λ contents. Recognizes contents.automaton (tree_of (rules_told self))) }
         ensures phases { IfOk result (λ contents. contents.automaton.phases ≡ length contents.rules.names) }
-        ensures no_end { IfErr result (λ error. IsNoEnd error (self.last ≡ End)) }
     {
-        let Kind::End = self.last_kind() else {
-            return Err(FileWhy::NoEnd.into());
-        };
         let (rules, automaton, forms) = self.into_parts(alloc)?;
-        let store = forms.finish(alloc)?;
+        let store = Box::into_inner(forms).finish(alloc)?;
         Ok(Contents {
             rules,
             automaton,

@@ -1,17 +1,16 @@
--- What is read of all lines is what is read in the file; after the end what was told is a lexicon.
-use Rattle.form_file.proofs.ReadLemmas.{text_told, read_at_end}
-use Rattle.form_file.proofs.FaultsRead.{end_fault}
+-- After the end what was told is a lexicon, which the lines are read as.
+use Rattle.std.proofs.Common.{Ok, sym, subst}
+use Rattle.lexicon_definitions.specs.Lexicons.{Lexicon}
+use Rattle.lexicon_text_definitions.specs.FileContents.{lexicon_told}
+use Rattle.lexicon_text_definitions.specs.FileReadings.{IsReadAs}
+use Rattle.lexicon_text_definitions.proofs.WholeTexts.{read_text}
 use Rattle.form_file.proofs.reading.read.Goals as goal
 
 pub finish-requires-clause-set : goal.finish-requires-clause-set
-finish-requires-clause-set c = λ last. (text_told c.args.bytes.now c.in_ok-told.told c.in_ok-told.number c.in_ok-told.ensures.ok last).has_text.lexicon_itself.rules
+finish-requires-clause-set c = (read_text c.args.bytes.now (lexicon_told c.in_ok-told.told) c.in_ok-told.ensures.ok).has_text.lexicon_itself.rules
 
 pub finish-requires-clause-limits : goal.finish-requires-clause-limits
-finish-requires-clause-limits c = λ last. (text_told c.args.bytes.now c.in_ok-told.told c.in_ok-told.number c.in_ok-told.ensures.ok last).has_text.limits.rule_set
+finish-requires-clause-limits c = (read_text c.args.bytes.now (lexicon_told c.in_ok-told.told) c.in_ok-told.ensures.ok).has_text.limits.rule_set
 
-pub returns-in-Ok-clause-ok : goal.returns-in-Ok-clause-ok
-returns-in-Ok-clause-ok c = read_at_end c.args.bytes.now c.in_ok-told.told c.in_ok-told.number _ c.in_ok-told.ensures.ok c.in-Ok.ensures.ok.0 c.in-Ok.ensures.ok.1
-
-pub returns-in-Err-clause-fault : goal.returns-in-Err-clause-fault
-returns-in-Err-clause-fault c =
-    end_fault c.args.bytes.now c.in_ok-told.told c.in_ok-told.number c.in-Err.error c.error_at.result c.in_ok-told.ensures.ok c.in-Err.ensures.no_end c.error_at.ensures
+pub returns-clause-ok : goal.returns-clause-ok
+returns-clause-ok c = subst (λ (lexicon : Lexicon). IsReadAs c.args.bytes.now (Ok lexicon)) (sym c.in_ok-finish.ensures.ok) c.in_ok-told.ensures.ok

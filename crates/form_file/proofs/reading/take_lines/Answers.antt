@@ -1,9 +1,11 @@
 -- Line by line, what is read from the next line on is what is read of all lines.
-use Rattle.std.proofs.Common.{arith}
+use Rattle.std.proofs.Common.{refl, sym, ◌∙◌, ap, arith}
 use Rattle.lexicon_text_definitions.specs.FileLines.{lines_of_bytes}
 use Rattle.lexicon_text_definitions.specs.FileReadings.{read_lines}
-use Rattle.form_file.proofs.ReadLemmas.{reads_on, ends}
-use Rattle.form_file.proofs.FaultsRead.{line_fault}
+use Rattle.form_file.specs.Kinds.{kind_of}
+use Rattle.form_file.proofs.LinesTaken.{last_not_end}
+use Rattle.form_file.proofs.ReadLemmas.{reads_on, told_to_end}
+use Rattle.form_file.proofs.FaultsRead.{line_fault, end_fault}
 use Rattle.form_file.proofs.reading.take_lines.Goals as goal
 
 pub loop-line-init : goal.loop-line-init
@@ -37,6 +39,15 @@ returns-in-Err-clause-fault c =
     line_fault (Unit {0}) (read_lines c.args.told.now 1 (lines_of_bytes c.args.bytes.now)) c.loop-line.told c.take_line.new.self c.loop-line.number c.loop-line.rest.now c.in-Some.following.now _
     c.in-Err.error c.error_at.result c.loop-line.invariant.reads c.in-Some.ensures.line c.in-Err.ensures c.error_at.ensures
 
+pub returns-in_default-last_kind-clause-fault : goal.returns-in_default-last_kind-clause-fault
+returns-in_default-last_kind-clause-fault c =
+    end_fault (read_lines c.args.told.now 1 (lines_of_bytes c.args.bytes.now)) c.loop-line.told c.loop-line.number c.loop-line.rest.now c.into.result c.error_at-in_default-last_kind.result
+    c.loop-line.invariant.reads c.in_default.ensures.line (last_not_end c.loop-line.told c.loop-line.told c.last_kind.result refl (sym c.last_kind.ensures) c.in_default-last_kind.not-End) c.into.ensures c.error_at-in_default-last_kind.ensures
+
 pub returns-clause-ok : goal.returns-clause-ok
 returns-clause-ok c =
-    ends c.args.told.now c.loop-line.told c.loop-line.number c.args.bytes.now c.loop-line.rest.now c.loop-line.invariant.reads c.in_default.ensures.line
+    told_to_end (read_lines c.args.told.now 1 (lines_of_bytes c.args.bytes.now)) c.loop-line.told c.loop-line.number c.loop-line.rest.now c.loop-line.invariant.reads c.in_default.ensures.line
+    (sym c.last_kind.ensures ∙ ap kind_of c.in-End.is)
+
+pub returns-clause-ended : goal.returns-clause-ended
+returns-clause-ended c = sym c.last_kind.ensures ∙ ap kind_of c.in-End.is

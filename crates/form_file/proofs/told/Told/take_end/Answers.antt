@@ -13,7 +13,7 @@ returns-then-is_some c =
 pub invariant_of-self : goal.invariant_of-self
 invariant_of-self c = record {
   few = c.self.invariant.few;
-  stage = body_kept _ c.args.self.now c.self.inside.automaton c.self.inside.forms c.self.view_is (before_end _ c.requires) c.self.invariant;
+  stage = body_kept _ c.args.self.now c.self.inside.automaton c.self.inside.forms.value c.self.view_is (before_end _ c.requires) c.self.invariant;
 }
 
 pub returns : goal.returns

@@ -11,7 +11,7 @@ use Rattle.form_file.proofs.told.Told.take_grammar.Goals as goal
 
 pub returns-in_err-automaton : goal.returns-in_err-automaton
 returns-in_err-automaton c =
-    let p = err_from_is_err_and c.from_residual.result c.from_residual.ensures.1 in
+    let p = err_from_is_err_and c.from_residual-in_err-automaton.result c.from_residual-in_err-automaton.ensures.1 in
     rw (p.1, p.2)
     (grammar_fault (Unit {0}) c.args.self.now c.args.self.now (map (string_bytes {Z = Global}) c.as_slice-names.result.now) c.args.text.now c.in_err-automaton.field-0.0
     (ap (map (string_bytes {Z = Global})) c.as_slice-names.ensures.value ∙ ap (λ (told : Told). told.names) c.self.view_is)
@@ -20,23 +20,23 @@ returns-in_err-automaton c =
 pub keep_grammar-requires : goal.keep_grammar-requires
 keep_grammar-requires c =
     let before =
-    stage_before_grammar _ _ c.self.inside.automaton c.self.inside.forms
+    stage_before_grammar _ _ c.self.inside.automaton c.self.inside.forms.value
     (subst (λ (told : Told). may_follow told.last GrammarLine ≡ true) (sym c.self.view_is) c.requires.follows) c.self.invariant.stage in
-    subst (λ (told : Told). IsBody told.names c.in_ok-grammar.grammar.items (Some c.in_ok-automaton.automaton) c.in_ok-forms.forms) c.self.view_is
+    subst (λ (told : Told). IsBody told.names c.in_ok-grammar.grammar.items (Some c.in_ok-automaton.automaton) c.in_ok-forms.forms.value) c.self.view_is
     (body_told (string_bytes {Z = Global}) c.self.inside.names.items c.as_slice-names.result.now c.args.text.now c.in_ok-grammar.grammar.items c.in_ok-automaton.automaton
-    c.in_ok-forms.forms (length c.as_slice-names.result.now) c.as_slice-names.ensures.value c.in_ok-grammar.ensures.items c.in_ok-forms.ensures.ok (ap length c.as_slice-names.ensures.value)
+    c.in_ok-forms.forms.value (length c.as_slice-names.result.now) c.as_slice-names.ensures.value c.in_ok-grammar.ensures.items c.in_ok-forms.ensures (ap length c.as_slice-names.ensures.value)
     before.0 c.in_ok-automaton.ensures.grammar c.in_ok-automaton.ensures.phases)
 
 pub returns : goal.returns
 returns c =
     let before =
-    stage_before_grammar _ _ c.self.inside.automaton c.self.inside.forms
+    stage_before_grammar _ _ c.self.inside.automaton c.self.inside.forms.value
     (subst (λ (told : Told). may_follow told.last GrammarLine ≡ true) (sym c.self.view_is) c.requires.follows) c.self.invariant.stage in
     let limits =
     limits_told (string_bytes {Z = Global}) c.self.inside.names.items c.as_slice-names.result.now c.args.text.now c.in_ok-grammar.grammar.items c.as_slice-names.ensures.value
     c.in_ok-grammar.ensures.items c.in_ok-automaton.ensures.text in (
       grammar_told c.args.self.now c.args.text.now c.in_ok-grammar.grammar.items _ c.in_ok-grammar.ensures.items
-          (sym (ap (λ (told : Told). told.forms) c.self.view_is) ∙ no_forms_told c.self.inside.forms c.in_ok-forms.forms (length c.as_slice-names.result.now) before.1 c.in_ok-forms.ensures.ok)
+          (sym (ap (λ (told : Told). told.forms) c.self.view_is) ∙ no_forms_told c.self.inside.forms.value c.in_ok-forms.forms.value (length c.as_slice-names.result.now) before.1 c.in_ok-forms.ensures)
           ∙ ap Ok (sym c.keep_grammar.ensures),
       λ last. subst (λ (told : Told). IsGrammarTextWithinLimits told.names told.grammar) (sym c.keep_grammar.ensures)
           (subst (λ (told : Told). IsGrammarTextWithinLimits told.names c.in_ok-grammar.grammar.items) c.self.view_is limits),

@@ -56,3 +56,6 @@ returns c =
     (c.in_ok-from_str.ensures.ok ∙ c.in-Ok.ensures.cases.0) in
     by_name c.args.self.now (fields_of (Some c.args.text.now)) c.in-Some.name.now c.in-Some.ensures (sym c.is_phase_name.ensures ∙ c.if-not-is_phase_name.false)
     ∙ name_told c.args.self.now _ c.in-Some.name.now c.phase_named.result _ (omega (arith, count, few)) c.phase_named.ensures.named (sym c.is_some.ensures ∙ c.if-is_some.false) c.self.view_is names
+
+pub invariant_of-self : goal.invariant_of-self
+invariant_of-self c = c.self.invariant
