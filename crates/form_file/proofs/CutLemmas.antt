@@ -1,5 +1,5 @@
 -- What a search for a mark says of the text before it and after it.
-use Rattle.std.proofs.Common.{◌≡◌, ◌≢◌, ℕ, ◌<◌, Bool, true, false, cond, Some, None, List, [], ◌∷◌, ◌++◌, length, eqb, refl, ◌∙◌, ap, arith, All}
+use Rattle.std.proofs.Common.{◌≡◌, ℕ, ◌<◌, Bool, true, false, cond, Some, None, List, [], ◌∷◌, length, eqb, refl, ◌∙◌, ap, arith}
 use Rattle.std.specs.List.{slice_split, onto_first}
 use Rattle.std.proofs.lemmas.List.{length-append}
 use Rattle.lexicon_text_definitions.specs.FileLines.{lines_of_bytes, with_byte, fields_of, shape_of, shape_after, shape_with}

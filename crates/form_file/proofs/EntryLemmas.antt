@@ -1,16 +1,10 @@
 -- An entry within the limits and above the last goes to the end of the entries.
-use Rattle.std.proofs.Common.{◌≡◌, ◌≢◌, ℕ, zero, suc, ◌+◌, ◌<◌, ◌≤◌, Bool, true, false, ◌||◌, nat_le, nat_lt, Option, Ok, Err, List, [], ◌∷◌, ◌++◌, length, map, get_or, refl, sym, ◌∙◌, ap, subst, arith}
-use Rattle.std.specs.List.{AllByRecursion}
-use Rattle.std.specs.Ordering.{nat_cmp}
+use Rattle.std.proofs.Common.{◌≡◌, ℕ, ◌<◌, Bool, true, false, ◌||◌, nat_le, nat_lt, Option, Ok, Err, List, [], ◌∷◌, ◌++◌, length, get_or, refl, sym, ◌∙◌, ap}
 use Rattle.std.specs.declared.cmp.Ordering.{Ordering}
 use Rattle.std.specs.declared.cmp.Ordering.TheVariants.{Less, Equal, Greater}
 use Rattle.std.proofs.lemmas.Bool.{or_parts, leb-false}
-use Rattle.std.proofs.lemmas.List.{length-set, get_or-set_same, get_or-set_other}
-use Rattle.std.proofs.lemmas.List.Elements.{recursion_from_All}
-use Rattle.list_laws.proofs.Sorted.{following_front, Contains-first}
+use Rattle.std.proofs.lemmas.List.{length-set}
 use Rattle.lexicon_definitions.specs.declared.limits.TheConstants.{MOST_FORM_LINES, MOST_FORM_LETTERS}
-use Rattle.text_definitions.specs.Words.{compare_words}
-use Rattle.lexicon_definitions.specs.Analyses.{Analysis}
 use Rattle.lexicon_definitions.specs.Lexicons.{Form}
 use Rattle.lexicon_definitions.specs.Limits.{count_lines}
 use Rattle.lexicon_definitions.specs.FormEntries as entries
@@ -18,19 +12,16 @@ use Rattle.lexicon_definitions.specs.FormEntries.{Entry, placed_at, with_entry}
 use Rattle.phase_automaton.specs.Automata.{StateMachine}
 use Rattle.lexicon_text_definitions.specs.FileFaults as faults
 use Rattle.lexicon_text_definitions.specs.FileLines as lines
-use Rattle.lexicon_text_definitions.specs.FileContents.{Told, compare_entries, compare_last, entry_with, phase_entries, entries_from}
+use Rattle.lexicon_text_definitions.specs.FileContents.{Told, compare_entries, compare_last, entries_from}
 use Rattle.lexicon_text_definitions.specs.FileSteps.{Taken, if_rising, passes_form_limits, take_form_line}
 use Rattle.lexicon_text_definitions.proofs.LineSteps.{with_line}
-use Rattle.lexicon_text_definitions.proofs.RisingLines.{lines_total, sorted_with_last}
-use Rattle.lexicon_text_definitions.proofs.FormLines.{lines_with, at_zero}
-use Rattle.lexicon_text_definitions.proofs.FormPhases.{IsLawfulForm, AreLawful, lines_rise, entry_placed, all_left, all_right, line_itself}
+use Rattle.lexicon_text_definitions.proofs.FormPhases.{AreLawful}
 use Rattle.lexicon_text_definitions.proofs.WholeTexts.{counted}
 use Rattle.form_file.specs.declared.take_error.TakeError.{TakeError}
 use Rattle.form_file.specs.declared.take_error.TakeError.TheVariants.{Why, Memory}
 use Rattle.form_file.specs.Told.{IsBody, IsAnswer}
 use Rattle.shared_trie.proofs.EntriesEnd.{entries_with}
 use Rattle.list_laws.proofs.Booleans.{when_true, when_false}
-use Rattle.list_laws.proofs.Orderings.{le_from_then}
 
 -- ---- what is kept with it
 

@@ -1,6 +1,5 @@
 -- Form lists are built up again by their entries, since their phases are lawful; and what the end of the lines gives.
-use Rattle.std.proofs.Common.{◌≡◌, ℕ, ◌<◌, Option, List, [], ◌∷◌, ◌++◌, length, replicate, All, Some, IfSome, sym, ◌∙◌, ap, subst, arith}
-use Rattle.std.specs.List.{AllByRecursion}
+use Rattle.std.proofs.Common.{◌≡◌, ℕ, ◌<◌, Option, List, [], ◌++◌, length, replicate, All, Some, IfSome, sym, ◌∙◌, ap, subst, arith}
 use Rattle.std.specs.List.Sorted.{IsStrictlySortedBy}
 use Rattle.std.proofs.lemmas.List.{length-replicate}
 use Rattle.std.proofs.lemmas.List.Elements.{All-weaker}
@@ -12,7 +11,7 @@ use Rattle.lexicon_definitions.specs.FormEntries.{Entry, IsListedPhase}
 use Rattle.phase_automaton.specs.Automata.{StateMachine, Recognizes}
 use Rattle.lexicon_text_definitions.specs.FileContents.{Told, compare_entries, with_entries, entries_from, rules_told, lexicon_told}
 use Rattle.lexicon_text_definitions.proofs.FormLines.{AreWithin, with_lines, no_lines_at_first}
-use Rattle.lexicon_text_definitions.proofs.FormPhases.{IsLawfulForm, AreLawful, lines_rise, lines_lawful, phases_built, entries_placed}
+use Rattle.lexicon_text_definitions.proofs.FormPhases.{lines_rise, lines_lawful, phases_built, entries_placed}
 use Rattle.lexicon_text_definitions.proofs.WholeTexts.{empty_at_first, lawful_at_first, all_within}
 use Rattle.trie_text_definitions.specs.TrieForms.{phases_of}
 use Rattle.trie_text_definitions.proofs.TrieLexicons.{trie_tells_phases}

@@ -1,5 +1,5 @@
 -- What is kept once lines of the body were told, and when they were.
-use Rattle.std.proofs.Common.{◌≡◌, true, Option, List, sym, subst}
+use Rattle.std.proofs.Common.{◌≡◌, ℕ, true, Option, List, sym, subst}
 use Rattle.lexicon_definitions.specs.Lexicons.{Form}
 use Rattle.phase_automaton.specs.Automata.{StateMachine}
 use Rattle.lexicon_text_definitions.specs.FileLines as lines
@@ -19,7 +19,13 @@ pub body_kept : (kept told : Told) (automaton : Option StateMachine) (lists : Li
 body_kept kept told automaton lists view has h =
     body_at kept.last kept automaton lists (subst (λ (told : Told). HasBody told.last) (sym view) has) h.stage
 
--- before a form, before the end, and at the end
+-- before a pair, before a form, before the end, and at the end
+before_plain : (last : lines.Kind) → may_follow last lines.Plain ≡ true → HasBody last
+before_plain lines.Opening f = absurd (cc)
+before_plain lines.Head f = absurd (cc)
+before_plain lines.Phase f = absurd (cc)
+before_plain last f = tt
+
 pub before_form : (last : lines.Kind) → may_follow last lines.Form ≡ true → HasBody last
 before_form lines.Opening f = absurd (cc)
 before_form lines.Head f = absurd (cc)
@@ -34,3 +40,15 @@ before_end last f = tt
 
 pub at_end : (last : lines.Kind) → last ≡ lines.End → HasBody last
 at_end last e = subst HasBody (sym e) tt
+
+-- what is kept stays where a pair was not told, and where it was
+pub pairs_same : (kept told : Told) (pairs : List (ℕ × ℕ)) (automaton : Option StateMachine) (lists : List (List Form)) → kept ≡ told → pairs ≡ kept.plain → IsKept kept automaton lists
+    → IsKept (record kept { plain = pairs }) automaton lists
+pairs_same kept told pairs automaton lists view same h = subst (λ (pairs : List (ℕ × ℕ)). IsKept (record kept { plain = pairs }) automaton lists) (sym same) h
+
+pub pairs_more : (kept told : Told) (pairs : List (ℕ × ℕ)) (automaton : Option StateMachine) (lists : List (List Form)) → kept ≡ told → may_follow told.last lines.Plain ≡ true
+    → IsKept kept automaton lists → IsKept (record kept { last = lines.Plain; plain = pairs }) automaton lists
+pairs_more kept told pairs automaton lists view f h = record {
+  few = h.few;
+  stage = body_kept kept told automaton lists view (before_plain told.last f) h;
+}

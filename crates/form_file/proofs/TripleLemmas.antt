@@ -1,5 +1,5 @@
 -- A rule is a twin of another exactly where it has its triple, word by word.
-use Rattle.std.proofs.Common.{◌≡◌, ℕ, Bool, true, false, not, if◌then◌else◌, Err, ◌&&◌, ◌||◌, List, [], ◌∷◌, ◌++◌, map, nat_eq, refl, sym, ◌∙◌, ap, subst}
+use Rattle.std.proofs.Common.{◌≡◌, ℕ, Bool, true, false, not, if◌then◌else◌, Err, ◌&&◌, ◌||◌, List, [], ◌∷◌, ◌++◌, map, refl, sym, ◌∙◌, ap, subst}
 use Rattle.std.specs.List.{list_any}
 use Rattle.std.specs.Str.{bytes_eq}
 use Rattle.lexicon_definitions.specs.Rules.{Rule, is_twin}
@@ -7,9 +7,9 @@ use Rattle.lexicon_text_definitions.specs.FileContents.{has_triple}
 use Rattle.sandhi_rules.specs.contracts.triple.TriplePartialEq.TheImpl.{eq-value as triple_eq}
 use Rattle.form_file.specs.declared.error.FileWhy.TheVariants.{Twice}
 use Rattle.form_file.specs.declared.take_error.TakeError.{TakeError}
-use Rattle.form_file.specs.declared.take_error.TakeError.TheVariants.{Why}
+use Rattle.form_file.specs.declared.take_error.TakeError.TheVariants.{Why, Memory}
 use Rattle.sandhi_rules.specs.declared.triple.Triple.{Triple}
-use Rattle.form_file.specs.Added.{IsAdded, has_twin}
+use Rattle.form_file.specs.Added.{AreKept, AreReady, IsAdded, has_twin}
 use Rattle.sandhi_rules.specs.Triples.{triple_of}
 use Rattle.list_laws.proofs.Booleans.{not_of_each_other}
 use Rattle.list_laws.proofs.Texts.{bytes_same, bytes_itself}
@@ -45,7 +45,18 @@ triples_kept rules triples after triple is_new alike put added old =
     put ∙ ap (λ (there : Bool). if there then triples else triples ++ triple ∷ []) (not_of_each_other (list_any (triple_eq.it triple) triples) is_new added ∙ ap not old)
     ∙ alike
 
--- and so do the rules
-pub refused : (old now : List Rule) (rule : Rule) (error : TakeError) → error ≡ Why Twice → has_twin old rule ≡ true → now ≡ old
-    → IsAdded {A = Unit {0}} old rule (Err error) now
-refused old now rule error why twin same = subst (λ (e : TakeError). IsAdded {A = Unit {0}} old rule (Err e) now) (sym why) (refl, twin, same)
+-- then a rule with the triple is refused
+pub refused : (rules : List Rule) (rule : Rule) (error : TakeError) (triples : List Triple) (leads : List (List ℕ)) → error ≡ Why Twice → has_twin rules rule ≡ true
+    → AreKept rules triples leads → AreReady {A = Unit {0}} rules rule (Err error) triples leads
+refused rules rule error triples leads why twin kept = subst (λ (e : TakeError). AreReady {A = Unit {0}} rules rule (Err e) triples leads) (sym why) (refl, twin, kept)
+
+-- after a refusal the keys are those of the rules, which stay
+pub keys_stay : (rules : List Rule) (rule : Rule) (error : TakeError) (triples : List Triple) (leads : List (List ℕ)) → AreReady {A = Unit {0}} rules rule (Err error) triples leads
+    → AreKept rules triples leads
+keys_stay rules rule (Why why) triples leads ready = ready.2
+keys_stay rules rule Memory triples leads ready = ready
+
+pub rules_stay : (old before now : List Rule) (rule : Rule) (error : TakeError) (triples : List Triple) (leads : List (List ℕ)) → before ≡ old → now ≡ old
+    → AreReady {A = Unit {0}} before rule (Err error) triples leads → IsAdded {A = Unit {0}} old rule (Err error) now
+rules_stay old before now rule (Why why) triples leads kept same ready = (ready.0, ap (λ (rules : List Rule). has_twin rules rule) (sym kept) ∙ ready.1, same)
+rules_stay old before now rule Memory triples leads kept same ready = same

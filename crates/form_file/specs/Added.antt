@@ -27,9 +27,20 @@ IsAdded old rule (Ok done) new = (has_twin old rule ≡ false) × (new ≡ old +
 IsAdded old rule (Err (Why why)) new = (why ≡ Twice) × (has_twin old rule ≡ true) × (new ≡ old)
 IsAdded old rule (Err Memory) new = new ≡ old
 
+-- where no rule has the rule's triple the keys are those of all with it, and else they are those of the rules; memory may be wanting
+abbrev pub AreReady : {A : Type 0} → List Rule → Rule → Result A TakeError → List Triple → List (List ℕ) → Type 0
+AreReady rules rule (Ok done) triples leads = (has_twin rules rule ≡ false) × AreKept (rules ++ rule ∷ []) triples leads
+AreReady rules rule (Err (Why why)) triples leads = (why ≡ Twice) × (has_twin rules rule ≡ true) × AreKept rules triples leads
+AreReady rules rule (Err Memory) triples leads = AreKept rules triples leads
+
 -- with this rule there are too many rules or leads
 abbrev pub is_over : List Rule → Rule → Bool
 is_over rules rule = nat_le MOST_RULES (length rules) || nat_lt MOST_LEADS (length (with_lead (leads_of rules) rule.v rule.after))
+
+-- the only reason is that there are too many; memory may be wanting
+abbrev pub IsOver : List Rule → Rule → TakeError → Type 0
+IsOver rules rule (Why why) = (why ≡ Limit) × (is_over rules rule ≡ true)
+IsOver rules rule Memory = Unit {0}
 
 -- the rule is appended where there are not too many with it and no rule has its triple; else this is the reason; memory may be
 -- wanting

@@ -1,8 +1,8 @@
-ghost use Rattle.std.specs.Prelude.{◌≡◌, ◌<◌, ◌||◌, ◌++◌, ◌∷◌, if◌then◌else◌, not, nat_le, nat_lt, List, [], length, IsOk, IfOk, IfErr, OnOk};
+ghost use Rattle.std.specs.Prelude.{◌≡◌, ◌<◌, ◌||◌, ◌++◌, ◌∷◌, if◌then◌else◌, false, not, nat_le, nat_lt, List, [], length, vec_len, vec_capacity, IsOk, IfOk, IfErr, OnOk};
 ghost use Rattle.lexicon_definitions.specs.Rules.{Rule as RuleValue};
 ghost use Rattle.lexicon_text_definitions.specs.FileContents.{with_v, different_v};
 ghost use Rattle.lexicon_definitions.specs.Leads.{leads_of};
-ghost use Rattle.form_file.specs.Added.{AreKept, has_twin, IsAdded, IsAddedWithin};
+ghost use Rattle.form_file.specs.Added.{AreKept, has_twin, AreReady, IsAdded, is_over, IsOver, IsAddedWithin};
 ghost use Rattle.indexmap.specs.IndexSet.{spare};
 
 use crate::FileWhy;
@@ -71,6 +71,25 @@ fn add_keys(
     Ok(true)
 }
 
+/// Makes room for the rule, and puts in its keys. `Twice` where one of the same triple is there.
+fn make_ready(
+    rules: &mut Vec<Rule>,
+    triples: &mut IndexSet<Triple>,
+    leads: &mut IndexSet<Word>,
+    rule: &Rule,
+) -> Result<(), TakeError>
+    ensures same { rules.new.items ≡ rules.old.items }
+    ensures room { OnOk result (vec_len rules.new < vec_capacity rules.new) }
+    ensures keys { AreKept rules.old.items triples.old.keys leads.old.keys → AreReady rules.old.items rule.now result triples.new.keys leads.new.keys }
+{
+    // Room for the rule is taken first, so that it is put in wherever its triple was.
+    rules.reserve(1)?;
+    if !add_keys(triples, leads, rule)? {
+        return Err(FileWhy::Twice.into());
+    }
+    Ok(())
+}
+
 impl RulesSoFar {
     pub(crate) fn new(alloc: Global) -> RulesSoFar
         ensures { result ≡ [] }
@@ -127,11 +146,7 @@ impl RulesSoFar {
         ensures { IsAdded self.old rule result self.new }
     {
         self.limited_leads = None;
-        // Room for the rule is taken first, so that it is put in wherever its triple was.
-        self.rules.reserve(1)?;
-        if !add_keys(&mut self.triples, &mut self.leads, &rule)? {
-            return Err(FileWhy::Twice.into());
-        }
+        make_ready(&mut self.rules, &mut self.triples, &mut self.leads, &rule)?;
         self.rules.push(rule)?;
         Ok(())
     }
@@ -148,17 +163,29 @@ impl RulesSoFar {
         }
     }
 
+    /// The leads of the rules with this one, rising. `Limit` where there are too many rules or leads with it.
+    fn leads_within(&mut self, rule: &Rule) -> Result<Vec<Lead>, TakeError>
+        ensures same { self.new ≡ self.old }
+        ensures ok { IfOk result (λ leads. leads.items ≡ leads_of (self.old ++ rule.now ∷ [])) }
+        ensures few { OnOk result (length self.old < MOST_RULES) }
+        ensures within { OnOk result (is_over self.old rule.now ≡ false) }
+        ensures over { IfErr result (λ error. IsOver self.old rule.now error) }
+    {
+        let alloc = *self.rules.allocator();
+        let mut leads = self.take_leads()?;
+        put_lead(alloc, &mut leads, rule)?;
+        if self.rules.len() >= MOST_RULES || leads.len() > MOST_LEADS {
+            return Err(FileWhy::Limit.into());
+        }
+        Ok(leads)
+    }
+
     /// Appends the rule, which is told with its sets of phases. `Limit` where there are too many rules or leads with it, and `Twice`
     /// where one of the same triple is there.
     pub(crate) fn add_limited(&mut self, rule: Rule) -> Result<(), TakeError>
         ensures { IsAddedWithin self.old rule result self.new }
     {
-        let alloc = *self.rules.allocator();
-        let mut leads = self.take_leads()?;
-        put_lead(alloc, &mut leads, &rule)?;
-        if self.rules.len() >= MOST_RULES || leads.len() > MOST_LEADS {
-            return Err(FileWhy::Limit.into());
-        }
+        let leads = self.leads_within(&rule)?;
         self.add(rule)?;
         self.limited_leads = Some(leads);
         Ok(())

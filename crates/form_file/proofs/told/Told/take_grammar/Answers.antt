@@ -1,6 +1,7 @@
 -- The automaton's reader tells the first fault of the text or its automaton; no phase has a form yet.
-use Rattle.std.proofs.Common.{◌≡◌, true, Some, Ok, map, length, sym, ◌∙◌, ap, subst, Global}
+use Rattle.std.proofs.Common.{◌≡◌, true, Some, Ok, map, length, sym, ◌∙◌, ap, subst, Global, arith}
 use Rattle.std.specs.String.{string_bytes}
+use Rattle.std.proofs.lemmas.List.{length-map}
 use Rattle.std.proofs.lemmas.Result.{err_from_is_err_and}
 use Rattle.lexicon_definitions.specs.GrammarFaults.{IsGrammarTextWithinLimits}
 use Rattle.lexicon_text_definitions.specs.FileLines.{Grammar as GrammarLine, may_follow}
@@ -41,3 +42,13 @@ returns c =
       λ last. subst (λ (told : Told). IsGrammarTextWithinLimits told.names told.grammar) (sym c.keep_grammar.ensures)
           (subst (λ (told : Told). IsGrammarTextWithinLimits told.names c.in_ok-grammar.grammar.items) c.self.view_is limits),
     )
+
+pub automaton_of-requires-clause-some : goal.automaton_of-requires-clause-some
+automaton_of-requires-clause-some c =
+    let before =
+    stage_before_grammar _ _ c.self.inside.automaton c.self.inside.forms.value
+    (subst (λ (told : Told). may_follow told.last GrammarLine ≡ true) (sym c.self.view_is) c.requires.follows) c.self.invariant.stage in
+    let some = before.0 in
+    let many = length-map c.self.inside.names.items (string_bytes {Z = Global}) in
+    let same = ap length c.as_slice-names.ensures.value in
+    omega (arith, some, many, same)

@@ -8,6 +8,7 @@ use Rattle.lexicon_text_definitions.proofs.LineSteps.{with_pair}
 use Rattle.form_file.specs.declared.error.FileWhy.TheVariants.{Field}
 use Rattle.form_file.proofs.AnswerLemmas.{refused_for}
 use Rattle.form_file.proofs.PairLemmas.{two_fit, not_spelled, no_pair, left_missing, right_missing, both_read, not_risen, same_order, pair_pushed}
+use Rattle.form_file.proofs.StageLemmas.{pairs_same, pairs_more}
 use Rattle.form_file.proofs.told.Told.take_plain.Goals as goal
 
 pub returns-in_default : goal.returns-in_default
@@ -55,3 +56,9 @@ returns c =
     let read = both_read c.args.self.now (fields_of (Some c.args.text.now)) c.in-Some.left.now c.in-Some.right.now c.in_ok-left.left c.in_ok-right.right c.in-Some.ensures c.in_ok-left.ensures c.in_ok-right.ensures in
     let order = same_order c.args.self.now _ _ (c.in_ok-left.left, c.in_ok-right.right) c.compare_last_pair.result c.self.view_is c.as_slice.ensures.value c.compare_last_pair.ensures in
     read ∙ ap (λ order. if_rising order more) order ∙ c.in_ok-rising.ensures more ∙ ap Ok (pair_pushed c.args.self.now _ (c.in_ok-left.left, c.in_ok-right.right) _ c.self.view_is c.in_ok-push.ensures.items)
+
+pub invariant_of-self : goal.invariant_of-self
+invariant_of-self c = pairs_same _ c.args.self.now c.push.new.self.items c.self.inside.automaton c.self.inside.forms.value c.self.view_is c.in_err-push.ensures.items c.self.invariant
+
+pub invariant_of-self-2 : goal.invariant_of-self-2
+invariant_of-self-2 c = pairs_more _ c.args.self.now c.push.new.self.items c.self.inside.automaton c.self.inside.forms.value c.self.view_is c.requires.follows c.self.invariant
