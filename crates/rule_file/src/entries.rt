@@ -1,16 +1,17 @@
 ghost use Rattle.std.specs.Prelude.{◌≡◌, ◌≤◌, ◌+◌, Some, Ok, Err, IfOk, OnOk, IfErr, length, map, option_map, string_bytes};
 ghost use Rattle.std.specs.List.{list_any};
 ghost use Rattle.toml.specs.View.{table_view};
-ghost use Rattle.rule_file_definitions.specs.RuleEntries.{is_not_strict as is_not_strict_of, is_long as is_long_of, strict_and_short, rule_with, fillings_of as fillings_of_class, rules_of_pattern as rules_of_pattern_of, rules_of_entry as rules_of_entry_of, add_entry as add_entry_of, read_entries as read_entries_of};
+ghost use Rattle.rule_file_definitions.specs.RuleEntries.{is_not_strict as is_not_strict_of, is_long as is_long_of, strict_and_short, rule_with, fillings_of as fillings_of_class, rules_of_pattern as rules_of_pattern_of, rules_of_notation as rules_of_notation_of, rules_of_entry as rules_of_entry_of, add_entry as add_entry_of, read_entries as read_entries_of};
 ghost use Rattle.rule_file.specs.Faults.{IfFault, IfWhy, IsFaultOf, why_of};
-ghost use Rattle.rule_file.specs.Written.{name_of, limits_of};
+ghost use Rattle.rule_file.specs.Triples.{IsKept};
+ghost use Rattle.rule_file.specs.Written.{name_of, limits_of, written};
 
 use crate::classes::letters_named;
 use crate::entry_error::EntryError;
 use crate::error::number_of;
 use crate::fields::fields_of;
 use crate::limits::{Phases, phases_of};
-use crate::notation::notation_of;
+use crate::notation::{Notation, notation_of};
 use crate::pattern::{Pattern, pattern_of};
 use crate::rules_so_far::RulesSoFar;
 use crate::{RuleError, RuleFault, RuleWhy};
@@ -135,6 +136,22 @@ fn rules_of_pattern(
     Ok(rules)
 }
 
+/// The rules of an entry with this notation, of which these fields tell the phases before and after them.
+fn rules_of_notation(
+    alloc: Global,
+    names: &[String],
+    classes: &Table,
+    limits: Option<(&[u8], &[u8])>,
+    notation: &Notation<'_>,
+) -> Result<Vec<Rule>, EntryError>
+    requires { length names.now ≤ MOST_PHASES }
+    ensures ok { IfOk result (λ rules. rules_of_notation_of (map string_bytes names.now) (table_view classes.now) (limits_of limits.entry) (Some (written notation.now)) ≡ Ok rules.items) }
+    ensures why { IfErr result (λ error. IfWhy error (λ why. rules_of_notation_of (map string_bytes names.now) (table_view classes.now) (limits_of limits.entry) (Some (written notation.now)) ≡ Err why)) }
+{
+    let pattern = pattern_of(alloc, notation)?;
+    rules_of_pattern(alloc, names, classes, limits, notation.v.class, &pattern)
+}
+
 /// The rules that an entry stands for, over the phases with these names.
 fn rules_of_entry(
     alloc: Global,
@@ -152,33 +169,25 @@ fn rules_of_entry(
     let Some(notation) = notation_of(fields.notation) else {
         return Err(RuleWhy::Shape.into());
     };
-    let Some(pattern) = pattern_of(alloc, &notation)? else {
-        return Err(RuleWhy::Spelling.into());
-    };
-    rules_of_pattern(
-        alloc,
-        names,
-        classes,
-        fields.limits,
-        notation.v.class,
-        &pattern,
-    )
+    rules_of_notation(alloc, names, classes, fields.limits, &notation)
 }
 
-/// The rules with those of the entry.
+/// Adds the rules of the entry.
 fn add_entry(
     alloc: Global,
     names: &[String],
     classes: &Table,
-    rules: RulesSoFar,
+    rules: &mut RulesSoFar,
     entry: &[u8],
-) -> Result<RulesSoFar, EntryError>
-    requires { length names.now ≤ MOST_PHASES }
-    ensures ok { IfOk result (λ more. add_entry_of (map string_bytes names.now) (table_view classes.now) rules entry.now ≡ Ok more) }
-    ensures why { IfErr result (λ error. IfWhy error (λ why. add_entry_of (map string_bytes names.now) (table_view classes.now) rules entry.now ≡ Err why)) }
+) -> Result<(), EntryError>
+    requires few { length names.now ≤ MOST_PHASES }
+    requires kept { IsKept rules.old }
+    ensures kept { OnOk result (IsKept rules.new) }
+    ensures ok { OnOk result (add_entry_of (map string_bytes names.now) (table_view classes.now) rules.old.rules.items entry.now ≡ Ok rules.new.rules.items) }
+    ensures why { IfErr result (λ error. IfWhy error (λ why. add_entry_of (map string_bytes names.now) (table_view classes.now) rules.old.rules.items entry.now ≡ Err why)) }
 {
     let new = rules_of_entry(alloc, names, classes, entry)?;
-    rules.with_rules(alloc, new)
+    rules.add_rules(alloc, new)
 }
 
 /// The error of the entry at this place, counted from 0.
@@ -207,10 +216,9 @@ pub(crate) fn read_entries(
 {
     let mut rules = RulesSoFar::new(alloc);
     for (place, entry) in entries.iter().enumerate() {
-        rules = match add_entry(alloc, names, classes, rules, entry.as_bytes()) {
-            Ok(more) => more,
-            Err(error) => return Err(error_at(place, error)),
-        };
+        if let Err(error) = add_entry(alloc, names, classes, &mut rules, entry.as_bytes()) {
+            return Err(error_at(place, error));
+        }
     }
     Ok(rules.into_rules())
 }

@@ -4,29 +4,46 @@ ghost use Rattle.rule_file.specs.declared.error.RuleError.TheVariants.{Fault as 
 use phase_automaton::GrammarFault;
 use phoneme::Memory;
 use std::alloc::{AllocError, AllocFailed};
+use std::fmt;
 use thiserror::Error;
 
 /// Why an entry of the rules is refused. The first reason in this order counts; of an entry that stands for several rules,
 /// a reason counts where it applies to any of them.
-#[derive(Clone, Copy, Debug, Error)]
+#[derive(Clone, Copy, Debug)]
 pub enum RuleWhy {
-    #[error("not the notation of a rule")]
     Shape,
-    #[error("not SLP1")]
     Spelling,
-    #[error("no class has this name")]
     Class,
-    #[error("not the phases before or after the rule")]
     Phase,
-    #[error("a rule that is not strict")]
     Strict,
-    #[error("a part with too many letters")]
     Long,
-    #[error("twice")]
     Twice,
-    #[error("too many rules, or too many different v with phases after them")]
     Limit,
 }
+
+impl RuleWhy {
+    /// The reason in words.
+    fn text(self) -> &'static str {
+        match self {
+            RuleWhy::Shape => "not the notation of a rule",
+            RuleWhy::Spelling => "not SLP1",
+            RuleWhy::Class => "no class has this name",
+            RuleWhy::Phase => "not the phases before or after the rule",
+            RuleWhy::Strict => "a rule that is not strict",
+            RuleWhy::Long => "a part with too many letters",
+            RuleWhy::Twice => "twice",
+            RuleWhy::Limit => "too many rules, or too many different v with phases after them",
+        }
+    }
+}
+
+impl fmt::Display for RuleWhy {
+    fn fmt<W: fmt::Write>(&self, f: &mut fmt::Formatter<W>) -> fmt::Result {
+        f.write_str(self.text())
+    }
+}
+
+impl std::error::Error for RuleWhy {}
 
 /// The first fault of a rule file, in this order. A number is that of an entry in its array, counted from 1; classes are
 /// counted by rising name. `Phase(0)` is a file that names no phase.

@@ -1,10 +1,16 @@
-ghost use Rattle.std.specs.Prelude.{◌≡◌, ◌++◌, IfOk, OnOk};
+ghost use Rattle.std.specs.Prelude.{◌≡◌, ◌++◌, Some, None, IfOk, IfErr, OnOk};
+ghost use Rattle.text_definitions.specs.Slp1.{word_of_slp1};
+ghost use Rattle.rule_file_definitions.specs.EntryWhys.{Spelling as SpellingWhy};
 ghost use Rattle.rule_file_definitions.specs.RuleNotations.{gap_of as gap_of_part, pattern_of as pattern_of_notation};
 ghost use Rattle.rule_file_definitions.specs.EntryPhases.{is_final as is_final_of};
 ghost use Rattle.rule_file_definitions.specs.RuleEntries.{put_in, filled, rule_with as rule_with_of};
+ghost use Rattle.rule_file.specs.Faults.{IfWhy};
+ghost use Rattle.rule_file.specs.Held.{word_of};
 ghost use Rattle.rule_file.specs.Written.{part_of, written};
 
+use crate::RuleWhy;
 use crate::classes::spelled;
+use crate::entry_error::EntryError;
 use crate::limits::Phases;
 use crate::notation::{Notation, Part};
 use phoneme::{Letter, Memory, Word};
@@ -45,40 +51,41 @@ impl Model for Pattern {
     ghost view = { λ p. record { x = p.x; u = p.u; v = p.v; w = p.w } };
 }
 
-/// The part, where both of its texts are spelled in SLP1.
-fn gap_of(alloc: Global, part: &Part<'_>) -> Result<Option<Gap>, Memory>
-    ensures { IfOk result (λ gap. gap ≡ gap_of_part (part_of part.now)) }
+/// The word that the text spells in SLP1. `Spelling` where it spells none.
+fn word_in(alloc: Global, text: &[u8]) -> Result<Word, EntryError>
+    ensures ok { IfOk result (λ word. Some word ≡ word_of (word_of_slp1 text.now)) }
+    ensures why { IfErr result (λ error. IfWhy error (λ why. (why ≡ SpellingWhy) × (None ≡ word_of (word_of_slp1 text.now)))) }
 {
-    let Some(before) = spelled(alloc, part.before)? else {
-        return Ok(None);
-    };
-    let Some(after) = spelled(alloc, part.after)? else {
-        return Ok(None);
-    };
-    Ok(Some(Gap {
+    match spelled(alloc, text)? {
+        Some(word) => Ok(word),
+        None => Err(RuleWhy::Spelling.into()),
+    }
+}
+
+/// The part, both of whose texts are spelled in SLP1. `Spelling` where one is not.
+fn gap_of(alloc: Global, part: &Part<'_>) -> Result<Gap, EntryError>
+    ensures ok { IfOk result (λ gap. Some gap ≡ gap_of_part (part_of part.now)) }
+    ensures why { IfErr result (λ error. IfWhy error (λ why. (why ≡ SpellingWhy) × (None ≡ gap_of_part (part_of part.now)))) }
+{
+    let before = word_in(alloc, part.before)?;
+    let after = word_in(alloc, part.after)?;
+    Ok(Gap {
         before,
         has_class: part.class.is_some(),
         after,
-    }))
+    })
 }
 
-/// The notation, where all of it is spelled in SLP1.
-pub(crate) fn pattern_of(alloc: Global, notation: &Notation<'_>) -> Result<Option<Pattern>, Memory>
-    ensures { IfOk result (λ pattern. pattern ≡ pattern_of_notation (written notation.now)) }
+/// The notation, all of which is spelled in SLP1. `Spelling` where a part is not.
+pub(crate) fn pattern_of(alloc: Global, notation: &Notation<'_>) -> Result<Pattern, EntryError>
+    ensures ok { IfOk result (λ pattern. Some pattern ≡ pattern_of_notation (written notation.now)) }
+    ensures why { IfErr result (λ error. IfWhy error (λ why. (why ≡ SpellingWhy) × (None ≡ pattern_of_notation (written notation.now)))) }
 {
-    let Some(x) = spelled(alloc, notation.x)? else {
-        return Ok(None);
-    };
-    let Some(u) = spelled(alloc, notation.u)? else {
-        return Ok(None);
-    };
-    let Some(v) = gap_of(alloc, &notation.v)? else {
-        return Ok(None);
-    };
-    let Some(w) = gap_of(alloc, &notation.w)? else {
-        return Ok(None);
-    };
-    Ok(Some(Pattern { x, u, v, w }))
+    let x = word_in(alloc, notation.x)?;
+    let u = word_in(alloc, notation.u)?;
+    let v = gap_of(alloc, &notation.v)?;
+    let w = gap_of(alloc, &notation.w)?;
+    Ok(Pattern { x, u, v, w })
 }
 
 /// What is put in place of the class.

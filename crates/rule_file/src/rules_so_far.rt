@@ -7,8 +7,9 @@ ghost use Rattle.lexicon_definitions.specs.Leads.{compare_leads, with_lead};
 ghost use Rattle.sandhi_rules.specs.Triples.{triple_of};
 ghost use Rattle.sandhi_rules.specs.contracts.triple.TriplePartialEq.TheImpl.{eq-value as triple_eq};
 ghost use Rattle.rule_file_definitions.specs.EntryWhys.{Twice as TwiceWhy};
-ghost use Rattle.rule_file_definitions.specs.RuleEntries.{pass_limits as pass_limits_of, add_rules};
+ghost use Rattle.rule_file_definitions.specs.RuleEntries.{pass_limits as pass_limits_of, add_rules as add_rules_of};
 ghost use Rattle.rule_file.specs.Faults.{IfWhy};
+ghost use Rattle.rule_file.specs.Triples.{IsKept};
 
 use crate::RuleWhy;
 use crate::entry_error::EntryError;
@@ -17,7 +18,6 @@ use lexicon_definitions::{MOST_LEADS, MOST_RULES};
 use phoneme::Memory;
 use sandhi_rules::{Lead, Rule, Triple, add_lead};
 use std::alloc::Global;
-use std::marker::Model;
 
 /// The rules that were read, in their order, their triples, and their leads, rising.
 #[derive(Drop)]
@@ -25,18 +25,6 @@ pub(crate) struct RulesSoFar {
     rules: Vec<Rule>,
     triples: IndexSet<Triple>,
     leads: Vec<Lead>,
-}
-
-impl Model for RulesSoFar {
-    ghost use Rattle.std.specs.Prelude.{List};
-    ghost use Rattle.lexicon_definitions.specs.Rules.{Rule as RuleValue};
-    ghost use Rattle.rule_file.specs.Triples.{AreKept};
-
-    ghost Value = { List RuleValue };
-
-    ghost view = { λ r. r.rules.items };
-
-    ghost invariant = { λ r. AreKept r.rules.items r.triples.keys r.leads.items };
 }
 
 /// Puts the rule's triple among the triples, and answers whether it was not there.
@@ -66,7 +54,8 @@ fn push_rule(
 
 impl RulesSoFar {
     pub(crate) fn new(alloc: Global) -> RulesSoFar
-        ensures { result ≡ [] }
+        ensures rules { result.rules.items ≡ [] }
+        ensures kept { IsKept result }
     {
         RulesSoFar {
             rules: Vec::new(alloc),
@@ -77,56 +66,47 @@ impl RulesSoFar {
 
     /// The rules, in their order.
     pub(crate) fn into_rules(self) -> Vec<Rule>
-        ensures { result.items ≡ self }
+        ensures { result ≡ self.rules }
     {
-        let RulesSoFar {
-            rules,
-            triples: _,
-            leads: _,
-        } = self;
-        rules
+        self.rules
     }
 
-    /// The rules with this one. `Twice` where one of the same triple is there.
-    fn with_rule(self, alloc: Global, rule: Rule) -> Result<RulesSoFar, EntryError>
-        ensures ok { IfOk result (λ rules. (list_any (is_twin rule) self ≡ false) × (rules ≡ self ++ rule ∷ [])) }
-        ensures twice { IfErr result (λ error. IfWhy error (λ why. (why ≡ TwiceWhy) × (list_any (is_twin rule) self ≡ true))) }
+    /// Adds the rule. `Twice` where one of the same triple is there. After a refusal the rules are of no more use.
+    fn add_rule(&mut self, alloc: Global, rule: Rule) -> Result<(), EntryError>
+        requires { IsKept self.old }
+        ensures kept { OnOk result (IsKept self.new) }
+        ensures is_new { OnOk result (list_any (is_twin rule) self.old.rules.items ≡ false) }
+        ensures rules { OnOk result (self.new.rules.items ≡ self.old.rules.items ++ rule ∷ []) }
+        ensures twice { IfErr result (λ error. IfWhy error (λ why. (why ≡ TwiceWhy) × (list_any (is_twin rule) self.old.rules.items ≡ true))) }
     {
-        let RulesSoFar {
-            mut rules,
-            mut triples,
-            mut leads,
-        } = self;
-        if !add_triple(alloc, &mut triples, &rule)? {
+        if !add_triple(alloc, &mut self.triples, &rule)? {
             return Err(RuleWhy::Twice.into());
         }
-        push_rule(alloc, &mut rules, &mut leads, rule)?;
-        Ok(RulesSoFar {
-            rules,
-            triples,
-            leads,
-        })
+        push_rule(alloc, &mut self.rules, &mut self.leads, rule)?;
+        Ok(())
     }
 
     /// Whether there are too many rules or too many different leads.
     fn pass_limits(&self) -> bool
-        ensures { result ≡ pass_limits_of self.now }
+        requires { IsKept self.now }
+        ensures { result ≡ pass_limits_of self.now.rules.items }
     {
         self.rules.len() > MOST_RULES || self.leads.len() > MOST_LEADS
     }
 
-    /// The rules with those of one entry.
-    pub(crate) fn with_rules(self, alloc: Global, more: Vec<Rule>) -> Result<RulesSoFar, EntryError>
-        ensures ok { IfOk result (λ rules. add_rules self more.items ≡ Ok rules) }
-        ensures why { IfErr result (λ error. IfWhy error (λ why. add_rules self more.items ≡ Err why)) }
+    /// Adds the rules of one entry. After a refusal the rules are of no more use.
+    pub(crate) fn add_rules(&mut self, alloc: Global, more: Vec<Rule>) -> Result<(), EntryError>
+        requires { IsKept self.old }
+        ensures kept { OnOk result (IsKept self.new) }
+        ensures ok { OnOk result (add_rules_of self.old.rules.items more.items ≡ Ok self.new.rules.items) }
+        ensures why { IfErr result (λ error. IfWhy error (λ why. add_rules_of self.old.rules.items more.items ≡ Err why)) }
     {
-        let mut rules = self;
         for rule in more {
-            rules = rules.with_rule(alloc, rule)?;
+            self.add_rule(alloc, rule)?;
         }
-        if rules.pass_limits() {
+        if self.pass_limits() {
             return Err(RuleWhy::Limit.into());
         }
-        Ok(rules)
+        Ok(())
     }
 }

@@ -35,6 +35,15 @@ all_read : (items : List Value) (i : ℕ) (front : List (List ℕ)) → length i
 all_read items i front end so_far =
     sym so_far ∙ at_drop_all (λ (rest : List Value). with_texts front (texts_of (items_view rest))) items i end ∙ ap Some (append-nil front)
 
+no_texts : (rest : Option (List (List ℕ))) → with_texts [] rest ≡ rest
+no_texts None = refl
+no_texts (Some texts) = refl
+
+pub loop-item-init : goal.loop-item-init
+loop-item-init c =
+    ap (λ (front : List (String Global)). with_texts (map (string_bytes {Z = Global}) front) (texts_of (items_view c.deref-item-items.result.now))) c.in_ok-texts.ensures.items
+    ∙ no_texts (texts_of (items_view c.deref-item-items.result.now))
+
 pub loop-item-preserved : goal.loop-item-preserved
 loop-item-preserved c =
     let copied : string_bytes {Z = Global} c.in_ok-clone.field-0 ≡ string_bytes c.in-String.text = search rules in

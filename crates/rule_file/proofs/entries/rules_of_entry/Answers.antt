@@ -1,5 +1,5 @@
--- The entry has its fields, its notation is one, and all of it is spelled, or it is refused; then the pattern decides.
-use Rattle.std.proofs.Common.{◌≡◌, Ok, Err, Result, List, Global, map, sym, ◌∙◌, subst}
+-- The entry has its fields, its notation is one, or it is refused; then the notation decides.
+use Rattle.std.proofs.Common.{◌≡◌, Ok, Err, Result, List, Global, map, sym, subst}
 use Rattle.std.specs.String.{string_bytes}
 use Rattle.std.specs.Result.{IfOk, IfErr}
 use Rattle.toml.specs.View.{table_view}
@@ -22,19 +22,14 @@ returns-in_default-notation_of-clause-why c =
     subst (λ (error : EntryError). IfWhy error (λ why. rules_of_entry (map (string_bytes {Z = Global}) c.args.names.now) (table_view c.args.classes.now) c.args.entry.now ≡ Err why)) (sym c.into-in_default-notation_of.ensures)
     (no_notation (map (string_bytes {Z = Global}) c.args.names.now) (table_view c.args.classes.now) c.args.entry.now (fields_written c.in-Some.fields) c.in-Some.ensures c.in_default-notation_of.ensures)
 
-pub returns-in_default-2-clause-why : goal.returns-in_default-2-clause-why
-returns-in_default-2-clause-why c =
-    subst (λ (error : EntryError). IfWhy error (λ why. rules_of_entry (map (string_bytes {Z = Global}) c.args.names.now) (table_view c.args.classes.now) c.args.entry.now ≡ Err why)) (sym c.into-in_default-2.ensures)
-    (by_notation (map (string_bytes {Z = Global}) c.args.names.now) (table_view c.args.classes.now) c.args.entry.now (fields_written c.in-Some.fields) (written c.in-Some-notation_of.notation) _ c.in-Some.ensures c.in-Some-notation_of.ensures (sym c.in_default-2.is ∙ c.in_ok-pattern.ensures))
-
 pub returns-clause-ok : goal.returns-clause-ok
 returns-clause-ok c =
-    subst (λ (made : Result (List Rule) Why). IfOk c.rules_of_pattern.result (λ rules. made ≡ Ok rules.items))
-    (sym (by_notation (map (string_bytes {Z = Global}) c.args.names.now) (table_view c.args.classes.now) c.args.entry.now (fields_written c.in-Some.fields) (written c.in-Some-notation_of.notation) _ c.in-Some.ensures c.in-Some-notation_of.ensures (sym c.in-Some-2.is ∙ c.in_ok-pattern.ensures)))
-    c.rules_of_pattern.ensures.ok
+    subst (λ (made : Result (List Rule) Why). IfOk c.rules_of_notation.result (λ rules. made ≡ Ok rules.items))
+    (sym (by_notation (map (string_bytes {Z = Global}) c.args.names.now) (table_view c.args.classes.now) c.args.entry.now (fields_written c.in-Some.fields) (written c.in-Some-notation_of.notation) c.in-Some.ensures c.in-Some-notation_of.ensures))
+    c.rules_of_notation.ensures.ok
 
 pub returns-clause-why : goal.returns-clause-why
 returns-clause-why c =
-    subst (λ (made : Result (List Rule) Why). IfErr c.rules_of_pattern.result (λ error. IfWhy error (λ why. made ≡ Err why)))
-    (sym (by_notation (map (string_bytes {Z = Global}) c.args.names.now) (table_view c.args.classes.now) c.args.entry.now (fields_written c.in-Some.fields) (written c.in-Some-notation_of.notation) _ c.in-Some.ensures c.in-Some-notation_of.ensures (sym c.in-Some-2.is ∙ c.in_ok-pattern.ensures)))
-    c.rules_of_pattern.ensures.why
+    subst (λ (made : Result (List Rule) Why). IfErr c.rules_of_notation.result (λ error. IfWhy error (λ why. made ≡ Err why)))
+    (sym (by_notation (map (string_bytes {Z = Global}) c.args.names.now) (table_view c.args.classes.now) c.args.entry.now (fields_written c.in-Some.fields) (written c.in-Some-notation_of.notation) c.in-Some.ensures c.in-Some-notation_of.ensures))
+    c.rules_of_notation.ensures.why
