@@ -3,41 +3,74 @@ ghost use Rattle.paradigms.specs.declared.errors.TableError.TheVariants.{Memory 
 ghost use Rattle.paradigms.specs.declared.errors.StemError.TheVariants.{Memory as StemMemory};
 
 use phoneme::Memory;
+use std::fmt;
 use thiserror::Error;
 
 /// Why a record of a table file is refused. The first reason in this order counts.
-#[derive(Clone, Copy, Debug, Error)]
+#[derive(Clone, Copy, Debug)]
 pub enum TableWhy {
-    #[error("not the fields of a table's record")]
     Fields,
-    #[error("not a tag")]
     Tag,
-    #[error("not a phase")]
     Phase,
-    #[error("not SLP1")]
     Spelling,
-    #[error("over a limit")]
     Limit,
-    #[error("twice")]
     Twice,
 }
 
+impl TableWhy {
+    /// The reason in words.
+    fn text(self) -> &'static str {
+        match self {
+            TableWhy::Fields => "not the fields of a table's record",
+            TableWhy::Tag => "not a tag",
+            TableWhy::Phase => "not a phase",
+            TableWhy::Spelling => "not SLP1",
+            TableWhy::Limit => "over a limit",
+            TableWhy::Twice => "twice",
+        }
+    }
+}
+
+impl fmt::Display for TableWhy {
+    fn fmt<W: fmt::Write>(&self, f: &mut fmt::Formatter<W>) -> fmt::Result {
+        f.write_str(self.text())
+    }
+}
+
+impl std::error::Error for TableWhy {}
+
 /// Why a record of a stem file is refused. The first reason in this order counts.
-#[derive(Clone, Copy, Debug, Error)]
+#[derive(Clone, Copy, Debug)]
 pub enum StemWhy {
-    #[error("not the fields of a stem's record")]
     Fields,
-    #[error("not a stem in SLP1")]
     Spelling,
-    #[error("not a class of the tables")]
     UnknownClass,
-    #[error("too short for a row of its class")]
     Short,
-    #[error("over a limit")]
     Limit,
-    #[error("twice")]
     Twice,
 }
+
+impl StemWhy {
+    /// The reason in words.
+    fn text(self) -> &'static str {
+        match self {
+            StemWhy::Fields => "not the fields of a stem's record",
+            StemWhy::Spelling => "not a stem in SLP1",
+            StemWhy::UnknownClass => "not a class of the tables",
+            StemWhy::Short => "too short for a row of its class",
+            StemWhy::Limit => "over a limit",
+            StemWhy::Twice => "twice",
+        }
+    }
+}
+
+impl fmt::Display for StemWhy {
+    fn fmt<W: fmt::Write>(&self, f: &mut fmt::Formatter<W>) -> fmt::Result {
+        f.write_str(self.text())
+    }
+}
+
+impl std::error::Error for StemWhy {}
 
 /// The first fault of a table file: its record, counted from 1, and why this is refused.
 #[derive(Clone, Copy, Debug, Error)]

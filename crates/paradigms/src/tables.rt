@@ -1,4 +1,4 @@
-ghost use Rattle.std.specs.Prelude.{◌≡◌, ◌<◌, ◌≤◌, ◌+◌, ◌++◌, ◌∷◌, [], length, map, false, None, Some, IfSome, OnOk, All, ◌^◌};
+ghost use Rattle.std.specs.Prelude.{◌≡◌, ◌<◌, ◌≤◌, ◌+◌, ◌++◌, ◌∷◌, [], length, map, false, None, Some, IfSome, IfOk, OnOk, All, ◌^◌};
 ghost use Rattle.std.specs.List.{position};
 ghost use Rattle.csv.specs.Records.{fields_of};
 ghost use Rattle.std.specs.String.{string_bytes};
@@ -33,6 +33,15 @@ fn passes_row_limits(number: u32, row: &Row) -> bool
     row.prefix.len() > MOST_AFFIX_LETTERS
         || row.ending.len() > MOST_AFFIX_LETTERS
         || number as usize > MOST_TABLE_RECORDS
+}
+
+/// The set of one row.
+fn one_row(alloc: Global, row: Row) -> Result<IndexSet<Row>, Memory>
+    ensures { IfOk result (λ rows. rows.keys ≡ row ∷ []) }
+{
+    let mut rows = IndexSet::new(alloc);
+    rows.insert(row)?;
+    Ok(rows)
 }
 
 impl Model for Tables {
@@ -110,11 +119,10 @@ impl Tables {
         ensures answer { IsAnswer table_why (take_row_of number self.old name.now (text_row row)) result self.new }
         ensures grows { OnOk result (length self.new ≡ length self.old + 1) }
     {
-        let mut rows = IndexSet::new(alloc);
-        rows.insert(row)?;
         let name = Vec::from_slice(alloc, name)?;
         // Room is taken first, so that the rows are appended wherever their name was put in.
         self.rows.reserve(1)?;
+        let rows = one_row(alloc, row)?;
         self.names.insert(name)?;
         self.rows.push(rows)?;
         Ok(())
