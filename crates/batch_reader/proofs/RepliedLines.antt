@@ -1,160 +1,132 @@
--- Replies are appended line after line: whatever completes those to the lines that are left completes those to all of them.
+-- The replies to the lines of a block, and what is written of them piece by piece.
 use Rattle.std.proofs.Common.{◌≡◌, ℕ, ◌+◌, ◌<◌, List, [], ◌∷◌, ◌++◌, length, drop, get_or, Option, Some, None, refl, sym, ◌∙◌, ap, subst, append_assoc, append-nil, drop-cons, suc, add-one}
-use Rattle.std.specs.Prelude.{codes}
-use Rattle.std.specs.Fmt.{decimal}
+use Rattle.outside.specs.Told.{bytes_after, GrowsByPrefix}
+use Rattle.outside.proofs.ToldLemmas.{bytes_after-bytes_after, GrowsByPrefix-after, GrowsByPrefix-all, GrowsByPrefix-more}
 use Rattle.text_definitions.specs.Lines.{Line}
 use Rattle.text_definitions.specs.Schemes.{Scheme}
 use Rattle.lexicon_definitions.specs.Lexicons.{Lexicon}
 use Rattle.lexicon_text_definitions.specs.FileLines as file
-use Rattle.segmentation_definitions.specs.PrintedAnswers.{output_line}
-use Rattle.session_definitions.specs.Replies.{why_no_line}
-use Rattle.run_definitions.specs.BatchOutcomes.{IsLineReply, OfFault, OfPage, numbered_reply, AreNumberedReplies}
+use Rattle.run_definitions.specs.BatchOutcomes.{OfFault, OfPage, numbered_reply, AreNumberedReplies}
 use Rattle.batch_reader.specs.Replies.{AreReplies}
 use Rattle.text_line.specs.Values.{text_fault}
 use Rattle.text_line.specs.declared.text_fault.TextFault.{TextFault}
-use Rattle.batch_reader.specs.Blocks.{AreRead, HasRepliedTo}
+use Rattle.batch_reader.specs.Blocks.{AreRead, reply_with, pages_after, replies_with}
+use Rattle.batch_reader.specs.Serving.{WroteFront}
 
--- what completes the replies to these lines from this number on, after those that were appended
-pub record IsLeft (lexicon : Lexicon) (scheme : Scheme) (count first number : ℕ) (all : List file.Line) (faults : List (Option TextFault))
-    (pages : List (List ℕ)) (before now : List ℕ) : Type 0 where
-  pub lines : List file.Line
-  pub answered : List Line
-  pub read : AreRead scheme lines faults answered
-  pub are : AreReplies lexicon count answered pages
-  pub done : List ℕ
-  pub appended : now ≡ before ++ done
-  pub completes : (tail : List ℕ) → AreNumberedReplies lexicon scheme count number lines tail
-      → AreNumberedReplies lexicon scheme count first all (done ++ tail)
+-- lines that are read so, those of them that are answered with these pages, have these replies
+pub replies_are_numbered : (lexicon : Lexicon) (scheme : Scheme) (count number : ℕ) (texts : List file.Line) (faults : List (Option TextFault)) (answered : List Line)
+    (pages : List (List ℕ)) → AreRead scheme texts faults answered → AreReplies lexicon count answered pages
+    → AreNumberedReplies lexicon scheme count number texts (replies_with number faults pages)
+replies_are_numbered lexicon scheme count number [] [] answered pages read are = refl
+replies_are_numbered lexicon scheme count number [] (fault ∷ faults) answered pages read are = absurd read
+replies_are_numbered lexicon scheme count number (text ∷ texts) [] answered pages read are = absurd read
+replies_are_numbered lexicon scheme count number (text ∷ texts) (Some fault ∷ faults) answered pages (e, read) are = (
+  reply_with (Some fault) pages,
+  replies_with (number + 1) faults pages,
+  OfFault (text_fault fault) e refl,
+  refl,
+  replies_are_numbered lexicon scheme count (number + 1) texts faults answered pages read are,
+)
+replies_are_numbered lexicon scheme count number (text ∷ texts) (None ∷ faults) [] pages read are = absurd read
+replies_are_numbered lexicon scheme count number (text ∷ texts) (None ∷ faults) (one ∷ answered) [] read are = absurd are
+replies_are_numbered lexicon scheme count number (text ∷ texts) (None ∷ faults) (one ∷ answered) (page ∷ pages) (e, read) (is, are) = (
+  page,
+  replies_with (number + 1) faults pages,
+  OfPage one is.answers is.more e is.page is.printed,
+  refl,
+  replies_are_numbered lexicon scheme count (number + 1) texts faults answered pages read are,
+)
 
--- the same whatever the lexicon, the scheme and the lines are
-abbrev pub HasRepliedSoFar : ℕ → ℕ → List (Option TextFault) → List (List ℕ) → List (Option TextFault) → List (List ℕ) → List ℕ → List ℕ → Type 0
-HasRepliedSoFar first number all_faults all_pages faults pages before now =
-    (lexicon : Lexicon) (scheme : Scheme) (count : ℕ) (lines : List file.Line) (answered : List Line)
-    → AreRead scheme lines all_faults answered → AreReplies lexicon count answered all_pages
-    → IsLeft lexicon scheme count first number lines faults pages before now
+-- of all these bytes some were written, the piece has the next of them, and the rest is to come
+pub record HasWrittenSoFar (old now : Option (List ℕ)) (all piece rest : List ℕ) : Type 0 where
+  pub written : List ℕ
+  pub wrote : now ≡ bytes_after old written
+  pub whole : all ≡ written ++ (piece ++ rest)
 
-pub none_replied : (number : ℕ) (faults : List (Option TextFault)) (pages : List (List ℕ)) (before : List ℕ)
-    → HasRepliedSoFar number number faults pages faults pages before before
-none_replied number faults pages before lexicon scheme count lines answered read are = record {
-  lines = lines;
-  answered = answered;
-  read = read;
-  are = are;
-  done = [];
-  appended = sym (append-nil before);
-  completes = λ tail p. p;
-}
-
--- all of it
-pub all_replied : (first number : ℕ) (all_faults : List (Option TextFault)) (all_pages pages : List (List ℕ)) (before now : List ℕ)
-    → HasRepliedSoFar first number all_faults all_pages [] pages before now → HasRepliedTo first all_faults all_pages before now
-all_replied first number all_faults all_pages pages before now so_far lexicon scheme count lines answered read are =
-    let left = so_far lexicon scheme count lines answered read are in
-    (left.done, subst (AreNumberedReplies lexicon scheme count first lines) (append-nil left.done) (left.completes [] (none_left left.lines left.answered left.read)), left.appended)
-  where
-    none_left : (texts : List file.Line) (others : List Line) → AreRead scheme texts [] others → AreNumberedReplies lexicon scheme count number texts []
-    none_left [] others p = refl
-    none_left (text ∷ texts) others p = absurd p
-
-module _ (lexicon : Lexicon) (scheme : Scheme) (count first number : ℕ) (all : List file.Line) where
-  -- the reply to the next line is appended after its number
-  appended_next : (text : file.Line) (texts : List file.Line) (reply done tail : List ℕ) → IsLineReply lexicon scheme count text.bytes reply
-      → ((rest : List ℕ) → AreNumberedReplies lexicon scheme count number (text ∷ texts) rest → AreNumberedReplies lexicon scheme count first all (done ++ rest))
-      → AreNumberedReplies lexicon scheme count (number + 1) texts tail
-      → AreNumberedReplies lexicon scheme count first all ((done ++ numbered_reply number reply) ++ tail)
-  appended_next text texts reply done tail is completes p =
-      subst (AreNumberedReplies lexicon scheme count first all) (sym (append_assoc done (numbered_reply number reply) tail))
-      (completes (numbered_reply number reply ++ tail) (reply, tail, is, refl, p))
-
-  -- a line with a fault
-  fault_next : (fault : TextFault) (faults : List (Option TextFault)) (pages : List (List ℕ)) (before now after line reply : List ℕ)
-      → IsLeft lexicon scheme count first number all (Some fault ∷ faults) pages before now
-      → line ≡ output_line (codes "line " ++ decimal number) → reply ≡ output_line (codes "? " ++ why_no_line (text_fault fault))
-      → after ≡ (now ++ line) ++ reply → IsLeft lexicon scheme count first (number + 1) all faults pages before after
-  fault_next fault faults pages before now after line reply left line_is reply_is appended = go left.lines left.answered left.read left.are left.completes
+module _ (old : Option (List ℕ)) (all : List ℕ) where
+  -- nothing was
+  pub none_written : HasWrittenSoFar old old all [] all
+  none_written = record { written = []; wrote = nothing_more old; whole = refl }
     where
-      go : (lines : List file.Line) (answered : List Line) → AreRead scheme lines (Some fault ∷ faults) answered → AreReplies lexicon count answered pages
-          → ((rest : List ℕ) → AreNumberedReplies lexicon scheme count number lines rest → AreNumberedReplies lexicon scheme count first all (left.done ++ rest))
-          → IsLeft lexicon scheme count first (number + 1) all faults pages before after
-      go [] answered read are completes = absurd read
-      go (text ∷ texts) answered (e, read) are completes = record {
-        lines = texts;
-        answered = answered;
-        read = read;
-        are = are;
-        done = left.done ++ numbered_reply number reply;
-        appended = appended ∙ ap (λ (l : List ℕ). (now ++ l) ++ reply) line_is ∙ append_assoc now (output_line (codes "line " ++ decimal number)) reply
-            ∙ ap (λ (n : List ℕ). n ++ numbered_reply number reply) left.appended ∙ append_assoc before left.done (numbered_reply number reply);
-        completes = λ tail p. appended_next text texts reply left.done tail (OfFault (text_fault fault) e reply_is) completes p;
-      }
+      nothing_more : (told : Option (List ℕ)) → told ≡ bytes_after told []
+      nothing_more None = refl
+      nothing_more (Some told) = ap Some (sym (append-nil told))
 
-  -- a line that is answered: its page is the next of the pages
-  page_next : (faults : List (Option TextFault)) (pages others : List (List ℕ)) (before now after line : List ℕ)
-      → IsLeft lexicon scheme count first number all (None ∷ faults) pages before now
-      → line ≡ output_line (codes "line " ++ decimal number)
-      → ((page : List ℕ) (later : List (List ℕ)) → pages ≡ page ∷ later → (after ≡ (now ++ line) ++ page) × (others ≡ later))
-      → IsLeft lexicon scheme count first (number + 1) all faults others before after
-  page_next faults pages others before now after line left line_is takes = go left.lines left.answered pages refl left.read left.are left.completes
+  -- the next bytes are put into the piece
+  put_in_piece : (now : Option (List ℕ)) (piece next more rest : List ℕ) → HasWrittenSoFar old now all piece (next ++ rest) → more ≡ piece ++ next
+      → HasWrittenSoFar old now all more rest
+  put_in_piece now piece next more rest p is = record {
+    written = p.written;
+    wrote = p.wrote;
+    whole = p.whole ∙ ap (λ (b : List ℕ). p.written ++ b) (sym (append_assoc piece next rest) ∙ ap (λ (b : List ℕ). b ++ rest) (sym is));
+  }
+
+  -- the first bytes of the piece are written
+  front_written : (now new : Option (List ℕ)) (piece left rest : List ℕ) → HasWrittenSoFar old now all piece rest → WroteFront now new piece left
+      → HasWrittenSoFar old new all left rest
+  front_written now new piece left rest p front = record {
+    written = p.written ++ front.written;
+    wrote =
+        front.wrote ∙ ap (λ (told : Option (List ℕ)). bytes_after told front.written) p.wrote ∙ bytes_after-bytes_after old p.written front.written;
+    whole =
+        p.whole
+        ∙ ap (λ (b : List ℕ). p.written ++ b) (ap (λ (b : List ℕ). b ++ rest) front.whole ∙ append_assoc front.written left rest)
+        ∙ sym (append_assoc p.written front.written (left ++ rest));
+  }
+
+  -- the reply to the next line is put into the piece, and the first bytes of this may be written
+  pub reply_put : (now new : Option (List ℕ)) (piece more left : List ℕ) (number index : ℕ) (faults : List (Option TextFault)) (pages others : List (List ℕ))
+      (fault none : Option TextFault) → index < length faults → fault ≡ get_or faults index none
+      → HasWrittenSoFar old now all piece (replies_with number (drop index faults) pages)
+      → more ≡ piece ++ numbered_reply number (reply_with fault pages) → others ≡ pages_after fault pages → WroteFront now new more left
+      → HasWrittenSoFar old new all left (replies_with (number + 1) (drop (index + 1) faults) others)
+  reply_put now new piece more left number index faults pages others fault none low is p more_is others_are front =
+      front_written now new more left _
+      (put_in_piece now piece (numbered_reply number (reply_with fault pages)) more _ (subst (HasWrittenSoFar old now all piece) rest_is p) more_is) front
     where
-      go : (lines : List file.Line) (answered : List Line) (now_pages : List (List ℕ)) → pages ≡ now_pages
-          → AreRead scheme lines (None ∷ faults) answered → AreReplies lexicon count answered now_pages
-          → ((rest : List ℕ) → AreNumberedReplies lexicon scheme count number lines rest → AreNumberedReplies lexicon scheme count first all (left.done ++ rest))
-          → IsLeft lexicon scheme count first (number + 1) all faults others before after
-      go [] answered now_pages same read are completes = absurd read
-      go (text ∷ texts) [] now_pages same read are completes = absurd read
-      go (text ∷ texts) (one ∷ answered) [] same read are completes = absurd are
-      go (text ∷ texts) (one ∷ answered) (page ∷ later) same (e, read) (is, are) completes =
-          let (appended, others_are) = takes page later same in record {
-            lines = texts;
-            answered = answered;
-            read = read;
-            are = subst (AreReplies lexicon count answered) (sym others_are) are;
-            done = left.done ++ numbered_reply number page;
-            appended = appended ∙ ap (λ (l : List ℕ). (now ++ l) ++ page) line_is ∙ append_assoc now (output_line (codes "line " ++ decimal number)) page
-                ∙ ap (λ (n : List ℕ). n ++ numbered_reply number page) left.appended ∙ append_assoc before left.done (numbered_reply number page);
-            completes = λ tail p. appended_next text texts page left.done tail (OfPage one is.answers is.more e is.page is.printed) completes p;
-          }
+      cut : drop index faults ≡ fault ∷ drop (index + 1) faults
+      cut = rw add-one (drop-cons faults index none low ∙ ap (λ (x : Option TextFault). x ∷ drop (suc index) faults) (sym is))
 
-module _ (first number : ℕ) (all_faults : List (Option TextFault)) (all_pages : List (List ℕ)) where
-  pub fault_replied : (fault : TextFault) (faults : List (Option TextFault)) (pages : List (List ℕ)) (before now after line reply : List ℕ)
-      → HasRepliedSoFar first number all_faults all_pages (Some fault ∷ faults) pages before now
-      → line ≡ output_line (codes "line " ++ decimal number) → reply ≡ output_line (codes "? " ++ why_no_line (text_fault fault))
-      → after ≡ (now ++ line) ++ reply → HasRepliedSoFar first (number + 1) all_faults all_pages faults pages before after
-  fault_replied fault faults pages before now after line reply so_far line_is reply_is appended lexicon scheme count lines answered read are =
-      fault_next lexicon scheme count first number lines fault faults pages before now after line reply (so_far lexicon scheme count lines answered read are)
-      line_is reply_is appended
+      rest_is : replies_with number (drop index faults) pages
+          ≡ numbered_reply number (reply_with fault pages) ++ replies_with (number + 1) (drop (index + 1) faults) others
+      rest_is =
+          ap (λ (fs : List (Option TextFault)). replies_with number fs pages) cut
+          ∙ ap (λ (ps : List (List ℕ)). numbered_reply number (reply_with fault pages) ++ replies_with (number + 1) (drop (index + 1) faults) ps) (sym others_are)
 
-  pub page_replied : (faults : List (Option TextFault)) (pages others : List (List ℕ)) (before now after line : List ℕ)
-      → HasRepliedSoFar first number all_faults all_pages (None ∷ faults) pages before now
-      → line ≡ output_line (codes "line " ++ decimal number)
-      → ((page : List ℕ) (later : List (List ℕ)) → pages ≡ page ∷ later → (after ≡ (now ++ line) ++ page) × (others ≡ later))
-      → HasRepliedSoFar first (number + 1) all_faults all_pages faults others before after
-  page_replied faults pages others before now after line so_far line_is takes lexicon scheme count lines answered read are =
-      page_next lexicon scheme count first number lines faults pages others before now after line (so_far lexicon scheme count lines answered read are) line_is takes
+  -- it stops before more is written
+  pub stopped_between : (now : Option (List ℕ)) (piece rest : List ℕ) → HasWrittenSoFar old now all piece rest → GrowsByPrefix old now all
+  stopped_between now piece rest p =
+      subst (GrowsByPrefix old now) (sym p.whole) (GrowsByPrefix-more old now p.written (piece ++ rest) (GrowsByPrefix-all old now p.written p.wrote))
 
--- the next line, whichever of both it is
-pub replied_next : (first number index : ℕ) (all_faults : List (Option TextFault)) (all_pages pages others : List (List ℕ)) (fault none : Option TextFault)
-    (before now after : List ℕ) → index < length all_faults → fault ≡ get_or all_faults index none
-    → HasRepliedSoFar first number all_faults all_pages (drop index all_faults) pages before now
-    → ((why : TextFault) → fault ≡ Some why
-    → (after ≡ (now ++ output_line (codes "line " ++ decimal number)) ++ output_line (codes "? " ++ why_no_line (text_fault why))) × (others ≡ pages))
-    → (fault ≡ None → (page : List ℕ) (later : List (List ℕ)) → pages ≡ page ∷ later
-    → (after ≡ (now ++ output_line (codes "line " ++ decimal number)) ++ page) × (others ≡ later))
-    → HasRepliedSoFar first (number + 1) all_faults all_pages (drop (index + 1) all_faults) others before after
-replied_next first number index all_faults all_pages pages others fault none before now after low is so_far on_fault on_page =
-    go fault refl
-  where
-    cut : drop index all_faults ≡ fault ∷ drop (index + 1) all_faults
-    cut = rw add-one (drop-cons all_faults index none low ∙ ap (λ (x : Option TextFault). x ∷ drop (suc index) all_faults) (sym is))
+  -- it stops while the piece is written
+  pub stopped_in_piece : (now new : Option (List ℕ)) (piece rest : List ℕ) → HasWrittenSoFar old now all piece rest → GrowsByPrefix now new piece
+      → GrowsByPrefix old new all
+  stopped_in_piece now new piece rest p grown =
+      subst (GrowsByPrefix old new) (append_assoc p.written piece rest ∙ sym p.whole)
+      (GrowsByPrefix-more old new (p.written ++ piece) rest (GrowsByPrefix-after old now new p.written piece p.wrote grown))
 
-    go : (same : Option TextFault) → fault ≡ same → HasRepliedSoFar first (number + 1) all_faults all_pages (drop (index + 1) all_faults) others before after
-    go (Some why) e =
-        let (appended, kept) = on_fault why e in
-        let here : drop index all_faults ≡ Some why ∷ drop (index + 1) all_faults = cut ∙ ap (λ (x : Option TextFault). x ∷ drop (index + 1) all_faults) e in
-        subst (λ (ps : List (List ℕ)). HasRepliedSoFar first (number + 1) all_faults all_pages (drop (index + 1) all_faults) ps before after) (sym kept)
-        (fault_replied first number all_faults all_pages why (drop (index + 1) all_faults) pages before now after _ _
-        (subst (λ (fs : List (Option TextFault)). HasRepliedSoFar first number all_faults all_pages fs pages before now) here so_far) refl refl appended)
-    go None e =
-        let here : drop index all_faults ≡ None ∷ drop (index + 1) all_faults = cut ∙ ap (λ (x : Option TextFault). x ∷ drop (index + 1) all_faults) e in
-        page_replied first number all_faults all_pages (drop (index + 1) all_faults) pages others before now after _
-        (subst (λ (fs : List (Option TextFault)). HasRepliedSoFar first number all_faults all_pages fs pages before now) here so_far) refl (on_page e)
+  -- it stops while the piece with the reply to the next line is written
+  pub stopped_in_reply : (now new : Option (List ℕ)) (piece more : List ℕ) (number index : ℕ) (faults : List (Option TextFault)) (pages others : List (List ℕ))
+      (fault none : Option TextFault) → index < length faults → fault ≡ get_or faults index none
+      → HasWrittenSoFar old now all piece (replies_with number (drop index faults) pages)
+      → more ≡ piece ++ numbered_reply number (reply_with fault pages) → others ≡ pages_after fault pages → GrowsByPrefix now new more
+      → GrowsByPrefix old new all
+  stopped_in_reply now new piece more number index faults pages others fault none low is p more_is others_are grown =
+      stopped_in_piece now new more _ (reply_put now now piece more more number index faults pages others fault none low is p more_is others_are nothing) grown
+    where
+      same : (told : Option (List ℕ)) → told ≡ bytes_after told []
+      same None = refl
+      same (Some told) = ap Some (sym (append-nil told))
+
+      nothing : WroteFront now now more more
+      nothing = record { written = []; whole = refl; wrote = same now }
+
+  -- the last piece is written
+  pub all_written : (now new : Option (List ℕ)) (piece rest : List ℕ) → HasWrittenSoFar old now all piece rest → rest ≡ [] → new ≡ bytes_after now piece
+      → new ≡ bytes_after old all
+  all_written now new piece rest p none wrote =
+      wrote
+      ∙ ap (λ (told : Option (List ℕ)). bytes_after told piece) p.wrote
+      ∙ bytes_after-bytes_after old p.written piece
+      ∙ ap (bytes_after old)
+      (sym (p.whole ∙ ap (λ (b : List ℕ). p.written ++ b) (ap (λ (b : List ℕ). piece ++ b) none ∙ append-nil piece)))

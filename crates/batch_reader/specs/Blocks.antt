@@ -1,13 +1,13 @@
 -- What is read of the lines of a text, and what is replied to them.
-use Rattle.std.specs.Prelude.{◌≡◌, ℕ, ◌+◌, ◌<◌, ◌≤◌, List, [], ◌∷◌, ◌++◌, length, Option, Some, None, Result, Ok, Err}
+use Rattle.std.specs.Prelude.{◌≡◌, ℕ, ◌+◌, ◌<◌, ◌≤◌, List, [], ◌∷◌, ◌++◌, length, codes, Option, Some, None, Result, Ok, Err}
 use Rattle.text_definitions.specs.Lines.{Line}
 use Rattle.text_definitions.specs.Schemes.{Scheme}
 use Rattle.text_definitions.specs.LineTexts.{line_of_text}
-use Rattle.lexicon_definitions.specs.Lexicons.{Lexicon}
 use Rattle.lexicon_text_definitions.specs.FileLines as file
 use Rattle.lexicon_text_definitions.specs.FileLines.{lines_of_bytes}
-use Rattle.run_definitions.specs.BatchOutcomes.{AreNumberedReplies}
-use Rattle.batch_reader.specs.Replies.{AreReplies}
+use Rattle.segmentation_definitions.specs.PrintedAnswers.{output_line}
+use Rattle.session_definitions.specs.Replies.{why_no_line}
+use Rattle.run_definitions.specs.BatchOutcomes.{numbered_reply}
 use Rattle.batch_reader.specs.declared.block.Block.{Block}
 use Rattle.text_line.specs.Values.{text_fault}
 use Rattle.text_line.specs.declared.text_fault.TextFault.{TextFault}
@@ -36,9 +36,19 @@ pub record HasReadBlock (scheme : Scheme) (bytes : List ℕ) (block : Block) (re
   pub fit : length block.faults.items + length rest ≤ length bytes
   pub shorter : 0 < length bytes → length rest < length bytes
 
--- whatever lines are read so, and whatever lexicon gives them these pages, the replies to them were appended
-abbrev pub HasRepliedTo : ℕ → List (Option TextFault) → List (List ℕ) → List ℕ → List ℕ → Type 0
-HasRepliedTo number faults pages before after =
-    (lexicon : Lexicon) (scheme : Scheme) (count : ℕ) (lines : List file.Line) (answered : List Line)
-    → AreRead scheme lines faults answered → AreReplies lexicon count answered pages
-    → (output : List ℕ) × AreNumberedReplies lexicon scheme count number lines output × (after ≡ before ++ output)
+-- the reply to a line: its fault, or the first of the pages where it has none; and the pages that are left then
+abbrev pub reply_with : Option TextFault → List (List ℕ) → List ℕ
+reply_with (Some fault) pages = output_line (codes "? " ++ why_no_line (text_fault fault))
+reply_with None [] = []
+reply_with None (page ∷ pages) = page
+
+abbrev pub pages_after : Option TextFault → List (List ℕ) → List (List ℕ)
+pages_after (Some fault) pages = pages
+pages_after None [] = []
+pages_after None (page ∷ pages) = pages
+
+-- the replies to lines with these faults, the first of which has this number, each after its number
+abbrev pub replies_with : ℕ → List (Option TextFault) → List (List ℕ) → List ℕ
+replies_with number [] pages = []
+replies_with number (fault ∷ faults) pages =
+    numbered_reply number (reply_with fault pages) ++ replies_with (number + 1) faults (pages_after fault pages)

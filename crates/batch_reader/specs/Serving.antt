@@ -1,5 +1,5 @@
 -- What the replies to the lines of a text leave in a sink.
-use Rattle.std.specs.Prelude.{◌≡◌, ℕ, List, Option}
+use Rattle.std.specs.Prelude.{◌≡◌, ℕ, List, ◌++◌, Option}
 use Rattle.outside.specs.Told.{bytes_after, GrowsByPrefix}
 use Rattle.text_definitions.specs.Schemes.{Scheme}
 use Rattle.lexicon_definitions.specs.Lexicons.{Lexicon}
@@ -17,3 +17,9 @@ pub record WroteFirstReplies (lexicon : Lexicon) (scheme : Scheme) (count : ℕ)
   pub output : List ℕ
   pub replies : AreFirstReplies lexicon scheme count text output
   pub grown : GrowsByPrefix old new output
+
+-- the first of the bytes that were to be written were written, and these are left
+pub record WroteFront (old new : Option (List ℕ)) (bytes left : List ℕ) : Type 0 where
+  pub written : List ℕ
+  pub whole : bytes ≡ written ++ left
+  pub wrote : new ≡ bytes_after old written

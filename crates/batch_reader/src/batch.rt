@@ -1,19 +1,17 @@
-ghost use Rattle.std.specs.Prelude.{◌≡◌, ◌+◌, ◌^◌, ◌<◌, List, length, IfOk, OnOk, OnErr};
+ghost use Rattle.std.specs.Prelude.{◌≡◌, ◌^◌, ◌<◌, length, map, IfOk, OnOk, OnErr};
 ghost use Rattle.outside.specs.Answers.{OnFailedWrite};
 ghost use Rattle.outside.specs.Counts.{Rose};
-ghost use Rattle.lexicon_text_definitions.specs.FileLines.{Line as TextLine};
 ghost use Rattle.text_line.specs.Values.{scheme_of};
-ghost use Rattle.run_definitions.specs.BatchOutcomes.{AreNumberedReplies};
-ghost use Rattle.batch_reader.specs.Blocks.{AreRead};
+ghost use Rattle.batch_reader.specs.Replies.{AreReplies};
 ghost use Rattle.batch_reader.specs.Serving.{WroteReplies, WroteFirstReplies};
 
 use super::answering::read_all_with;
 use super::block::{Block, read_block};
-use super::printing::push_replies;
+use super::printing::write_replies;
 use super::replier::Replier;
 use annotated_trie::Lexicon;
 use answer_printing::RuleTexts;
-use outside::{Gate, Sink, WriteError, write_all};
+use outside::{Gate, Sink, WriteError};
 use phoneme::Memory;
 use std::alloc::Global;
 use std::thread::Threads;
@@ -30,19 +28,16 @@ pub struct Batch<'a, G: Gate> {
 }
 
 impl<'a, G: Gate + Sync> Batch<'a, G> {
-    /// The replies to the lines of a block, the first of which has this number.
-    fn reply_to_block<R: Threads + Sync>(
+    /// The pages of the lines of a block that are answered.
+    fn answer_block<R: Threads + Sync>(
         &self,
         rt: &R,
         alloc: Global,
         rule_texts: &RuleTexts<'_>,
-        number: u64,
         block: &Block,
-    ) -> Result<Vec<u8>, Memory>
-        requires texts { rule_texts.now ≡ self.now.lexicon.now.lexicon.rules }
-        requires numbers { number + length block.now.faults.items < 2 ^ 64 }
-        ensures { IfOk result (λ output. (texts : List TextLine) → AreRead (scheme_of self.now.scheme) texts block.now.faults.items block.now.lines.items
-            → AreNumberedReplies self.now.lexicon.now.lexicon (scheme_of self.now.scheme) self.now.count number texts output.items) }
+    ) -> Result<Vec<Vec<u8>>, Memory>
+        requires { rule_texts.now ≡ self.now.lexicon.now.lexicon.rules }
+        ensures { IfOk result (λ pages. AreReplies self.now.lexicon.now.lexicon self.now.count block.now.lines.items (map (λ page. page.items) pages.items)) }
     {
         let replier = Replier {
             lexicon: self.lexicon,
@@ -51,16 +46,7 @@ impl<'a, G: Gate + Sync> Batch<'a, G> {
             gate: self.gate,
         };
         let lines = block.lines.as_slice();
-        let pages = read_all_with(rt, alloc, &replier, lines)?;
-        let mut output = Vec::new(alloc);
-        push_replies(
-            alloc,
-            &mut output,
-            number,
-            block.faults.as_slice(),
-            pages.as_slice(),
-        )?;
-        Ok(output)
+        read_all_with(rt, alloc, &replier, lines)
     }
 
     /// Writes the reply to each line of the text after its number, counted from 1: the page of its first answers, or `?` and why it
@@ -81,12 +67,14 @@ impl<'a, G: Gate + Sync> Batch<'a, G> {
         ensures fault { OnFailedWrite result (Rose (O.faults sink.old) (O.faults sink.new)) }
     {
         let rule_texts = RuleTexts::new(alloc, self.lexicon.rules())?;
+        let mut piece = Vec::new(alloc);
         let mut rest = text;
         let mut number = 1;
         while !rest.is_empty() {
             let (block, following) = read_block(alloc, self.scheme, rest)?;
-            let replies = self.reply_to_block(rt, alloc, &rule_texts, number, &block)?;
-            write_all(sink, replies.as_slice())?;
+            let pages = self.answer_block(rt, alloc, &rule_texts, &block)?;
+            let faults = block.faults.as_slice();
+            write_replies(alloc, sink, number, faults, pages.as_slice(), &mut piece)?;
             number += block.faults.len() as u64;
             rest = following;
         }

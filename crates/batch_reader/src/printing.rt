@@ -1,14 +1,21 @@
-ghost use Rattle.std.specs.Prelude.{◌≡◌, ◌+◌, ◌^◌, ◌<◌, ◌++◌, ℕ, List, map, length, IfOk, OnOk, Some, None, codes, ◌∷◌};
+ghost use Rattle.std.specs.Prelude.{◌≡◌, ◌+◌, ◌^◌, ◌<◌, ◌++◌, map, length, IfOk, OnOk, OnErr, None, codes};
 ghost use Rattle.std.specs.Fmt.{decimal};
+ghost use Rattle.outside.specs.Answers.{OnFailedWrite};
+ghost use Rattle.outside.specs.Counts.{Rose};
+ghost use Rattle.outside.specs.Told.{bytes_after, GrowsByPrefix};
 ghost use Rattle.segmentation_definitions.specs.PrintedAnswers.{output_line};
-ghost use Rattle.session_definitions.specs.Replies.{why_no_line};
-ghost use Rattle.text_line.specs.Values.{text_fault};
-ghost use Rattle.batch_reader.specs.Blocks.{HasRepliedTo};
+ghost use Rattle.run_definitions.specs.BatchOutcomes.{numbered_reply};
+ghost use Rattle.batch_reader.specs.Blocks.{reply_with, pages_after, replies_with};
+ghost use Rattle.batch_reader.specs.Serving.{WroteFront};
 
 use answer_printing::push_text_refusal;
+use outside::{Sink, WriteError, write_all};
 use phoneme::Memory;
 use std::alloc::Global;
 use text_line::TextFault;
+
+/// Replies are written in pieces of so many bytes or more, but for the last piece of a block.
+const PIECE_BYTES: usize = 65_536;
 
 /// Appends `line I`.
 fn push_number(alloc: Global, output: &mut Vec<u8>, number: u64) -> Result<(), Memory>
@@ -18,10 +25,10 @@ fn push_number(alloc: Global, output: &mut Vec<u8>, number: u64) -> Result<(), M
     Ok(())
 }
 
-/// Appends the first of the pages, and gives the others.
+/// Appends the first of the pages, where there is one, and gives the others.
 fn push_page<'a>(output: &mut Vec<u8>, pages: &'a [Vec<u8>]) -> Result<&'a [Vec<u8>], Memory>
-    ensures { IfOk result (λ others. (page : List ℕ) (later : List (List ℕ)) → map (λ p. p.items) pages.now ≡ page ∷ later
-        → (output.new.items ≡ output.old.items ++ page) × (map (λ p. p.items) others.now ≡ later)) }
+    ensures { IfOk result (λ others. (output.new.items ≡ output.old.items ++ reply_with None (map (λ page. page.items) pages.now))
+        × (map (λ page. page.items) others.now ≡ pages_after None (map (λ page. page.items) pages.now))) }
 {
     match pages {
         [page, others @ ..] => {
@@ -41,12 +48,8 @@ fn push_reply<'a>(
     fault: &Option<TextFault>,
     pages: &'a [Vec<u8>],
 ) -> Result<&'a [Vec<u8>], Memory>
-    ensures fault { IfOk result (λ left. (why : TextFault) → fault.now ≡ Some why
-        → (output.new.items ≡ (output.old.items ++ output_line (codes "line " ++ decimal number)) ++ output_line (codes "? " ++ why_no_line (text_fault why)))
-        × (map (λ page. page.items) left.now ≡ map (λ page. page.items) pages.now)) }
-    ensures page { IfOk result (λ left. fault.now ≡ None → (page : List ℕ) (later : List (List ℕ)) → map (λ p. p.items) pages.now ≡ page ∷ later
-        → (output.new.items ≡ (output.old.items ++ output_line (codes "line " ++ decimal number)) ++ page)
-        × (map (λ p. p.items) left.now ≡ later)) }
+    ensures { IfOk result (λ left. (output.new.items ≡ output.old.items ++ numbered_reply number (reply_with fault.now (map (λ page. page.items) pages.now)))
+        × (map (λ page. page.items) left.now ≡ pages_after fault.now (map (λ page. page.items) pages.now))) }
 {
     push_number(alloc, output, number)?;
     match fault {
@@ -58,23 +61,45 @@ fn push_reply<'a>(
     }
 }
 
-/// Appends the replies to the lines of a block, the first of which has this number: for each line its fault, or the next of the pages
-/// where it has no fault.
-pub(crate) fn push_replies(
+/// Writes the piece where it has grown to so many bytes, and empties it.
+fn write_if_full<O: Sink>(sink: &mut O, piece: &mut Vec<u8>) -> Result<(), WriteError>
+    ensures ok { OnOk result (WroteFront (O.written sink.old) (O.written sink.new) piece.old.items piece.new.items) }
+    ensures prefix { OnErr result (GrowsByPrefix (O.written sink.old) (O.written sink.new) piece.old.items) }
+    ensures fault { OnFailedWrite result (Rose (O.faults sink.old) (O.faults sink.new)) }
+    ensures faults { OnOk result (O.faults sink.new ≡ O.faults sink.old) }
+{
+    if piece.len() >= PIECE_BYTES {
+        write_all(sink, piece.as_slice())?;
+        piece.clear();
+    }
+    Ok(())
+}
+
+/// Writes the replies to the lines of a block, the first of which has this number: for each line its fault, or the next of the pages
+/// where it has no fault. They are written in pieces, which are gathered in `piece`, whatever it holds before; where it stops, a prefix
+/// of them was written.
+pub(crate) fn write_replies<O: Sink>(
     alloc: Global,
-    output: &mut Vec<u8>,
+    sink: &mut O,
     number: u64,
     faults: &[Option<TextFault>],
     pages: &[Vec<u8>],
-) -> Result<(), Memory>
+    piece: &mut Vec<u8>,
+) -> Result<(), WriteError>
     requires { number + length faults.now < 2 ^ 64 }
-    ensures { OnOk result (HasRepliedTo number faults.now (map (λ page. page.items) pages.now) output.old.items output.new.items) }
+    ensures ok { OnOk result (O.written sink.new ≡ bytes_after (O.written sink.old) (replies_with number faults.now (map (λ page. page.items) pages.now))) }
+    ensures prefix { OnErr result (GrowsByPrefix (O.written sink.old) (O.written sink.new) (replies_with number faults.now (map (λ page. page.items) pages.now))) }
+    ensures fault { OnFailedWrite result (Rose (O.faults sink.old) (O.faults sink.new)) }
+    ensures faults { OnOk result (O.faults sink.new ≡ O.faults sink.old) }
 {
+    piece.clear();
     let mut left = pages;
     let mut next = number;
     for fault in faults {
-        left = push_reply(alloc, output, next, fault, left)?;
+        left = push_reply(alloc, piece, next, fault, left)?;
         next += 1;
+        write_if_full(sink, piece)?;
     }
+    write_all(sink, piece.as_slice())?;
     Ok(())
 }
