@@ -5,7 +5,10 @@ use Rattle.outside.specs.Files.{Files, contents_of, AreFirstBytes}
 use Rattle.lexicon_definitions.specs.Lexicons.{Lexicon}
 use Rattle.lexicon_text_definitions.specs.declared.limits.TheConstants.{MOST_FILE_BYTES}
 use Rattle.trie_text_definitions.specs.VersionReadings.{IsReadAs}
+use Rattle.form_file.specs.declared.contents.Contents.{Contents}
+use Rattle.form_file.specs.Contents.{lexicon_of}
 use Rattle.lexicon_file.specs.Contents.{fault_of}
+use Rattle.annotated_trie.specs.Searched.{SearchedLexicon}
 use Rattle.run_definitions.specs.Commands.{FileWord}
 use Rattle.run_definitions.specs.Ends as ends
 use Rattle.run_definitions.specs.Ends.{Outcome, outcome_over}
@@ -65,6 +68,15 @@ pub unopened_missing : (lex : FileWord) (told : Files) → contents_of told lex.
 unopened_missing lex told missing = Missing (IsMissing missing refl) refl
 
 -- ---- over the lexicon
+
+-- what a box lends is what was opened
+pub lexicon_lent : (lex : FileWord) (boxed lent : SearchedLexicon) (old mid : Devices) → lent ≡ boxed → HasOpened lex boxed.lexicon old mid
+    → HasOpened lex lent.lexicon old mid
+lexicon_lent lex boxed lent old mid same opened = subst (λ (l : SearchedLexicon). HasOpened lex l.lexicon old mid) (sym same) opened
+
+pub contents_lent : (lex : FileWord) (boxed lent : Contents) (old mid : Devices) → lent ≡ boxed → HasOpened lex (lexicon_of boxed) old mid
+    → HasOpened lex (lexicon_of lent) old mid
+contents_lent lex boxed lent old mid same opened = subst (λ (c : Contents). HasOpened lex (lexicon_of c) old mid) (sym same) opened
 
 module _ (lex : FileWord) (lexicon : Lexicon) (old mid : Devices) (opened : HasOpened lex lexicon old mid) where
   -- what the file tells is known also where the run goes on

@@ -160,7 +160,7 @@ pub(crate) fn run_annotate<H: Shelf, O: Sink>(
         (devices (H.files shelf.new) (H.failed_reads shelf.new) (H.failed_writes shelf.new) (O.written out.new) (O.faults out.new)) }
 {
     match open_lexicon(alloc, &words.lex, shelf, out) {
-        Ok(lexicon) => annotate_over(alloc, &lexicon, words, shelf, out),
+        Ok(lexicon) => annotate_over(alloc, &*lexicon, words, shelf, out),
         Err(status) => status,
     }
 }

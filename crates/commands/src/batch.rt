@@ -32,7 +32,7 @@ pub(crate) fn run_batch<R: Threads + Sync, H: Shelf, O: Sink, G: Gate + Sync>(
     match open_lexicon(alloc, &words.lex, shelf, out) {
         Ok(lexicon) => {
             let batch = Batch {
-                lexicon: &lexicon,
+                lexicon: &*lexicon,
                 scheme: words.scheme,
                 count: words.count,
                 gate,

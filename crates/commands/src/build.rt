@@ -16,6 +16,7 @@ ghost use Rattle.commands.specs.Sources.{HoldsSource, IsBuilt};
 ghost use Rattle.commands.specs.SourceErrors.{IsSourceError, IsLimitError};
 
 use super::any_error::AnyError;
+use super::boxed::in_box;
 use super::status::AnyFault;
 use lexicon_builder::{BuildError, BuiltLexicon, build_lexicon, lexicon_text};
 use lexicon_text_definitions::MOST_FILE_BYTES;
@@ -26,14 +27,15 @@ use std::alloc::Global;
 use std::thread::Threads;
 
 /// What a rule file holds, whose length is judged before its bytes are looked at.
-pub(crate) fn read_rule_file(alloc: Global, bytes: &[u8]) -> Result<RuleFile, AnyError>
-    ensures ok { IfOk result (λ file. HoldsSource IsReadAs bytes.now file.rules) }
+pub(crate) fn read_rule_file(alloc: Global, bytes: &[u8]) -> Result<Box<RuleFile>, AnyError>
+    ensures ok { IfOk result (λ file. HoldsSource IsReadAs bytes.now file.value.rules) }
     ensures refused { IfErr result (IsSourceError IsReadAs Rules bytes.now) }
 {
     if bytes.len() > MOST_FILE_BYTES {
         return Err(AnyError::Fault(AnyFault::Large));
     }
-    Ok(read(alloc, bytes)?)
+    let file = read(alloc, bytes)?;
+    Ok(in_box(alloc, file)?)
 }
 
 /// The tables of a table file over these phases. Its length is judged first too.
@@ -41,15 +43,16 @@ pub(crate) fn read_table_file(
     alloc: Global,
     phases: &[String],
     bytes: &[u8],
-) -> Result<Tables, AnyError>
+) -> Result<Box<Tables>, AnyError>
     requires { length phases.now ≤ MOST_PHASES }
-    ensures ok { IfOk result (λ tables. HoldsSource (AreTables (map string_bytes phases.now)) bytes.now tables) }
+    ensures ok { IfOk result (λ tables. HoldsSource (AreTables (map string_bytes phases.now)) bytes.now tables.value) }
     ensures refused { IfErr result (IsSourceError (AreTables (map string_bytes phases.now)) OfTables bytes.now) }
 {
     if bytes.len() > MOST_FILE_BYTES {
         return Err(AnyError::Fault(AnyFault::Large));
     }
-    Ok(read_tables(alloc, phases, bytes)?)
+    let tables = read_tables(alloc, phases, bytes)?;
+    Ok(in_box(alloc, tables)?)
 }
 
 /// The stems of a stem file over these tables. Its length is judged first too.
@@ -57,28 +60,29 @@ pub(crate) fn read_stem_file(
     alloc: Global,
     tables: &Tables,
     bytes: &[u8],
-) -> Result<Stems, AnyError>
-    ensures ok { IfOk result (λ stems. HoldsSource (AreStems tables.now) bytes.now stems) }
+) -> Result<Box<Stems>, AnyError>
+    ensures ok { IfOk result (λ stems. HoldsSource (AreStems tables.now) bytes.now stems.value) }
     ensures refused { IfErr result (IsSourceError (AreStems tables.now) OfStems bytes.now) }
 {
     if bytes.len() > MOST_FILE_BYTES {
         return Err(AnyError::Fault(AnyFault::Large));
     }
-    Ok(read_stems(alloc, tables, bytes)?)
+    let stems = read_stems(alloc, tables, bytes)?;
+    Ok(in_box(alloc, stems)?)
 }
 
 /// What was read of a rule file and of a table file.
 #[derive(Drop)]
 pub(crate) struct ReadTables {
-    pub file: RuleFile,
-    pub tables: Tables,
+    pub file: Box<RuleFile>,
+    pub tables: Box<Tables>,
 }
 
 /// What was read of all three source files.
 #[derive(Drop)]
 pub(crate) struct ReadSources {
     pub read: ReadTables,
-    pub stems: Stems,
+    pub stems: Box<Stems>,
 }
 
 /// The text of the lexicon file that is built, and what is printed of it.
@@ -100,17 +104,19 @@ fn build_sources(
     rt: &(impl Threads + Sync),
     alloc: Global,
     sources: ReadSources,
-) -> Result<BuiltLexicon, BuildError>
-    requires { AreSources sources.read.file.rules sources.read.tables sources.stems }
-    ensures ok { IfOk result (λ built. IsLexiconOf sources.read.file.rules sources.read.tables sources.stems (lexicon_of built.contents)) }
-    ensures trie { IfOk result (λ built. IsTrieOf built.contents.store (phases_of built.contents.store)) }
-    ensures text { IfOk result (λ built. HasNewestText (lexicon_of built.contents)) }
-    ensures lines { IfOk result (λ built. built.lines ≡ count_lines (phases_of built.contents.store)) }
-    ensures limit { IfErr result (λ error. IfLimit error (HaveTooManyLines sources.read.file.rules sources.read.tables sources.stems)) }
+) -> Result<Box<BuiltLexicon>, BuildError>
+    requires { AreSources sources.read.file.value.rules sources.read.tables.value sources.stems.value }
+    ensures ok { IfOk result (λ built. IsLexiconOf sources.read.file.value.rules sources.read.tables.value sources.stems.value (lexicon_of built.value.contents)) }
+    ensures trie { IfOk result (λ built. IsTrieOf built.value.contents.store (phases_of built.value.contents.store)) }
+    ensures text { IfOk result (λ built. HasNewestText (lexicon_of built.value.contents)) }
+    ensures lines { IfOk result (λ built. built.value.lines ≡ count_lines (phases_of built.value.contents.store)) }
+    ensures limit { IfErr result (λ error. IfLimit error (HaveTooManyLines sources.read.file.value.rules sources.read.tables.value sources.stems.value)) }
 {
     let ReadSources { read, stems } = sources;
     let ReadTables { file, tables } = read;
-    build_lexicon(rt, alloc, file.rules, file.automaton, &tables, &stems)
+    let RuleFile { rules, automaton } = Box::into_inner(file);
+    let built = build_lexicon(rt, alloc, rules, automaton, &*tables, &*stems)?;
+    Ok(in_box(alloc, built)?)
 }
 
 /// The lexicon of the sources in its newest text, and how many lines of forms it has.
@@ -119,9 +125,9 @@ pub(crate) fn build(
     alloc: Global,
     sources: ReadSources,
 ) -> Result<Built, AnyError>
-    requires { AreSources sources.read.file.rules sources.read.tables sources.stems }
-    ensures ok { IfOk result (IsBuilt sources.read.file.rules sources.read.tables sources.stems) }
-    ensures refused { IfErr result (IsLimitError sources.read.file.rules sources.read.tables sources.stems) }
+    requires { AreSources sources.read.file.value.rules sources.read.tables.value sources.stems.value }
+    ensures ok { IfOk result (IsBuilt sources.read.file.value.rules sources.read.tables.value sources.stems.value) }
+    ensures refused { IfErr result (IsLimitError sources.read.file.value.rules sources.read.tables.value sources.stems.value) }
 {
     let built = build_sources(rt, alloc, sources)?;
     let text = lexicon_text(alloc, &built.contents)?;

@@ -155,7 +155,7 @@ pub(crate) fn run_check<H: Shelf, O: Sink>(
         (devices (H.files shelf.new) (H.failed_reads shelf.new) (H.failed_writes shelf.new) (O.written out.new) (O.faults out.new)) }
 {
     match open_contents(alloc, lex, shelf, out) {
-        Ok(contents) => write_check(alloc, &contents, out),
+        Ok(contents) => write_check(alloc, &*contents, out),
         Err(status) => status,
     }
 }

@@ -69,7 +69,7 @@ pub(crate) fn run_join<H: Shelf, O: Sink>(
         (devices (H.files shelf.new) (H.failed_reads shelf.new) (H.failed_writes shelf.new) (O.written out.new) (O.faults out.new)) }
 {
     match open_lexicon(alloc, &words.lex, shelf, out) {
-        Ok(lexicon) => write_chain(alloc, &lexicon, words.chain.name, out),
+        Ok(lexicon) => write_chain(alloc, &*lexicon, words.chain.name, out),
         Err(status) => status,
     }
 }

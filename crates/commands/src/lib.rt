@@ -12,6 +12,7 @@
 mod annotate;
 mod any_error;
 mod batch;
+mod boxed;
 mod build;
 mod check;
 mod convert;

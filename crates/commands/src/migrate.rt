@@ -122,7 +122,7 @@ pub(crate) fn run_migrate<H: Shelf, O: Sink>(
         (devices (H.files shelf.new) (H.failed_reads shelf.new) (H.failed_writes shelf.new) (O.written sink.new) (O.faults sink.new)) }
 {
     match open_contents(alloc, &words.lex, shelf, sink) {
-        Ok(contents) => migrate_contents(alloc, &contents, words, shelf, sink),
+        Ok(contents) => migrate_contents(alloc, &*contents, words, shelf, sink),
         Err(status) => status,
     }
 }

@@ -8,6 +8,7 @@ ghost use Rattle.commands.specs.LexiconFiles.{IsBuildable, IsLexiconFile, IsFile
 ghost use Rattle.commands.specs.Openings.{HasOpened, IsUnopened};
 
 use super::any_error::AnyError;
+use super::boxed::in_box;
 use super::ending::refuse_file;
 use super::reading::read_file;
 use super::status::{AnyFault, Status};
@@ -20,34 +21,36 @@ use phoneme::Memory;
 use std::alloc::Global;
 
 /// The contents of a lexicon file, whose length is judged before its bytes are looked at.
-fn read_contents(alloc: Global, bytes: &[u8]) -> Result<Contents, AnyError>
+fn read_contents(alloc: Global, bytes: &[u8]) -> Result<Box<Contents>, AnyError>
     ensures within { IfOk result (λ contents. length bytes.now ≤ MOST_FILE_BYTES) }
-    ensures ok { IfOk result (λ contents. IsReadAs bytes.now (Ok (lexicon_of contents))) }
-    ensures buildable { IfOk result IsBuildable }
+    ensures ok { IfOk result (λ contents. IsReadAs bytes.now (Ok (lexicon_of contents.value))) }
+    ensures buildable { IfOk result (λ contents. IsBuildable contents.value) }
     ensures refused { IfErr result (IsFileError bytes.now) }
 {
     if bytes.len() > MOST_FILE_BYTES {
         return Err(AnyError::Fault(AnyFault::Large));
     }
-    Ok(read(alloc, bytes)?)
+    let contents = read(alloc, bytes)?;
+    Ok(in_box(alloc, contents)?)
 }
 
 /// The lexicon of a file's contents, as it is searched. The forms themselves are not kept.
-fn build_lexicon(alloc: Global, contents: Contents) -> Result<Lexicon, Memory>
-    requires { IsBuildable contents }
-    ensures ok { IfOk result (λ lexicon. lexicon.lexicon ≡ lexicon_of contents) }
+fn build_lexicon(alloc: Global, contents: Box<Contents>) -> Result<Box<Lexicon>, Memory>
+    requires { IsBuildable contents.value }
+    ensures ok { IfOk result (λ lexicon. lexicon.value.lexicon ≡ lexicon_of contents.value) }
 {
     let Contents {
         rules,
         automaton,
         store,
-    } = contents;
-    Lexicon::build(alloc, store, rules, automaton)
+    } = Box::into_inner(contents);
+    let lexicon = Lexicon::build(alloc, store, rules, automaton)?;
+    in_box(alloc, lexicon)
 }
 
 /// The lexicon of a file's bytes, as it is searched.
-pub fn read_lexicon(alloc: Global, bytes: &[u8]) -> Result<Lexicon, AnyError>
-    ensures ok { IfOk result (λ lexicon. IsLexiconFile bytes.now lexicon.lexicon) }
+pub fn read_lexicon(alloc: Global, bytes: &[u8]) -> Result<Box<Lexicon>, AnyError>
+    ensures ok { IfOk result (λ lexicon. IsLexiconFile bytes.now lexicon.value.lexicon) }
     ensures refused { IfErr result (IsFileError bytes.now) }
 {
     let contents = read_contents(alloc, bytes)?;
@@ -60,11 +63,11 @@ pub(crate) fn open_contents<H: Shelf, O: Sink>(
     word: &PlacedWord<'_>,
     shelf: &mut H,
     out: &mut O,
-) -> Result<Contents, Status>
-    ensures opened { IfOk result (λ contents. HasOpened (word_meant word.now) (lexicon_of contents)
+) -> Result<Box<Contents>, Status>
+    ensures opened { IfOk result (λ contents. HasOpened (word_meant word.now) (lexicon_of contents.value)
         (devices (H.files shelf.old) (H.failed_reads shelf.old) (H.failed_writes shelf.old) (O.written out.old) (O.faults out.old))
         (devices (H.files shelf.new) (H.failed_reads shelf.new) (H.failed_writes shelf.new) (O.written out.new) (O.faults out.new))) }
-    ensures buildable { IfOk result IsBuildable }
+    ensures buildable { IfOk result (λ contents. IsBuildable contents.value) }
     ensures ended { IfErr result (λ status. (writes : Option FileWord) → Ran (IsUnopened (word_meant word.now)) (word_meant word.now ∷ []) writes status
         (devices (H.files shelf.old) (H.failed_reads shelf.old) (H.failed_writes shelf.old) (O.written out.old) (O.faults out.old))
         (devices (H.files shelf.new) (H.failed_reads shelf.new) (H.failed_writes shelf.new) (O.written out.new) (O.faults out.new))) }
@@ -83,8 +86,8 @@ pub(crate) fn open_lexicon<H: Shelf, O: Sink>(
     word: &PlacedWord<'_>,
     shelf: &mut H,
     out: &mut O,
-) -> Result<Lexicon, Status>
-    ensures opened { IfOk result (λ lexicon. HasOpened (word_meant word.now) lexicon.lexicon
+) -> Result<Box<Lexicon>, Status>
+    ensures opened { IfOk result (λ lexicon. HasOpened (word_meant word.now) lexicon.value.lexicon
         (devices (H.files shelf.old) (H.failed_reads shelf.old) (H.failed_writes shelf.old) (O.written out.old) (O.faults out.old))
         (devices (H.files shelf.new) (H.failed_reads shelf.new) (H.failed_writes shelf.new) (O.written out.new) (O.faults out.new))) }
     ensures ended { IfErr result (λ status. (writes : Option FileWord) → Ran (IsUnopened (word_meant word.now)) (word_meant word.now ∷ []) writes status

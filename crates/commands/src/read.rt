@@ -38,7 +38,7 @@ pub(crate) fn run_read<H: Shelf, I: Source, O: Sink>(
         (source_told (I.left input.old) (I.faults input.old)) (source_told (I.left input.new) (I.faults input.new)) }
 {
     match open_lexicon(alloc, lex, shelf, out) {
-        Ok(lexicon) => status_of(serve(alloc, &lexicon, input, out)),
+        Ok(lexicon) => status_of(serve(alloc, &*lexicon, input, out)),
         Err(status) => status,
     }
 }

@@ -81,7 +81,7 @@ pub(crate) fn run_reread<H: Shelf, O: Sink>(
         (devices (H.files shelf.new) (H.failed_reads shelf.new) (H.failed_writes shelf.new) (O.written out.new) (O.faults out.new)) }
 {
     match open_lexicon(alloc, &words.lex, shelf, out) {
-        Ok(lexicon) => reread_over(alloc, &lexicon, &words.file, shelf, out),
+        Ok(lexicon) => reread_over(alloc, &*lexicon, &words.file, shelf, out),
         Err(status) => status,
     }
 }

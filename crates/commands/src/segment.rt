@@ -57,7 +57,7 @@ pub(crate) fn run_segment<H: Shelf, O: Sink>(
         (devices (H.files shelf.new) (H.failed_reads shelf.new) (H.failed_writes shelf.new) (O.written out.new) (O.faults out.new)) }
 {
     match open_lexicon(alloc, lex, shelf, out) {
-        Ok(lexicon) => write_segmented(alloc, &lexicon, scheme, text, out),
+        Ok(lexicon) => write_segmented(alloc, &*lexicon, scheme, text, out),
         Err(status) => status,
     }
 }

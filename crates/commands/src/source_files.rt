@@ -49,12 +49,12 @@ fn build_with_rules<H: Shelf, O: Sink>(
     rt: &(impl Threads + Sync),
     alloc: Global,
     words: &BuildWords<'_>,
-    file: RuleFile,
+    file: Box<RuleFile>,
     shelf: &mut H,
     sink: &mut O,
 ) -> Status
-    requires { AreReadRules file.rules }
-    ensures { Ran (IsTablesOutcome file.rules (word_meant words.now.tables) (word_meant words.now.stems) (word_meant words.now.out)) (word_meant words.now.tables ∷ word_meant words.now.stems ∷ []) (Some (word_meant words.now.out)) result
+    requires { AreReadRules file.value.rules }
+    ensures { Ran (IsTablesOutcome file.value.rules (word_meant words.now.tables) (word_meant words.now.stems) (word_meant words.now.out)) (word_meant words.now.tables ∷ word_meant words.now.stems ∷ []) (Some (word_meant words.now.out)) result
         (devices (H.files shelf.old) (H.failed_reads shelf.old) (H.failed_writes shelf.old) (O.written sink.old) (O.faults sink.old))
         (devices (H.files shelf.new) (H.failed_reads shelf.new) (H.failed_writes shelf.new) (O.written sink.new) (O.faults sink.new)) }
 {
@@ -81,9 +81,9 @@ fn build_with_tables<H: Shelf, O: Sink>(
     shelf: &mut H,
     sink: &mut O,
 ) -> Status
-    requires rules { AreReadRules read.file.rules }
-    requires tables { AreReadTables read.file.rules read.tables }
-    ensures { Ran (IsStemsOutcome read.file.rules read.tables (word_meant words.now.stems) (word_meant words.now.out)) (word_meant words.now.stems ∷ []) (Some (word_meant words.now.out)) result
+    requires rules { AreReadRules read.file.value.rules }
+    requires tables { AreReadTables read.file.value.rules read.tables.value }
+    ensures { Ran (IsStemsOutcome read.file.value.rules read.tables.value (word_meant words.now.stems) (word_meant words.now.out)) (word_meant words.now.stems ∷ []) (Some (word_meant words.now.out)) result
         (devices (H.files shelf.old) (H.failed_reads shelf.old) (H.failed_writes shelf.old) (O.written sink.old) (O.faults sink.old))
         (devices (H.files shelf.new) (H.failed_reads shelf.new) (H.failed_writes shelf.new) (O.written sink.new) (O.faults sink.new)) }
 {
@@ -91,7 +91,7 @@ fn build_with_tables<H: Shelf, O: Sink>(
         Ok(bytes) => bytes,
         Err(status) => return status,
     };
-    match read_stem_file(alloc, &read.tables, bytes.as_slice()) {
+    match read_stem_file(alloc, &*read.tables, bytes.as_slice()) {
         Ok(stems) => {
             let sources = ReadSources { read, stems };
             build_with_stems(rt, alloc, words, sources, shelf, sink)
@@ -110,8 +110,8 @@ fn build_with_stems<H: Shelf, O: Sink>(
     shelf: &mut H,
     sink: &mut O,
 ) -> Status
-    requires sources { AreSources sources.read.file.rules sources.read.tables sources.stems }
-    ensures { Ran (IsLexiconOutcome sources.read.file.rules sources.read.tables sources.stems (word_meant words.now.stems) (word_meant words.now.out)) ([]) (Some (word_meant words.now.out)) result
+    requires sources { AreSources sources.read.file.value.rules sources.read.tables.value sources.stems.value }
+    ensures { Ran (IsLexiconOutcome sources.read.file.value.rules sources.read.tables.value sources.stems.value (word_meant words.now.stems) (word_meant words.now.out)) ([]) (Some (word_meant words.now.out)) result
         (devices (H.files shelf.old) (H.failed_reads shelf.old) (H.failed_writes shelf.old) (O.written sink.old) (O.faults sink.old))
         (devices (H.files shelf.new) (H.failed_reads shelf.new) (H.failed_writes shelf.new) (O.written sink.new) (O.faults sink.new)) }
 {

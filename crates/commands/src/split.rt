@@ -100,7 +100,7 @@ pub(crate) fn run_split<R: Threads + Sync, H: Shelf, O: Sink, G: Gate + Sync>(
         (devices (H.files shelf.new) (H.failed_reads shelf.new) (H.failed_writes shelf.new) (O.written out.new) (O.faults out.new)) }
 {
     match open_lexicon(alloc, &words.lex, shelf, out) {
-        Ok(lexicon) => write_split(rt, alloc, &lexicon, words, out, gate),
+        Ok(lexicon) => write_split(rt, alloc, &*lexicon, words, out, gate),
         Err(status) => status,
     }
 }

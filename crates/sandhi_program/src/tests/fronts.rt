@@ -29,7 +29,7 @@ fn the_first_part_has_its_front(rt: HostRuntime) -> Result<(), Fail> {
     let Ok(line) = read_line(alloc, Scheme::Slp1, b"aaa") else {
         panic!(rt; "no line");
     };
-    let parts = first_part(alloc, &lexicon, &line)?;
+    let parts = first_part(alloc, &*lexicon, &line)?;
     assert!(rt; parts.more);
     let [part] = parts.list.as_slice() else {
         panic!(rt; "not one part");

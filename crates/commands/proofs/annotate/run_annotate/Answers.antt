@@ -6,6 +6,7 @@ use Rattle.command_words.specs.Meant.{word_meant}
 use Rattle.run_definitions.specs.AnnotateOutcomes.{IsMarkOutcome, IsAnnotateOutcome}
 use Rattle.commands.specs.Openings.{IsUnopened}
 use Rattle.commands.proofs.Runs.{embedded, goes_on}
+use Rattle.commands.proofs.OpenedFiles.{lexicon_lent}
 use Rattle.commands.proofs.AnnotateRuns.{annotate_unopened, annotate_goes_on}
 use Rattle.commands.proofs.annotate.run_annotate.Goals as goal
 
@@ -14,8 +15,8 @@ returns-in-Ok g c =
     let lex = word_meant c.args.words.now.lex in
     let mark = c.args.words.now.mark.name.now in
     let out = word_meant c.args.words.now.out in
-    let lexicon = c.in-Ok.lexicon.lexicon in
-    let opened = c.in-Ok.ensures.opened in
+    let lexicon = c.deref.result.now.lexicon in
+    let opened = lexicon_lent lex c.in-Ok.lexicon.value c.deref.result.now _ _ c.deref.ensures c.in-Ok.ensures.opened in
     goes_on (IsMarkOutcome lexicon mark out) (IsAnnotateOutcome lex mark out) [] _ _ _ _ _ (annotate_goes_on lex mark out lexicon _ opened.holds)
     (λ word m. Contains-later lex [] word m) _ opened.same c.annotate_over.ensures
 

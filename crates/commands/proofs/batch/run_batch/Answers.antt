@@ -9,6 +9,7 @@ use Rattle.run_definitions.specs.BatchOutcomes.{IsTextOutcome, IsBatchOutcome}
 use Rattle.commands.specs.Openings.{IsUnopened}
 use Rattle.commands.specs.Batches.{NoReplies, WithReplies, NoText, OnText}
 use Rattle.commands.proofs.Runs.{embedded, goes_on}
+use Rattle.commands.proofs.OpenedFiles.{lexicon_lent}
 use Rattle.commands.proofs.BatchRuns.{batch_unopened, batch_goes_on, replies_from}
 use Rattle.commands.proofs.batch.run_batch.Goals as goal
 
@@ -18,8 +19,8 @@ returns-in-Ok g c =
     let scheme = scheme_of c.args.words.now.scheme in
     let file = word_meant c.args.words.now.file in
     let count = c.args.words.now.count in
-    let lexicon = c.in-Ok.lexicon.lexicon in
-    let opened = c.in-Ok.ensures.opened in
+    let lexicon = c.deref.result.now.lexicon in
+    let opened = lexicon_lent lex c.in-Ok.lexicon.value c.deref.result.now _ _ c.deref.ensures c.in-Ok.ensures.opened in
     elim c.batch_over.ensures [
       | NoText ran ↦ NoReplies (goes_on (IsTextOutcome lexicon scheme file count) (IsBatchOutcome lex scheme file count) (file ∷ []) (lex ∷ file ∷ []) _ _ _ _
           (batch_goes_on lex scheme file count lexicon _ opened.holds) (λ word m. Contains-later lex (file ∷ []) word m) _ opened.same ran)

@@ -5,9 +5,9 @@ use Rattle.lexicon_text_definitions.specs.declared.limits.TheConstants.{MOST_FIL
 use Rattle.commands.proofs.SourceFaults.{stems_error}
 use Rattle.commands.proofs.build.read_stem_file.Goals as goal
 
-pub returns-in_err-read_stems-clause-refused : goal.returns-in_err-read_stems-clause-refused
-returns-in_err-read_stems-clause-refused c =
+pub returns-in_err-stems-clause-refused : goal.returns-in_err-stems-clause-refused
+returns-in_err-stems-clause-refused c =
     let p = err_from_is_err_and c.from_residual.result c.from_residual.ensures.1 in
     let within = c.if-bytes-gt-MOST_FILE_BYTES.false in
     let low : length c.args.bytes.now ≤ MOST_FILE_BYTES = omega (arith, within) in
-    rw (p.1, p.2) (stems_error c.args.tables.now c.args.bytes.now c.in_err-read_stems.field-0.0 low c.in_err-read_stems.ensures.fault)
+    rw (p.1, p.2) (stems_error c.args.tables.now c.args.bytes.now c.in_err-stems.field-0.0 low c.in_err-stems.ensures.fault)

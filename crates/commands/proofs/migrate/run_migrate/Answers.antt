@@ -7,6 +7,7 @@ use Rattle.command_words.specs.Meant.{word_meant}
 use Rattle.run_definitions.specs.MigrateOutcomes.{IsMigratedOutcome, IsMigrateOutcome}
 use Rattle.commands.specs.Openings.{IsUnopened}
 use Rattle.commands.proofs.Runs.{embedded, goes_on}
+use Rattle.commands.proofs.OpenedFiles.{contents_lent}
 use Rattle.commands.proofs.MigrateRuns.{migrate_unopened, migrate_goes_on}
 use Rattle.commands.proofs.migrate.run_migrate.Goals as goal
 
@@ -14,8 +15,8 @@ pub returns-in-Ok : goal.returns-in-Ok
 returns-in-Ok g c =
     let lex = word_meant c.args.words.now.lex in
     let out = word_meant c.args.words.now.out in
-    let lexicon = lexicon_of c.in-Ok.contents in
-    let opened = c.in-Ok.ensures.opened in
+    let lexicon = lexicon_of c.deref.result.now in
+    let opened = contents_lent lex c.in-Ok.contents.value c.deref.result.now _ _ c.deref.ensures c.in-Ok.ensures.opened in
     goes_on (IsMigratedOutcome lexicon lex out) (IsMigrateOutcome lex out) [] _ _ _ _ _ (migrate_goes_on lex out lexicon _ opened.holds)
     (λ word m. Contains-later lex [] word m) _ opened.same c.migrate_contents.ensures
 

@@ -23,7 +23,7 @@ pub returns-in-Ok-clause-opened : goal.returns-in-Ok-clause-opened
 returns-in-Ok-clause-opened g c =
     let lex = word_meant c.args.word.now in
     let bytes = c.in_ok-bytes.bytes.items in
-    let lexicon = lexicon_of c.in-Ok.contents in
+    let lexicon = lexicon_of c.in-Ok.contents.value in
     let is : IsLexiconFile bytes lexicon = subst (λ (b : List ℕ). IsLexiconFile b lexicon) c.as_slice.ensures.value
     (record { within = c.in-Ok.ensures.within; read = c.in-Ok.ensures.ok }) in
     record {

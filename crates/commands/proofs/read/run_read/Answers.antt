@@ -6,13 +6,15 @@ use Rattle.run_definitions.specs.ReadOutcomes.{IsReadOutcome}
 use Rattle.commands.specs.Openings.{IsUnopened}
 use Rattle.commands.specs.Sessions.{Apart, InSession}
 use Rattle.commands.proofs.Runs.{embedded}
+use Rattle.commands.proofs.OpenedFiles.{lexicon_lent}
 use Rattle.commands.proofs.SessionRuns.{served_over, read_unopened}
 use Rattle.commands.proofs.read.run_read.Goals as goal
 
 pub returns-in-Ok : goal.returns-in-Ok
 returns-in-Ok g c =
     let lex = word_meant c.args.lex.now in
-    InSession lex refl (served_over lex c.in-Ok.lexicon.lexicon _ _ _ _ _ _ c.in-Ok.ensures.opened c.serve.result c.status_of.ensures refl refl (record {
+    let opened = lexicon_lent lex c.in-Ok.lexicon.value c.deref.result.now _ _ c.deref.ensures c.in-Ok.ensures.opened in
+    InSession lex refl (served_over lex c.deref.result.now.lexicon _ _ _ _ _ _ opened c.serve.result c.status_of.ensures refl refl (record {
       session = c.serve.ensures.session;
       prefix = c.serve.ensures.prefix;
       replies = c.serve.ensures.replies;

@@ -2,4 +2,4 @@
 use Rattle.commands.proofs.source_files.build_with_stems.Goals as goal
 
 pub returns-in-Ok : goal.returns-in-Ok
-returns-in-Ok g c = c.write_built.ensures c.args.sources.read.file.rules c.args.sources.read.tables c.args.sources.stems c.in-Ok.ensures.ok
+returns-in-Ok g c = c.write_built.ensures c.args.sources.read.file.value.rules c.args.sources.read.tables.value c.args.sources.stems.value c.in-Ok.ensures.ok

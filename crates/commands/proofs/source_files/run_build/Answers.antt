@@ -29,7 +29,7 @@ returns-in-Ok-read_rule_file g c =
     let stems = word_meant c.args.words.now.stems in
     let out = word_meant c.args.words.now.out in
     let bytes = c.in-Ok.bytes.items in
-    let set = c.in-Ok-read_rule_file.file.rules in
+    let set = c.in-Ok-read_rule_file.file.value.rules in
     goes_on (IsTablesOutcome set tables stems out) (IsBuildOutcome rules tables stems out) (tables ∷ stems ∷ []) (rules ∷ tables ∷ stems ∷ []) _ _ _ _
     (rules_held rules tables stems out _ bytes set c.in-Ok.ensures.ok (subst (λ (b : List ℕ). HoldsSource (IsReadAs) b set) c.as_slice.ensures.value c.in-Ok-read_rule_file.ensures.ok))
     (λ word m. Contains-later rules (tables ∷ stems ∷ []) word m) _ (same_devices _ _ _ _ _ _ _ _ c.read_file.ensures.files c.in-Ok.ensures.reads c.read_file.ensures.writes) c.build_with_rules.ensures
