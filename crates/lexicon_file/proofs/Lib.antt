@@ -12,6 +12,7 @@ pub mod NodeAnswers
 pub mod RootAnswers
 pub mod EndAnswers
 pub mod LinesTaken
+pub mod LinesWritten
 pub mod LineSteps
 pub mod ReadLemmas
 pub mod VersionsRead

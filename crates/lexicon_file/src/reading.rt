@@ -48,7 +48,7 @@ fn read_lines(alloc: Global, version: Version, lines: &[u8]) -> Result<Contents,
         rest = following;
         number += 1;
     }
-    match told.finish(alloc) {
+    match TrieTold::finish(told, alloc) {
         Ok(contents) => Ok(contents),
         Err(error) => Err(error_at(number, error)),
     }

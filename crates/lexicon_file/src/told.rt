@@ -8,7 +8,7 @@ ghost use Rattle.lexicon_definitions.specs.Lexicons.{IsRuleSet, tree_of};
 ghost use Rattle.lexicon_definitions.specs.Limits.{IsRuleSetWithinLimits};
 ghost use Rattle.lexicon_definitions.specs.Tries.{IsRow};
 ghost use Rattle.lexicon_text_definitions.specs.FileContents.{rules_told, compare_last as compare_last_of};
-ghost use Rattle.lexicon_text_definitions.specs.FileLines.{fields_of, parts_of, may_follow as follows_first, Phase as FirstPhase, Grammar as FirstGrammar, Plain as FirstPlain, Rule as FirstRule};
+ghost use Rattle.lexicon_text_definitions.specs.FileLines.{fields_of, parts_of, may_follow as follows_first, End as FirstEnd, Phase as FirstPhase, Grammar as FirstGrammar, Plain as FirstPlain, Rule as FirstRule};
 ghost use Rattle.lexicon_text_definitions.specs.FileSteps.{take_phase as take_phase_of, take_grammar as take_grammar_of, take_plain as take_plain_of};
 ghost use Rattle.phase_automaton.specs.Automata.{Recognizes};
 ghost use Rattle.trie_text_definitions.specs.Versions.{is_unlimited as is_unlimited_of};
@@ -111,16 +111,18 @@ fn above(order: Ordering, rising: bool) -> Result<(), TakeError>
 
 impl TrieTold {
     /// What the first line tells, which is nothing.
-    pub(crate) fn new(alloc: Global) -> Result<TrieTold, Memory>
-        ensures { IfOk result (λ told. told ≡ head_told) }
+    pub(crate) fn new(alloc: Global) -> Result<Box<TrieTold>, Memory>
+        ensures { IfOk result (λ told. told.value ≡ head_told) }
     {
-        Ok(TrieTold {
+        let told = TrieTold {
             last: Kind::Head,
             front: Told::after_head(alloc)?,
             trie: TrieSoFar::new(alloc),
             line: Vec::new(alloc),
             children: Vec::new(alloc),
-        })
+        };
+        let told = Box::new(alloc, told)?;
+        Ok(told)
     }
 
     fn take_phase(&mut self, alloc: Global, text: &[u8]) -> Result<(), TakeError>
@@ -434,31 +436,46 @@ impl TrieTold {
         self.take_parts(alloc, version, line)
     }
 
-    /// The contents of the file, where the last line was its end.
-    pub(crate) fn finish(self, alloc: Global) -> Result<Contents, TakeError>
-        requires step { InStep self.last self.front.last }
-        requires set { self.last ≡ End → IsRuleSet (rules_told self.front) }
-        requires limits { self.last ≡ End → IsRuleSetWithinLimits (rules_told self.front) }
-        ensures ok { IfOk result (λ contents. (self.last ≡ End) × (contents.rules ≡ rules_told self.front) × (contents.store ≡ trie_told self)) }
+    /// The kind of the last line.
+    fn last_kind(&self) -> Kind
+        ensures { kind_of result ≡ self.now.last }
+    {
+        self.last
+    }
+
+    /// The contents of the file, whose last line was its end.
+    fn into_contents(self, alloc: Global) -> Result<Contents, Memory>
+        requires follows { follows_first self.front.last FirstEnd ≡ true }
+        requires set { IsRuleSet (rules_told self.front) }
+        requires limits { IsRuleSetWithinLimits (rules_told self.front) }
+        ensures rules { IfOk result (λ contents. contents.rules ≡ rules_told self.front) }
+        ensures store { IfOk result (λ contents. contents.store ≡ trie_told self) }
         ensures automaton { IfOk result (λ contents. Recognizes contents.automaton (tree_of (rules_told self.front))) }
         ensures phases { IfOk result (λ contents. contents.automaton.phases ≡ length contents.rules.names) }
-        ensures no_end { IfErr result (λ error. IsNoEnd error (self.last ≡ End)) }
     {
-        let TrieTold {
-            last,
-            front,
-            trie,
-            line: _,
-            children: _,
-        } = self;
-        if last != Kind::End {
-            return Err(FileWhy::NoEnd.into());
-        }
+        let TrieTold { front, trie, .. } = self;
         let (rules, automaton) = front.into_rules(alloc)?;
         Ok(Contents {
             rules,
             automaton,
             store: trie.finish(),
         })
+    }
+
+    /// The contents of the file, where the last line was its end.
+    pub(crate) fn finish(told: Box<TrieTold>, alloc: Global) -> Result<Contents, TakeError>
+        requires step { InStep told.value.last told.value.front.last }
+        requires set { told.value.last ≡ End → IsRuleSet (rules_told told.value.front) }
+        requires limits { told.value.last ≡ End → IsRuleSetWithinLimits (rules_told told.value.front) }
+        ensures ok { IfOk result (λ contents. (told.value.last ≡ End) × (contents.rules ≡ rules_told told.value.front) × (contents.store ≡ trie_told told.value)) }
+        ensures automaton { IfOk result (λ contents. Recognizes contents.automaton (tree_of (rules_told told.value.front))) }
+        ensures phases { IfOk result (λ contents. contents.automaton.phases ≡ length contents.rules.names) }
+        ensures no_end { IfErr result (λ error. IsNoEnd error (told.value.last ≡ End)) }
+    {
+        let Kind::End = told.last_kind() else {
+            return Err(FileWhy::NoEnd.into());
+        };
+        let contents = Box::into_inner(told).into_contents(alloc)?;
+        Ok(contents)
     }
 }

@@ -13,10 +13,10 @@ decreases-loop-line l = length l.rest
 
 abbrev pub invariant-loop-line : goal.invariant-loop-line
 invariant-loop-line l = record {
-  reads : Reads (version_of l.version) (read_lines (version_of l.version) head_told 2 (lines_of_bytes l.lines)) l.told l.number l.rest;
-  tells : GoesOn (version_of l.version) (read_lines (version_of l.version) head_told 2 (lines_of_bytes l.lines)) l.told l.number l.rest;
+  reads : Reads (version_of l.version) (read_lines (version_of l.version) head_told 2 (lines_of_bytes l.lines)) l.told.value l.number l.rest;
+  tells : GoesOn (version_of l.version) (read_lines (version_of l.version) head_told 2 (lines_of_bytes l.lines)) l.told.value l.number l.rest;
   within : length l.rest ≤ length l.lines;
   number : l.number + length l.rest ≤ length l.lines + 2;
-  rows : length l.told.rows + 2 ≤ l.number;
-  step : InStep l.told.last l.told.front.last;
+  rows : length l.told.value.rows + 2 ≤ l.number;
+  step : InStep l.told.value.last l.told.value.front.last;
 }
