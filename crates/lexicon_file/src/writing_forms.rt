@@ -1,14 +1,45 @@
-ghost use Rattle.std.specs.Prelude.{◌≡◌, ◌≤◌, ◌<◌, ◌++◌, ◌^◌, [], ◌∷◌, length, map, slice_index_or, string_bytes, All, OnOk};
+ghost use Rattle.std.specs.Prelude.{◌≡◌, ◌≤◌, ◌<◌, ◌++◌, ◌^◌, [], ◌∷◌, length, map, slice_index_or, string_bytes, codes, All, OnOk};
 ghost use Rattle.form_tags.specs.Analyses.{text_analysis, text_delta};
+ghost use Rattle.form_tags.specs.TagTexts.{tag_text};
+ghost use Rattle.text_definitions.specs.Slp1.{slp1_of_word};
 ghost use Rattle.lexicon_definitions.specs.Deltas.{Delta as TextDelta};
 ghost use Rattle.lexicon_definitions.specs.Tries.{IsTrieOf};
 ghost use Rattle.lexicon_text_definitions.specs.LexiconTexts.{text_of_lines, form_line, phase_forms_lines, forms_lines};
 ghost use Rattle.trie_text_definitions.specs.TrieForms.{analyses_by, phases_of};
 
-use form_tags::{Analysis, print_tag};
+use form_tags::{Analysis, Tag, print_tag};
 use phoneme::{Letter, Memory};
 use shared_trie::{FormWalk, Store, WalkedForm, analyses_by_deltas, push_letters};
 use std::alloc::Global;
+
+/// Appends `form PHASE` and a blank.
+fn push_phase(out: &mut Vec<u8>, name: &str) -> Result<(), Memory>
+    ensures ok { OnOk result (out.new.items ≡ out.old.items ++ (codes "form " ++ name.now ++ codes " ")) }
+{
+    out.extend_from_slice(b"form ")?;
+    out.extend_from_slice(name.as_bytes())?;
+    out.push(b' ')?;
+    Ok(())
+}
+
+/// Appends the word and a blank.
+fn push_word(out: &mut Vec<u8>, word: &[Letter]) -> Result<(), Memory>
+    ensures ok { OnOk result (out.new.items ≡ out.old.items ++ (slp1_of_word word.now ++ codes " ")) }
+{
+    push_letters(out, word)?;
+    out.push(b' ')?;
+    Ok(())
+}
+
+/// Appends the tag and a line end.
+fn push_tag(alloc: Global, out: &mut Vec<u8>, tag: &Tag) -> Result<(), Memory>
+    ensures ok { OnOk result (out.new.items ≡ out.old.items ++ (tag_text tag.now ++ 10 ∷ [])) }
+{
+    let tag = print_tag(alloc, tag)?;
+    out.extend_from_slice(tag.as_bytes())?;
+    out.push(b'\n')?;
+    Ok(())
+}
 
 /// Appends the line `form PHASE FORM STEM TAG`.
 fn push_form(
@@ -21,17 +52,10 @@ fn push_form(
     ensures ok { OnOk result (out.new.items
         ≡ out.old.items ++ (form_line name.now form.now (text_analysis analysis.now) ++ 10 ∷ [])) }
 {
-    let tag = print_tag(alloc, &analysis.tag)?;
-    out.extend_from_slice(b"form ")?;
-    out.extend_from_slice(name.as_bytes())?;
-    out.push(b' ')?;
-    push_letters(out, form)?;
-    out.push(b' ')?;
-    push_letters(out, analysis.stem.as_slice())?;
-    out.push(b' ')?;
-    out.extend_from_slice(tag.as_bytes())?;
-    out.push(b'\n')?;
-    Ok(())
+    push_phase(out, name)?;
+    push_word(out, form)?;
+    push_word(out, analysis.stem.as_slice())?;
+    push_tag(alloc, out, &analysis.tag)
 }
 
 /// Appends the line of each analysis of the form.
