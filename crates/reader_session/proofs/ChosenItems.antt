@@ -2,6 +2,7 @@
 use Rattle.std.proofs.Common.{◌≡◌, ℕ, ◌+◌, ◌-◌, ◌<◌, ◌≤◌, inl, inr, nat_le, Bool, true, false, List, [], ◌∷◌, ◌++◌, length, take, All, Option, Some, None, Result, Ok, Err, IfOk, OnOk, Vec, refl, sym, ◌∙◌, ap, subst, arith}
 use Rattle.std.specs.Prelude.{codes, if◌then◌else◌}
 use Rattle.std.specs.declared.alloc.Global.{Global}
+use Rattle.std.specs.Global.{Box}
 use Rattle.std.specs.List.{slice_get}
 use Rattle.std.specs.Option.{option_map}
 use Rattle.std.proofs.lemmas.Bool.{cases_lt, lt-leb, le-leb}
@@ -38,6 +39,13 @@ room_before choices few fewer = elim (cases_lt (length choices) MOST_CHOICES) [
   | inr above ↦ absurd (fewer (omega (arith, few, above)))
 ]
 
+-- and then there are not too many
+pub more_fit : (old new : List Choice) (choice : Choice) → length old < MOST_CHOICES → new ≡ old ++ choice ∷ [] → length new ≤ MOST_CHOICES
+more_fit old new choice room is = let longer = ap length is ∙ length-append old (choice ∷ []) in omega (arith, room, longer)
+
+pub fewer_fit : (old new : List Choice) (choice : Choice) → length old ≤ MOST_CHOICES → old ≡ new ++ choice ∷ [] → length new ≤ MOST_CHOICES
+fewer_fit old new choice few is = let longer = ap length is ∙ length-append new (choice ∷ []) in omega (arith, few, longer)
+
 -- one choice less
 pub fewer_within : (old new : List Choice) (choice : Choice) → AreWithin old → old ≡ new ++ choice ∷ [] → AreWithin new
 fewer_within old new choice within is = (All-pop (λ (c : Choice). IsItemWithinBounds c.item) old new (Some choice) is within).0
@@ -66,28 +74,28 @@ numbered_within searched reading number item is is_reading there =
     within_by searched reading reading.summary number item is is_reading refl there
 
 -- what was asked for was agreed to, and the line is read anew with these choices
-agreed_with : {E : Type 0} (searched : SearchedLexicon) (reading : Reading) (choices : List Choice) (reply : Reply) (before after : List ℕ)
-    (result : Result Reading E) → reply ≡ agreed (fresh (Some reading.line) choices) → after ≡ before ++ output_line (codes "ok")
-    → IfOk result (IsReading searched) → IfOk result (λ now. state_with searched.lexicon.rules now ≡ fresh (Some reading.line) choices)
-    → IfOk result (GoesOnWith searched (λ r. r ≡ reply) before after)
-agreed_with searched reading choices reply before after (Ok now) reply_is bytes is_reading state = record {
+agreed_with : {T E : Type 0} (searched : SearchedLexicon) (reading now : Reading) (choices : List Choice) (reply : Reply) (before after : List ℕ)
+    (result : Result T E) → reply ≡ agreed (fresh (Some reading.line) choices) → after ≡ before ++ output_line (codes "ok")
+    → OnOk result (IsReading searched now) → OnOk result (state_with searched.lexicon.rules now ≡ fresh (Some reading.line) choices)
+    → OnOk result (GoesOnWith searched (λ r. r ≡ reply) before after now)
+agreed_with searched reading now choices reply before after (Ok done) reply_is bytes is_reading state = record {
   reply = reply;
   is_it = refl;
   bytes = bytes ∙ ap (λ (r : Reply). before ++ r.bytes) (sym reply_is);
   is_reading = is_reading;
   stands = ap (λ (r : Reply). r.after) reply_is ∙ ap Open (sym state);
 }
-agreed_with searched reading choices reply before after (Err e) reply_is bytes is_reading state = tt
+agreed_with searched reading now choices reply before after (Err e) reply_is bytes is_reading state = tt
 
 -- a choice is agreed to where there is room
-pub chosen : {E : Type 0} (searched : SearchedLexicon) (reading : Reading) (kept : Bool) (item : Item) (new : List Choice)
-    (before after : List ℕ) (result : Result Reading E) → length reading.choices < MOST_CHOICES
+pub chosen : {T E : Type 0} (searched : SearchedLexicon) (reading now : Reading) (kept : Bool) (item : Item) (new : List Choice)
+    (before after : List ℕ) (result : Result T E) → length reading.choices < MOST_CHOICES
     → new ≡ reading.choices ++ record { kept = kept; item = item } ∷ [] → after ≡ before ++ output_line (codes "ok")
-    → IfOk result (IsReading searched) → IfOk result (λ now. state_with searched.lexicon.rules now ≡ fresh (Some reading.line) new)
-    → IfOk result (GoesOnWith searched (λ reply. reply ≡ reply_to_choice (state_with searched.lexicon.rules reading) kept item) before after)
-chosen searched reading kept item new before after result room is bytes is_reading state =
+    → OnOk result (IsReading searched now) → OnOk result (state_with searched.lexicon.rules now ≡ fresh (Some reading.line) new)
+    → OnOk result (GoesOnWith searched (λ reply. reply ≡ reply_to_choice (state_with searched.lexicon.rules reading) kept item) before after now)
+chosen searched reading now kept item new before after result room is bytes is_reading state =
     let state_is = state_with searched.lexicon.rules reading in
-    agreed_with searched reading new (reply_to_choice state_is kept item) before after result
+    agreed_with searched reading now new (reply_to_choice state_is kept item) before after result
     (ap (λ b. if b then refused state_is (codes "too many") else agreed (after_choice state_is kept item)) (too_few room)
     ∙ ap (λ choices. agreed (fresh (Some reading.line) choices)) (sym is))
     bytes is_reading state
@@ -131,13 +139,13 @@ undone_is state [] choice = refl
 undone_is state (first ∷ choices) choice = refl
 
 -- the newest choice is taken back
-pub taken_back : {E : Type 0} (searched : SearchedLexicon) (reading : Reading) (choice : Choice) (new : List Choice) (before after : List ℕ)
-    (result : Result Reading E) → reading.choices ≡ new ++ choice ∷ [] → after ≡ before ++ output_line (codes "ok")
-    → IfOk result (IsReading searched) → IfOk result (λ now. state_with searched.lexicon.rules now ≡ fresh (Some reading.line) new)
-    → IfOk result (GoesOnWith searched (λ reply. reply ≡ reply_to_undo (state_with searched.lexicon.rules reading) reading.choices) before after)
-taken_back searched reading choice new before after result is bytes is_reading state =
+pub taken_back : {T E : Type 0} (searched : SearchedLexicon) (reading now : Reading) (choice : Choice) (new : List Choice) (before after : List ℕ)
+    (result : Result T E) → reading.choices ≡ new ++ choice ∷ [] → after ≡ before ++ output_line (codes "ok")
+    → OnOk result (IsReading searched now) → OnOk result (state_with searched.lexicon.rules now ≡ fresh (Some reading.line) new)
+    → OnOk result (GoesOnWith searched (λ reply. reply ≡ reply_to_undo (state_with searched.lexicon.rules reading) reading.choices) before after now)
+taken_back searched reading now choice new before after result is bytes is_reading state =
     let state_is = state_with searched.lexicon.rules reading in
-    agreed_with searched reading new (reply_to_undo state_is reading.choices) before after result
+    agreed_with searched reading now new (reply_to_undo state_is reading.choices) before after result
     (ap (reply_to_undo state_is) is ∙ undone_is state_is new choice
     ∙ ap (λ choices. agreed (fresh (Some reading.line) choices))
     (ap (λ (choices : List Choice). take (length choices - 1) choices) is ∙ without_newest new choice))
@@ -156,12 +164,12 @@ none_taken_back searched reading new before after none is bytes is_reading =
     (ap (reply_to_undo state_is) none) bytes is_reading)
 
 -- where there is no summary, what is asked of an item is refused
-no_summary_for : {E : Type 0} (searched : SearchedLexicon) (reading : Reading) (number : ℕ) (following : Item → Reply) (before after : List ℕ)
-    (result : Result (Option Reading) E) → reading.summary ≡ None → IsReading searched reading
+no_summary_for : {E : Type 0} (searched : SearchedLexicon) (reading : Box Reading) (number : ℕ) (following : Item → Reply) (before after : List ℕ)
+    (result : Result (Option (Box Reading)) E) → reading.value.summary ≡ None → IsReading searched reading.value
     → OnOk result (after ≡ before ++ output_line (codes "? " ++ codes "no summary")) → IfOk result (λ same. same ≡ Some reading)
-    → IfOk result (GoesOn searched (λ reply. reply ≡ reply_about (state_with searched.lexicon.rules reading) (Some number) following) before after)
+    → IfOk result (GoesOn searched (λ reply. reply ≡ reply_about (state_with searched.lexicon.rules reading.value) (Some number) following) before after)
 no_summary_for searched reading number following before after result none is_reading bytes same_is =
-    let state = state_with searched.lexicon.rules reading in
+    let state = state_with searched.lexicon.rules reading.value in
     if_refused searched (Some reading) (λ reply. reply ≡ reply_about state (Some number) following) (codes "no summary") before after result
     is_reading
     (sym (ap (λ summary. with_summary state (option_map (λ (i : Vec Item Global). i.items) summary)
@@ -169,11 +177,11 @@ no_summary_for searched reading number following before after result none is_rea
     bytes same_is
 
 -- the same, where there is a line and a number
-pub no_summary : {E : Type 0} (searched : SearchedLexicon) (old : Option Reading) (reading : Reading) (asked : Option ℕ) (number : ℕ)
-    (request : Option ℕ → Request) (before after : List ℕ) (result : Result (Option Reading) E)
+pub no_summary : {E : Type 0} (searched : SearchedLexicon) (old : Option (Box Reading)) (reading : Box Reading) (asked : Option ℕ) (number : ℕ)
+    (request : Option ℕ → Request) (before after : List ℕ) (result : Result (Option (Box Reading)) E)
     → ((following : Option ℕ → State → Item → Reply) × ((k : ℕ) → IsReplyTo searched.lexicon (state_of searched.lexicon.rules (Some reading)) (request (Some k))
     ≡ (λ reply. reply ≡ reply_about (state_of searched.lexicon.rules (Some reading)) (Some k) (following (Some k) (state_of searched.lexicon.rules (Some reading))))))
-    → old ≡ Some reading → asked ≡ Some number → reading.summary ≡ None → IsReadingOver searched old
+    → old ≡ Some reading → asked ≡ Some number → reading.value.summary ≡ None → IsReadingOver searched old
     → OnOk result (after ≡ before ++ output_line (codes "? " ++ codes "no summary")) → IfOk result (λ same. same ≡ Some reading)
     → IfOk result (GoesOn searched (IsReplyTo searched.lexicon (state_of searched.lexicon.rules old) (request asked)) before after)
 no_summary searched old reading asked number request before after result (following, means) old_is asked_is none is_reading bytes same_is =

@@ -1,4 +1,5 @@
 pub mod AnswerBounds
+pub mod BegunReadings
 pub mod ChosenItems
 pub mod CutLemmas
 pub mod CutLines

@@ -2,6 +2,7 @@
 -- the cases of whether there are last steps.
 use Rattle.std.proofs.Common.{◌≡◌, ◌↔◌, ℕ, zero, suc, ◌*◌, ◌<◌, ◌≤◌, Option, Some, List, [], ◌∷◌, ◌++◌, length, All, refl, ap, sym, subst, ◌∙◌, arith}
 use Rattle.std.proofs.lemmas.List.Elements.{All-nil}
+use Rattle.std.specs.Global.{Box}
 use Rattle.segmentation_definitions.specs.Answers.{IsAnswer}
 use Rattle.segmentation_definitions.specs.Listings.{Key}
 use Rattle.segmentation_definitions.specs.PrintedAnswers.{output_line}
@@ -15,7 +16,7 @@ use Rattle.session_definitions.specs.States.{keys_at, bookmark_at}
 use Rattle.session_definitions.specs.Requests.{Mark}
 use Rattle.session_definitions.specs.Replies.{reply_to_mark, IsReplyTo}
 use Rattle.reader_session.specs.declared.reading.Reading.{Reading}
-use Rattle.reader_session.specs.Readings.{IsReading, IsReadingOver, GoesOn, cursor_at_last, state_with, state_of}
+use Rattle.reader_session.specs.Readings.{IsReading, IsReadingOver, GoesOn, GoesOnWith, cursor_at_last, state_with, state_of}
 use Rattle.reader_session.specs.Marked.{mark_of}
 use Rattle.reader_session.proofs.AnswerBounds.{keys_of_answer_within, few_keys_of_answer}
 
@@ -89,7 +90,7 @@ module _ (searched : SearchedLexicon) (reading : Reading) (is : IsReading search
   mark_is_bookmark lexicon = subst IsBookmark (sym bookmark_is) (has_bookmark lexicon)
 
   goes_on_marked : (before now : List ℕ) → now ≡ before ++ output_line (text_of_bookmark (mark_of reading))
-      → GoesOn searched (IsReplyTo searched.lexicon (state_with searched.lexicon.rules reading) Mark) before now (Some reading)
+      → GoesOnWith searched (IsReplyTo searched.lexicon (state_with searched.lexicon.rules reading) Mark) before now reading
   goes_on_marked before now e = record {
     reply = reply_to_mark searched.lexicon (state_with searched.lexicon.rules reading) reading.line;
     is_it = refl;
@@ -99,14 +100,14 @@ module _ (searched : SearchedLexicon) (reading : Reading) (is : IsReading search
   }
 
 -- what is read, if any, is this
-pub reading_marked : (searched : SearchedLexicon) (old : Option Reading) (reading : Reading) → old ≡ Some reading
-    → IsReadingOver searched old → IsReading searched reading
+pub reading_marked : (searched : SearchedLexicon) (old : Option (Box Reading)) (reading : Box Reading) → old ≡ Some reading
+    → IsReadingOver searched old → IsReading searched reading.value
 reading_marked searched old reading e is = subst (IsReadingOver searched) e is
 
 -- the reply with the text of the bookmark
-pub reply_marked : (searched : SearchedLexicon) (old : Option Reading) (reading : Reading) (before now : List ℕ) → old ≡ Some reading
-    → IsReadingOver searched old → now ≡ before ++ output_line (text_of_bookmark (mark_of reading))
+pub reply_marked : (searched : SearchedLexicon) (old : Option (Box Reading)) (reading : Box Reading) (before now : List ℕ) → old ≡ Some reading
+    → IsReadingOver searched old → now ≡ before ++ output_line (text_of_bookmark (mark_of reading.value))
     → GoesOn searched (IsReplyTo searched.lexicon (state_of searched.lexicon.rules old) Mark) before now (Some reading)
 reply_marked searched old reading before now e is bytes =
     subst (λ old. GoesOn searched (IsReplyTo searched.lexicon (state_of searched.lexicon.rules old) Mark) before now (Some reading)) (sym e)
-    (goes_on_marked searched reading (reading_marked searched old reading e is) before now bytes)
+    (goes_on_marked searched reading.value (reading_marked searched old reading e is) before now bytes)

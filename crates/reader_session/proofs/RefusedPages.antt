@@ -1,6 +1,7 @@
 -- Without a line, or without a number of answers, a request is refused, and what is read stays.
 use Rattle.std.proofs.Common.{◌≡◌, ℕ, Option, Some, None, Result, IfOk, OnOk, List, ◌++◌, codes, refl, sym, subst}
 use Rattle.segmentation_definitions.specs.PrintedAnswers.{output_line}
+use Rattle.std.specs.Global.{Box}
 use Rattle.annotated_trie.specs.Searched.{SearchedLexicon}
 use Rattle.session_definitions.specs.States.{opening}
 use Rattle.session_definitions.specs.Requests.{Request, Page, Summary}
@@ -9,13 +10,13 @@ use Rattle.reader_session.specs.declared.reading.Reading.{Reading}
 use Rattle.reader_session.specs.Readings.{IsReadingOver, GoesOn, state_of}
 use Rattle.reader_session.proofs.RefusedReplies.{if_refused}
 
-module _ {E : Type 0} (searched : SearchedLexicon) (old : Option Reading) (before now : List ℕ) (result : Result (Option Reading) E) where
+module _ {E : Type 0} (searched : SearchedLexicon) (old : Option (Box Reading)) (before now : List ℕ) (result : Result (Option (Box Reading)) E) where
   -- a request about a line is refused where there is no line
   without_line : (request : Request) → old ≡ None → IsReplyTo searched.lexicon opening request (refused opening (codes "no text"))
       → OnOk result (now ≡ before ++ output_line (codes "? " ++ codes "no text")) → IfOk result (λ same. same ≡ None)
       → IfOk result (GoesOn searched (IsReplyTo searched.lexicon (state_of searched.lexicon.rules old) request) before now)
   without_line request none is_it bytes same =
-      subst (λ (old : Option Reading). IfOk result (GoesOn searched (IsReplyTo searched.lexicon (state_of searched.lexicon.rules old) request) before now))
+      subst (λ (old : Option (Box Reading)). IfOk result (GoesOn searched (IsReplyTo searched.lexicon (state_of searched.lexicon.rules old) request) before now))
       (sym none)
       (if_refused searched None (IsReplyTo searched.lexicon opening request) (codes "no text") before now result tt is_it bytes same)
 

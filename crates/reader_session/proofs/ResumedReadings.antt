@@ -87,7 +87,7 @@ none_resumed searched line choices printed keys some none =
 
 -- ---- what is read on
 
-no_summary : (summary : Option (Vec ProgramItem Global)) (items : List Item) → summary ≡ None
+pub no_summary : (summary : Option (Vec ProgramItem Global)) (items : List Item) → summary ≡ None
     → option_map (λ items. items.items) summary ≡ Some items → ⊥
 no_summary None items none some = cc
 no_summary (Some summary) items none some = cc

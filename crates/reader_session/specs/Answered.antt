@@ -1,5 +1,6 @@
 -- What a request was answered (own).
 use Rattle.std.specs.Prelude.{◌≡◌, ℕ, ◌^◌, ◌<◌, Option, Result, Ok, Err, List, ◌++◌, length}
+use Rattle.std.specs.Global.{Box}
 use Rattle.annotated_trie.specs.Searched.{SearchedLexicon}
 use Rattle.session_definitions.specs.Replies.{Reply}
 use Rattle.reader_session.specs.declared.request.Request.{Request}
@@ -11,7 +12,7 @@ use Rattle.reader_session.specs.Readings.{IsReadingOver, state_of}
 use Rattle.reader_session.specs.SessionValues.{stands_after}
 
 -- such a reply was appended, and the session stands as it says
-pub record Answered (searched : SearchedLexicon) (IsIt : Reply → Type 0) (before now : List ℕ) (result : Option Reading × After) : Type 0 where
+pub record Answered (searched : SearchedLexicon) (IsIt : Reply → Type 0) (before now : List ℕ) (result : Option (Box Reading) × After) : Type 0 where
   pub reply : Reply
   pub is_it : IsIt reply
   pub bytes : now ≡ before ++ reply.bytes
@@ -32,6 +33,6 @@ HasShortText Quit = Unit {0}
 HasShortText NoWord = Unit {0}
 
 -- what was replied, after which the session goes on
-abbrev pub opened : {E : Type 0} → Result (Option Reading) E → Result (Option Reading × After) E
+abbrev pub opened : {E : Type 0} → Result (Option (Box Reading)) E → Result (Option (Box Reading) × After) E
 opened (Ok reading) = Ok (reading, Open)
 opened (Err error) = Err error

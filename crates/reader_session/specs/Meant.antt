@@ -17,7 +17,7 @@ request_meant (Choose kept number) = definitions.Choose kept number
 request_meant Undo = definitions.Undo
 request_meant (Tags number) = definitions.Tags number
 request_meant Mark = definitions.Mark
-request_meant (Resume mark) = definitions.Resume (option_map bookmark_of mark)
+request_meant (Resume mark) = definitions.Resume (option_map (λ mark. bookmark_of mark.value) mark)
 request_meant Quit = definitions.Quit
 request_meant NoWord = definitions.NoWord
 
@@ -35,6 +35,6 @@ IsSoundRequest Undo = Unit {0}
 IsSoundRequest (Tags number) = IsFromOne number
 IsSoundRequest Mark = Unit {0}
 IsSoundRequest (Resume None) = Unit {0}
-IsSoundRequest (Resume (Some mark)) = IsBookmark (bookmark_of mark)
+IsSoundRequest (Resume (Some mark)) = IsBookmark (bookmark_of mark.value)
 IsSoundRequest Quit = Unit {0}
 IsSoundRequest NoWord = Unit {0}

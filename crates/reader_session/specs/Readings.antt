@@ -1,6 +1,7 @@
 -- What a session knows of the line that is read, as the definitions tell it (own).
 use Rattle.std.specs.Prelude.{◌≡◌, ℕ, ◌<◌, ◌≤◌, ◌↔◌, Option, Some, None, List, [], ◌∷◌, ◌++◌, length, All}
 use Rattle.std.specs.Option.{option_map}
+use Rattle.std.specs.Global.{Box}
 use Rattle.text_definitions.specs.Lines.{IsLine}
 use Rattle.lexicon_definitions.specs.Lexicons.{RuleSet}
 use Rattle.segmentation_definitions.specs.declared.limits.TheConstants.{MOST_CHOICES, LAST_ANSWER_NUMBER}
@@ -41,9 +42,9 @@ state_with rules reading =
     }
 
 -- the state of a session that reads this, or no line yet
-abbrev pub state_of : RuleSet → Option Reading → State
+abbrev pub state_of : RuleSet → Option (Box Reading) → State
 state_of rules None = opening
-state_of rules (Some reading) = state_with rules reading
+state_of rules (Some reading) = state_with rules reading.value
 
 -- the steps are those of an answer
 pub record AreAnswerSteps (searched : SearchedLexicon) (reading : Reading) : Type 0 where
@@ -70,18 +71,24 @@ pub record IsReading (searched : SearchedLexicon) (reading : Reading) : Type 0 w
       → IsSummary searched.lexicon reading.line reading.choices items
 
 -- the same, where a line is read
-abbrev pub IsReadingOver : SearchedLexicon → Option Reading → Type 0
+abbrev pub IsReadingOver : SearchedLexicon → Option (Box Reading) → Type 0
 IsReadingOver searched None = Unit {0}
-IsReadingOver searched (Some reading) = IsReading searched reading
+IsReadingOver searched (Some reading) = IsReading searched reading.value
 
--- such a reply was appended, after which the session goes on and reads this, or no line yet
-pub record GoesOn (searched : SearchedLexicon) (IsIt : Reply → Type 0) (before now : List ℕ) (reading : Option Reading) : Type 0 where
+-- such a reply was appended, after which the session goes on in this state, and this holds of what is read
+pub record GoesOnIn (IsIt : Reply → Type 0) (before now : List ℕ) (IsRead : Type 0) (state : State) : Type 0 where
   pub reply : Reply
   pub is_it : IsIt reply
   pub bytes : now ≡ before ++ reply.bytes
-  pub is_reading : IsReadingOver searched reading
-  pub stands : reply.after ≡ Open (state_of searched.lexicon.rules reading)
+  pub is_reading : IsRead
+  pub stands : reply.after ≡ Open state
+
+-- such a reply was appended, after which the session goes on and reads this, or no line yet
+abbrev pub GoesOn : SearchedLexicon → (Reply → Type 0) → List ℕ → List ℕ → Option (Box Reading) → Type 0
+GoesOn searched IsIt before now reading =
+    GoesOnIn IsIt before now (IsReadingOver searched reading) (state_of searched.lexicon.rules reading)
 
 -- the same of a line that is read
 abbrev pub GoesOnWith : SearchedLexicon → (Reply → Type 0) → List ℕ → List ℕ → Reading → Type 0
-GoesOnWith searched IsIt before now reading = GoesOn searched IsIt before now (Some reading)
+GoesOnWith searched IsIt before now reading =
+    GoesOnIn IsIt before now (IsReading searched reading) (state_with searched.lexicon.rules reading)

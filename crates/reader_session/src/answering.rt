@@ -22,7 +22,9 @@ use phoneme::Memory;
 use std::alloc::Global;
 
 /// After this reply the session goes on.
-fn open(reply: Result<Option<Reading>, Memory>) -> Result<(Option<Reading>, After), Memory>
+fn open(
+    reply: Result<Option<Box<Reading>>, Memory>,
+) -> Result<(Option<Box<Reading>>, After), Memory>
     ensures { result ≡ opened reply }
 {
     Ok((reply?, After::Open))
@@ -33,10 +35,10 @@ pub(crate) fn answer(
     alloc: Global,
     lexicon: &Lexicon,
     texts: &RuleTexts<'_>,
-    old: Option<Reading>,
+    old: Option<Box<Reading>>,
     request: Request<'_>,
     output: &mut Vec<u8>,
-) -> Result<(Option<Reading>, After), Memory>
+) -> Result<(Option<Box<Reading>>, After), Memory>
     requires texts { texts.now ≡ lexicon.now.lexicon.rules }
     requires lexicon { IsSearchedLexicon lexicon.now }
     requires reading { IsReadingOver lexicon.now old }

@@ -21,25 +21,24 @@ use std::alloc::Global;
 fn choose(
     alloc: Global,
     lexicon: &Lexicon,
-    reading: Reading,
+    reading: &mut Reading,
     kept: bool,
     item: Item,
     output: &mut Vec<u8>,
-) -> Result<Reading, Memory>
-    requires reading { IsReading lexicon.now reading }
+) -> Result<(), Memory>
+    requires reading { IsReading lexicon.now reading.old }
     requires item { IsItemWithinBounds item }
-    ensures ok { IfOk result (GoesOnWith lexicon.now
-        (λ reply. reply ≡ reply_to_choice (state_with lexicon.now.lexicon.rules reading) kept item) output.old.items output.new.items) }
+    ensures ok { OnOk result (GoesOnWith lexicon.now
+        (λ reply. reply ≡ reply_to_choice (state_with lexicon.now.lexicon.rules reading.old) kept item) output.old.items output.new.items reading.new) }
 {
-    let mut reading = reading;
     match add_choice(&mut reading.choices, kept, item) {
         Ok(()) => {
             push_ok(output)?;
-            Reading::new(alloc, lexicon, reading.line, reading.choices)
+            reading.begin(alloc, lexicon)
         }
         Err(ChoiceError::Full) => {
             push_refusal(output, "too many")?;
-            Ok(reading)
+            Ok(())
         }
         Err(ChoiceError::Memory) => Err(Memory),
     }
@@ -50,11 +49,11 @@ fn choose(
 pub(crate) fn reply_to_choice(
     alloc: Global,
     lexicon: &Lexicon,
-    old: Option<Reading>,
+    old: Option<Box<Reading>>,
     kept: bool,
     number: Option<u32>,
     output: &mut Vec<u8>,
-) -> Result<Option<Reading>, Memory>
+) -> Result<Option<Box<Reading>>, Memory>
     requires lexicon { IsSearchedLexicon lexicon.now }
     requires reading { IsReadingOver lexicon.now old }
     requires number { number ≡ Some 0 → ⊥ }
@@ -64,11 +63,14 @@ pub(crate) fn reply_to_choice(
     let Some(number) = number else {
         return refuse(output, "number", old);
     };
-    let Some(reading) = old else {
+    let Some(mut reading) = old else {
         return refuse(output, "no text", None);
     };
     match numbered_item(alloc, &reading.summary, number) {
-        Ok(item) => Ok(Some(choose(alloc, lexicon, reading, kept, item, output)?)),
+        Ok(item) => {
+            choose(alloc, lexicon, &mut reading, kept, item, output)?;
+            Ok(Some(reading))
+        }
         Err(NoItem::NoSummary) => refuse(output, "no summary", Some(reading)),
         Err(NoItem::NoNumber) => refuse(output, "number", Some(reading)),
         Err(NoItem::Memory) => Err(Memory),
@@ -79,40 +81,35 @@ pub(crate) fn reply_to_choice(
 fn take_back(
     alloc: Global,
     lexicon: &Lexicon,
-    reading: Reading,
+    reading: &mut Reading,
     output: &mut Vec<u8>,
-) -> Result<Reading, Memory>
-    requires reading { IsReading lexicon.now reading }
-    ensures ok { IfOk result (GoesOnWith lexicon.now
-        (λ reply. reply ≡ reply_to_undo (state_with lexicon.now.lexicon.rules reading) reading.choices) output.old.items output.new.items) }
+) -> Result<(), Memory>
+    requires reading { IsReading lexicon.now reading.old }
+    ensures ok { OnOk result (GoesOnWith lexicon.now
+        (λ reply. reply ≡ reply_to_undo (state_with lexicon.now.lexicon.rules reading.old) reading.old.choices) output.old.items output.new.items reading.new) }
 {
-    let mut reading = reading;
-    match reading.choices.undo() {
-        Some(_) => {
-            push_ok(output)?;
-            Reading::new(alloc, lexicon, reading.line, reading.choices)
-        }
-        None => {
-            push_refusal(output, "nothing to undo")?;
-            Ok(reading)
-        }
-    }
+    let Some(_) = reading.choices.undo() else {
+        push_refusal(output, "nothing to undo")?;
+        return Ok(());
+    };
+    push_ok(output)?;
+    reading.begin(alloc, lexicon)
 }
 
 /// `undo`: takes the newest choice back.
 pub(crate) fn reply_to_undo(
     alloc: Global,
     lexicon: &Lexicon,
-    old: Option<Reading>,
+    old: Option<Box<Reading>>,
     output: &mut Vec<u8>,
-) -> Result<Option<Reading>, Memory>
+) -> Result<Option<Box<Reading>>, Memory>
     requires reading { IsReadingOver lexicon.now old }
     ensures ok { IfOk result (GoesOn lexicon.now
         (IsReplyTo lexicon.now.lexicon (state_of lexicon.now.lexicon.rules old) Undo) output.old.items output.new.items) }
 {
-    let Some(reading) = old else {
+    let Some(mut reading) = old else {
         return refuse(output, "no text", None);
     };
-    let reading = take_back(alloc, lexicon, reading, output)?;
+    take_back(alloc, lexicon, &mut reading, output)?;
     Ok(Some(reading))
 }

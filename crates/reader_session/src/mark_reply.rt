@@ -1,4 +1,4 @@
-ghost use Rattle.std.specs.Prelude.{◌≡◌, ◌++◌, IfOk, OnOk};
+ghost use Rattle.std.specs.Prelude.{◌≡◌, ◌++◌, IfOk, OnOk, string_bytes};
 ghost use Rattle.segmentation_definitions.specs.PrintedAnswers.{output_line};
 ghost use Rattle.bookmark_definitions.specs.Bookmarks.{IsBookmark};
 ghost use Rattle.bookmark_definitions.specs.BookmarkTexts.{text_of_bookmark};
@@ -42,13 +42,21 @@ fn bookmark_with(alloc: Global, reading: &Reading) -> Result<Bookmark, Memory>
     })
 }
 
+/// The text of the bookmark of what is read.
+fn text_of_mark(alloc: Global, reading: &Reading) -> Result<String, Memory>
+    requires mark { IsBookmark (mark_of reading.now) }
+    ensures ok { IfOk result (λ text. string_bytes text ≡ text_of_bookmark (mark_of reading.now)) }
+{
+    let mark = bookmark_with(alloc, reading)?;
+    print_bookmark(alloc, &mark)
+}
+
 /// Appends the text of the bookmark of what is read.
 fn push_mark(alloc: Global, reading: &Reading, output: &mut Vec<u8>) -> Result<(), Memory>
     requires mark { IsBookmark (mark_of reading.now) }
     ensures ok { OnOk result (output.new.items ≡ output.old.items ++ output_line (text_of_bookmark (mark_of reading.now))) }
 {
-    let mark = bookmark_with(alloc, reading)?;
-    let text = print_bookmark(alloc, &mark)?;
+    let text = text_of_mark(alloc, reading)?;
     output.extend_from_slice(text.as_bytes())?;
     output.extend_from_slice(b"\n")?;
     Ok(())
@@ -58,9 +66,9 @@ fn push_mark(alloc: Global, reading: &Reading, output: &mut Vec<u8>) -> Result<(
 pub(crate) fn reply_with_mark(
     alloc: Global,
     lexicon: &Lexicon,
-    old: Option<Reading>,
+    old: Option<Box<Reading>>,
     output: &mut Vec<u8>,
-) -> Result<Option<Reading>, Memory>
+) -> Result<Option<Box<Reading>>, Memory>
     requires lexicon { IsSearchedLexicon lexicon.now }
     requires reading { IsReadingOver lexicon.now old }
     ensures ok { IfOk result (GoesOn lexicon.now

@@ -1,4 +1,10 @@
-ghost use Rattle.std.specs.Prelude.{◌≡◌, [], IfOk, All, Some};
+ghost use Rattle.std.specs.Prelude.{◌≡◌, ◌≤◌, [], length, IfOk, OnOk, All, Some};
+ghost use Rattle.segmentation_definitions.specs.declared.limits.TheConstants.{MOST_CHOICES};
+ghost use Rattle.segmentation_definitions.specs.Listings.{BeforeFirst};
+ghost use Rattle.search_frames.specs.Guided.{IsGuideOf, IsExactOf};
+ghost use Rattle.segmenter.specs.Searches.{StandsWhere};
+ghost use Rattle.summary_chart.specs.Charts.{CoversPlace, says_of};
+ghost use Rattle.summary_chart.specs.PlaceWays.{IsChartOf};
 ghost use Rattle.bookmark_definitions.specs.Bookmarks.{IsItemWithinBounds};
 ghost use Rattle.session_definitions.specs.States.{fresh};
 ghost use Rattle.reader_session.specs.Readings.{IsReading, state_with};
@@ -27,6 +33,26 @@ pub(crate) struct Reading {
     pub summary: Option<Vec<Item>>,
 }
 
+/// The chart of the line with these choices, and where a search over it stands before the first answer. Refused only for want of
+/// memory.
+fn open_chart(
+    alloc: Global,
+    lexicon: &Lexicon,
+    line: &Line,
+    choices: &Choices,
+) -> Result<(Chart, Resumption), Memory>
+    ensures chart { IfOk result (λ opened. IsChartOf lexicon.now line.now choices.now opened.0) }
+    ensures guide { IfOk result (λ opened. IsGuideOf lexicon.now line.now choices.now (CoversPlace opened.0.table) (says_of opened.0.table)) }
+    ensures exact { IfOk result (λ opened. IsExactOf lexicon.now line.now choices.now (says_of opened.0.table)) }
+    ensures search { IfOk result (λ opened. StandsWhere
+        (record { searched = lexicon.now; line = line.now; choices = choices.now; cursor = BeforeFirst }) opened.1) }
+{
+    let mut steps = Steps::<()>::new();
+    let chart = Chart::build(alloc, lexicon, line, choices, &mut steps)?;
+    let resumption = Search::new(alloc, lexicon, line, choices, &chart)?.into_resumption();
+    Ok((chart, resumption))
+}
+
 impl Reading {
     /// The line with these choices, of which nothing was printed. Refused only for want of memory.
     pub(crate) fn new(
@@ -39,9 +65,7 @@ impl Reading {
         ensures reading { IfOk result (IsReading lexicon.now) }
         ensures state { IfOk result (λ reading. state_with lexicon.now.lexicon.rules reading ≡ fresh (Some line) choices) }
     {
-        let mut steps = Steps::<()>::new();
-        let chart = Chart::build(alloc, lexicon, &line, &choices, &mut steps)?;
-        let resumption = Search::new(alloc, lexicon, &line, &choices, &chart)?.into_resumption();
+        let (chart, resumption) = open_chart(alloc, lexicon, &line, &choices)?;
         Ok(Reading {
             line,
             choices,
@@ -51,5 +75,22 @@ impl Reading {
             last: Vec::new(alloc),
             summary: None,
         })
+    }
+
+    /// Has nothing be printed of the line with its choices, whatever was before the choices were changed. Refused only for want of
+    /// memory.
+    pub(crate) fn begin(&mut self, alloc: Global, lexicon: &Lexicon) -> Result<(), Memory>
+        requires few { length self.old.choices ≤ MOST_CHOICES }
+        requires items { All (λ choice. IsItemWithinBounds choice.item) self.old.choices }
+        ensures reading { OnOk result (IsReading lexicon.now self.new) }
+        ensures state { OnOk result (state_with lexicon.now.lexicon.rules self.new ≡ fresh (Some self.old.line) self.old.choices) }
+    {
+        let (chart, resumption) = open_chart(alloc, lexicon, &self.line, &self.choices)?;
+        self.chart = chart;
+        self.resumption = resumption;
+        self.printed = 0;
+        self.last = Vec::new(alloc);
+        self.summary = None;
+        Ok(())
     }
 }

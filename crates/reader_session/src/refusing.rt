@@ -9,8 +9,8 @@ use phoneme::Memory;
 pub(crate) fn refuse(
     output: &mut Vec<u8>,
     why: &str,
-    reading: Option<Reading>,
-) -> Result<Option<Reading>, Memory>
+    reading: Option<Box<Reading>>,
+) -> Result<Option<Box<Reading>>, Memory>
     ensures output { OnOk result (output.new.items ≡ output.old.items ++ output_line (codes "? " ++ why.now)) }
     ensures same { IfOk result (λ same. same ≡ reading) }
 {

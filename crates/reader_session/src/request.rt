@@ -48,7 +48,7 @@ pub(crate) enum Request<'a> {
     Mark,
     /// `resume B`: to go on from a bookmark.
     Resume {
-        mark: Option<Bookmark>,
+        mark: Option<Box<Bookmark>>,
     },
     /// `quit`: the end.
     Quit,
@@ -78,6 +78,18 @@ fn text_request(rest: &[u8]) -> Request<'_>
         scheme: Scheme::named(name),
         text,
     }
+}
+
+/// `resume B`, from what comes after `resume`. Refused only for want of memory.
+fn resume_request<'a>(alloc: Global, rest: &[u8]) -> Result<Request<'a>, Memory>
+    ensures ok { IfOk result (λ request. request_meant request ≡ definitions.Resume (bookmark_of_text rest.now)) }
+    ensures sound { IfOk result IsSoundRequest }
+{
+    let mark = match mark_of(alloc, rest)? {
+        Some(mark) => Some(Box::new(alloc, mark)?),
+        None => None,
+    };
+    Ok(Request::Resume { mark })
 }
 
 /// The request, where nothing comes after its word.
@@ -127,8 +139,7 @@ fn request_with<'a>(alloc: Global, word: &[u8], rest: &'a [u8]) -> Result<Reques
     } else if is_word(word, b"mark") {
         Ok(alone(rest, Request::Mark))
     } else if is_word(word, b"resume") {
-        let mark = mark_of(alloc, rest)?;
-        Ok(Request::Resume { mark })
+        resume_request(alloc, rest)
     } else if is_word(word, b"quit") {
         Ok(alone(rest, Request::Quit))
     } else {

@@ -4,7 +4,10 @@ ghost use Rattle.bookmark_definitions.specs.Bookmarks.{IsBookmark};
 ghost use Rattle.bookmarks.specs.Values.{bookmark_of};
 ghost use Rattle.session_definitions.specs.Requests.{Resume};
 ghost use Rattle.session_definitions.specs.Replies.{IsResumeReply, IsReplyTo};
-ghost use Rattle.reader_session.specs.Resumed.{IsResumed, IsMark, IsLastOf, value_of_mark, mark_with, HasPhases};
+ghost use Rattle.search_frames.specs.Guided.{IsGuideOf};
+ghost use Rattle.summary_chart.specs.Charts.{CoversPlace, says_of};
+ghost use Rattle.summary_chart.specs.PlaceWays.{IsChartOf};
+ghost use Rattle.reader_session.specs.Resumed.{IsStackAt, IsResumed, IsMark, IsLastOf, value_of_mark, mark_with, HasPhases};
 ghost use Rattle.reader_session.specs.Readings.{IsReadingOver, GoesOn, state_of};
 
 use super::adding::add_choice;
@@ -16,7 +19,7 @@ use derivation::{Choice, Key, Step};
 use outside::Steps;
 use phoneme::{Line, Memory};
 use reader_choices::{ChoiceError, Choices};
-use search_frames::SearchGuide;
+use search_frames::{Resumption, SearchGuide};
 use segmenter::{ResumeError, Search};
 use std::alloc::Global;
 use summary_chart::Chart;
@@ -57,6 +60,29 @@ fn last_steps<D: SearchGuide>(alloc: Global, search: &Search<D>) -> Result<Vec<S
     }
 }
 
+/// Where a search over the line with these choices stands at the answer with these keys, and the steps of this answer. `None` where no
+/// answer has them.
+fn stack_at(
+    alloc: Global,
+    lexicon: &Lexicon,
+    line: &Line,
+    choices: &Choices,
+    chart: &Chart,
+    keys: &[Key],
+) -> Result<Option<(Resumption, Vec<Step>)>, Memory>
+    requires guide { IsGuideOf lexicon.now line.now choices.now (CoversPlace chart.now.table) (says_of chart.now.table) }
+    requires chart { IsChartOf lexicon.now line.now choices.now chart.now }
+    ensures ok { IfOk result (IsStackAt lexicon.now line.now choices.now keys.now) }
+{
+    let search = match Search::resume(alloc, lexicon, line, choices, chart, keys) {
+        Ok(search) => search,
+        Err(ResumeError::NotAnAnswer) => return Ok(None),
+        Err(ResumeError::Memory) => return Err(Memory),
+    };
+    let last = last_steps(alloc, &search)?;
+    Ok(Some((search.into_resumption(), last)))
+}
+
 /// The line with these choices, read on at the answer with these keys. `None` where no answer has them.
 fn resume_at(
     alloc: Global,
@@ -72,13 +98,9 @@ fn resume_at(
 {
     let mut steps = Steps::<()>::new();
     let chart = Chart::build(alloc, lexicon, &line, &choices, &mut steps)?;
-    let search = match Search::resume(alloc, lexicon, &line, &choices, &chart, keys) {
-        Ok(search) => search,
-        Err(ResumeError::NotAnAnswer) => return Ok(None),
-        Err(ResumeError::Memory) => return Err(Memory),
+    let Some((resumption, last)) = stack_at(alloc, lexicon, &line, &choices, &chart, keys)? else {
+        return Ok(None);
     };
-    let last = last_steps(alloc, &search)?;
-    let resumption = search.into_resumption();
     Ok(Some(Reading {
         line,
         choices,
@@ -118,10 +140,10 @@ pub(crate) fn resume(
 pub(crate) fn reply_to_resume(
     alloc: Global,
     lexicon: &Lexicon,
-    old: Option<Reading>,
-    mark: Option<Bookmark>,
+    old: Option<Box<Reading>>,
+    mark: Option<Box<Bookmark>>,
     output: &mut Vec<u8>,
-) -> Result<Option<Reading>, Memory>
+) -> Result<Option<Box<Reading>>, Memory>
     requires reading { IsReadingOver lexicon.now old }
     requires mark { IsMark mark }
     ensures ok { IfOk result (GoesOn lexicon.now
@@ -130,8 +152,9 @@ pub(crate) fn reply_to_resume(
     let Some(mark) = mark else {
         return refuse(output, "bookmark", old);
     };
-    match resume(alloc, lexicon, mark)? {
+    match resume(alloc, lexicon, Box::into_inner(mark))? {
         Some(reading) => {
+            let reading = Box::new(alloc, reading)?;
             push_ok(output)?;
             Ok(Some(reading))
         }

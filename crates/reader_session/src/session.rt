@@ -21,7 +21,7 @@ use std::marker::Model;
 pub(crate) struct Session<'a> {
     lexicon: &'a Lexicon,
     texts: RuleTexts<'a>,
-    reading: Option<Reading>,
+    reading: Option<Box<Reading>>,
 }
 
 impl<'a> Model for Session<'a> {

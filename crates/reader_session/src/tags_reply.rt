@@ -32,10 +32,10 @@ fn push_tags_of(
 pub(crate) fn reply_with_tags(
     alloc: Global,
     lexicon: &Lexicon,
-    old: Option<Reading>,
+    old: Option<Box<Reading>>,
     number: Option<u32>,
     output: &mut Vec<u8>,
-) -> Result<Option<Reading>, Memory>
+) -> Result<Option<Box<Reading>>, Memory>
     requires reading { IsReadingOver lexicon.now old }
     requires number { number ≡ Some 0 → ⊥ }
     ensures ok { IfOk result (GoesOn lexicon.now

@@ -1,29 +1,47 @@
-ghost use Rattle.std.specs.Prelude.{◌≡◌, ◌^◌, ◌<◌, length, IfOk};
+ghost use Rattle.std.specs.Prelude.{◌≡◌, ◌^◌, ◌<◌, ◌++◌, [], length, codes, Some, IfOk, OnOk};
 ghost use Rattle.std.specs.Option.{option_map};
 ghost use Rattle.text_line.specs.Values.{scheme_of};
+ghost use Rattle.segmentation_definitions.specs.PrintedAnswers.{output_line};
+ghost use Rattle.session_definitions.specs.States.{fresh};
 ghost use Rattle.session_definitions.specs.Requests.{Text};
 ghost use Rattle.session_definitions.specs.Replies.{IsReplyTo};
-ghost use Rattle.reader_session.specs.Readings.{IsReadingOver, GoesOn, state_of};
+ghost use Rattle.reader_session.specs.Readings.{IsReading, IsReadingOver, GoesOn, state_with, state_of};
 
 use super::reading::Reading;
 use super::refusing::{push_ok, refuse};
 use annotated_trie::Lexicon;
 use answer_printing::push_text_refusal;
-use phoneme::Memory;
+use phoneme::{Line, Memory};
 use reader_choices::Choices;
 use std::alloc::Global;
 use text_line::{Scheme, read_line};
+
+/// Appends `ok`, and reads the line without choices.
+fn read_on(
+    alloc: Global,
+    lexicon: &Lexicon,
+    line: Line,
+    output: &mut Vec<u8>,
+) -> Result<Box<Reading>, Memory>
+    ensures reading { IfOk result (λ reading. IsReading lexicon.now reading.value) }
+    ensures state { IfOk result (λ reading. state_with lexicon.now.lexicon.rules reading.value ≡ fresh (Some line) []) }
+    ensures output { OnOk result (output.new.items ≡ output.old.items ++ output_line (codes "ok")) }
+{
+    push_ok(output)?;
+    let reading = Reading::new(alloc, lexicon, line, Choices::new(alloc))?;
+    Ok(Box::new(alloc, reading)?)
+}
 
 /// `text SCHEME TEXT`: reads the line, or refuses the text with its fault.
 #[tactic(auto, using(text_line::proofs::FaultsTold::fault_told))]
 pub(crate) fn reply_to_text(
     alloc: Global,
     lexicon: &Lexicon,
-    old: Option<Reading>,
+    old: Option<Box<Reading>>,
     scheme: Option<Scheme>,
     text: &[u8],
     output: &mut Vec<u8>,
-) -> Result<Option<Reading>, Memory>
+) -> Result<Option<Box<Reading>>, Memory>
     requires reading { IsReadingOver lexicon.now old }
     requires short { length text.now < 2 ^ 32 }
     ensures ok { IfOk result (GoesOn lexicon.now
@@ -33,11 +51,7 @@ pub(crate) fn reply_to_text(
         return refuse(output, "scheme", old);
     };
     match read_line(alloc, scheme, text) {
-        Ok(line) => {
-            push_ok(output)?;
-            let reading = Reading::new(alloc, lexicon, line, Choices::new(alloc))?;
-            Ok(Some(reading))
-        }
+        Ok(line) => Ok(Some(read_on(alloc, lexicon, line, output)?)),
         Err(error) => {
             push_text_refusal(alloc, output, error.fault()?)?;
             Ok(old)

@@ -1,22 +1,26 @@
 -- There is no summary; or the item of the number is within the bounds.
-use Rattle.std.proofs.Common.{refl, subst}
+use Rattle.std.proofs.Common.{refl, sym, ap, ◌∙◌, subst}
 use Rattle.session_definitions.specs.Requests.{Choose}
 use Rattle.session_definitions.specs.Replies.{reply_to_choice}
 use Rattle.reader_session.specs.Readings.{IsReadingOver}
-use Rattle.reader_session.specs.NumberedItems.{IsNoItem}
+use Rattle.reader_session.specs.declared.reading.Reading.{Reading}
+use Rattle.reader_session.specs.NumberedItems.{IsNoItem, IsNumberedItem}
 use Rattle.reader_session.proofs.ChosenItems.{no_summary, numbered_within}
 use Rattle.reader_session.proofs.choice_reply.reply_to_choice.Goals as goal
 
 pub choose-requires-clause-item : goal.choose-requires-clause-item
 choose-requires-clause-item c =
-    numbered_within c.args.lexicon.now c.in-Some-old.reading c.in-Some.number c.in-Ok.item c.requires.lexicon
-    (subst (IsReadingOver c.args.lexicon.now) c.in-Some-old.is c.requires.reading) c.in-Ok.ensures.ok
+    numbered_within c.args.lexicon.now c.in-Some-old.reading.value c.in-Some.number c.in-Ok.item c.requires.lexicon
+    (subst (IsReadingOver c.args.lexicon.now) c.in-Some-old.is c.requires.reading)
+    (subst (λ (reading : Reading). IsNumberedItem reading.summary c.in-Some.number c.in-Ok.item) c.deref.ensures c.in-Ok.ensures.ok)
 
 pub returns-in-Err-NoSummary : goal.returns-in-Err-NoSummary
-returns-in-Err-NoSummary c = record {
-  ok = no_summary c.args.lexicon.now c.args.old c.in-Some-old.reading c.args.number c.in-Some.number (Choose c.args.kept) c.args.output.now.items
-      c.refuse-in-Err-NoSummary.new.output.items c.refuse-in-Err-NoSummary.result
-      (λ asked state. reply_to_choice state c.args.kept, λ k. refl)
-      c.in-Some-old.is c.in-Some.is (subst (IsNoItem c.in-Some-old.reading.summary c.in-Some.number) c.in-Err-NoSummary.field-0-is c.in-Err-NoSummary.ensures.refused) c.requires.reading c.refuse-in-Err-NoSummary.ensures.output
-      c.refuse-in-Err-NoSummary.ensures.same;
-}
+returns-in-Err-NoSummary c =
+    let none = subst (IsNoItem c.deref.result.now.summary c.in-Some.number) c.in-Err-NoSummary.field-0-is c.in-Err-NoSummary.ensures.refused in
+    record {
+      ok = no_summary c.args.lexicon.now c.args.old c.in-Some-old.reading c.args.number c.in-Some.number (Choose c.args.kept) c.args.output.now.items
+          c.refuse-in-Err-NoSummary.new.output.items c.refuse-in-Err-NoSummary.result
+          (λ asked state. reply_to_choice state c.args.kept, λ k. refl)
+          c.in-Some-old.is c.in-Some.is (ap (λ (reading : Reading). reading.summary) (sym c.deref.ensures) ∙ none) c.requires.reading c.refuse-in-Err-NoSummary.ensures.output
+          c.refuse-in-Err-NoSummary.ensures.same;
+    }

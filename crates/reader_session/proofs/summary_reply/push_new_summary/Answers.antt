@@ -10,6 +10,6 @@ returns c =
     c.in_ok-push_summary.ensures.ok
     ∙ (λ i. c.args.output.now.items ++ printed_summary (c.rules.ensures.value i) (c.as_slice.ensures.value i)) in
     record {
-      ok = replies_with_summary c.args.lexicon.now c.args.reading c.requires.reading c.in_ok-items.items c.in_ok-items.ensures.ok c.args.output.now.items
+      ok = replies_with_summary c.args.lexicon.now c.args.reading.now c.requires.reading c.in_ok-items.items c.in_ok-items.ensures.ok c.args.output.now.items
           c.push_summary.new.output.items printed;
     }

@@ -3,12 +3,12 @@
 use Rattle.std.proofs.Common.{◌≡◌, ℕ, List, Some, length}
 use Rattle.reader_session.specs.Serving.{HasNoEnd}
 use Rattle.reader_session.proofs.ServedInputs.{IsServing}
-use Rattle.reader_session.proofs.input.serve.Given as goal
+use Rattle.reader_session.proofs.input.serve_lines.Given as goal
 
 abbrev pub invariant-loop-count : goal.invariant-loop-count
 invariant-loop-count g l = record {
   serving : (input : List ℕ) → g.I.Source.left l.fn.source ≡ Some input
-      → IsServing l.lexicon input l.session l.rest.items l.allowed (g.O.Sink.written l.fn.sink) (g.I.Source.left l.source) (g.O.Sink.written l.sink);
+      → IsServing l.fn.session.searched input l.session l.rest.items l.allowed (g.O.Sink.written l.fn.sink) (g.I.Source.left l.source) (g.O.Sink.written l.sink);
   no_end : HasNoEnd l.rest.items;
   room : length l.piece ≡ 4096;
   faults : g.O.Sink.faults l.sink ≡ g.O.Sink.faults l.fn.sink;
