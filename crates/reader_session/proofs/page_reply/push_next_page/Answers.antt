@@ -1,10 +1,29 @@
 -- What was printed from where the reading stands, and what the search told then, by the lemma of a page.
-use Rattle.std.proofs.Common.{ap, subst, ◌∙◌, arith}
-use Rattle.segmenter.specs.Searches.{SearchValue}
+use Rattle.std.proofs.Common.{ap, sym, subst, ◌∙◌, arith}
+use Rattle.segmenter.specs.Searches.{SearchValue, IsStackOf}
 use Rattle.segmenter.specs.Skips.{value_of}
+use Rattle.answer_printing.specs.Texts.{PrintedWith}
 use Rattle.reader_session.specs.PageEnds.{HasPrintedPage}
 use Rattle.reader_session.proofs.PageReadings.{replies_with_page}
 use Rattle.reader_session.proofs.page_reply.push_next_page.Goals as goal
+
+pub go_on-search-requires : goal.go_on-search-requires
+go_on-search-requires c =
+    let reading = c.args.reading.now in
+    record {
+      guide = c.requires.reading.guide;
+      known = c.requires.reading.chart;
+      stack = subst (IsStackOf c.args.lexicon.now reading.line reading.choices) (sym c.replace-resumption.ensures.value) c.requires.reading.stack;
+    }
+
+pub push_page-requires : goal.push_page-requires
+push_page-requires c = record {
+  rules = ap (λ (search : SearchValue). search.searched.lexicon.rules) c.go_on-search.ensures.ok
+      ∙ sym (ap (λ (printer : PrintedWith). printer.rules) c.in_ok-printer.ensures.ok ∙ c.requires.texts);
+  line = ap (λ (search : SearchValue). search.line.letters) c.go_on-search.ensures.ok
+      ∙ sym (ap (λ (printer : PrintedWith). printer.letters) c.in_ok-printer.ensures.ok);
+  number = omega arith;
+}
 
 pub returns : goal.returns
 returns c =
