@@ -77,7 +77,7 @@ impl Reading {
         })
     }
 
-    /// Has nothing be printed of the line with its choices, whatever was before the choices were changed. Refused only for want of
+    /// Begins to read its line anew, with its choices, once these were changed: no answer of it is printed yet. Refused only for want of
     /// memory.
     pub(crate) fn begin(&mut self, alloc: Global, lexicon: &Lexicon) -> Result<(), Memory>
         requires few { length self.old.choices ≤ MOST_CHOICES }

@@ -1,9 +1,10 @@
 -- No word is refused, and the end ends; the other replies are those of their functions.
-use Rattle.std.proofs.Common.{IfOk, sym, subst}
+use Rattle.std.proofs.Common.{IfOk, sym, subst, arith}
 use Rattle.session_definitions.specs.Replies.{IsReplyTo}
 use Rattle.reader_session.specs.Readings.{GoesOn, state_of}
 use Rattle.reader_session.specs.Meant.{request_meant}
 use Rattle.reader_session.proofs.OpenReplies.{goes_on, no_word, over}
+use Rattle.std.proofs.lemmas.Grind.{common_steps}
 use Rattle.reader_session.proofs.answering.answer.Goals as goal
 
 pub returns-in-NoWord : goal.returns-in-NoWord
@@ -24,3 +25,9 @@ returns-in_ok-extend_from_slice-in-Quit c = record {
   ok = over c.args.lexicon.now c.args.old c.args.request c.args.output.now.items c.extend_from_slice.new.self.items c.in-Quit.is
       c.requires.reading c.in_ok-extend_from_slice-in-Quit.ensures.items;
 }
+
+pub returns-in-Page : goal.returns-in-Page
+returns-in-Page c = grind (arith, common_steps)
+
+pub returns-in-Undo : goal.returns-in-Undo
+returns-in-Undo c = grind (arith, common_steps)

@@ -1,11 +1,12 @@
 -- There is no summary; or the item of the number is within the bounds.
-use Rattle.std.proofs.Common.{refl, sym, ap, ◌∙◌, subst}
+use Rattle.std.proofs.Common.{refl, sym, ap, ◌∙◌, subst, arith}
 use Rattle.session_definitions.specs.Requests.{Choose}
 use Rattle.session_definitions.specs.Replies.{reply_to_choice}
 use Rattle.reader_session.specs.Readings.{IsReadingOver}
 use Rattle.reader_session.specs.declared.reading.Reading.{Reading}
 use Rattle.reader_session.specs.NumberedItems.{IsNoItem, IsNumberedItem}
 use Rattle.reader_session.proofs.ChosenItems.{no_summary, numbered_within}
+use Rattle.std.proofs.lemmas.Grind.{common_steps}
 use Rattle.reader_session.proofs.choice_reply.reply_to_choice.Goals as goal
 
 pub choose-requires-clause-item : goal.choose-requires-clause-item
@@ -24,3 +25,9 @@ returns-in-Err-NoSummary c =
           c.in-Some-old.is c.in-Some.is (ap (λ (reading : Reading). reading.summary) (sym c.deref.ensures) ∙ none) c.requires.reading c.refuse-in-Err-NoSummary.ensures.output
           c.refuse-in-Err-NoSummary.ensures.same;
     }
+
+pub returns-in_ok-choose-in-Ok : goal.returns-in_ok-choose-in-Ok
+returns-in_ok-choose-in-Ok c = grind (arith, common_steps)
+
+pub returns-in-Err-NoNumber : goal.returns-in-Err-NoNumber
+returns-in-Err-NoNumber c = grind (arith, common_steps)

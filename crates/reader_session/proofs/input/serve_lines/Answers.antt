@@ -1,7 +1,11 @@
 -- Each way to end, from what was served of the bytes that were taken before it.
 use Rattle.std.proofs.Common.{◌≡◌, ◌≢◌, ℕ, ◌-◌, take, refl, sym, ◌∙◌, subst, arith, rules}
 use Rattle.std.proofs.lemmas.List.Elements.{All-nil}
-use Rattle.reader_session.specs.Serving.{HasNoEnd}
+use Rattle.outside.specs.declared.sink.WriteError.{WriteError}
+use Rattle.outside.specs.declared.sink.WriteError.TheVariants as write
+use Rattle.reader_session.specs.declared.serve_end.ServeEnd.TheVariants as end
+use Rattle.reader_session.specs.Served.{IsEnd}
+use Rattle.reader_session.specs.Serving.{HasNoEnd, end_at}
 use Rattle.reader_session.proofs.ServedInputs.{IsServing, serving_none}
 use Rattle.reader_session.proofs.TakenPieces.{has_taken, piece_stopped, piece_front, piece_over, piece_too_long, piece_served, read_failed, replied, rest_stopped, rest_front, rest_served}
 use Rattle.reader_session.proofs.input.serve_lines.Goals as goal
@@ -25,6 +29,21 @@ returns-in_default-clause-replies g c fault input old told written =
 
 -- ---- the end of the input
 
+-- an error of the sink is no end of a session, and no fault of the source
+no_end : (error : WriteError) → IsEnd (end_at error) → ⊥
+no_end write.Failed is_end = is_end
+no_end write.Memory is_end = is_end
+
+no_read_fault : (error : WriteError) → end_at error ≡ end.ReadFault → ⊥
+no_read_fault write.Failed fault = cc
+no_read_fault write.Memory fault = cc
+
+pub returns-in-Err-clause-session : goal.returns-in-Err-clause-session
+returns-in-Err-clause-session g c is_end = absurd (no_end c.in-Err.error (subst IsEnd c.end_by.ensures is_end))
+
+pub returns-in-Err-clause-replies : goal.returns-in-Err-clause-replies
+returns-in-Err-clause-replies g c fault = absurd (no_read_fault c.in-Err.error (sym c.end_by.ensures ∙ fault))
+
 pub returns-in-Err-clause-prefix : goal.returns-in-Err-clause-prefix
 returns-in-Err-clause-prefix g c input told =
     let ended = c.in-Ok.ensures.end c.if-count-eq0.true in
@@ -41,6 +60,14 @@ returns-then-count-eq0-clause-prefix g c input told =
     rest_front _ _ _ _ _ _ _ _ (c.loop-count.invariant.serving input told) _ _ _ ended (rw c.deref.ensures.value at c.in_default-serve_rest.ensures.ok)
 
 -- ---- a piece
+
+pub returns-in-Err-serve_piece-clause-session : goal.returns-in-Err-serve_piece-clause-session
+returns-in-Err-serve_piece-clause-session g c is_end =
+    absurd (no_end c.in-Err-serve_piece.error (subst IsEnd c.end_by-in-Err-serve_piece.ensures is_end))
+
+pub returns-in-Err-serve_piece-clause-replies : goal.returns-in-Err-serve_piece-clause-replies
+returns-in-Err-serve_piece-clause-replies g c fault =
+    absurd (no_read_fault c.in-Err-serve_piece.error (sym c.end_by-in-Err-serve_piece.ensures ∙ fault))
 
 pub returns-in-Err-serve_piece-clause-prefix : goal.returns-in-Err-serve_piece-clause-prefix
 returns-in-Err-serve_piece-clause-prefix g c input told =

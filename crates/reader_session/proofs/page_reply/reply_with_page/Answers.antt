@@ -1,5 +1,7 @@
 -- The two refusals, each by its lemma.
 use Rattle.reader_session.proofs.RefusedPages.{no_line_for_page, no_number_for_page}
+use Rattle.std.proofs.Common.{arith}
+use Rattle.std.proofs.lemmas.Grind.{common_steps}
 use Rattle.reader_session.proofs.page_reply.reply_with_page.Goals as goal
 
 pub returns-in_default : goal.returns-in_default
@@ -13,3 +15,6 @@ returns-in_default-old c = record {
   ok = no_line_for_page c.args.lexicon.now c.args.old c.args.output.now.items c.refuse-in_default-old.new.output.items c.refuse-in_default-old.result
       c.args.count c.in-Some.count c.in-Some.is c.in_default-old.is c.refuse-in_default-old.ensures.output c.refuse-in_default-old.ensures.same;
 }
+
+pub returns : goal.returns
+returns c = grind (arith, common_steps)
