@@ -1,4 +1,4 @@
-ghost use Rattle.std.specs.Prelude.{◌≡◌, ◌<◌, ◌≤◌, [], length, replicate, All, IfOk, OnOk, OnErr};
+ghost use Rattle.std.specs.Prelude.{◌≡◌, ◌+◌, ◌<◌, ◌≤◌, ℕ, [], length, replicate, All, IfOk, OnOk, OnErr};
 ghost use Rattle.std.specs.Option.{option_map};
 ghost use Rattle.std.specs.declared.cmp.Ordering.TheVariants.{Less};
 ghost use Rattle.form_tags.specs.Analyses.{text_analysis};
@@ -9,7 +9,8 @@ ghost use Rattle.lexicon_definitions.specs.FormEntries.{with_entry, IsListedPhas
 ghost use Rattle.lexicon_definitions.specs.Limits.{count_lines};
 ghost use Rattle.lexicon_definitions.specs.Tries.{IsTrieOf};
 ghost use Rattle.lexicon_text_definitions.specs.FileContents.{compare_entries, compare_last as compare_last_of, entries_from};
-ghost use Rattle.shared_trie.specs.OpenForms.{IsBetween, IsReadyFor};
+ghost use Rattle.shared_trie.specs.Interned.{trie_of};
+ghost use Rattle.shared_trie.specs.OpenForms.{IsBetween, IsPending, IsReadyFor};
 ghost use Rattle.shared_trie.specs.Stages.{IsStage};
 
 use super::Store;
@@ -18,6 +19,7 @@ use super::told_forms::{ToldForms, nothing_told, tell};
 use form_tags::Entry;
 use phoneme::Memory;
 use std::alloc::Global;
+use std::boxed::Box;
 use std::cmp::Ordering;
 use std::marker::Model;
 use std::snapshot::Snapshot;
@@ -31,7 +33,7 @@ pub struct StoreBuilder {
     phases: u32,
     lines: u32,
     last: Option<Entry>,
-    open_trie: OpenTrie,
+    open_trie: Box<OpenTrie>,
     /// Whether memory was wanting once, since when nothing is known of the trie.
     failed: bool,
 }
@@ -47,7 +49,7 @@ impl Model for StoreBuilder {
 
     ghost view = { λ b. b.told.value.0 };
 
-    ghost invariant = { λ b. IsBuilt b.told.value b.phases b.lines (option_map text_entry b.last) b.open_trie b.failed };
+    ghost invariant = { λ b. IsBuilt b.told.value b.phases b.lines (option_map text_entry b.last) b.open_trie.value b.failed };
 }
 
 /// Makes nodes of the rows that the next entry has no use for.
@@ -74,6 +76,31 @@ fn leave(
     Ok(())
 }
 
+/// Adds an entry that comes after all others.
+fn add(
+    open_trie: &mut OpenTrie,
+    alloc: Global,
+    told: &Snapshot<ToldForms>,
+    last: &Option<Entry>,
+    next: &Entry,
+) -> Result<(), Memory>
+    requires listed { All IsListedPhase told.now.value.0 }
+    requires lines { told.now.value.1 ≤ MOST_FORM_LINES }
+    requires phases { length told.now.value.0 ≤ MOST_PHASES }
+    requires phase { next.now.phase < length told.now.value.0 }
+    requires not_empty { 0 < length next.now.form }
+    requires short { length next.now.form ≤ MOST_FORM_LETTERS }
+    requires above { compare_last_of compare_entries (entries_from 0 told.now.value.0) (text_entry next.now) ≡ Less }
+    requires stage { IsStage told.now.value.0 told.now.value.1 (option_map text_entry last.now) open_trie.old }
+    ensures { OnOk result (IsPending (with_entry told.now.value.0 (text_entry next.now)) (told.now.value.1 + 1) (text_entry next.now) open_trie.new) }
+{
+    leave(open_trie, alloc, told, last, next)?;
+    let form = next.form.as_slice();
+    let number = open_trie.deltas.number(alloc, form, &next.analysis)?;
+    open_trie.numbers.push(number)?;
+    Ok(())
+}
+
 /// Gives all phases their roots.
 fn end(
     open_trie: &mut OpenTrie,
@@ -96,6 +123,21 @@ fn end(
     open_trie.fill_roots(told, last.phase + 1, phases)
 }
 
+/// A trie of no form and no phase, in a box, so that whoever drops a builder makes one call for it.
+fn begin(alloc: Global) -> Result<Box<OpenTrie>, Memory>
+    ensures { IfOk result (λ begun. (phases : ℕ) → IsBetween (replicate phases []) 0 0 begun.value) }
+{
+    let open_trie = OpenTrie::new(alloc)?;
+    Ok(Box::new(alloc, open_trie)?)
+}
+
+/// The trie of which all phases have their roots.
+fn into_store(open_trie: Box<OpenTrie>) -> Store
+    ensures { result ≡ trie_of open_trie.value.trie }
+{
+    Box::into_inner(open_trie).trie.into_store()
+}
+
 impl StoreBuilder {
     /// So many phases without forms.
     pub fn new(alloc: Global, phases: u32) -> Result<StoreBuilder, Memory>
@@ -107,7 +149,7 @@ impl StoreBuilder {
             phases,
             lines: 0,
             last: None,
-            open_trie: OpenTrie::new(alloc)?,
+            open_trie: begin(alloc)?,
             failed: false,
         })
     }
@@ -125,15 +167,13 @@ impl StoreBuilder {
         ensures unchanged { OnErr result (self.new ≡ self.old) }
     {
         // The calls tell that both are words, which the forms keep.
-        let form = entry.form.as_slice();
+        let _form = entry.form.as_slice();
         let _stem = entry.analysis.stem.as_slice();
         if self.failed {
             return Err(Memory);
         }
         self.failed = true;
-        leave(&mut self.open_trie, alloc, &self.told, &self.last, &entry)?;
-        let number = self.open_trie.deltas.number(alloc, form, &entry.analysis)?;
-        self.open_trie.numbers.push(number)?;
+        add(&mut self.open_trie, alloc, &self.told, &self.last, &entry)?;
         tell(&mut self.told, &entry);
         self.lines += 1;
         self.last = Some(entry);
@@ -191,6 +231,6 @@ impl StoreBuilder {
             return Err(Memory);
         }
         end(&mut open_trie, alloc, &told, &last, phases)?;
-        Ok(open_trie.trie.into_store())
+        Ok(into_store(open_trie))
     }
 }
