@@ -32,3 +32,4 @@ pub mod ToldRows
 pub mod ChainLaws
 pub mod DeltaListings
 pub mod InternedLaws
+pub mod SoughtPlaces

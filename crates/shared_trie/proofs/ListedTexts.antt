@@ -1,9 +1,9 @@
 -- What is appended one after another with commas between: one text more comes after a comma.
-use Rattle.std.proofs.Common.{◌≡◌, ℕ, suc, ◌+◌, ◌<◌, List, [], ◌∷◌, ◌++◌, length, map, take, get_or, refl, sym, ◌∙◌, ap, subst, add-one}
+use Rattle.std.proofs.Common.{◌≡◌, ℕ, suc, ◌+◌, ◌<◌, ◌≤◌, List, [], ◌∷◌, ◌++◌, length, map, take, get_or, refl, sym, ◌∙◌, ap, subst, add-one, arith}
 use Rattle.std.specs.Prelude.{All, Contains}
 use Rattle.std.specs.List.{join_with_byte}
-use Rattle.std.proofs.lemmas.List.{append_assoc, map_push, take_more}
-use Rattle.std.proofs.lemmas.List.Elements.{All-push}
+use Rattle.std.proofs.lemmas.List.{append_assoc, map_push, take_all, take_more}
+use Rattle.std.proofs.lemmas.List.Elements.{All-nil, All-push}
 use Rattle.list_laws.proofs.Sorted.{Contains-later}
 use Rattle.trie_text_definitions.specs.NodeLines.{listed}
 
@@ -47,3 +47,14 @@ module _ {X Y : Type 0} (view : X → Y) (write : Y → List ℕ) (P : Y → Typ
       let next : take (place + 1 + 1) all ≡ first ∷ take place others ++ x ∷ [] =
       rw add-one (ap (take (suc (place + 1))) e ∙ ap (◌∷◌ first) (take_more others place x below ∙ ap (λ (y : X). take place others ++ y ∷ []) (sym here))) in
       subst (AreListed old new) (sym next) (more old out new first (take place others) x (subst (AreListed old out) front is) wrote p)
+
+  -- the first text
+  pub listed_first : (old out : List ℕ) (all others : List X) (first : X) → all ≡ first ∷ others → out ≡ old ++ write (view first) → P (view first) → AreListed old out (take (0 + 1) all)
+  listed_first old out all others first e wrote p =
+      let front : take (0 + 1) all ≡ first ∷ [] = ap (take 1) e in
+      subst (AreListed old out) (sym front) record { text = wrote; each = All-push P [] (view first) (All-nil P) p }
+
+  -- no text is left
+  pub listed_whole : (old out : List ℕ) (all others : List X) (first : X) (place : ℕ) → all ≡ first ∷ others → length others ≤ place → AreListed old out (take (place + 1) all) → AreListed old out all
+  listed_whole old out all others first place e low is =
+      let size = ap length e in subst (AreListed old out) (take_all (place + 1) all (omega (arith, size, low))) is

@@ -85,6 +85,17 @@ root_marked count nodes node marks new is long too = record {
   );
 }
 
+-- at the end just the roots are
+pub roots_marked : (trie : Trie) (marks : List Bool) → IsTrie trie → AreJustMarked (length trie.rows) trie.roots marks → AreMarkedFrom trie (length trie.rows) marks
+roots_marked trie marks lawful is = record {
+  count = is.count_is;
+  sound = λ node h. record { root = node; is_root = (is.each node).0 h; word = []; walked = refl };
+  roots = λ root m. (is.each root).1 m;
+  closed = λ node from h.
+      let low = All-contains (λ (root : ℕ). root < length trie.rows) trie.roots node lawful.roots ((is.each node).0 h) in
+      absurd (omega (arith, low, from));
+}
+
 -- ---- from the last node to the first
 
 -- a node that is not marked has nothing to mark
