@@ -15,7 +15,7 @@ use Rattle.search_frames.specs.Tests.{IsAlwaysRefused}
 use Rattle.search_frames.specs.Walks.{IsNodeAt}
 use Rattle.search_frames.proofs.ConfigurationRanks.{possible_if_leads, possible_if_ends}
 use Rattle.search_frames.proofs.GroupedRules.{choice_of_group, in_group}
-use Rattle.search_frames.proofs.PossibleKeys.{change_possible, possible_ends, possible_walks}
+use Rattle.search_frames.proofs.PossibleKeys.{change_possible, possible_ends, possible_phase, possible_walks}
 use Rattle.search_frames.proofs.TurnedPhases.{few_letters}
 
 module _ (searched : SearchedLexicon) (is : IsSearchedLexicon searched) (line : Line) (here : NumberedConfiguration) (key : Key) where
@@ -29,6 +29,9 @@ module _ (searched : SearchedLexicon) (is : IsSearchedLexicon searched) (line : 
     leads_on = λ leads. none (possible_if_leads searched line choices here key leads) leads.stands.written;
     ends = λ ends. none (possible_if_ends searched line choices here key ends) ends.stands.written;
   }
+
+  pub refused_phase : length (rules_in searched).names ≤ key.phase → IsAlwaysRefused searched line here key
+  refused_phase past = refused_unless (λ possible written. let low = possible_phase searched is line here key possible in omega (arith, past, low))
 
   pub refused_letters : MOST_FORM_LETTERS < key.taken → IsAlwaysRefused searched line here key
   refused_letters many = refused_unless (λ possible written. let few = few_letters searched line here key is possible in omega (arith, many, few))

@@ -149,6 +149,10 @@ module _ (searched : SearchedLexicon) (line : Line) (choices : List Choice) (say
   pub few_taken : IsSearchedLexicon searched → (key : Key) → IsPossible searched line here key → key.taken ≤ MOST_FORM_LETTERS
   few_taken is key possible = few_letters searched line here key is possible
 
+  -- no phase comes before the first
+  pub none_passed_at_first : HasNoneOf searched line choices here (IsPassedFrom from from.phase)
+  none_passed_at_first key begins (meant, low) = elim meant [ inl later ↦ omega (arith, later, low) | inr within ↦ (let same = within.0 in omega (arith, same, low)) ]
+
   module _ (is : IsSearchedLexicon searched) (phase : ℕ) (first : Key) (phase_is : first.phase ≡ phase)
       (told : (key : Key) → key.taken ≤ MOST_FORM_LETTERS → key.phase ≡ phase → IsFrom from key ↔ IsInPhaseFrom first key)
       (none : HasNoneOf searched line choices here (IsPassedFrom from phase)) where

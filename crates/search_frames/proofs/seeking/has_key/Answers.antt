@@ -1,9 +1,37 @@
 -- A form has few letters, and the letters of a key that is possible lead to a node.
-use Rattle.std.proofs.Common.{arith}
+use Rattle.std.proofs.Common.{length, ap, arith}
+use Rattle.std.specs.Prelude.{string_bytes}
+use Rattle.std.proofs.lemmas.List.{length-map}
+use Rattle.lexicon_definitions.specs.Lexicons.{RuleSet}
 use Rattle.derivation.specs.Steps.{key_meant}
 use Rattle.search_frames.specs.Frames.{numbered_of}
-use Rattle.search_frames.proofs.SoughtKeys.{refused_letters, refused_walk}
+use Rattle.search_frames.proofs.SoughtKeys.{refused_phase, refused_letters, refused_walk}
 use Rattle.search_frames.proofs.seeking.has_key.Goals as goal
+
+pub returns-then-key-phases-clause-refused : goal.returns-then-key-phases-clause-refused
+returns-then-key-phases-clause-refused c not_there =
+    let names = ap (λ (r : RuleSet). length r.names) c.rules.ensures.value in
+    refused_phase c.args.lexicon.now c.rules.ensures.searched c.args.line.now (numbered_of c.args.lexicon.now c.args.place.now) (key_meant c.args.key)
+    (omega (arith, c.if-key-phases.true, length-map c.phases.result.now string_bytes, ap length c.phases.ensures, names))
+
+pub walk_place-walked-requires-clause-phase : goal.walk_place-walked-requires-clause-phase
+walk_place-walked-requires-clause-phase c =
+    let names = ap (λ (r : RuleSet). length r.names) c.rules.ensures.value in
+    omega (arith, c.if-key-phases.false, length-map c.phases.result.now string_bytes, ap length c.phases.ensures, names)
+
+pub has_change-requires-clause-searched : goal.has_change-requires-clause-searched
+has_change-requires-clause-searched c = c.rules.ensures.searched
+
+pub has_change-requires-clause-phase : goal.has_change-requires-clause-phase
+has_change-requires-clause-phase c =
+    let names = ap (λ (r : RuleSet). length r.names) c.rules.ensures.value in
+    omega (arith, c.if-key-phases.false, length-map c.phases.result.now string_bytes, ap length c.phases.ensures, names)
+
+pub index-requires : goal.index-requires
+index-requires c = omega (arith, c.if-key-walked.false, c.walk_place-walked.ensures.few, c.walk_place-walked.ensures.room, c.requires.room)
+
+pub has_change-requires-clause-letters : goal.has_change-requires-clause-letters
+has_change-requires-clause-letters c = (c.walk_place-walked.ensures.walked c.args.key.taken (omega (arith, c.if-key-walked.false))).letters
 
 pub returns-then-key-gt-MOST_FORM_LETTERS-clause-refused : goal.returns-then-key-gt-MOST_FORM_LETTERS-clause-refused
 returns-then-key-gt-MOST_FORM_LETTERS-clause-refused c not_there =

@@ -1,5 +1,5 @@
 -- Phase by phase.
-use Rattle.std.proofs.Common.{◌≡◌, ◌+◌, ◌-◌, ◌*◌, ◌<◌, ◌≤◌, ℕ, suc, length, ◌∙◌, ap, arith}
+use Rattle.std.proofs.Common.{◌≡◌, ◌+◌, ◌-◌, ◌*◌, ◌<◌, ◌≤◌, ℕ, suc, length, refl, ◌∙◌, ap, arith}
 use Rattle.std.specs.Prelude.{string_bytes}
 use Rattle.std.proofs.Math.Nat.{suc-mul, mul-le-mul_right}
 use Rattle.std.proofs.lemmas.List.{length-map}
@@ -7,7 +7,7 @@ use Rattle.lexicon_definitions.specs.Lexicons.{RuleSet}
 use Rattle.derivation.specs.Steps.{key_meant}
 use Rattle.search_frames.specs.Costs.{steps_of_phase}
 use Rattle.search_frames.specs.Frames.{numbered_of}
-use Rattle.search_frames.proofs.TurnedPhases.{next_phase_found, next_phase_passed, all_passed}
+use Rattle.search_frames.proofs.TurnedPhases.{none_passed_at_first, next_phase_found, next_phase_passed, all_passed}
 use Rattle.search_frames.proofs.turning.turn_by_walking.Goals as goal
 
 -- one phase more
@@ -21,6 +21,30 @@ one_phase phase first cost start before now order so_far spent =
 -- no more phases than there are, and one at least
 few_phases : (phases first count cost start now : ℕ) → phases ≤ count → first < phases → now + (phases - first) ≤ start + phases * cost → now < start + count * cost
 few_phases phases first count cost start now few some spent = let more = mul-le-mul_right cost few in omega (arith, some, spent, more)
+
+pub overflow_cast-phase-end : goal.overflow_cast-phase-end
+overflow_cast-phase-end g c =
+    let names = ap (λ (r : RuleSet). length r.names) c.rules.ensures.value in
+    omega (arith, c.requires.searched.limits.phases, length-map c.phases.result.now string_bytes, ap length c.phases.ensures, names)
+
+pub loop-phase-init : goal.loop-phase-init
+loop-phase-init g c = record {
+  none = none_passed_at_first c.args.space.now.lexicon.now c.args.space.now.line.now c.args.space.now.choices.now (g.D.Guide.says c.args.space.now.guide.now) (numbered_of c.args.space.now.lexicon.now c.args.place.now) (key_meant c.args.from);
+  room = refl;
+  after = omega arith;
+  spent = λ most few. omega arith;
+}
+
+pub turn_in_phase-requires-clause-phase : goal.turn_in_phase-requires-clause-phase
+turn_in_phase-requires-clause-phase g c =
+    let names = ap (λ (r : RuleSet). length r.names) c.rules.ensures.value in
+    omega (arith, c.loop-phase-test.true, c.first_in-first.ensures.phase, length-map c.phases.result.now string_bytes, ap length c.phases.ensures, names)
+
+pub turn_in_phase-requires-clause-room : goal.turn_in_phase-requires-clause-room
+turn_in_phase-requires-clause-room g c = omega (arith, c.requires.room, c.loop-phase.invariant.room)
+
+pub returns-in-Some-clause-room : goal.returns-in-Some-clause-room
+returns-in-Some-clause-room g c = c.turn_in_phase.ensures.room ∙ c.loop-phase.invariant.room
 
 pub returns-in-Some-clause-first : goal.returns-in-Some-clause-first
 returns-in-Some-clause-first g c =
