@@ -1,10 +1,10 @@
 -- A key past the limit, or of a phase that may not begin there, does nothing.
-use Rattle.std.proofs.Common.{◌≡◌, subst, rules}
+use Rattle.std.proofs.Common.{subst, rules}
 use Rattle.lexicon_definitions.specs.Leads.{leads_of}
 use Rattle.lexicon_definitions.specs.Lexicons.{RuleSet}
 use Rattle.derivation.specs.Guides.{entrance_of}
 use Rattle.derivation.specs.Steps.{key_of}
-use Rattle.search_frames.specs.Ahead.{IsAhead, MayBegin}
+use Rattle.search_frames.specs.Ahead.{IsAhead}
 use Rattle.search_frames.specs.Frames.{numbered_of}
 use Rattle.search_frames.proofs.AheadTests.{past_limit, not_begun}
 use Rattle.search_frames.proofs.letter_testing.test_letters.Goals as goal
