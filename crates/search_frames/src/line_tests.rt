@@ -15,13 +15,15 @@ pub(crate) fn u_of(rules: &RuleSet, rule: u32) -> &[Letter]
     }
 }
 
-/// Whether the word comes first among the letters. Most words differ in the first letter, so this is looked at before the others.
+/// Whether the word comes first among the letters. Most words have one letter or differ in the first, so this is looked at before the
+/// others.
 pub(crate) fn begins_with(letters: &[Letter], word: &[Letter]) -> bool
     ensures { IsTrue result ↔ (take (length word.now) letters.now ≡ word.now) }
 {
     match (word, letters) {
         ([], _) => true,
         (_, []) => false,
+        ([only], [letter, ..]) => letter == only,
         ([first, ..], [letter, ..]) => letter == first && letters.starts_with(word),
     }
 }
