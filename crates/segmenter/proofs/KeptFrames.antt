@@ -36,14 +36,17 @@ keeps_then level old mid new a b = record {
 shorter_front : {X : Type 0} (n m : ℕ) (xs ys : List X) → n ≤ m → take m xs ≡ take m ys → take n xs ≡ take n ys
 shorter_front n m xs ys le same = sym (take-take n m xs le) ∙ ap (take n) same ∙ take-take n m ys le
 
-pub keeps_less : (level : ℕ) (old new : Resumption) → KeepsBefore (level + 1) old new → KeepsBefore level old new
-keeps_less level old new k = record {
+pub keeps_fewer : (level more : ℕ) (old new : Resumption) → level ≤ more → KeepsBefore more old new → KeepsBefore level old new
+keeps_fewer level more old new le k = record {
   cursor = k.cursor;
   room = k.room;
   is_stack = k.is_stack;
-  steps = shorter_front level (level + 1) new.steps.items old.steps.items (omega arith) k.steps;
-  frames = shorter_front level (level + 1) new.frames.items old.frames.items (omega arith) k.frames;
+  steps = shorter_front level more new.steps.items old.steps.items le k.steps;
+  frames = shorter_front level more new.frames.items old.frames.items le k.frames;
 }
+
+pub keeps_less : (level : ℕ) (old new : Resumption) → KeepsBefore (level + 1) old new → KeepsBefore level old new
+keeps_less level old new k = keeps_fewer level (level + 1) old new (omega arith) k
 
 -- the frame at the level is the same
 pub record FrameKept (level : ℕ) (old new : Resumption) : Type 0 where

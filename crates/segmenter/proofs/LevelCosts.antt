@@ -1,7 +1,7 @@
 -- What a move spends, level by level: under an exact guide nothing is found only where the guide says so, so each frame that a
 -- move leaves stood when it began, and each that it enters stands when it ends; there are at most twice as many of either as
 -- letters, and each takes one turn.
-use Rattle.std.proofs.Common.{◌≡◌, ℕ, ◌+◌, ◌-◌, ◌*◌, ◌<◌, ◌≤◌, Bool, true, false, Option, List, [], ◌∷◌, length, ap, sym, ◌∙◌, subst, arith, add-one}
+use Rattle.std.proofs.Common.{◌≡◌, ℕ, ◌+◌, ◌-◌, ◌*◌, ◌<◌, ◌≤◌, Bool, true, false, Option, List, [], ◌∷◌, length, ap, ◌∙◌, subst, arith, add-one}
 use Rattle.std.specs.Bool.{OnTrue, OnFalse}
 use Rattle.std.proofs.Math.Nat.{add-mul, suc-mul, mul_assoc, mul-le-mul_left, mul-le-mul_right}
 use Rattle.text_definitions.specs.Lines.{Line, IsLine}
@@ -12,12 +12,11 @@ use Rattle.derivation.specs.declared.entrance.Entrance.{Entrance}
 use Rattle.annotated_trie.specs.Searched.{SearchedLexicon, IsSearchedLexicon}
 use Rattle.search_frames.specs.declared.resumption.Resumption.{Resumption}
 use Rattle.search_frames.specs.Configurations.{NumberedConfiguration, after, opening}
-use Rattle.search_frames.specs.Frames.{here_of}
 use Rattle.search_frames.specs.Reached.{rank}
 use Rattle.search_frames.specs.Costs.{HasAtMostRules, steps_of_frame}
 use Rattle.search_frames.proofs.FrameCosts.{some_steps, steps_within}
 use Rattle.search_frames.proofs.ConfigurationRanks.{rank_rises, rank_within}
-use Rattle.segmenter.specs.Chains.{AreFrames, LeadAlong}
+use Rattle.segmenter.specs.Chains.{LeadAlong}
 use Rattle.segmenter.specs.Searches.{SearchValue, StandsAtAnswer}
 use Rattle.segmenter.specs.MoveCosts.{AreKnownExact, steps_of_levels, levels_from, levels_after}
 use Rattle.segmenter.proofs.FramesAlong.{frames_count}
@@ -34,7 +33,7 @@ found_only false is_true p = absurd (cc)
 
 -- ---- levels
 
-pub more_levels : (cost m n : ℕ) → m ≤ n → m * cost ≤ n * cost
+more_levels : (cost m n : ℕ) → m ≤ n → m * cost ≤ n * cost
 more_levels cost m n le = mul-le-mul_right cost le
 
 one_level : (cost m n : ℕ) → n ≡ m + 1 → n * cost ≡ m * cost + cost
@@ -53,32 +52,23 @@ found_below cost bound here next start key now rises went found =
     let fewer = more_levels cost (bound + 1 - next) (bound - here) (omega (arith, rises)) in
     omega (arith, went, found, fewer)
 
--- nothing was found deeper, and the frame takes one turn
-module _ (cost depth level start mid now : ℕ) (below : level < depth) (spent : mid ≤ start + (depth - (level + 1)) * cost) where
-  pub later_found_costs : (levels : ℕ) → now ≤ mid + cost + levels * cost → now ≤ start + (depth - level + levels) * cost
-  later_found_costs levels found =
-      let one = one_level cost (depth - (level + 1)) (depth - level) (omega (arith, below)) in
-      let all = add-mul (depth - level) levels cost in
-      omega (arith, spent, found, one, all)
-
-  pub later_none_costs : now ≤ mid + cost → now ≤ start + (depth - level) * cost
+-- nothing was found from the frame below on, and the one before it takes one turn
+module _ (cost depth level below start mid now : ℕ) (more : level < below) (in_use : below ≤ depth) (spent : mid ≤ start + (depth - below) * cost) where
+  pub later_none_costs : now ≤ mid + cost → now ≤ start + (depth - (below - 1)) * cost
   later_none_costs found =
-      let one = one_level cost (depth - (level + 1)) (depth - level) (omega (arith, below)) in
+      let one = one_level cost (depth - below) (depth - (below - 1)) (omega (arith, more, in_use)) in
       omega (arith, spent, found, one)
+
+  pub later_found_costs : (levels most : ℕ) → levels ≤ most → now ≤ mid + cost + levels * cost → now ≤ start + (depth - level + most) * cost
+  later_found_costs levels most few found =
+      let one = one_level cost (depth - below) (depth - (below - 1)) (omega (arith, more, in_use)) in
+      let all = add-mul (depth - (below - 1)) levels cost in
+      let fewer = more_levels cost (depth - (below - 1) + levels) (depth - level + most) (omega (arith, more, few)) in
+      omega (arith, spent, found, one, all, fewer)
 
 -- ---- frames
 
 module _ (searched : SearchedLexicon) (line : Line) (choices : List Choice) (is : IsSearchedLexicon searched) where
-  -- the frame after the first stands at a higher rank
-  pub deeper_rises : (stack : Resumption) (level : ℕ) (here : NumberedConfiguration) (keys : List Key) → AreFrames searched line stack level here keys
-      → LeadAlong searched line choices here keys → level + 1 < stack.depth → rank here < rank (here_of searched stack (level + 1))
-  deeper_rises stack level here [] frames along more = absurd along
-  deeper_rises stack level here (key ∷ []) frames along more =
-      let last = frames.4 in
-      absurd (omega (arith, last, more))
-  deeper_rises stack level here (key ∷ next ∷ keys) frames along more =
-      subst (λ h. rank here < rank h) (sym frames.4.1) (rank_rises searched line choices here key is along.0)
-
   -- keys along which each leads on are no more than the ranks
   few_keys : (keys : List Key) (here : NumberedConfiguration) → LeadAlong searched line choices here keys → rank here ≤ 2 * length line.letters
       → rank here + length keys ≤ 2 * length line.letters + 1

@@ -24,7 +24,7 @@ use Rattle.search_frames.specs.Tests.{LeadsTo}
 use Rattle.search_frames.specs.Turns.{BeginsPath, HasTurned, HasNoTurn, IsToTry, StandsToTry}
 use Rattle.search_frames.proofs.StepKeys.{IsBefore, before_from_less, less_from_before}
 use Rattle.search_frames.specs.Stacks.{KeepsBefore}
-use Rattle.segmenter.specs.Chains.{AreFrames, HasFound, HasNone, Every, BeginsToTry, ComesAfter, HasNoneBelow}
+use Rattle.segmenter.specs.Chains.{AreFrames, HasFound, HasNone, Every, BeginsToTry, ComesAfter}
 use Rattle.segmenter.proofs.KeptFrames.{keeps_itself, keeps_if_changes, keeps_then, keeps_less, frame_kept, place_kept, key_kept, here_kept, FrameKept, placed_kept}
 use Rattle.search_frames.proofs.LeadingTo.{LedTo, leads_from}
 use Rattle.search_frames.proofs.ConfigurationRanks.{not_both, possible_if_leads, possible_if_ends}
@@ -284,6 +284,11 @@ module _ (searched : SearchedLexicon) (line : Line) (choices : List Choice) (lev
   none_at_all none keys path wanted = none keys path (begins_path keys path)
 
 -- ---- what comes after the keys along which frames stand
+
+-- no path that begins with the key and comes after the rest there
+abbrev pub HasNoneBelow : SearchedLexicon → Line → List Choice → NumberedConfiguration → Key → List Key → Type 0
+HasNoneBelow searched line choices here key rest =
+    (keys : List Key) → IsPath (ways_in searched line choices) here (key ∷ keys) → ComesAfter rest keys → ⊥
 
 module _ (searched : SearchedLexicon) (line : Line) (choices : List Choice) (level : ℕ) (old : Resumption) (here : NumberedConfiguration) (key : Key) (rest : List Key)
     (frames : AreFrames searched line old level here (key ∷ rest)) where

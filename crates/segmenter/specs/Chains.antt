@@ -56,11 +56,6 @@ ComesAfter [] keys = ⊥
 ComesAfter (first ∷ earlier) [] = ⊥
 ComesAfter (first ∷ earlier) (key ∷ keys) = (compare_keys first key ≡ Less) ⊎ ((first ≡ key) × ComesAfter earlier keys)
 
--- no path that begins with the key and comes after the rest there
-abbrev pub HasNoneBelow : SearchedLexicon → Line → List Choice → NumberedConfiguration → Key → List Key → Type 0
-HasNoneBelow searched line choices here key rest =
-    (keys : List Key) → IsPath (ways_in searched line choices) here (key ∷ keys) → ComesAfter rest keys → ⊥
-
 -- there is room for each frame that may stand from the level on: each rises in rank, up to twice the number of letters
 pub record HasRoom (line : Line) (stack : Resumption) (level : ℕ) (here : NumberedConfiguration) : Type 0 where
   pub below : level < rank here

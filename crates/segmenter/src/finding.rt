@@ -10,7 +10,7 @@ ghost use Rattle.search_frames.specs.Costs.{HasAtMostRules, steps_of_frame};
 ghost use Rattle.search_frames.specs.Reached.{IsReached};
 ghost use Rattle.search_frames.specs.Turns.{StandsToTry};
 ghost use Rattle.segmenter.specs.MoveCosts.{steps_of_levels, levels_from, levels_after};
-ghost use Rattle.segmenter.specs.Chains.{AreFrames, HasFound, HasNone, Every, BeginsToTry, ComesAfter, LeadAlong, HasNoneBelow, HasRoom};
+ghost use Rattle.segmenter.specs.Chains.{AreFrames, HasFound, HasNone, Every, BeginsToTry, ComesAfter, LeadAlong, HasRoom};
 
 use outside::Steps;
 use search_frames::{
@@ -90,8 +90,8 @@ pub(crate) fn find_next<D: SearchGuide, L>(
 }
 
 /// Finds the first path that comes after the keys along which the frames from the level on stand, and does not begin with all of
-/// them. False where there is no such path.
-#[cycle(later)]
+/// them. False where there is no such path. Goes over the frames in use from the last to the one at the level, since of two such
+/// paths that which shares more of these keys comes first.
 pub(crate) fn find_later<D: SearchGuide, L>(
     space: &SearchSpace<'_, D>,
     stack: &mut Resumption,
@@ -119,41 +119,12 @@ pub(crate) fn find_later<D: SearchGuide, L>(
     ensures steps_end { IsExactOf space.now.lexicon.now space.now.line.now space.now.choices.now (D.says space.now.guide.now) → (most : ℕ) → HasAtMostRules space.now.lexicon.now.tries most
         → OnFalse result (steps.new ≤ steps.old + steps_of_levels space.now.lexicon.now most (depth_of stack.old - level)) }
 {
-    if find_deeper(space, stack, level, steps) {
-        return true;
+    let mut below = stack.depth() as usize;
+    while below > level {
+        below -= 1;
+        if find_next(space, stack, below, ToTry::Later, steps) {
+            return true;
+        }
     }
-    find_next(space, stack, level, ToTry::Later, steps)
-}
-
-/// The same among those that share the first key with these, where there is another frame in use after this one.
-#[cycle(later)]
-fn find_deeper<D: SearchGuide, L>(
-    space: &SearchSpace<'_, D>,
-    stack: &mut Resumption,
-    level: usize,
-    steps: &mut Steps<L>,
-) -> bool
-    requires searched { IsSearchedLexicon space.now.lexicon.now }
-    requires line { IsLine space.now.line.now }
-    requires guide { IsGuideOf space.now.lexicon.now space.now.line.now space.now.choices.now (D.covers space.now.guide.now) (D.says space.now.guide.now) }
-    requires known { D.known space.now.guide.now space.now.lexicon.now space.now.line.now space.now.choices.now }
-    requires stack { IsStack stack.old }
-    requires below { level < depth_of stack.old }
-    requires reached { IsReached space.now.lexicon.now space.now.line.now space.now.choices.now (here_of space.now.lexicon.now stack.old level) }
-    requires room { HasRoom space.now.line.now stack.old level (here_of space.now.lexicon.now stack.old level) }
-    requires frames { (keys : List Key) × AreFrames space.now.lexicon.now space.now.line.now stack.old level (here_of space.now.lexicon.now stack.old level) keys × LeadAlong space.now.lexicon.now space.now.line.now space.now.choices.now (here_of space.now.lexicon.now stack.old level) keys }
-    ensures found { (keys : List Key) → AreFrames space.now.lexicon.now space.now.line.now stack.old level (here_of space.now.lexicon.now stack.old level) keys
-        → LeadAlong space.now.lexicon.now space.now.line.now space.now.choices.now (here_of space.now.lexicon.now stack.old level) keys
-        → OnTrue result (HasFound space.now.lexicon.now space.now.line.now space.now.choices.now (ComesAfter keys) stack.new level (here_of space.now.lexicon.now stack.old level)) }
-    ensures none { (key : Key) (rest : List Key) → AreFrames space.now.lexicon.now space.now.line.now stack.old level (here_of space.now.lexicon.now stack.old level) (key ∷ rest)
-        → LeadAlong space.now.lexicon.now space.now.line.now space.now.choices.now (here_of space.now.lexicon.now stack.old level) (key ∷ rest)
-        → OnFalse result (HasNoneBelow space.now.lexicon.now space.now.line.now space.now.choices.now (here_of space.now.lexicon.now stack.old level) key rest) }
-    ensures changes { KeepsBefore level stack.old stack.new }
-    ensures kept { OnFalse result (KeepsBefore (level + 1) stack.old stack.new) }
-    ensures steps_on { IsExactOf space.now.lexicon.now space.now.line.now space.now.choices.now (D.says space.now.guide.now) → (most : ℕ) → HasAtMostRules space.now.lexicon.now.tries most
-        → OnTrue result (steps.new ≤ steps.old + steps_of_levels space.now.lexicon.now most (depth_of stack.old - level + levels_after space.now.line.now (here_of space.now.lexicon.now stack.old level))) }
-    ensures steps_end { IsExactOf space.now.lexicon.now space.now.line.now space.now.choices.now (D.says space.now.guide.now) → (most : ℕ) → HasAtMostRules space.now.lexicon.now.tries most
-        → OnFalse result (steps.new ≤ steps.old + steps_of_levels space.now.lexicon.now most (depth_of stack.old - (level + 1))) }
-{
-    level + 1 < stack.depth() as usize && find_later(space, stack, level + 1, steps)
+    false
 }
