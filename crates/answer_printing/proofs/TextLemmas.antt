@@ -1,14 +1,19 @@
--- Spelling goes letter by letter, so it goes over parts of a word and over words that are put together.
-use Rattle.std.proofs.Common.{◌≡◌, ℕ, List, [], ◌∷◌, ◌++◌, take, drop, refl, sym, ap, ◌∙◌, append_assoc, codes}
-use Rattle.std.proofs.lemmas.List.{map-append, take-map, drop-map}
+-- Spelling goes letter by letter, so it goes over parts of a word and over words that are put together; and pieces of an answer are
+-- appended after one another.
+use Rattle.std.proofs.Common.{◌≡◌, ℕ, ◌<◌, ◌≤◌, ◌-◌, if◌then◌else◌, List, [], ◌∷◌, ◌++◌, length, map, get_or, take, drop, refl, sym, ap, ◌∙◌, append_assoc, length-append, codes, arith}
+use Rattle.std.proofs.Math.Seq.{take-append_seam}
+use Rattle.std.proofs.lemmas.Bool.{ne_eqb}
+use Rattle.std.proofs.lemmas.List.{get_or-map, length-map, map-append, take-map, drop-map}
 use Rattle.text_definitions.specs.Spellings.{byte_of_letter}
 use Rattle.text_definitions.specs.Slp1.{slp1_of_word, slp1_table}
+use Rattle.lexicon_definitions.specs.Rules.{printed_rule}
 use Rattle.lexicon_definitions.specs.Lexicons.{RuleSet, rule_of}
 use Rattle.derivation.specs.declared.step.Step.{Step as ProgramStep}
 use Rattle.derivation.specs.Steps.{step_after, letters_taken}
 use Rattle.std.specs.Fmt.{decimal}
 use Rattle.segmentation_definitions.specs.Derivations.{Step}
-use Rattle.segmentation_definitions.specs.PrintedAnswers.{printed_answer, printed_steps, output_line}
+use Rattle.segmentation_definitions.specs.PrintedAnswers.{printed_answer, printed_steps, printed_joint, printed_end, output_line}
+use Rattle.answer_printing.specs.Texts.{phase_text}
 
 -- no rule has an empty u and v, and an empty word has an empty text
 pub no_u : (rules : RuleSet) (number : ℕ) → number ≡ 0 → [] ≡ slp1_of_word (rule_of rules number).u
@@ -18,6 +23,40 @@ no_u rules number zero = rw zero refl
 pub no_v : (rules : RuleSet) (number : ℕ) → number ≡ 0 → [] ≡ slp1_of_word (rule_of rules number).v
 unfolding slp1_of_word
 no_v rules number zero = rw zero refl
+
+-- the text of a phase is found by its number
+pub phase_there : {X : Type 0} (bytes : X → List ℕ) (texts : List X) (names : List (List ℕ)) (phase : ℕ) (text : X) → map bytes texts ≡ map phase_text names
+    → phase < length names → text ≡ get_or texts phase text → bytes text ≡ phase_text (get_or names phase [])
+phase_there bytes texts names phase text are low text_is =
+    let count = length-map texts bytes in
+    let same = ap length are in
+    let many = length-map names phase_text in
+    ap bytes text_is ∙ sym (get_or-map bytes texts phase text [] (omega (arith, count, same, many, low)))
+    ∙ ap (λ ts. get_or ts phase []) are ∙ get_or-map phase_text names phase [] [] low
+
+-- what stands between two forms is what stands after the last, and a blank
+pub joint_is_end : (rules : RuleSet) (number : ℕ) (joint : List ℕ) → joint ≡ printed_joint rules number → (number ≡ 0 → ⊥)
+    → joint ≡ printed_end rules number ++ codes " "
+joint_is_end rules number joint joint_is some =
+    let notation = printed_rule (rule_of rules number) in
+    let ending = codes " (" ++ notation ++ codes ")" in
+    let no = ne_eqb number 0 some in
+    joint_is ∙ ap (λ none. if none then codes " + " else codes " (" ++ notation ++ codes ") ") no
+    ∙ sym (append_assoc (codes " (" ++ notation) (codes ")") (codes " ")) ∙ sym (ap (λ none. (if none then [] else ending) ++ codes " ") no)
+
+-- a text is cut before its last byte
+pub has_last : (text front : List ℕ) (last : ℕ) → text ≡ front ++ last ∷ [] → 1 ≤ length text
+has_last text front last text_is =
+    let long = ap length text_is in
+    let more = length-append front (last ∷ []) in
+    omega (arith, long, more)
+
+pub without_last : (text front : List ℕ) (last : ℕ) → text ≡ front ++ last ∷ [] → take (length text - 1) text ≡ front
+without_last text front last text_is =
+    let long = ap length text_is in
+    let more = length-append front (last ∷ []) in
+    let count : length text - 1 ≡ length front = omega (arith, long, more) in
+    ap (λ n. take n text) count ∙ ap (take (length front)) text_is ∙ take-append_seam front (last ∷ [])
 
 -- a part of the text is the text of a part
 pub spelled_part : (letters : List ℕ) (at taken : ℕ) → take taken (drop at (slp1_of_word letters)) ≡ slp1_of_word (take taken (drop at letters))

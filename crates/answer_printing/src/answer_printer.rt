@@ -1,5 +1,5 @@
 ghost use Rattle.std.specs.Prelude.{◌≡◌, ◌+◌, ◌<◌, ◌≤◌, [], ◌∷◌, ◌++◌, length, map, IfOk, OnOk};
-ghost use Rattle.segmentation_definitions.specs.PrintedAnswers.{printed_answer, printed_form, printed_joint, printed_end, printed_steps, output_line};
+ghost use Rattle.segmentation_definitions.specs.PrintedAnswers.{printed_answer, printed_form, printed_steps, output_line};
 ghost use Rattle.text_definitions.specs.Slp1.{slp1_of_word};
 ghost use Rattle.derivation.specs.Steps.{StandIn, steps_of, step_after, letters_taken};
 ghost use Rattle.answer_printing.specs.Fronts.{AreStarts, IsOpen, step_in};
@@ -13,6 +13,17 @@ use phoneme::{Line, Memory};
 use std::alloc::Global;
 use std::marker::Model;
 use std::mem;
+
+/// Appends a text that is often empty, as the `u` of a rule. Nothing is copied then, which is faster.
+fn push_some(output: &mut Vec<u8>, text: &[u8]) -> Result<(), Memory>
+    ensures { OnOk result (output.new.items ≡ output.old.items ++ text.now) }
+{
+    if text.is_empty() {
+        return Ok(());
+    }
+    output.extend_from_slice(text)?;
+    Ok(())
+}
 
 /// Prints answers of a line: its letters are spelled once, and of each answer only the steps that differ from those of the answer
 /// before.
@@ -93,9 +104,9 @@ impl<'a> AnswerPrinter<'a> {
         requires within { step.now.at + step.now.taken ≤ length self.now.letters }
         ensures ok { OnOk result (output.new.items ≡ output.old.items ++ slp1_of_word (step_after self.now.rules self.now.letters before step.now).form) }
     {
-        output.extend_from_slice(self.texts.v(before))?;
+        push_some(output, self.texts.v(before))?;
         output.extend_from_slice(self.spelled_letters(step))?;
-        output.extend_from_slice(self.texts.u(step.rule))?;
+        push_some(output, self.texts.u(step.rule))?;
         Ok(())
     }
 
@@ -108,37 +119,7 @@ impl<'a> AnswerPrinter<'a> {
         ensures ok { OnOk result (output.new.items ≡ output.old.items ++ printed_form self.now.rules (step_after self.now.rules self.now.letters before step.now)) }
     {
         self.push_word(output, before, step)?;
-        output.extend_from_slice(b"[")?;
-        output.extend_from_slice(self.texts.phase_name(step.phase))?;
-        output.extend_from_slice(b"]")?;
-        Ok(())
-    }
-
-    /// What stands between a form with this rule after it and the next form.
-    fn push_joint(&self, output: &mut Vec<u8>, rule: u32) -> Result<(), Memory>
-        requires { rule ≤ length self.now.rules.rules }
-        ensures ok { OnOk result (output.new.items ≡ output.old.items ++ printed_joint self.now.rules rule) }
-    {
-        if rule == 0 {
-            output.extend_from_slice(b" + ")?;
-        } else {
-            output.extend_from_slice(b" (")?;
-            output.extend_from_slice(self.texts.notation(rule))?;
-            output.extend_from_slice(b") ")?;
-        }
-        Ok(())
-    }
-
-    /// What stands after the last form, with this rule after it.
-    fn push_end(&self, output: &mut Vec<u8>, rule: u32) -> Result<(), Memory>
-        requires { rule ≤ length self.now.rules.rules }
-        ensures ok { OnOk result (output.new.items ≡ output.old.items ++ printed_end self.now.rules rule) }
-    {
-        if rule != 0 {
-            output.extend_from_slice(b" (")?;
-            output.extend_from_slice(self.texts.notation(rule))?;
-            output.extend_from_slice(b")")?;
-        }
+        output.extend_from_slice(self.texts.phase(step.phase))?;
         Ok(())
     }
 
@@ -158,7 +139,7 @@ impl<'a> AnswerPrinter<'a> {
             before,
         })?;
         self.push_form(&mut front.text, before, step)?;
-        self.push_joint(&mut front.text, step.rule)?;
+        front.text.extend_from_slice(self.texts.joint(step.rule))?;
         Ok(())
     }
 
@@ -178,7 +159,7 @@ impl<'a> AnswerPrinter<'a> {
             before,
         })?;
         self.push_form(&mut front.text, before, step)?;
-        self.push_end(&mut front.text, step.rule)?;
+        push_some(&mut front.text, self.texts.end(step.rule))?;
         Ok(())
     }
 

@@ -1,6 +1,6 @@
-//! Answers and pages printed fast: the words of the rules and of the line are spelled once, and each answer is put together from
-//! slices of these texts. The steps with which the answer before began are not printed anew. A page is printed from where a search
-//! stands: at most so many answers, an answer a line, and whether one is left.
+//! Answers and pages printed fast: what is printed of rules and phases is made once, the line is spelled once, and each answer is put
+//! together from slices of these texts. The steps with which the answer before began are not printed anew. A page is printed from
+//! where a search stands: at most so many answers, an answer a line, and whether one is left.
 //!
 //! Proved: `AnswerPrinter::push_answer` appends the printed line of the answer (`ok`), and is refused only for want of memory;
 //! `RuleTexts::new` and `AnswerPrinter::new` make them for the rule set and the line that they are given (`ok`), and so does

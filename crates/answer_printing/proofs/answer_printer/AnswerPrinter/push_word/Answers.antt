@@ -8,5 +8,5 @@ pub returns : goal.returns
 returns c = record {
   ok = word_appended c.args.self.now.rules c.self.inside.texts.now c.args.self.now.letters c.args.before c.args.step.now _ _ _ _ _ _ _
       (sym (ap (λ (v : PrintedWith). v.rules) c.self.view_is)) c.v.ensures c.spelled_letters.ensures c.u.ensures
-      c.in_ok-extend_from_slice.ensures.items c.in_ok-extend_from_slice-2.ensures.items c.in_ok-extend_from_slice-3.ensures.items;
+      c.in_ok-push_some.ensures c.in_ok-extend_from_slice.ensures.items c.in_ok-push_some-2.ensures;
 }
