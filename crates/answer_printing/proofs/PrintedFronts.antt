@@ -1,8 +1,8 @@
 -- What is printed of steps is what is printed of their front and of the rest, so a text that is cut where a step begins may go on
 -- with other steps; and a step more is printed after the others, whose texts stay where they begin.
-use Rattle.std.proofs.Common.{◌≡◌, ℕ, zero, suc, ◌+◌, ◌<◌, ◌≤◌, ◌⊎◌, inl, inr, List, [], ◌∷◌, ◌++◌, length, take, drop, map, refl, sym, ◌∙◌, ap, subst, append_assoc, length-append, arith}
+use Rattle.std.proofs.Common.{◌≡◌, ℕ, zero, suc, ◌+◌, ◌-◌, ◌<◌, ◌≤◌, ◌⊎◌, inl, inr, List, [], ◌∷◌, ◌++◌, length, get_or, take, drop, map, refl, sym, ◌∙◌, ap, subst, append_assoc, length-append, arith}
 use Rattle.std.proofs.Math.Seq.{take-append_seam}
-use Rattle.std.proofs.lemmas.List.{take-append-le, take-append-drop, length-take-le, get_or-take, get_or_append_left, map-append, take-map, length-map}
+use Rattle.std.proofs.lemmas.List.{take-append-le, take-append-drop, length-take-le, get_or-take, get_or_append_left, take_all, take_more, map-append, take-map, length-map}
 use Rattle.lexicon_definitions.specs.Lexicons.{RuleSet, rule_of}
 use Rattle.segmentation_definitions.specs.PrintedAnswers.{printed_steps, printed_form, printed_joint, printed_end}
 use Rattle.derivation.specs.declared.step.Step.{Step}
@@ -30,6 +30,13 @@ place_or_last zero zero low = inr refl
 place_or_last zero (suc count) low = inl (omega arith)
 place_or_last (suc place) zero low = absurd (omega arith)
 place_or_last (suc place) (suc count) low = elim (place_or_last place count (omega arith)) [ inl l ↦ inl (omega (arith, l)) | inr e ↦ inr (ap suc e) ]
+
+-- a list is its front and its last element
+pub with_last : (xs front : List Step) (place : ℕ) (none : Step) → front ≡ take place xs → place ≡ length xs - 1 → 0 < length xs
+    → front ++ get_or xs (length xs - 1) none ∷ [] ≡ xs
+with_last xs front place none front_is place_is some =
+    ap (λ ys. ys ++ get_or xs (length xs - 1) none ∷ []) (front_is ∙ ap (λ n. take n xs) place_is)
+    ∙ sym (take_more xs (length xs - 1) none (omega (arith, some))) ∙ take_all (length xs - 1 + 1) xs (omega (arith, some))
 
 at_seam : (xs : List PrintedStep) (y : PrintedStep) (place : ℕ) → place ≡ length xs → printed_at (xs ++ y ∷ []) place ≡ y
 at_seam [] y zero is = refl
