@@ -4,7 +4,7 @@ use Rattle.std.proofs.Common.{◌≡◌, ◌≢◌, ℕ, ◌+◌, ◌-◌, ◌*�
 use Rattle.std.specs.Int.{IsBitSet, bit_at, bit_not, trailing_zeros, leading_zeros, w64}
 use Rattle.std.proofs.Math.Nat.{div-le_self}
 use Rattle.std.proofs.lemmas.Bool.{cases_eq, cases_lt}
-use Rattle.std.proofs.lemmas.List.{length-set, get_or-set_same, get_or-set_other}
+use Rattle.std.proofs.lemmas.List.{length-set, get_or_past, get_or-set_same, get_or-set_other}
 use Rattle.std.proofs.lemmas.Nat.Bits.{bit_at-zero, bit_at_above, bit_at-trailing_zeros, bit_at_set_same, bit_at_set_other, bit_at_clear_other}
 use Rattle.summary_chart.specs.declared.state_set.StateSet.{StateSet}
 use Rattle.summary_chart.specs.StateSets.{HasState}
@@ -168,6 +168,22 @@ with_word sets filled index word put states have below word_is here others =
             ]
       ];
     }
+
+-- sets that are all made of an empty one are empty
+pub all_none : (sets : List StateSet) (empty : StateSet) → ((number : ℕ) → HasState empty number → ⊥) → empty.bits ≡ 0
+    → ((index : ℕ) → index < length sets → slice_index_or sets index (record { bits = 0 }) ≡ empty)
+    → (index number : ℕ) → HasState (slice_index_or sets index (record { bits = 0 })) number → ⊥
+all_none sets empty none zero each index number has = elim (cases_lt index (length sets)) [
+  | inl below ↦ none number (subst (λ (s : StateSet). HasState s number) (each index below) has)
+  | inr past ↦
+      none number (subst (λ (n : ℕ). IsBitSet n number) (sym zero)
+      (subst (λ (s : StateSet). HasState s number) (get_or_past sets index (record { bits = 0 }) past) has))
+]
+
+-- and each has its bit
+pub none_filled : (sets : List StateSet) (filled : List ℕ) → length filled ≡ length sets / 64 + 1
+    → ((index number : ℕ) → HasState (slice_index_or sets index (record { bits = 0 })) number → ⊥) → HaveBits sets filled
+none_filled sets filled count none = record { count = count; each = λ index number has. absurd (none index number has) }
 
 -- a set is put at an index, and its bit is set
 pub bit_set : (sets : List StateSet) (filled : List ℕ) (index word : ℕ) (states : StateSet) → HaveBits sets filled → index < length sets

@@ -70,12 +70,34 @@ module _ (rules : RuleSet) where
           let size = are.size in
           ap (λ (n : ℕ). get_or (set same rule other) n 0) here ∙ get_or-set_same same rule other 0 (omega (arith, low, size))
 
+  -- and of those that have the round nothing is lost by one more
+  pub still_looked : (looked : List ℕ) (rule : ℕ) (effects : Effects) → HaveLooked rules looked effects → HaveLooked rules (looked ++ rule ∷ []) effects
+  still_looked looked rule effects have r within now =
+      let one = have r within now in
+      (one.0, Contains-append_left looked (rule ∷ []) one.0 one.1, one.2)
+
+  -- where the rule that stands for it has the round, one that was looked at does the same
+  pub was_looked : (looked : List ℕ) (rule same : ℕ) (effects : Effects) → DoSame rules same rule → same < length effects.seen.items
+      → get_or effects.seen.items same 0 ≡ effects.round → HaveLooked rules looked effects → (one : ℕ) × Contains looked one × DoSame rules one rule
+  was_looked looked rule same effects does low now have =
+      let one = have same low now in
+      (one.0, one.1, does_on one.0 same rule one.2 does)
+
   -- the rule that stands for it has the round now
   module _ (effects : Effects) (rule same : ℕ) (low : same < length effects.seen.items) where
     reads : (r : ℕ) → (r ≡ same) ⊎ (get_or (set effects.seen.items same effects.round) r 0 ≡ get_or effects.seen.items r 0)
     reads r = elim (same_or_other r same) [
       | inl here ↦ inl here
       | inr apart ↦ inr (get_or-set_other effects.seen.items same r effects.round 0 apart)
+    ]
+
+    pub rounds_put : ((r : ℕ) → get_or effects.seen.items r 0 ≤ effects.round) → (r : ℕ)
+        → get_or (set effects.seen.items same effects.round) r 0 ≤ effects.round
+    rounds_put rounds r = elim (reads r) [
+      | inl here ↦
+          let put = ap (λ (n : ℕ). get_or (set effects.seen.items same effects.round) n 0) here ∙ get_or-set_same effects.seen.items same effects.round 0 low in
+          omega (arith, put)
+      | inr was ↦ (let bound = rounds r in omega (arith, was, bound))
     ]
 
     pub looked_put : (looked : List ℕ) → DoSame rules same rule → HaveLooked rules looked effects → (r : ℕ)

@@ -1,10 +1,10 @@
 -- For each rule one with the same u: at first itself, and one that is put in place of another has its u.
-use Rattle.std.proofs.Common.{◌≡◌, ◌≢◌, ◌⊎◌, ℕ, ◌≤◌, inl, inr, Bool, true, List, length, get_or, set, All, sym, ap, ◌∙◌, refl, arith, length-set}
+use Rattle.std.proofs.Common.{◌≡◌, ◌≢◌, ◌⊎◌, ℕ, ◌+◌, ◌<◌, ◌≤◌, inl, inr, Bool, true, List, [], ◌∷◌, ◌++◌, length, get_or, set, All, sym, ap, ◌∙◌, refl, arith, length-set}
 use Rattle.std.specs.declared.cmp.Ordering.{Ordering}
 use Rattle.std.specs.declared.cmp.Ordering.TheVariants.{Less, Equal, Greater}
 use Rattle.std.specs.Ordering.{is_eq}
 use Rattle.std.proofs.lemmas.Bool.{cases_lt}
-use Rattle.std.proofs.lemmas.List.{get_or_default, get_or-set_same, get_or-set_other}
+use Rattle.std.proofs.lemmas.List.{get_or_append_left, get_or_at, get_or_default, get_or-set_same, get_or-set_other}
 use Rattle.std.proofs.lemmas.Map.Lookups.{exact_bytes}
 use Rattle.text_definitions.specs.Words.{compare_words}
 use Rattle.lexicon_definitions.specs.Lexicons.{RuleSet, rule_of}
@@ -19,6 +19,16 @@ equal_if Greater e = absurd cc
 pub same_words : (left right : List ℕ) (order : Ordering) → order ≡ compare_words left right → (same : Bool) → same ≡ is_eq order → same ≡ true → left ≡ right
 same_words left right order is same told equal =
     exact_bytes left right (equal_if (compare_words left right) (ap is_eq (sym is) ∙ sym told ∙ equal))
+
+-- one number more stands in its place
+pub one_numbered : (numbers : List ℕ) (count n : ℕ) → length numbers ≡ count → ((k : ℕ) → k < count → get_or numbers k 0 ≡ k) → n < count + 1
+    → get_or (numbers ++ count ∷ []) n 0 ≡ n
+one_numbered numbers count n size each below = elim (cases_lt n count) [
+  | inl before ↦ get_or_append_left numbers (count ∷ []) 0 n (omega (arith, before, size)) ∙ each n before
+  | inr last ↦
+      let here : count ≡ n = omega (arith, last, below) in
+      get_or_at numbers count [] 0 n (size ∙ here) ∙ here
+]
 
 -- each number stands in its place
 pub each_itself : (rules : RuleSet) (numbers : List ℕ) → AreRuleNumbers rules numbers → HaveSameU rules numbers

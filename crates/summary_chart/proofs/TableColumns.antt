@@ -35,7 +35,7 @@ lead_stands leads place below = record {
 pub start_stands : (leads : ℕ) → StandsIn leads leads Start
 start_stands leads = record { is = refl; proper = tt; over = λ place same. absurd (cc (same)) }
 
-pub letter_stands : (leads letter : ℕ) → IsLetter letter → StandsIn leads (leads + letter) (Plain letter)
+letter_stands : (leads letter : ℕ) → IsLetter letter → StandsIn leads (leads + letter) (Plain letter)
 letter_stands leads letter is = record { is = refl; proper = is; over = λ place same. absurd (cc (same)) }
 
 pub no_columns : (leads : ℕ) → AreColumns leads 0 []
@@ -58,6 +58,15 @@ one_more leads count entrances entrance are stands =
             (subst (λ (n : ℕ). StandsIn leads n entrance) here stands)
       ];
     }
+
+-- one letter more
+pub one_letter_more : (leads code letter : ℕ) (entrances : List Entrance) → AreColumns leads (leads + code) entrances → letter ≡ code → IsLetter letter
+    → AreColumns leads (leads + (code + 1)) (entrances ++ Plain letter ∷ [])
+one_letter_more leads code letter entrances are same is =
+    let next : leads + code + 1 ≡ leads + (code + 1) = omega arith in
+    subst (λ (n : ℕ). AreColumns leads n (entrances ++ Plain letter ∷ [])) next
+    (one_more leads (leads + code) entrances (Plain letter) are
+    (subst (λ (n : ℕ). StandsIn leads (leads + n) (Plain letter)) same (letter_stands leads letter is)))
 
 -- all columns have their entrances
 pub all_columns : (leads count : ℕ) (entrances : List Entrance) → count ≡ width_over leads → AreColumns leads count entrances → AreEntrances leads entrances
