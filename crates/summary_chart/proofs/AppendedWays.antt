@@ -30,6 +30,10 @@ one_rises key = sorted-cons compare_keys key [] (All-nil (λ other. compare_keys
 told_of_key : (IsTold : Key → Type 0) (ways : List Way) → All (λ way. IsTold (key_of_way way)) ways → (key : Key) → Contains (map key_of_way ways) key → IsTold key
 told_of_key IsTold ways told key among = All-contains IsTold (map key_of_way ways) key (All-map IsTold key_of_way ways told) among
 
+-- a list that was appended to begins with what it was
+pub begins_so : (old new more : List Way) → new ≡ old ++ more → take (length old) new ≡ old
+begins_so old new more appended = ap (take (length old)) appended ∙ take-append_seam old more
+
 -- a list that was appended to, and then kept as it was at its begin, still begins with what it was
 pub still_begins : (old mid new more : List Way) → mid ≡ old ++ more → take (length mid) new ≡ mid → take (length old) new ≡ old
 still_begins old mid new more appended kept =

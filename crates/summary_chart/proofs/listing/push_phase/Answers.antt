@@ -6,8 +6,8 @@ use Rattle.search_frames.specs.Frames.{numbered_of}
 use Rattle.summary_chart.specs.PlaceWays.{AppendsWays}
 use Rattle.summary_chart.specs.Spreading.{IsAtFront}
 use Rattle.summary_chart.specs.Summaries.{steps_of_front}
-use Rattle.summary_chart.proofs.AppendedWays.{append_longer}
-use Rattle.summary_chart.proofs.OrderedKeys.{IsFromFront, append_no_front, append_front}
+use Rattle.summary_chart.proofs.AppendedWays.{append_longer, begins_so, still_begins}
+use Rattle.summary_chart.proofs.OrderedKeys.{IsFromFront, append_no_front, append_front, append_all_fronts}
 use Rattle.summary_chart.proofs.SummarySteps.{fewer_within}
 use Rattle.summary_chart.proofs.listing.push_phase.Goals as goal
 
@@ -101,3 +101,45 @@ returns-clause-steps g c most few =
     let spent = inv.spent most few in
     let all = fewer_within (length c.walk_fronts.new.nodes.items) NODES_OF_FRAME (steps_of_front most) short in
     omega (arith, spent, all)
+
+pub returns-then-len-first-gt-MOST_WAYS-clause-appends : goal.returns-then-len-first-gt-MOST_WAYS-clause-appends
+returns-then-len-first-gt-MOST_WAYS-clause-appends g c = tt
+
+pub returns-then-len-first-gt-MOST_WAYS-clause-few : goal.returns-then-len-first-gt-MOST_WAYS-clause-few
+returns-then-len-first-gt-MOST_WAYS-clause-few g c = tt
+
+pub returns-then-len-first-gt-MOST_WAYS-clause-many : goal.returns-then-len-first-gt-MOST_WAYS-clause-many
+returns-then-len-first-gt-MOST_WAYS-clause-many g c = omega (arith, c.if-len-first-gt-MOST_WAYS.true, c.len.ensures, c.push_front.new.ways.ok)
+
+pub returns-clause-few : goal.returns-clause-few
+returns-clause-few g c = c.loop-taken.invariant.few
+
+pub returns-clause-many : goal.returns-clause-many
+returns-clause-many g c = tt
+
+pub returns-in_err-walk_fronts-clause-steps : goal.returns-in_err-walk_fronts-clause-steps
+returns-in_err-walk_fronts-clause-steps g c most few = omega (arith, c.walk_fronts.ensures.steps)
+
+pub returns-then-len-first-gt-MOST_WAYS-clause-kept : goal.returns-then-len-first-gt-MOST_WAYS-clause-kept
+returns-then-len-first-gt-MOST_WAYS-clause-kept g c =
+    let so_far = c.loop-taken.invariant.appends in
+    let one = c.in_ok-push_front.ensures.appends in
+    let old = c.args.ways.now.items in
+    let mid = c.loop-taken.ways.items in
+    let new = c.push_front.new.ways.items in
+    still_begins old mid new so_far.ways so_far.appended (begins_so mid new one.ways one.appended)
+
+pub returns-clause-kept : goal.returns-clause-kept
+returns-clause-kept g c =
+    let so_far = c.loop-taken.invariant.appends in
+    begins_so c.args.ways.now.items c.loop-taken.ways.items so_far.ways so_far.appended
+
+pub returns-clause-appends : goal.returns-clause-appends
+returns-clause-appends g c =
+    let inv = c.loop-taken.invariant in
+    let searched = c.args.here.site.lexicon.now in
+    let here = numbered_of searched c.args.here.site.place.now in
+    let all : c.loop-taken.taken ≡ 0 = omega (arith, c.loop-taken-test.false) in
+    append_all_fronts searched c.args.here.site.line.now c.args.here.site.choices.now here c.args.phase c.args.ways.now.items c.loop-taken.ways.items
+    (subst (λ (n : ℕ). AppendsWays searched c.args.here.site.line.now c.args.here.site.choices.now here (IsFromFront c.args.phase n) c.args.ways.now.items
+    c.loop-taken.ways.items) all inv.appends)
