@@ -1,7 +1,8 @@
 -- One turn by the lemmas on turns (`ReachedPlaces`), and what is kept by those on one index more (`KeptWays`).
-use Rattle.std.proofs.Common.{Result, Ok, Err, List, refl, sym, subst, OnOk}
+use Rattle.std.proofs.Common.{Result, Ok, Err, ℕ, ◌*◌, List, length, refl, sym, ap, subst, arith, OnOk}
 use Rattle.std.specs.List.{All}
 use Rattle.search_frames.specs.declared.way.Way.{Way}
+use Rattle.search_frames.specs.Configurations.{rules_in}
 use Rattle.search_frames.specs.Frames.{numbered_of}
 use Rattle.search_frames.specs.WaysFrom.{IsWayFrom}
 use Rattle.summary_chart.specs.declared.state_set.StateSet.{StateSet}
@@ -134,3 +135,20 @@ returns-clause-kept g c =
 pub returns-clause-memo : goal.returns-clause-memo
 returns-clause-memo g c =
     all_grown c.args.site.lexicon.now c.args.site.line.now c.args.table.now c.spread_ways.new.table c.args.room.now.memo c.spread_ways.ensures.spreads.keeps c.requires.memo
+
+pub returns-clause-few : goal.returns-clause-few
+returns-clause-few g c =
+    let searched = c.args.site.lexicon.now in
+    let line = c.args.site.line.now in
+    let choices = c.args.site.choices.now in
+    let place = c.args.site.place.now in
+    let index = c.args.index in
+    let table = c.args.table.now in
+    let most = c.in_ok-stop.ensures.kept.0 in
+    let adds = put_in searched line choices index most place.at place.entrance place.state table c.requires.before.lawful c.requires.indexed
+    c.args.kept.now c.keep_ways.new.kept
+    (set_of table index) c.in_ok-stop.field-0 c.in-Some.stop refl c.in-Some.is c.in_ok-stop.ensures.kept.2 in
+    let bound = c.in_ok-stop.ensures.kept.1 in
+    let room = adds.room in
+    let count = ap (λ (n : ℕ). n * length (rules_in searched).names) c.requires.before.lawful.count in
+    omega (arith, bound, room, count)

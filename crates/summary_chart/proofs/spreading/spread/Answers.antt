@@ -1,5 +1,7 @@
 -- One phase more; one to which no state leads does nothing.
-use Rattle.std.proofs.Common.{◌+◌, length, sym, subst, arith}
+use Rattle.std.proofs.Common.{◌+◌, length, sym, ap, ◌∙◌, subst, arith}
+use Rattle.std.specs.Prelude.{string_bytes}
+use Rattle.std.proofs.lemmas.List.{length-map}
 use Rattle.lexicon_definitions.specs.Leads.{leads_of}
 use Rattle.lexicon_definitions.specs.Lexicons.{RuleSet}
 use Rattle.phase_automaton.specs.Automata.{StateMachine}
@@ -10,10 +12,30 @@ use Rattle.summary_chart.specs.declared.table.Table.{Table}
 use Rattle.summary_chart.specs.Onward.{AreLedTo}
 use Rattle.summary_chart.specs.StateSets.{IsLedTo}
 use Rattle.summary_chart.specs.Summaries.{steps_of_fronts}
-use Rattle.summary_chart.proofs.VisitedKeys.{visit_phase, visit_dead_phase, visit_unbegun_phase, visit_all_phases}
+use Rattle.summary_chart.proofs.VisitedKeys.{visit_no_phase, visit_phase, visit_dead_phase, visit_unbegun_phase, visit_all_phases}
 use Rattle.summary_chart.proofs.Visits.{spread_visit}
 use Rattle.summary_chart.proofs.SummarySteps.{one_more_within, fewer_within}
 use Rattle.summary_chart.proofs.spreading.spread.Goals as goal
+
+pub loop-phase-init : goal.loop-phase-init
+loop-phase-init g c = record {
+  end = sym (length-map c.phases-phases.result.now string_bytes) ∙ ap length c.phases-phases.ensures ∙ ap (λ (r : RuleSet). length r.names) c.rules-rules.ensures.value;
+  low = omega arith;
+  lawful = c.requires.table;
+  memo = c.requires.memo;
+  spreads = visit_no_phase c.args.site.lexicon.now c.args.site.line.now c.args.site.choices.now c.args.site.place.now c.args.states Table
+      (spread_visit c.args.site.lexicon.now c.args.site.line.now c.args.site.choices.now c.args.site.place.now c.args.states) c.args.table.now;
+  spent = λ most few. omega arith;
+}
+
+pub spread_phase-requires-clause-phase : goal.spread_phase-requires-clause-phase
+spread_phase-requires-clause-phase g c = omega (arith, c.loop-phase-test.true, c.loop-phase.invariant.end)
+
+pub spread_phase-requires-clause-table : goal.spread_phase-requires-clause-table
+spread_phase-requires-clause-table g c = c.loop-phase.invariant.lawful
+
+pub spread_phase-requires-clause-memo : goal.spread_phase-requires-clause-memo
+spread_phase-requires-clause-memo g c = c.loop-phase.invariant.memo
 
 pub spread_phase-requires-clause-onward : goal.spread_phase-requires-clause-onward
 spread_phase-requires-clause-onward g c =
@@ -108,3 +130,9 @@ returns-clause-steps g c most few =
     let spent = inv.spent most few in
     let all = fewer_within c.loop-phase.phase (length (rules_in c.args.site.lexicon.now).names) (1 + steps_of_fronts most) inv.low in
     omega (arith, spent, all)
+
+pub returns-clause-table : goal.returns-clause-table
+returns-clause-table g c = c.loop-phase.invariant.lawful
+
+pub returns-clause-memo : goal.returns-clause-memo
+returns-clause-memo g c = c.loop-phase.invariant.memo
