@@ -19,6 +19,7 @@ impl SearchGuide for Chart {
         steps: &mut Steps<L>,
     ) -> Option<&[Way]> {
         steps.tick();
-        self.kept.at(self.table.index(place.at, place.entrance))
+        let index = self.table.index(place.at, place.entrance);
+        self.kept.at(place.at, index)
     }
 }

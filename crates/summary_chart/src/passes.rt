@@ -1,8 +1,10 @@
-ghost use Rattle.std.specs.Prelude.{◌≡◌, ◌<◌, ◌+◌, ◌*◌, ◌≤◌, ℕ, [], length, IfOk, OnOk};
+ghost use Rattle.std.specs.Prelude.{◌≡◌, ◌<◌, ◌+◌, ◌*◌, ◌≤◌, ℕ, [], length, IfOk, OnOk, IfSome, All};
 ghost use Rattle.text_definitions.specs.Lines.{IsLine};
 ghost use Rattle.annotated_trie.specs.Searched.{IsSearchedLexicon};
 ghost use Rattle.search_frames.specs.Costs.{HasAtMostRules};
 ghost use Rattle.search_frames.specs.Frames.{numbered_of};
+ghost use Rattle.search_frames.specs.WaysFrom.{IsWayFrom};
+ghost use Rattle.search_frames.specs.declared.way.TheConstants.{MOST_WAYS};
 ghost use Rattle.summary_chart.specs.declared.passes.TheConstants.{SETS_FOR_A_WAY};
 ghost use Rattle.summary_chart.specs.declared.memo.Done.{Done as DoneValue};
 ghost use Rattle.summary_chart.specs.Effects.{AreEffects};
@@ -10,7 +12,7 @@ ghost use Rattle.summary_chart.specs.Memos.{AreLiving, AreSpread, EndFrom, IsKno
 ghost use Rattle.summary_chart.specs.Tables.{IsTable, IsIndexed, set_of};
 ghost use Rattle.summary_chart.specs.Spreading.{AreGoingFurther, EveryKey, leads_in};
 ghost use Rattle.summary_chart.specs.Charts.{HasReached, IsChartTable, IsOpenTable, IsReachedBefore};
-ghost use Rattle.summary_chart.specs.PlaceWays.{AreFew, HasKeptFew, HaveWays, HaveWaysBefore};
+ghost use Rattle.summary_chart.specs.PlaceWays.{AreFew, HasEachKey, HasKeptFew, HaveWays, HaveWaysBefore};
 ghost use Rattle.summary_chart.specs.Sites.{IsSite};
 ghost use Rattle.summary_chart.specs.Summaries.{steps_of_items, steps_of_summary};
 
@@ -25,7 +27,7 @@ use super::table::Table;
 use annotated_trie::Lexicon;
 use outside::Steps;
 use phoneme::{Line, Memory};
-use search_frames::Configuration;
+use search_frames::{Configuration, Way};
 use shared_trie::Node;
 
 /// A way or a stop takes 24 bytes, as much as six sets of the table. There is room for one for each seven sets, where each set is counted
@@ -74,7 +76,7 @@ fn keep_ways<L>(
         first,
         end: kept.ways.len(),
     };
-    kept.stops.push(stop)?;
+    kept.push(site.place.at, stop)?;
     Ok(Some(stop))
 }
 
@@ -160,15 +162,16 @@ fn gather_from<L>(
     site: Site<'_>,
     index: usize,
     table: &Table,
-    kept: &PlaceWays,
+    kept: Option<&[Way]>,
     room: &mut Room,
     steps: &mut Steps<L>,
 ) -> Result<StateSet, Memory>
     requires site { IsSite site }
     requires there { index < length table.now.sets.items }
-    requires indexed { IsIndexed (leads_in site.lexicon.now) (length site.line.now.letters) index site.place.now.at site.place.now.entrance }
     requires table { IsTable (leads_in site.lexicon.now) (length site.line.now.letters) table.now }
-    requires kept { HaveWays site.lexicon.now site.line.now site.choices.now table.now kept.now.stops.items kept.now.ways.items }
+    requires each { IfSome kept (λ ways. All (IsWayFrom site.lexicon.now site.line.now site.choices.now (numbered_of site.lexicon.now site.place.now)) ways.now) }
+    requires all { IfSome kept (λ ways. HasEachKey site.lexicon.now site.line.now site.choices.now site.place.now.at site.place.now.entrance (set_of table.now index) ways.now) }
+    requires few { IfSome kept (λ ways. length ways.now ≤ MOST_WAYS) }
     requires memo { AreLiving site.lexicon.now site.line.now table.now room.old.memo }
     ensures memo { OnOk result (AreLiving site.entry.lexicon.now site.entry.line.now table.now room.new.memo) }
     ensures ends { OnOk result (EndFrom site.entry.place.now.at room.old.memo → EndFrom site.entry.place.now.at room.new.memo) }
@@ -176,10 +179,10 @@ fn gather_from<L>(
     ensures steps { (most : ℕ) → HasAtMostRules site.entry.lexicon.now.tries most → steps.new ≤ steps.old + steps_of_items site.entry.lexicon.now most }
 {
     let states = table.sets[index];
-    let Some(ways) = kept.at(index) else {
-        return gather(site, states, table, room, steps);
-    };
-    Ok(gather_ways(site, states, ways, table, steps))
+    match kept {
+        Some(ways) => Ok(gather_ways(site, states, ways, table, steps)),
+        None => gather(site, states, table, room, steps),
+    }
 }
 
 /// Leaves in the table, which has every place that a search comes to, those alone from which there is a path to an answer: from the
@@ -202,6 +205,7 @@ pub(crate) fn keep_living<L>(
     ensures steps { (most : ℕ) → HasAtMostRules passage.entry.lexicon.now.tries most → steps.new ≤ steps.old + steps_of_summary passage.entry.lexicon.now passage.entry.line.now most }
 {
     let state = passage.lexicon.automaton().start();
+    let mut stops = kept.stops.len();
     let mut until = table.filled_until(table.sets.len());
     while until > 0 {
         let index = until - 1;
@@ -217,7 +221,12 @@ pub(crate) fn keep_living<L>(
             choices: passage.choices,
             place: &place,
         };
-        let living = gather_from(site, index, table, kept, room, steps)?;
+        // Each stop stands at an index of this pass, in the same order. Were one passed over, the tries would be walked in its place.
+        let ways = kept.last_at(stops, index);
+        if ways.is_some() {
+            stops -= 1;
+        }
+        let living = gather_from(site, index, table, ways, room, steps)?;
         table.replace(index, living);
         until = table.filled_until(index);
     }

@@ -1,6 +1,7 @@
-ghost use Rattle.std.specs.Prelude.{◌≡◌, ◌+◌, ◌<◌, ◌↔◌, [], length, IsTrue, MatchOption};
-ghost use Rattle.summary_chart.specs.PlaceWays.{AreStops, AreWaysAt, HasStopAt, IsStopWithin, ways_of};
+ghost use Rattle.std.specs.Prelude.{◌≡◌, ◌+◌, ◌<◌, ◌≤◌, ◌↔◌, ◌++◌, ◌∷◌, [], length, IsTrue, IfSome, OnOk};
+ghost use Rattle.summary_chart.specs.PlaceWays.{AreStops, AreWaysAt, IsStopWithin, ways_of};
 
+use phoneme::Memory;
 use search_frames::Way;
 use std::alloc::Global;
 
@@ -17,6 +18,9 @@ pub(crate) struct Stop {
 pub(crate) struct PlaceWays {
     pub stops: Vec<Stop>,
     pub ways: Vec<Way>,
+    /// How many stops stand before the places after each number of letters, as far as there are stops. It tells where to look, and no
+    /// contract speaks of it.
+    starts: Vec<usize>,
 }
 
 impl PlaceWays {
@@ -25,6 +29,7 @@ impl PlaceWays {
         PlaceWays {
             stops: Vec::new(alloc),
             ways: Vec::new(alloc),
+            starts: Vec::new(alloc),
         }
     }
 
@@ -35,6 +40,7 @@ impl PlaceWays {
     {
         self.stops.clear();
         self.ways.clear();
+        self.starts.clear();
     }
 
     /// Whether there are fewer stops and ways together than this.
@@ -52,14 +58,55 @@ impl PlaceWays {
         &self.ways.as_slice()[stop.first..stop.end]
     }
 
-    /// The ways from the places at the index of the table. `None` where there is no stop.
-    pub fn at(&self, index: usize) -> Option<&[Way]>
-        requires stops { AreStops self.now.stops.items (length self.now.ways.items) }
-        ensures found { MatchOption result (HasStopAt self.now.stops.items index → ⊥) (λ ways. AreWaysAt self.now.stops.items self.now.ways.items index ways.now) }
+    /// Puts in a stop of places after so many letters of the line, no fewer than those of the stops before. Refused only for want of memory.
+    pub fn push(&mut self, at: u32, stop: Stop) -> Result<(), Memory>
+        ensures stops { OnOk result (self.new.stops.items ≡ self.old.stops.items ++ stop ∷ []) }
+        ensures ways { self.new.ways.items ≡ self.old.ways.items }
     {
-        match self.stops.binary_search_by(|stop| stop.index.cmp(&index)) {
-            Ok(number) => Some(self.of(self.stops[number])),
+        let start = self.stops.len();
+        if self.starts.len() <= at as usize {
+            self.starts.resize(at as usize + 1, start)?;
+        }
+        self.stops.push(stop)?;
+        Ok(())
+    }
+
+    /// How many stops stand before the places after so many letters of the line.
+    fn stops_before(&self, at: usize) -> usize
+        ensures { result ≤ length self.now.stops.items }
+    {
+        let all = self.stops.len();
+        match self.starts.get(at) {
+            Some(start) => all.min(*start),
+            None => all,
+        }
+    }
+
+    /// The ways from the places at the index of the table, which stand after so many letters of the line: where one of the stops that were
+    /// put in as such is at the index.
+    pub fn at(&self, at: u32, index: usize) -> Option<&[Way]>
+        requires stops { AreStops self.now.stops.items (length self.now.ways.items) }
+        ensures found { IfSome result (λ ways. AreWaysAt self.now.stops.items self.now.ways.items index ways.now) }
+    {
+        let until = self.stops_before(at as usize + 1);
+        let first = until.min(self.stops_before(at as usize));
+        let stops = &self.stops.as_slice()[first..until];
+        match stops.binary_search_by(|stop| stop.index.cmp(&index)) {
+            Ok(number) => Some(self.of(stops[number])),
             Err(_) => None,
+        }
+    }
+
+    /// The ways of the last of the first `count` stops, where it stands at the index of the table. `None` where it stands at another, or
+    /// `count` is 0.
+    pub fn last_at(&self, count: usize, index: usize) -> Option<&[Way]>
+        requires stops { AreStops self.now.stops.items (length self.now.ways.items) }
+        requires count { count ≤ length self.now.stops.items }
+        ensures found { IfSome result (λ ways. (0 < count) × AreWaysAt self.now.stops.items self.now.ways.items index ways.now) }
+    {
+        match &self.stops.as_slice()[..count] {
+            [.., stop] if stop.index == index => Some(self.of(*stop)),
+            _ => None,
         }
     }
 }

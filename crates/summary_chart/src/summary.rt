@@ -49,7 +49,7 @@ impl Chart {
             states,
             table: &self.table,
         };
-        let Some(ways) = self.kept.at(index) else {
+        let Some(ways) = self.kept.at(site.place.at, index) else {
             return collect(site, standing, nodes, collected, steps);
         };
         collect_ways(site, standing, ways, collected, steps)

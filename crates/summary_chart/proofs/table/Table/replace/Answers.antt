@@ -1,5 +1,5 @@
 -- The set's bit is set, or taken away where it has no states, and so every set still has its bit (`FilledSets`).
-use Rattle.std.proofs.Common.{◌≡◌, ◌/◌, ◌<◌, ℕ, length, refl, arith}
+use Rattle.std.proofs.Common.{◌/◌, ◌<◌, length, refl, arith}
 use Rattle.std.proofs.lemmas.List.{length-set, get_or_read, get_or-set_same, get_or-set_other}
 use Rattle.summary_chart.proofs.FilledSets.{bit_set, bit_cleared}
 use Rattle.summary_chart.proofs.table.Table.replace.Goals as goal
