@@ -22,7 +22,7 @@ pub record HasToldRest (search : SearchValue) (before after : List ℕ) : Type 0
 
 -- so many answers after where the search stood were printed, and the line that says whether another is left; the stack is where the search
 -- stood between
-pub record HasPrintedPage (search : SearchValue) (number count : ℕ) (before after : List ℕ) (last_before last_after : List ProgramStep)
+pub record HasKeptPage (search : SearchValue) (number count : ℕ) (before after : List ℕ) (last_before last_after : List ProgramStep)
     (many : ℕ) (stack : Resumption) : Type 0 where
   pub now : SearchValue
   pub bytes : List ℕ

@@ -3,7 +3,7 @@ ghost use Rattle.segmentation_definitions.specs.declared.limits.TheConstants.{LA
 ghost use Rattle.segmenter.specs.Searches.{StandsWhere};
 ghost use Rattle.session_definitions.specs.Requests.{Page as PageRequest};
 ghost use Rattle.session_definitions.specs.Replies.{IsPageReply, IsReplyTo};
-ghost use Rattle.reader_session.specs.PageEnds.{HasToldRest, HasPrintedPage};
+ghost use Rattle.reader_session.specs.PageEnds.{HasToldRest, HasKeptPage};
 ghost use Rattle.reader_session.specs.Readings.{IsReading, IsReadingOver, GoesOn, GoesOnWith, state_with, state_of};
 
 use super::reading::Reading;
@@ -37,7 +37,7 @@ fn push_rest<D: SearchGuide>(
 
 /// Appends the answers that are asked for, after where the search stands, and `more` where another one is left, else `end`. Answers how
 /// many these were, and where the search stood after them.
-fn push_page<D: SearchGuide>(
+fn push_kept_page<D: SearchGuide>(
     alloc: Global,
     printer: &mut AnswerPrinter,
     search: Search<D>,
@@ -48,7 +48,7 @@ fn push_page<D: SearchGuide>(
     requires rules { search.searched.lexicon.rules ≡ printer.old.rules }
     requires line { search.line.letters ≡ printer.old.letters }
     requires number { asked.number ≤ LAST_ANSWER_NUMBER }
-    ensures ok { IfOk result (λ page. HasPrintedPage search.entry asked.number asked.count output.old.items output.new.items last.old.items
+    ensures ok { IfOk result (λ page. HasKeptPage search.entry asked.number asked.count output.old.items output.new.items last.old.items
         last.new.items page.0 page.1) }
 {
     let mut search = search;
@@ -88,7 +88,7 @@ fn push_next_page(
         number: first,
         count,
     };
-    let (answers, resumption) = push_page(
+    let (answers, resumption) = push_kept_page(
         alloc,
         &mut printer,
         search,

@@ -1,5 +1,5 @@
 -- What was printed, and what the search told then.
-use Rattle.reader_session.proofs.page_reply.push_page.Goals as goal
+use Rattle.reader_session.proofs.page_reply.push_kept_page.Goals as goal
 
 pub returns : goal.returns
 returns g c = record {
