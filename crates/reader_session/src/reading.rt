@@ -2,6 +2,7 @@ ghost use Rattle.std.specs.Prelude.{◌≡◌, ◌≤◌, [], length, IfOk, OnOk
 ghost use Rattle.segmentation_definitions.specs.declared.limits.TheConstants.{MOST_CHOICES};
 ghost use Rattle.segmentation_definitions.specs.Listings.{BeforeFirst};
 ghost use Rattle.search_frames.specs.Guided.{IsGuideOf, IsExactOf};
+ghost use Rattle.search_frames.specs.Stacks.{IsStack};
 ghost use Rattle.segmenter.specs.Searches.{StandsWhere};
 ghost use Rattle.summary_chart.specs.Charts.{CoversPlace, says_of};
 ghost use Rattle.summary_chart.specs.PlaceWays.{IsChartOf};
@@ -14,9 +15,10 @@ use derivation::{Item, Step};
 use outside::Steps;
 use phoneme::{Line, Memory};
 use reader_choices::Choices;
-use search_frames::Resumption;
+use search_frames::{Resumption, new_stack};
 use segmenter::Search;
 use std::alloc::Global;
+use std::mem;
 use summary_chart::Chart;
 
 /// A line that is read, with the reader's choices and its chart, which is made once for them. `resumption` is where its
@@ -33,14 +35,17 @@ pub(crate) struct Reading {
     pub summary: Option<Vec<Item>>,
 }
 
-/// The chart of the line with these choices, and where a search over it stands before the first answer. Refused only for want of
-/// memory.
+/// The chart of the line with these choices, and where a search over it stands before the first answer, in the memory of a chart and a stack,
+/// whatever these were of. Refused only for want of memory.
 fn open_chart(
     alloc: Global,
     lexicon: &Lexicon,
     line: &Line,
     choices: &Choices,
+    chart: Chart,
+    stack: Resumption,
 ) -> Result<(Chart, Resumption), Memory>
+    requires stack { IsStack stack }
     ensures chart { IfOk result (λ opened. IsChartOf lexicon.now line.now choices.now opened.0) }
     ensures guide { IfOk result (λ opened. IsGuideOf lexicon.now line.now choices.now (CoversPlace opened.0.table) (says_of opened.0.table)) }
     ensures exact { IfOk result (λ opened. IsExactOf lexicon.now line.now choices.now (says_of opened.0.table)) }
@@ -48,8 +53,8 @@ fn open_chart(
         (record { searched = lexicon.now; line = line.now; choices = choices.now; cursor = BeforeFirst }) opened.1) }
 {
     let mut steps = Steps::<()>::new();
-    let chart = Chart::build(alloc, lexicon, line, choices, &mut steps)?;
-    let resumption = Search::new(alloc, lexicon, line, choices, &chart)?.into_resumption();
+    let chart = chart.rebuilt(alloc, lexicon, line, choices, &mut steps)?;
+    let resumption = Search::over(lexicon, line, choices, &chart, stack)?.into_resumption();
     Ok((chart, resumption))
 }
 
@@ -65,7 +70,15 @@ impl Reading {
         ensures reading { IfOk result (IsReading lexicon.now) }
         ensures state { IfOk result (λ reading. state_with lexicon.now.lexicon.rules reading ≡ fresh (Some line) choices) }
     {
-        let (chart, resumption) = open_chart(alloc, lexicon, &line, &choices)?;
+        let stack = new_stack(alloc, lexicon, 0)?;
+        let (chart, resumption) = open_chart(
+            alloc,
+            lexicon,
+            &line,
+            &choices,
+            Chart::new(alloc),
+            stack,
+        )?;
         Ok(Reading {
             line,
             choices,
@@ -77,19 +90,30 @@ impl Reading {
         })
     }
 
-    /// Begins to read its line anew, with its choices, once these were changed: no answer of it is printed yet. Refused only for want of
-    /// memory.
+    /// Begins to read its line anew, with its choices, once either was changed: no answer of it is printed yet. The memory of what was kept
+    /// before serves again. Refused only for want of memory.
     pub(crate) fn begin(&mut self, alloc: Global, lexicon: &Lexicon) -> Result<(), Memory>
+        requires stack { IsStack self.old.resumption }
         requires few { length self.old.choices ≤ MOST_CHOICES }
         requires items { All (λ choice. IsItemWithinBounds choice.item) self.old.choices }
         ensures reading { OnOk result (IsReading lexicon.now self.new) }
         ensures state { OnOk result (state_with lexicon.now.lexicon.rules self.new ≡ fresh (Some self.old.line) self.old.choices) }
     {
-        let (chart, resumption) = open_chart(alloc, lexicon, &self.line, &self.choices)?;
+        let chart = mem::replace(&mut self.chart, Chart::new(alloc));
+        let no_frames = new_stack(alloc, lexicon, 0)?;
+        let stack = mem::replace(&mut self.resumption, no_frames);
+        let (chart, resumption) = open_chart(
+            alloc,
+            lexicon,
+            &self.line,
+            &self.choices,
+            chart,
+            stack,
+        )?;
         self.chart = chart;
         self.resumption = resumption;
         self.printed = 0;
-        self.last = Vec::new(alloc);
+        self.last.clear();
         self.summary = None;
         Ok(())
     }

@@ -16,20 +16,27 @@ use reader_choices::Choices;
 use std::alloc::Global;
 use text_line::{Scheme, read_line};
 
-/// Appends `ok`, and reads the line without choices.
+/// Reads the line without choices, in the memory of what was read before, where something was.
 fn read_on(
     alloc: Global,
     lexicon: &Lexicon,
+    old: Option<Box<Reading>>,
     line: Line,
-    output: &mut Vec<u8>,
 ) -> Result<Box<Reading>, Memory>
+    requires { IsReadingOver lexicon.now old }
     ensures reading { IfOk result (λ reading. IsReading lexicon.now reading.value) }
     ensures state { IfOk result (λ reading. state_with lexicon.now.lexicon.rules reading.value ≡ fresh (Some line) []) }
-    ensures output { OnOk result (output.new.items ≡ output.old.items ++ output_line (codes "ok")) }
 {
-    push_ok(output)?;
-    let reading = Reading::new(alloc, lexicon, line, Choices::new(alloc))?;
-    Ok(Box::new(alloc, reading)?)
+    let choices = Choices::new(alloc);
+    match old {
+        Some(mut reading) => {
+            reading.line = line;
+            reading.choices = choices;
+            reading.begin(alloc, lexicon)?;
+            Ok(reading)
+        }
+        None => Ok(Box::new(alloc, Reading::new(alloc, lexicon, line, choices)?)?),
+    }
 }
 
 /// `text SCHEME TEXT`: reads the line, or refuses the text with its fault.
@@ -51,7 +58,10 @@ pub(crate) fn reply_to_text(
         return refuse(output, "scheme", old);
     };
     match read_line(alloc, scheme, text) {
-        Ok(line) => Ok(Some(read_on(alloc, lexicon, line, output)?)),
+        Ok(line) => {
+            push_ok(output)?;
+            Ok(Some(read_on(alloc, lexicon, old, line)?))
+        }
         Err(error) => {
             push_text_refusal(alloc, output, error.fault()?)?;
             Ok(old)

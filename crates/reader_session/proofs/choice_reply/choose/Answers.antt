@@ -8,6 +8,7 @@ begin-requires c =
     let old = c.args.reading.now.choices in
     let new = c.add_choice.new.choices in
     record {
+      stack = c.requires.reading.stack.is_stack;
       few = more_fit old new (record { kept = c.args.kept; item = c.args.item })
           (room_before old c.requires.reading.few (λ full. absurd (cc (c.in-Ok.ensures.full.1 full)))) c.in-Ok.ensures.ok;
       items = more_within old new (record { kept = c.args.kept; item = c.args.item }) c.requires.reading.items c.requires.item c.in-Ok.ensures.ok;

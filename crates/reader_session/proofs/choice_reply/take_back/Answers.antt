@@ -9,6 +9,7 @@ begin-requires c =
     let old = c.args.reading.now.choices in
     let choice : Choice = record { kept = c.in-Some.ensures.some.0; item = c.in-Some.field-0 } in
     record {
+      stack = c.requires.reading.stack.is_stack;
       few = fewer_fit old c.undo.new.self choice c.requires.reading.few c.in-Some.ensures.some.1;
       items = fewer_within old c.undo.new.self choice c.requires.reading.items c.in-Some.ensures.some.1;
     }
