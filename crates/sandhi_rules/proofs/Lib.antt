@@ -1,3 +1,4 @@
+pub mod AllowedPairLaws
 pub mod LeadSearches
 pub mod PhaseBits
 pub mod TripleLemmas

@@ -1,2 +1,3 @@
+pub mod AllowedPairs
 pub mod LeadPlaces
 pub mod Triples

@@ -12,6 +12,7 @@
 
 mod lead;
 mod names;
+mod plain_pairs;
 mod printing;
 mod rule;
 mod rule_set;

@@ -5,6 +5,7 @@ ghost use Rattle.lexicon_definitions.specs.Limits.{IsRuleSetWithinLimits, IsShor
 ghost use Rattle.sandhi_rules.specs.LeadPlaces.{AreLeadPlaces};
 
 use super::lead::{add_lead, place_of_lead};
+use super::plain_pairs::PlainPairs;
 use super::{Lead, Rule};
 use lexicon_definitions::MOST_LEADS;
 use phoneme::{Letter, Memory};
@@ -21,18 +22,19 @@ pub struct RuleSet {
     rules: Vec<Rule>,
     leads: Vec<Lead>,
     lead_places: Vec<Option<u16>>,
+    plain_pairs: PlainPairs,
 }
 
 impl Model for RuleSet {
     ghost use Rattle.std.specs.Prelude.{map, string_bytes};
     ghost use Rattle.lexicon_definitions.specs.Lexicons.{RuleSet as RuleSetValue};
-    ghost use Rattle.sandhi_rules.specs.LeadPlaces.{IsRuleSetWithLeads};
+    ghost use Rattle.sandhi_rules.specs.LeadPlaces.{IsRuleSetWithLookups};
 
     ghost Value = { RuleSetValue };
 
     ghost view = { λ r. record { names = map string_bytes r.phases.items; grammar = r.grammar.items; plain = r.plain.items; rules = r.rules.items } };
 
-    ghost invariant = { λ r. IsRuleSetWithLeads (record { names = map string_bytes r.phases.items; grammar = r.grammar.items; plain = r.plain.items; rules = r.rules.items }) r.leads.items r.lead_places.items };
+    ghost invariant = { λ r. IsRuleSetWithLookups (record { names = map string_bytes r.phases.items; grammar = r.grammar.items; plain = r.plain.items; rules = r.rules.items }) r.leads.items r.lead_places.items r.plain_pairs.allowed.items };
 }
 
 impl RuleSet {
@@ -50,6 +52,7 @@ impl RuleSet {
     {
         let leads = leads_of_rules(alloc, rules.as_slice())?;
         let lead_places = lead_places_of(alloc, leads.as_slice(), rules.as_slice())?;
+        let plain_pairs = PlainPairs::of(alloc, plain.as_slice())?;
         Ok(RuleSet {
             phases,
             grammar,
@@ -57,6 +60,7 @@ impl RuleSet {
             rules,
             leads,
             lead_places,
+            plain_pairs,
         })
     }
 
@@ -85,7 +89,7 @@ impl RuleSet {
     pub fn is_plain(&self, x: Letter, y: Letter) -> bool
         ensures { IsTrue result ↔ IsPlain self.now x y }
     {
-        self.plain.binary_search(&(x, y)).is_ok()
+        self.plain_pairs.has(x, y)
     }
 
     /// The rules; the first has the number 1.
