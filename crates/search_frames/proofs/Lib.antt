@@ -2,7 +2,6 @@ pub mod PossibleKeys
 pub mod WalkDeltas
 pub mod WalkLemmas
 pub mod WalkLeads
-pub mod TestWords
 pub mod AheadBlanks
 pub mod AheadTests
 pub mod StepKeys

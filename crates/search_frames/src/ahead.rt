@@ -299,7 +299,7 @@ impl Ahead {
 
     /// What the key with a rule does at the place, where the test of the way says what the rule does after its letters: the same, if the
     /// key fits the place.
-    fn test_where_it_fits(
+    pub fn test_where_it_fits(
         self,
         lexicon: &Lexicon,
         line: &Line,

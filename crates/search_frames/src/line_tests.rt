@@ -15,15 +15,17 @@ pub(crate) fn u_of(rules: &RuleSet, rule: u32) -> &[Letter]
     }
 }
 
-/// Whether the word comes first among the letters. Most words have one letter or differ in the first, so this is looked at before the
-/// others.
+/// Whether the word comes first among the letters. Words are short, and most differ soon, so that they are compared letter by letter.
 pub(crate) fn begins_with(letters: &[Letter], word: &[Letter]) -> bool
     ensures { IsTrue result ↔ (take (length word.now) letters.now ≡ word.now) }
 {
-    match (word, letters) {
-        ([], _) => true,
-        (_, []) => false,
-        ([only], [letter, ..]) => letter == only,
-        ([first, ..], [letter, ..]) => letter == first && letters.starts_with(word),
+    if letters.len() < word.len() {
+        return false;
     }
+    for at in 0..word.len() {
+        if letters[at] != word[at] {
+            return false;
+        }
+    }
+    true
 }

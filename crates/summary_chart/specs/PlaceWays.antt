@@ -103,6 +103,10 @@ abbrev pub HasWays : SearchedLexicon → Line → List Choice → Table → List
 HasWays searched line choices table ways stop = (place : Configuration) → IsConfigurationIn searched line place → IsEntrance place.entrance
     → index_of_place searched place ≡ stop.index → AreWaysOf searched line choices table place (ways_of ways stop)
 
+-- there is a stop at the index
+abbrev pub HasStopAt : List Stop → ℕ → Type 0
+HasStopAt stops index = (stop : Stop) × Contains stops stop × (stop.index ≡ index)
+
 -- these are the ways of a stop at the index
 abbrev pub AreWaysAt : List Stop → List Way → ℕ → List Way → Type 0
 AreWaysAt stops ways index found = (stop : Stop) × Contains stops stop × (stop.index ≡ index) × (found ≡ ways_of ways stop)

@@ -8,6 +8,7 @@ ghost use Rattle.search_frames.specs.Ahead.{MayBegin};
 ghost use Rattle.search_frames.specs.Frames.{numbered_of};
 ghost use Rattle.search_frames.specs.Configurations.{IsPossible};
 ghost use Rattle.search_frames.specs.Costs.{HasAtMostRules};
+ghost use Rattle.search_frames.specs.LetterTests.{IsLetterTestOf};
 ghost use Rattle.summary_chart.specs.Fronts.{IsFrontAt};
 ghost use Rattle.summary_chart.specs.PlaceWays.{AppendsWays};
 ghost use Rattle.summary_chart.specs.Sites.{IsSite, IsSiteAhead};
@@ -21,11 +22,32 @@ use super::walking::walk_fronts;
 use derivation::Key;
 use outside::Steps;
 use phoneme::Memory;
-use search_frames::{Ahead, LetterTest, MOST_WAYS, Way, may_begin};
+use search_frames::{Ahead, LetterTest, MOST_WAYS, Way, may_begin, rule_test};
 use shared_trie::Node;
 
-/// Appends the key, which is possible at the place, if it leads on or ends the line there; a step is counted where it does. The place's own
-/// state is not looked at. Refused only for want of memory.
+/// Appends the way, whose key is possible at the place and whose test is what the key does there, if it leads on or ends the line; a step
+/// is counted where it does. The place's own state is not looked at. Refused only for want of memory.
+fn push_tested<L>(
+    site: Site<'_>,
+    way: Way,
+    ways: &mut Vec<Way>,
+    steps: &mut Steps<L>,
+) -> Result<(), Memory>
+    requires possible { IsPossible site.lexicon.now site.line.now (numbered_of site.lexicon.now site.place.now) (key_meant way.key) }
+    requires exact { IsLetterTestOf site.lexicon.now site.line.now site.choices.now (numbered_of site.lexicon.now site.place.now) (key_meant way.key) way.test }
+    ensures appends { let here = site.entry in OnOk result (AppendsWays here.lexicon.now here.line.now here.choices.now (numbered_of here.lexicon.now here.place.now) (OnlyKey (key_meant way.key)) ways.old.items ways.new.items) }
+    ensures steps { steps.new ≤ steps.old + 1 }
+    ensures counted { steps.old ≤ steps.new }
+{
+    if let LetterTest::Refused = way.test {
+        return Ok(());
+    }
+    steps.tick();
+    ways.push(way)?;
+    Ok(())
+}
+
+/// Appends the key, which is possible at the place, if it leads on or ends the line there. Refused only for want of memory.
 fn push_key<L>(
     here: SiteAhead<'_>,
     key: Key,
@@ -41,17 +63,46 @@ fn push_key<L>(
     ensures counted { steps.old ≤ steps.new }
 {
     let site = here.site;
-    match here
+    let test = here
         .ahead
-        .test(site.lexicon, site.line, site.choices, site.place, key)
-    {
-        LetterTest::Refused => Ok(()),
-        test => {
-            steps.tick();
-            ways.push(Way { key, test })?;
-            Ok(())
-        }
-    }
+        .test(site.lexicon, site.line, site.choices, site.place, key);
+    push_tested(site, Way { key, test }, ways, steps)
+}
+
+/// The same for a key with a rule. Most rules are refused for their letters, so that these are looked at before the place.
+fn push_rule<L>(
+    here: SiteAhead<'_>,
+    key: Key,
+    ways: &mut Vec<Way>,
+    steps: &mut Steps<L>,
+) -> Result<(), Memory>
+    requires here { IsSiteAhead here }
+    requires limit { here.site.place.now.at + key.taken ≤ here.ahead.limit }
+    requires begins { MayBegin (numbered_of here.site.lexicon.now here.site.place.now).entrance key.phase }
+    requires possible { IsPossible here.site.lexicon.now here.site.line.now (numbered_of here.site.lexicon.now here.site.place.now) (key_meant key) }
+    requires rule { 1 ≤ key.rule }
+    ensures appends { let site = here.entry.site in OnOk result (AppendsWays site.lexicon.now site.line.now site.choices.now (numbered_of site.lexicon.now site.place.now) (OnlyKey (key_meant key)) ways.old.items ways.new.items) }
+    ensures steps { steps.new ≤ steps.old + 1 }
+    ensures counted { steps.old ≤ steps.new }
+{
+    let Site {
+        lexicon,
+        line,
+        choices,
+        place,
+    } = here.site;
+    let ahead = here.ahead;
+    let end = place.at as usize + key.taken as usize;
+    let test = rule_test(
+        lexicon.rules(),
+        line,
+        end,
+        ahead.may_end,
+        key.phase,
+        key.rule,
+    );
+    let test = ahead.test_where_it_fits(lexicon, line, choices, place, Way { key, test });
+    push_tested(here.site, Way { key, test }, ways, steps)
 }
 
 /// Appends those of the keys with these rules, each of which is possible after this front. Refused only for want of memory.
@@ -66,6 +117,7 @@ fn push_rules<L>(
     requires limit { here.site.place.now.at + front.now.taken ≤ here.ahead.limit }
     requires begins { MayBegin (numbered_of here.site.lexicon.now here.site.place.now).entrance front.now.phase }
     requires possible { All (λ rule. IsPossible here.site.lexicon.now here.site.line.now (numbered_of here.site.lexicon.now here.site.place.now) (record { phase = front.now.phase; taken = front.now.taken; rule = rule })) rules.now }
+    requires rules { All (λ rule. 0 < rule) rules.now }
     requires rising { IsStrictlySortedBy nat_cmp rules.now }
     ensures appends { let site = here.entry.site in OnOk result (AppendsWays site.lexicon.now site.line.now site.choices.now (numbered_of site.lexicon.now site.place.now) (IsByRule front.now.phase front.now.taken rules.now) ways.old.items ways.new.items) }
     ensures steps { steps.new ≤ steps.old + 2 * length rules.now }
@@ -78,7 +130,7 @@ fn push_rules<L>(
             taken: front.taken,
             rule: *rule,
         };
-        push_key(here, key, ways, steps)?;
+        push_rule(here, key, ways, steps)?;
     }
     Ok(())
 }

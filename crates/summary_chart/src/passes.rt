@@ -1,10 +1,8 @@
-ghost use Rattle.std.specs.Prelude.{◌≡◌, ◌<◌, ◌+◌, ◌*◌, ◌≤◌, ℕ, [], length, IfOk, OnOk, IfSome, All};
+ghost use Rattle.std.specs.Prelude.{◌≡◌, ◌<◌, ◌+◌, ◌*◌, ◌≤◌, ℕ, [], length, IfOk, OnOk};
 ghost use Rattle.text_definitions.specs.Lines.{IsLine};
 ghost use Rattle.annotated_trie.specs.Searched.{IsSearchedLexicon};
 ghost use Rattle.search_frames.specs.Costs.{HasAtMostRules};
 ghost use Rattle.search_frames.specs.Frames.{numbered_of};
-ghost use Rattle.search_frames.specs.WaysFrom.{IsWayFrom};
-ghost use Rattle.search_frames.specs.declared.way.TheConstants.{MOST_WAYS};
 ghost use Rattle.summary_chart.specs.declared.passes.TheConstants.{SETS_FOR_A_WAY};
 ghost use Rattle.summary_chart.specs.declared.memo.Done.{Done as DoneValue};
 ghost use Rattle.summary_chart.specs.Effects.{AreEffects};
@@ -12,7 +10,7 @@ ghost use Rattle.summary_chart.specs.Memos.{AreLiving, AreSpread, EndFrom, IsKno
 ghost use Rattle.summary_chart.specs.Tables.{IsTable, IsIndexed, set_of};
 ghost use Rattle.summary_chart.specs.Spreading.{AreGoingFurther, EveryKey, leads_in};
 ghost use Rattle.summary_chart.specs.Charts.{HasReached, IsChartTable, IsOpenTable, IsReachedBefore};
-ghost use Rattle.summary_chart.specs.PlaceWays.{AreFew, HasEachKey, HasKeptFew, HaveWays, HaveWaysBefore};
+ghost use Rattle.summary_chart.specs.PlaceWays.{AreFew, HasKeptFew, HaveWays, HaveWaysBefore};
 ghost use Rattle.summary_chart.specs.Sites.{IsSite};
 ghost use Rattle.summary_chart.specs.Summaries.{steps_of_items, steps_of_summary};
 
@@ -27,7 +25,7 @@ use super::table::Table;
 use annotated_trie::Lexicon;
 use outside::Steps;
 use phoneme::{Line, Memory};
-use search_frames::{Configuration, Way};
+use search_frames::Configuration;
 use shared_trie::Node;
 
 /// A way or a stop takes 24 bytes, as much as six sets of the table. There is room for one for each seven sets, where each set is counted
@@ -162,16 +160,15 @@ fn gather_from<L>(
     site: Site<'_>,
     index: usize,
     table: &Table,
-    kept: Option<&[Way]>,
+    kept: &PlaceWays,
     room: &mut Room,
     steps: &mut Steps<L>,
 ) -> Result<StateSet, Memory>
     requires site { IsSite site }
     requires there { index < length table.now.sets.items }
+    requires indexed { IsIndexed (leads_in site.lexicon.now) (length site.line.now.letters) index site.place.now.at site.place.now.entrance }
     requires table { IsTable (leads_in site.lexicon.now) (length site.line.now.letters) table.now }
-    requires each { IfSome kept (λ ways. All (IsWayFrom site.lexicon.now site.line.now site.choices.now (numbered_of site.lexicon.now site.place.now)) ways.now) }
-    requires all { IfSome kept (λ ways. HasEachKey site.lexicon.now site.line.now site.choices.now site.place.now.at site.place.now.entrance (set_of table.now index) ways.now) }
-    requires few { IfSome kept (λ ways. length ways.now ≤ MOST_WAYS) }
+    requires kept { HaveWays site.lexicon.now site.line.now site.choices.now table.now kept.now.stops.items kept.now.ways.items }
     requires memo { AreLiving site.lexicon.now site.line.now table.now room.old.memo }
     ensures memo { OnOk result (AreLiving site.entry.lexicon.now site.entry.line.now table.now room.new.memo) }
     ensures ends { OnOk result (EndFrom site.entry.place.now.at room.old.memo → EndFrom site.entry.place.now.at room.new.memo) }
@@ -179,10 +176,10 @@ fn gather_from<L>(
     ensures steps { (most : ℕ) → HasAtMostRules site.entry.lexicon.now.tries most → steps.new ≤ steps.old + steps_of_items site.entry.lexicon.now most }
 {
     let states = table.sets[index];
-    match kept {
-        Some(ways) => Ok(gather_ways(site, states, ways, table, steps)),
-        None => gather(site, states, table, room, steps),
-    }
+    let Some(ways) = kept.at(site.place.at, index) else {
+        return gather(site, states, table, room, steps);
+    };
+    Ok(gather_ways(site, states, ways, table, steps))
 }
 
 /// Leaves in the table, which has every place that a search comes to, those alone from which there is a path to an answer: from the
@@ -205,7 +202,6 @@ pub(crate) fn keep_living<L>(
     ensures steps { (most : ℕ) → HasAtMostRules passage.entry.lexicon.now.tries most → steps.new ≤ steps.old + steps_of_summary passage.entry.lexicon.now passage.entry.line.now most }
 {
     let state = passage.lexicon.automaton().start();
-    let mut stops = kept.stops.len();
     let mut until = table.filled_until(table.sets.len());
     while until > 0 {
         let index = until - 1;
@@ -221,12 +217,7 @@ pub(crate) fn keep_living<L>(
             choices: passage.choices,
             place: &place,
         };
-        // Each stop stands at an index of this pass, in the same order. Were one passed over, the tries would be walked in its place.
-        let ways = kept.last_at(stops, index);
-        if ways.is_some() {
-            stops -= 1;
-        }
-        let living = gather_from(site, index, table, ways, room, steps)?;
+        let living = gather_from(site, index, table, kept, room, steps)?;
         table.replace(index, living);
         until = table.filled_until(index);
     }

@@ -1,5 +1,5 @@
-ghost use Rattle.std.specs.Prelude.{◌≡◌, ◌+◌, ◌<◌, ◌≤◌, ◌↔◌, ◌++◌, ◌∷◌, [], length, IsTrue, IfSome, OnOk};
-ghost use Rattle.summary_chart.specs.PlaceWays.{AreStops, AreWaysAt, IsStopWithin, ways_of};
+ghost use Rattle.std.specs.Prelude.{◌≡◌, ◌+◌, ◌<◌, ◌≤◌, ◌↔◌, ◌++◌, ◌∷◌, [], length, IsTrue, IfSome, MatchOption, OnOk};
+ghost use Rattle.summary_chart.specs.PlaceWays.{AreStops, AreWaysAt, HasStopAt, IsStopWithin, ways_of};
 
 use phoneme::Memory;
 use search_frames::Way;
@@ -18,8 +18,8 @@ pub(crate) struct Stop {
 pub(crate) struct PlaceWays {
     pub stops: Vec<Stop>,
     pub ways: Vec<Way>,
-    /// How many stops stand before the places after each number of letters, as far as there are stops. It tells where to look, and no
-    /// contract speaks of it.
+    /// How many stops stand before the places after each number of letters, as far as there are stops. It tells where to look first, and
+    /// no contract speaks of it.
     starts: Vec<usize>,
 }
 
@@ -82,9 +82,8 @@ impl PlaceWays {
         }
     }
 
-    /// The ways from the places at the index of the table, which stand after so many letters of the line: where one of the stops that were
-    /// put in as such is at the index.
-    pub fn at(&self, at: u32, index: usize) -> Option<&[Way]>
+    /// The ways of a stop at the index of the table, if there is one among the stops of places after so many letters of the line.
+    fn among_stops_after(&self, at: u32, index: usize) -> Option<&[Way]>
         requires stops { AreStops self.now.stops.items (length self.now.ways.items) }
         ensures found { IfSome result (λ ways. AreWaysAt self.now.stops.items self.now.ways.items index ways.now) }
     {
@@ -97,16 +96,26 @@ impl PlaceWays {
         }
     }
 
-    /// The ways of the last of the first `count` stops, where it stands at the index of the table. `None` where it stands at another, or
-    /// `count` is 0.
-    pub fn last_at(&self, count: usize, index: usize) -> Option<&[Way]>
+    /// The ways of the stop at the index of the table. `None` where there is no stop.
+    fn among_all_stops(&self, index: usize) -> Option<&[Way]>
         requires stops { AreStops self.now.stops.items (length self.now.ways.items) }
-        requires count { count ≤ length self.now.stops.items }
-        ensures found { IfSome result (λ ways. (0 < count) × AreWaysAt self.now.stops.items self.now.ways.items index ways.now) }
+        ensures found { MatchOption result (HasStopAt self.now.stops.items index → ⊥) (λ ways. AreWaysAt self.now.stops.items self.now.ways.items index ways.now) }
     {
-        match &self.stops.as_slice()[..count] {
-            [.., stop] if stop.index == index => Some(self.of(*stop)),
-            _ => None,
+        match self.stops.binary_search_by(|stop| stop.index.cmp(&index)) {
+            Ok(number) => Some(self.of(self.stops[number])),
+            Err(_) => None,
+        }
+    }
+
+    /// The ways from the places at the index of the table, which stand after so many letters of the line. `None` where there is no stop.
+    pub fn at(&self, at: u32, index: usize) -> Option<&[Way]>
+        requires stops { AreStops self.now.stops.items (length self.now.ways.items) }
+        ensures found { MatchOption result (HasStopAt self.now.stops.items index → ⊥) (λ ways. AreWaysAt self.now.stops.items self.now.ways.items index ways.now) }
+    {
+        // The stops after so many letters are few, so they are looked at first.
+        match self.among_stops_after(at, index) {
+            Some(ways) => Some(ways),
+            None => self.among_all_stops(index),
         }
     }
 }

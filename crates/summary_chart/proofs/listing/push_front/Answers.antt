@@ -3,6 +3,7 @@ use Rattle.std.proofs.Common.{◌≡◌, ℕ, ◌+◌, ◌<◌, List, length, Al
 use Rattle.std.specs.Ordering.{nat_cmp}
 use Rattle.std.specs.List.Sorted.{IsStrictlySortedBy}
 use Rattle.std.proofs.lemmas.Result.{on_ok_weaker}
+use Rattle.list_laws.proofs.Sorted.{All-from_Contains}
 use Rattle.phoneme.specs.declared.line.Line.{Line}
 use Rattle.annotated_trie.specs.Choices.{AnnotatedTrie, choices_with}
 use Rattle.search_frames.specs.Configurations.{IsPossible}
@@ -13,6 +14,7 @@ use Rattle.summary_chart.specs.Spreading.{IsByRule}
 use Rattle.summary_chart.specs.Summaries.{key_with}
 use Rattle.summary_chart.proofs.FrontKeys.{front_node, choices_possible, few_written}
 use Rattle.summary_chart.proofs.OrderedKeys.{append_without_letter, append_with_letter}
+use Rattle.summary_chart.proofs.SpreadMemos.{choice_if_written, choice_numbered}
 use Rattle.summary_chart.proofs.listing.push_front.Goals as goal
 
 pub returns-in_default-clause-appends : goal.returns-in_default-clause-appends
@@ -46,6 +48,19 @@ push_rules-requires-clause-possible g c =
     c.choices_with-rules.ensures.value ∙ ap (λ (t : AnnotatedTrie). choices_with t front.node letter) c.tries.ensures.value in
     subst (All (λ (rule : ℕ). IsPossible searched site.line.now here (key_with front.phase front.taken rule))) (sym rules)
     (choices_possible searched c.requires.here.site.searched site.line.now here front.phase front.taken front.node c.requires.front letter)
+
+pub push_rules-requires-clause-rules : goal.push_rules-requires-clause-rules
+push_rules-requires-clause-rules g c =
+    let site = c.args.here.site in
+    let searched = site.lexicon.now in
+    let front = c.args.front.now in
+    let letter = c.in-Some.letter.now in
+    let there = front_node searched c.requires.here.site.searched site.line.now (numbered_of searched site.place.now) front.phase front.taken front.node c.requires.front in
+    let rules : c.choices_with-rules.result.now ≡ choices_with searched.tries front.node letter =
+    c.choices_with-rules.ensures.value ∙ ap (λ (t : AnnotatedTrie). choices_with t front.node letter) c.tries.ensures.value in
+    subst (All (λ (rule : ℕ). 0 < rule)) (sym rules)
+    (All-from_Contains (λ (rule : ℕ). 0 < rule) (choices_with searched.tries front.node letter)
+    (λ rule among. choice_numbered searched front.node rule c.requires.here.site.searched there (choice_if_written searched.tries front.node letter rule among)))
 
 pub push_rules-requires-clause-rising : goal.push_rules-requires-clause-rising
 push_rules-requires-clause-rising g c =

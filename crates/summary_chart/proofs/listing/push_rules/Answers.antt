@@ -22,9 +22,9 @@ loop-rule-preserved g c =
     record {
       appends = append_rule c.args.here.site.lexicon.now c.args.here.site.line.now c.args.here.site.choices.now (numbered_of c.args.here.site.lexicon.now c.args.here.site.place.now) c.args.front.now.phase c.args.front.now.taken
           rules c.requires.rising c.loop-rule.rule-index rule c.loop-rule-test.true is
-          c.args.ways.now.items c.loop-rule.ways.items c.push_key.new.ways.items inv.appends c.in_ok-push_key.ensures.appends;
-      spent = omega (arith, inv.spent, c.tick.ensures, c.push_key.ensures.steps);
-      counted = omega (arith, inv.counted, c.tick.ensures, c.push_key.ensures.counted);
+          c.args.ways.now.items c.loop-rule.ways.items c.push_rule.new.ways.items inv.appends c.in_ok-push_rule.ensures.appends;
+      spent = omega (arith, inv.spent, c.tick.ensures, c.push_rule.ensures.steps);
+      counted = omega (arith, inv.counted, c.tick.ensures, c.push_rule.ensures.counted);
     }
 
 pub returns-clause-appends : goal.returns-clause-appends

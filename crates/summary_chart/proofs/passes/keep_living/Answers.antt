@@ -1,19 +1,15 @@
 -- One turn by the lemmas on turns, from an index to the last one before it whose set is not empty; before the pass the table has only
 -- places that are reached, and every living one.
 use Rattle.std.proofs.Common.{◌≡◌, ◌+◌, ◌-◌, ◌*◌, ℕ, length, sym, ap, subst, arith}
-use Rattle.phase_automaton.specs.Automata.{IsStateIn}
-use Rattle.search_frames.specs.Frames.{IsConfigurationIn}
 use Rattle.summary_chart.specs.Spreading.{leads_in}
 use Rattle.summary_chart.specs.Charts.{IsAliveFrom, set_count}
 use Rattle.summary_chart.specs.Summaries.{steps_of_items, steps_of_summary}
 use Rattle.summary_chart.proofs.LivingPlaces.{gather_back, old_if_new, living_down, reached_back, chart_if_alive}
-use Rattle.std.proofs.lemmas.Option.{IfSome_then}
-use Rattle.summary_chart.proofs.KeptWays.{fewer_places, keys_found, ways_at}
+use Rattle.summary_chart.proofs.KeptWays.{fewer_places}
 use Rattle.summary_chart.proofs.LivingMemos.{LeadPast, nothing_living, nothing_past, past_down, ends_if_past, past_if_ends, living_stays}
 use Rattle.summary_chart.proofs.TableItems.{none_in_empty}
 use Rattle.summary_chart.proofs.PassCosts.{one_frame_less, fewer_left}
 use Rattle.summary_chart.proofs.passes.keep_living.Goals as goal
-use Rattle.summary_chart.proofs.passes.keep_living.Goals.{then-is_some, else-is_some}
 
 pub loop-until-init : goal.loop-until-init
 loop-until-init g c =
@@ -30,7 +26,6 @@ loop-until-init g c =
       from = living_down searched line choices first c.len.result table from (none_in_empty searched line choices table lawful first c.len.result empty);
       low = (let rises = empty.rises in let within = empty.within in omega (arith, rises, within));
       kept = c.requires.kept;
-      stops = omega (arith, c.len-stops.ensures);
       memo = nothing_living searched line table c.args.room.now.memo c.requires.memo c.requires.effects;
       past = nothing_past searched first c.args.room.now.memo c.requires.memo;
       steps = λ most few.
@@ -38,40 +33,6 @@ loop-until-init g c =
           (let same = ap (λ (n : ℕ). n * steps_of_items searched most) all in omega (arith, same)) in
           less;
     }
-
-pub gather_from-requires-clause-each : goal.gather_from-requires-clause-each
-gather_from-requires-clause-each g c =
-    let searched = c.args.passage.lexicon.now in
-    let line = c.args.passage.line.now in
-    let inv = c.loop-until.invariant in
-    let indexed = c.place-at.ensures (leads_in searched) (length line.letters) inv.from.has.lawful in
-    let within : IsConfigurationIn searched line (record { at = c.place-at.result.0; entrance = c.place-at.result.1; state = c.start-state.result }) =
-    record { letters = indexed.within; over = indexed.over; state_in = subst (λ machine. IsStateIn machine c.start-state.result) c.automaton.ensures.value c.start-state.ensures.within } in
-    IfSome_then c.last_at-ways.result c.last_at-ways.ensures.found (λ ways found.
-    (ways_at searched line c.args.passage.choices.now (c.loop-until.until - 1) c.place-at.result.0 c.place-at.result.1 c.loop-until.table inv.from.has.lawful indexed
-    c.args.kept.now.stops.items c.args.kept.now.ways.items ways.now inv.kept found.1 c.start-state.result within).each)
-
-pub gather_from-requires-clause-all : goal.gather_from-requires-clause-all
-gather_from-requires-clause-all g c =
-    let searched = c.args.passage.lexicon.now in
-    let line = c.args.passage.line.now in
-    let inv = c.loop-until.invariant in
-    let indexed = c.place-at.ensures (leads_in searched) (length line.letters) inv.from.has.lawful in
-    IfSome_then c.last_at-ways.result c.last_at-ways.ensures.found (λ ways found.
-    keys_found searched line c.args.passage.choices.now (c.loop-until.until - 1) c.place-at.result.0 c.place-at.result.1 c.loop-until.table inv.from.has.lawful indexed
-    c.args.kept.now.stops.items c.args.kept.now.ways.items ways.now inv.kept found.1)
-
-pub gather_from-requires-clause-few : goal.gather_from-requires-clause-few
-gather_from-requires-clause-few g c =
-    let searched = c.args.passage.lexicon.now in
-    let line = c.args.passage.line.now in
-    let inv = c.loop-until.invariant in
-    let indexed = c.place-at.ensures (leads_in searched) (length line.letters) inv.from.has.lawful in
-    let within : IsConfigurationIn searched line (record { at = c.place-at.result.0; entrance = c.place-at.result.1; state = c.start-state.result }) =
-    record { letters = indexed.within; over = indexed.over; state_in = subst (λ machine. IsStateIn machine c.start-state.result) c.automaton.ensures.value c.start-state.ensures.within } in
-    IfSome_then c.last_at-ways.result c.last_at-ways.ensures.found (λ ways found.
-    (ways_at searched line c.args.passage.choices.now (c.loop-until.until - 1) c.place-at.result.0 c.place-at.result.1 c.loop-until.table inv.from.has.lawful indexed
-    c.args.kept.now.stops.items c.args.kept.now.ways.items ways.now inv.kept found.1 c.start-state.result within).few)
 
 pub loop-until-preserved : goal.loop-until-preserved
 loop-until-preserved g c =
@@ -101,10 +62,6 @@ loop-until-preserved g c =
     record {
       from = living_down searched line choices next index new back (none_in_empty searched line choices new back.has.lawful next index empty);
       kept = fewer_places searched line choices old new c.args.kept.now.stops.items c.args.kept.now.ways.items fewer inv.kept;
-      stops = (let left = inv.stops in elim c.if-is_some.branch [
-        | then-is_some w ↦ omega (arith, left, w.stops-is)
-        | else-is_some w ↦ omega (arith, left, w.stops-is)
-      ]);
       memo = living_stays searched line index old new c.requires.searched from.has.lawful replace.changes c.gather_from.new.room.memo past c.in_ok-living.ensures.memo;
       past = past_down searched next (index + 1) c.gather_from.new.room.memo (let rises = empty.rises in omega (arith, rises)) past;
       low = (let rises = empty.rises in let within = empty.within in omega (arith, rises, within));

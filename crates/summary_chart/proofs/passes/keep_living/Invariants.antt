@@ -1,5 +1,5 @@
--- From each index on the table has only living places, and the ways that are kept are those of its places, of which no more stops are left than
--- there are; each of these indices took its steps.
+-- From each index on the table has only living places, and the ways that are kept are those of its places; each of these indices took its
+-- steps.
 use Rattle.std.proofs.Common.{◌+◌, ◌*◌, ◌≤◌, ℕ, length}
 use Rattle.search_frames.specs.Costs.{HasAtMostRules}
 use Rattle.summary_chart.specs.Charts.{IsAliveFrom}
@@ -14,7 +14,6 @@ invariant-loop-until g l =
     record {
       from : IsAliveFrom l.passage.lexicon.now l.passage.line.now l.passage.choices.now l.until l.table;
       kept : HaveWays l.passage.lexicon.now l.passage.line.now l.passage.choices.now l.table l.kept.stops.items l.kept.ways.items;
-      stops : l.stops ≤ length l.kept.stops.items;
       memo : AreLiving l.passage.lexicon.now l.passage.line.now l.table l.room.memo;
       past : LeadPast l.passage.lexicon.now l.until l.room.memo;
       low : l.until ≤ length l.table.sets.items;

@@ -10,7 +10,7 @@ use Rattle.list_laws.proofs.Searches.{found_at}
 use Rattle.search_frames.specs.declared.way.Way.{Way}
 use Rattle.summary_chart.specs.declared.place_ways.Stop.{Stop}
 use Rattle.summary_chart.specs.PlaceWays.{AreWaysAt, ways_of}
-use Rattle.summary_chart.proofs.place_ways.PlaceWays.at.Goals as goal
+use Rattle.summary_chart.proofs.place_ways.PlaceWays.among_stops_after.Goals as goal
 
 -- what the search found among the stops from one number up to another
 found_ways : (stops shown : List Stop) (ways found : List Way) (first until index number : ℕ) (blank : Stop) → shown ≡ stops
