@@ -20,7 +20,7 @@ use Rattle.lexicon_definitions.proofs.TrieChildren.{Contains-child_among}
 use Rattle.lexicon_definitions.proofs.TrieSteps.{child_among-Contains}
 use Rattle.shared_trie.specs.LetterSets.{letters_in}
 use Rattle.shared_trie.specs.declared.packed_node.PackedNode.{PackedNode}
-use Rattle.shared_trie.specs.Packed.{AddsLists, ArePacked, IsNumberOf, IsPacked, children_with, list_with, row_with}
+use Rattle.shared_trie.specs.Packed.{AddsLists, ArePacked, IsNumberOf, IsPacked, IsTable, children_with, list_with, row_with}
 use Rattle.shared_trie.proofs.DeltaLists.{some_element}
 use Rattle.shared_trie.proofs.LetterLists.{few_letters, letters_rise}
 
@@ -75,11 +75,20 @@ module _ (children : List (ℕ × ℕ)) (lists : List (Vec Delta)) (added : List
       λ i. first i ∷ rest i
 
 -- what is packed in lists that are the same
-pub packed_same : (children new_children : List (ℕ × ℕ)) (lists new_lists : List (Vec Delta)) (nodes new_nodes : List PackedNode)
+packed_same : (children new_children : List (ℕ × ℕ)) (lists new_lists : List (Vec Delta)) (nodes new_nodes : List PackedNode)
     → new_children ≡ children → new_lists ≡ lists → new_nodes ≡ nodes → ArePacked children lists nodes → ArePacked new_children new_lists new_nodes
 packed_same children new_children lists new_lists nodes new_nodes c l n are =
     subst (λ (cs : List (ℕ × ℕ)). ArePacked cs new_lists new_nodes) (sym c)
     (subst (λ (ls : List (Vec Delta)). ArePacked children ls new_nodes) (sym l) (subst (ArePacked children lists) (sym n) are))
+
+-- a table of lists that are the same
+pub table_same : (children new_children : List (ℕ × ℕ)) (targets new_targets : List ℕ) (lists new_lists : List (Vec Delta)) (nodes new_nodes : List PackedNode)
+    → new_children ≡ children → new_targets ≡ targets → new_lists ≡ lists → new_nodes ≡ nodes
+    → IsTable children targets lists nodes → IsTable new_children new_targets new_lists new_nodes
+table_same children new_children targets new_targets lists new_lists nodes new_nodes c t l n is = record {
+  packed = packed_same children new_children lists new_lists nodes new_nodes c l n is.packed;
+  alone = t ∙ is.alone ∙ ap (map (λ (child : ℕ × ℕ). child.1)) (sym c);
+}
 
 -- one node more, with the children and the list that were added for it
 module _ (children added : List (ℕ × ℕ)) (lists new_lists : List (Vec Delta)) (nodes : List PackedNode) (node : PackedNode) (deltas : List TextDelta)
@@ -119,6 +128,14 @@ module _ (children added : List (ℕ × ℕ)) (lists new_lists : List (Vec Delta
         some = subst (All (λ (list : Vec Delta). list.items ≢ [])) (sym adds.is) (All-append (λ (list : Vec Delta). list.items ≢ []) lists adds.more are.some adds.some);
       }
 
+  -- a table of these
+  pub table_pushed : (targets : List ℕ) → targets ≡ map (λ (child : ℕ × ℕ). child.1) children
+      → IsTable (children ++ added) (targets ++ map (λ (child : ℕ × ℕ). child.1) added) new_lists (nodes ++ node ∷ [])
+  table_pushed targets all = record {
+    packed = packed_push;
+    alone = ap (λ (ts : List ℕ). ts ++ map (λ (child : ℕ × ℕ). child.1) added) all ∙ sym (map-append (λ (child : ℕ × ℕ). child.1) children added);
+  }
+
   pub row_pushed : map (row_with (children ++ added) new_lists) (nodes ++ node ∷ []) ≡ map (row_with children lists) nodes ++ record { deltas = deltas; children = added } ∷ []
   row_pushed =
       let before : map (row_with (children ++ added) new_lists) nodes ≡ map (row_with children lists) nodes =
@@ -144,10 +161,11 @@ place_within children lists node is place letter found =
     omega (arith, there, within)
 
 module _ (children : List (ℕ × ℕ)) (lists : List (Vec Delta)) (node : PackedNode) (is : IsPacked children lists node) (letter : ℕ) where
-  -- the child at the letter's place
-  pub child_at : (place : ℕ) (child : ℕ × ℕ) → slice_get (letters_in node.letters) place ≡ Some letter → child ≡ get_or children (node.first + place) child
-      → Some child.1 ≡ child_among (children_with children node) letter
-  child_at place child found read =
+  -- the node of the child at the letter's place
+  pub child_at : (place : ℕ) (targets : List ℕ) (target : ℕ) → slice_get (letters_in node.letters) place ≡ Some letter
+      → targets ≡ map (λ (child : ℕ × ℕ). child.1) children → target ≡ get_or targets (node.first + place) target
+      → Some target ≡ child_among (children_with children node) letter
+  child_at place targets target found all read =
       let cs = children_with children node in
       let at = subst (λ (ls : List ℕ). slice_get ls place ≡ Some letter) (sym is.letters) found in
       let there = slice_get_within (letters_in node.letters) place letter found in
@@ -155,14 +173,18 @@ module _ (children : List (ℕ × ℕ)) (lists : List (Vec Delta)) (node : Packe
       let count = length-map cs (λ (c : ℕ × ℕ). c.0) in
       let low : place < length cs = omega (arith, inside, count) in
       let size : node.first + length (letters_in node.letters) - node.first ≡ length (letters_in node.letters) = omega arith in
-      let same : get_or cs place child ≡ child =
-      get_or-take (node.first + length (letters_in node.letters) - node.first) (drop node.first children) place child (omega (arith, there, size))
-      ∙ get_or-drop node.first children place child ∙ sym read in
-      let named : child.0 ≡ letter =
-      sym (ap (λ (c : ℕ × ℕ). c.0) same) ∙ sym (get_or-map (λ (c : ℕ × ℕ). c.0) cs place child letter low) ∙ get_or_from_slice_get (map (λ (c : ℕ × ℕ). c.0) cs) place letter letter at in
-      let among : Contains cs (letter, child.1) = subst (Contains cs) (same ∙ (λ i. (named i, child.1))) (Contains-get_or cs place child low) in
+      let any : ℕ × ℕ = (letter, target) in
+      let same : get_or cs place any ≡ get_or children (node.first + place) any =
+      get_or-take (node.first + length (letters_in node.letters) - node.first) (drop node.first children) place any (omega (arith, there, size))
+      ∙ get_or-drop node.first children place any in
+      let named : (get_or cs place any).0 ≡ letter =
+      sym (get_or-map (λ (c : ℕ × ℕ). c.0) cs place any letter low) ∙ get_or_from_slice_get (map (λ (c : ℕ × ℕ). c.0) cs) place letter letter at in
+      let leads : (get_or cs place any).1 ≡ target =
+      ap (λ (c : ℕ × ℕ). c.1) same ∙ sym (get_or-map (λ (c : ℕ × ℕ). c.1) children (node.first + place) any target (place_within children lists node is place letter found))
+      ∙ ap (λ (ts : List ℕ). get_or ts (node.first + place) target) (sym all) ∙ sym read in
+      let among : Contains cs (letter, target) = subst (Contains cs) (λ i. (named i, leads i)) (Contains-get_or cs place any low) in
       let rising = rising_by_letters cs (subst (IsStrictlySortedBy nat_cmp) (sym is.letters) (letters_rise node.letters)) in
-      sym (child_among-Contains letter child.1 cs rising among)
+      sym (child_among-Contains letter target cs rising among)
 
   -- no child where the letter is not among those of the node
   pub no_child : (Contains (letters_in node.letters) letter → ⊥) → None ≡ child_among (children_with children node) letter

@@ -39,6 +39,11 @@ pub record ArePacked (children : List (ℕ × ℕ)) (lists : List (Vec Delta)) (
   pub few_lists : length lists ≤ length nodes + MOST_FORM_LINES
   pub some : All (λ (list : Vec Delta). list.items ≢ []) lists
 
+-- a table has its rows packed, and beside its children their nodes alone
+pub record IsTable (children : List (ℕ × ℕ)) (targets : List ℕ) (lists : List (Vec Delta)) (nodes : List PackedNode) : Type 0 where
+  pub packed : ArePacked children lists nodes
+  pub alone : targets ≡ map (λ (child : ℕ × ℕ). child.1) children
+
 -- lists were added after the old ones, none of them empty, and not more than one
 pub record AddsLists (old new : List (Vec Delta)) : Type 0 where
   pub more : List (Vec Delta)

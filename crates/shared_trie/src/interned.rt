@@ -174,8 +174,8 @@ impl Interned {
     }
 
     /// The same trie.
-    pub(crate) fn into_store(self) -> Store
-        ensures { result ≡ trie_of self }
+    pub(crate) fn into_store(self, alloc: Global) -> Result<Store, Memory>
+        ensures { IfOk result (λ store. store ≡ trie_of self) }
     {
         let Interned {
             nodes,
@@ -185,7 +185,7 @@ impl Interned {
             heights,
             roots,
         } = self;
-        let table = NodeTable::with_parts(nodes, children, lists);
-        Store::new(table, heights, roots)
+        let table = NodeTable::with_parts(alloc, nodes, children, lists)?;
+        Ok(Store::new(table, heights, roots))
     }
 }

@@ -1,4 +1,4 @@
-ghost use Rattle.std.specs.Prelude.{◌≡◌, ◌≢◌, ◌+◌, ◌*◌, ◌<◌, ◌^◌, ◌↔◌, ℕ, [], ◌∷◌, ◌++◌, length, map, IsTrue, OnOk, OnErr};
+ghost use Rattle.std.specs.Prelude.{◌≡◌, ◌≢◌, ◌+◌, ◌*◌, ◌<◌, ◌≤◌, ◌^◌, ◌↔◌, ℕ, [], ◌∷◌, ◌++◌, length, map, vec_len, vec_capacity, IsTrue, IfOk, OnOk, OnErr};
 ghost use Rattle.std.specs.Ordering.{nat_cmp, on};
 ghost use Rattle.std.specs.List.Sorted.{IsStrictlySortedBy};
 ghost use Rattle.form_tags.specs.Analyses.{text_delta};
@@ -20,19 +20,42 @@ use std::marker::Model;
 pub(crate) struct NodeTable {
     nodes: Vec<PackedNode>,
     children: Vec<(Letter, Node)>,
+    /// The nodes of `children`, in the same order, which a walk looks at alone, since they take half the memory.
+    targets: Vec<Node>,
     lists: IndexSet<Vec<Delta>>,
 }
 
 impl Model for NodeTable {
     ghost use Rattle.std.specs.Prelude.{List, map};
     ghost use Rattle.lexicon_definitions.specs.Tries.{Row};
-    ghost use Rattle.shared_trie.specs.Packed.{ArePacked, row_with};
+    ghost use Rattle.shared_trie.specs.Packed.{IsTable, row_with};
 
     ghost Value = { List Row };
 
     ghost view = { λ t. map (row_with t.children.items t.lists.keys) t.nodes.items };
 
-    ghost invariant = { λ t. ArePacked t.children.items t.lists.keys t.nodes.items };
+    ghost invariant = { λ t. IsTable t.children.items t.targets.items t.lists.keys t.nodes.items };
+}
+
+/// Adds the nodes of these children after all others, for which there is room.
+fn push_targets(targets: &mut Vec<Node>, children: &[(Letter, Node)])
+    requires room { vec_len targets.old + length children.now ≤ vec_capacity targets.old }
+    ensures { targets.new.items ≡ targets.old.items ++ map (λ (child : ℕ × ℕ). child.1) children.now }
+{
+    for child in children {
+        let Ok(()) = targets.push(child.1) else {
+            unreachable!();
+        };
+    }
+}
+
+/// The nodes of these children, in their order.
+fn targets_of(alloc: Global, children: &[(Letter, Node)]) -> Result<Vec<Node>, Memory>
+    ensures { IfOk result (λ targets. targets.items ≡ map (λ (child : ℕ × ℕ). child.1) children.now) }
+{
+    let mut targets = Vec::with_capacity(alloc, children.len())?;
+    push_targets(&mut targets, children);
+    Ok(targets)
 }
 
 impl NodeTable {
@@ -43,24 +66,28 @@ impl NodeTable {
         NodeTable {
             nodes: Vec::new(alloc),
             children: Vec::new(alloc),
+            targets: Vec::new(alloc),
             lists: IndexSet::new(alloc),
         }
     }
 
     /// The table of these nodes, whose children stand one after another, and whose lists of deltas have numbers from 1 on.
     pub(crate) fn with_parts(
+        alloc: Global,
         nodes: Vec<PackedNode>,
         children: Vec<(Letter, Node)>,
         lists: IndexSet<Vec<Delta>>,
-    ) -> NodeTable
+    ) -> Result<NodeTable, Memory>
         requires { ArePacked children.items lists.keys nodes.items }
-        ensures { result ≡ map (row_with children.items lists.keys) nodes.items }
+        ensures { IfOk result (λ table. table ≡ map (row_with children.items lists.keys) nodes.items) }
     {
-        NodeTable {
+        let targets = targets_of(alloc, children.as_slice())?;
+        Ok(NodeTable {
             nodes,
             children,
+            targets,
             lists,
-        }
+        })
     }
 
     /// Adds a node with these deltas and children after all others. Where memory is wanting, the rows are as they were.
@@ -76,15 +103,17 @@ impl NodeTable {
     {
         self.nodes.reserve(1)?;
         self.children.reserve(children.len())?;
+        self.targets.reserve(children.len())?;
         let node = PackedNode {
             letters: letters_of(children),
             first: self.children.len() as u32,
             list: number_list(&mut self.lists, deltas)?,
         };
-        // There is room for both, so that no want of memory comes between them.
+        // There is room for all, so that no want of memory comes between them.
         let Ok(()) = self.children.extend_from_slice(children) else {
             unreachable!();
         };
+        push_targets(&mut self.targets, children);
         let Ok(()) = self.nodes.push(node) else {
             unreachable!();
         };
@@ -116,7 +145,7 @@ impl NodeTable {
     {
         let packed = &self.nodes[node.number() as usize];
         let place = packed.letters.place_of(letter)?;
-        Some(self.children[packed.first as usize + place as usize].1)
+        Some(self.targets[packed.first as usize + place as usize])
     }
 
     /// The deltas of the node, rising.

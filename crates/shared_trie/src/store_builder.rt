@@ -132,10 +132,10 @@ fn begin(alloc: Global) -> Result<Box<OpenTrie>, Memory>
 }
 
 /// The trie of which all phases have their roots.
-fn into_store(open_trie: Box<OpenTrie>) -> Store
-    ensures { result ≡ trie_of open_trie.value.trie }
+fn into_store(open_trie: Box<OpenTrie>, alloc: Global) -> Result<Store, Memory>
+    ensures { IfOk result (λ store. store ≡ trie_of open_trie.value.trie) }
 {
-    Box::into_inner(open_trie).trie.into_store()
+    Box::into_inner(open_trie).trie.into_store(alloc)
 }
 
 impl StoreBuilder {
@@ -231,6 +231,6 @@ impl StoreBuilder {
             return Err(Memory);
         }
         end(&mut open_trie, alloc, &told, &last, phases)?;
-        Ok(into_store(open_trie))
+        into_store(open_trie, alloc)
     }
 }

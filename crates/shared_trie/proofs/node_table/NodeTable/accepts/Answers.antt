@@ -10,6 +10,6 @@ returns c =
     let children = c.self.inside.children.items in
     let lists = c.self.inside.lists.keys in
     let packed = c.index.result.now in
-    let (row, is) = packed_read children lists c.self.inside.nodes.items c.args.self.now c.number.result c.args.node packed c.index.ensures c.number.ensures c.self.view_is c.requires c.self.invariant in
+    let (row, is) = packed_read children lists c.self.inside.nodes.items c.args.self.now c.number.result c.args.node packed c.index.ensures c.number.ensures c.self.view_is c.requires c.self.invariant.packed in
     subst (λ (ds : List TextDelta). IsTrue (not (nat_eq packed.list 0)) ↔ (ds ≢ [])) (sym (ap (λ (r : Row). r.deltas) row))
-    (list_some lists packed.list is.listed c.self.invariant.some)
+    (list_some lists packed.list is.listed c.self.invariant.packed.some)
