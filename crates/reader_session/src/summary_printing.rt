@@ -1,9 +1,10 @@
-ghost use Rattle.std.specs.Prelude.{◌≡◌, ◌++◌, codes, IfOk, OnOk, string_bytes};
+ghost use Rattle.std.specs.Prelude.{◌≡◌, ◌++◌, codes, OnOk};
 ghost use Rattle.std.specs.Fmt.{decimal};
-ghost use Rattle.segmentation_definitions.specs.PrintedAnswers.{name_of, output_line};
+ghost use Rattle.segmentation_definitions.specs.PrintedAnswers.{name_of, printed_form, output_line};
 ghost use Rattle.session_definitions.specs.PrintedSummaries.{printed_item, printed_summary};
 
 use derivation::Item;
+use itoa::Buffer;
 use latin_schemes::print_slp1;
 use phoneme::Memory;
 use sandhi_rules::RuleSet;
@@ -19,16 +20,51 @@ fn phase_name(rules: &RuleSet, phase: u32) -> &str
     }
 }
 
-/// `K: AT LEAD FORM[PHASE]` and the line's end.
-#[tactic(auto, using(crate::proofs::ItemLines::item_printed))]
-fn print_item(alloc: Global, rules: &RuleSet, number: usize, item: &Item) -> Result<String, Memory>
-    ensures ok { IfOk result (λ text. string_bytes text ≡ output_line (decimal number ++ codes ": " ++ printed_item rules.now item.now)) }
+/// Appends a number in decimal digits. Refused only for want of memory.
+fn push_number(output: &mut Vec<u8>, number: u64) -> Result<(), Memory>
+    ensures { OnOk result (output.new.items ≡ output.old.items ++ decimal number) }
 {
-    let at = item.at;
-    let lead = item.lead;
+    let mut digits = Buffer::new();
+    output.extend_from_slice(digits.format(number).as_bytes())?;
+    Ok(())
+}
+
+/// Appends `FORM[PHASE]` and the line's end. Refused only for want of memory.
+fn push_form(
+    alloc: Global,
+    output: &mut Vec<u8>,
+    rules: &RuleSet,
+    item: &Item,
+) -> Result<(), Memory>
+    ensures ok { OnOk result (output.new.items ≡ output.old.items
+        ++ output_line (printed_form rules.now (record { phase = item.now.phase; form = item.now.form; rule = 0 }))) }
+{
     let form = print_slp1(alloc, &item.form)?;
-    let phase = phase_name(rules, item.phase);
-    Ok(format!(in alloc; "{number}: {at} {lead} {form}[{phase}]\n")?)
+    output.extend_from_slice(form.as_bytes())?;
+    output.extend_from_slice(b"[")?;
+    output.extend_from_slice(phase_name(rules, item.phase).as_bytes())?;
+    output.extend_from_slice(b"]\n")?;
+    Ok(())
+}
+
+/// Appends `K: AT LEAD FORM[PHASE]` and the line's end. Refused only for want of memory.
+fn push_item(
+    alloc: Global,
+    output: &mut Vec<u8>,
+    rules: &RuleSet,
+    number: usize,
+    item: &Item,
+) -> Result<(), Memory>
+    ensures ok { OnOk result (output.new.items ≡ output.old.items ++ output_line (decimal number ++ codes ": " ++ printed_item rules.now item.now)) }
+{
+    push_number(output, number as u64)?;
+    output.extend_from_slice(b": ")?;
+    push_number(output, u64::from(item.at))?;
+    output.extend_from_slice(b" ")?;
+    push_number(output, u64::from(item.lead))?;
+    output.extend_from_slice(b" ")?;
+    push_form(alloc, output, rules, item)?;
+    Ok(())
 }
 
 /// Appends a line for each item, numbered from 1, and `end`: `K: AT LEAD FORM[PHASE]`, the letters before the item, those of its
@@ -43,8 +79,7 @@ pub(crate) fn push_summary(
 {
     let mut number = 1;
     for item in items {
-        let line = print_item(alloc, rules, number, item)?;
-        output.extend_from_slice(line.as_bytes())?;
+        push_item(alloc, output, rules, number, item)?;
         number += 1;
     }
     output.extend_from_slice(b"end\n")?;
