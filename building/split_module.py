@@ -2,8 +2,8 @@
 """Splits a module into parts that are compiled side by side: `split_module.py MODULE PARTS` writes part0.ll, part1.ll and so on.
 
 MODULE is a module of LLVM as text, in which all functions but `main` are internal. What `main` does not reach is left out. A large function
-stands in one part alone, with the one that calls it where there is one alone, and the other parts declare it; a small one stands in each
-part that calls it. So most functions can still be put in place where they are called.
+stands in one part, and the other parts declare it; where one other function alone calls it, it stands in the same part as that one. A small
+function stands in each part that calls it. So most functions can still be put in place where they are called.
 """
 
 import re
@@ -13,6 +13,7 @@ from collections import defaultdict
 # A function whose text is longer stands in one part alone.
 SMALL = 3_000
 NAME = re.compile(r'@("[^"]*"|[\w.$-]+)')
+VARIABLE = re.compile(r"(@\S+ = )private (global (?:\[[^]]*\]|\S+)) ")
 
 
 def cut(lines):
@@ -42,28 +43,31 @@ def reached(calls, first):
     return found
 
 
-def head_of(name, callers):
-    """The function at the head of those each of which is called by the one before it alone, down to this one."""
+def first_of_chain(name, callers):
+    """The first function of a chain, each of which is the only caller of the next, down to this one."""
     passed = {name}
-    while len(callers[name]) == 1:
+    while len(callers[name]) == 1 and not passed.issuperset(callers[name]):
         (name,) = callers[name]
-        if name in passed:
-            break
         passed.add(name)
     return name
 
 
-def shares(large, functions, callers, parts):
-    """The functions of each part: those with one head together, in the order of the module, as much text in each part as in the others."""
-    groups = defaultdict(list)
+def shared_out(large, functions, callers, parts):
+    """The large functions of each part: a chain stays together, and each part gets about as much text."""
+    chains = defaultdict(list)
     for name in large:
-        groups[head_of(name, callers)].append(name)
+        chains[first_of_chain(name, callers)].append(name)
     total = sum(len(functions[name]) for name in large)
-    own, before = [[] for _ in range(parts)], 0
-    for group in groups.values():
-        own[min(before * parts // total, parts - 1)].extend(group)
-        before += sum(len(functions[name]) for name in group)
-    return own
+    of_parts, before = [[] for _ in range(parts)], 0
+    for chain in chains.values():
+        of_parts[min(before * parts // total, parts - 1)].extend(chain)
+        before += sum(len(functions[name]) for name in chain)
+    return of_parts
+
+
+def shown(text):
+    """The text of a function that other parts may name."""
+    return text.replace("define internal ", "define hidden ", 1)
 
 
 def declared(text):
@@ -72,42 +76,47 @@ def declared(text):
 
 
 def variable(line, is_first):
-    """A variable of the module, which stands in the first part alone. What never changes may stand in each part."""
-    found = re.match(r"(@\S+ = )private (global (?:\[[^]]*\]|\S+)) ", line)
+    """A line outside functions, in the first part or another: a variable stands in the first alone, and what never changes in each."""
+    found = VARIABLE.match(line)
     if not found:
+        if line.startswith("@") and " constant " not in line:
+            sys.exit(f"split_module.py: a variable of another form: {line[:200]}")
         return line
-    if is_first:
-        return line.replace(" private ", " hidden ", 1)
-    return f"{found[1]}external hidden {found[2]}\n"
+    return line.replace(" private ", " hidden ", 1) if is_first else f"{found[1]}external hidden {found[2]}\n"
 
 
 def main():
     module, parts = sys.argv[1], int(sys.argv[2])
     with open(module, encoding="utf-8", errors="surrogateescape") as source:
         outside, functions = cut(source)
-    calls = {name: {other for other in NAME.findall(text) if other in functions} - {name} for name, text in functions.items()}
-    tabled = {name for line in outside if line.startswith("@") for name in NAME.findall(line) if name in functions}
-    live = reached(calls, {"main"} | tabled)
-    callers = defaultdict(set, {name: {"a table", "another"} for name in tabled})
+
+    def named(text):
+        return {name for name in NAME.findall(text) if name in functions}
+
+    calls = {name: named(text) - {name} for name, text in functions.items()}
+    # What `main` may come to without a call that names it, and so without a caller that is known.
+    of_tables = set().union(*(named(line) for line in outside if line.startswith("@")))
+    live = reached(calls, {"main"} | of_tables)
+    callers = defaultdict(set)
     for name in live:
-        for other in calls[name]:
+        for other in calls[name] - of_tables:
             callers[other].add(name)
-    large = [name for name in functions if name in live and (name == "main" or name in tabled or len(functions[name]) > SMALL)]
+    large = [name for name in functions if name in live and (name in {"main"} | of_tables or len(functions[name]) > SMALL)]
     small = {name: calls[name] for name in live.difference(large)}
-    own = shares(large, functions, callers, parts)
-    copied = [reached(small, set().union(*(calls[name] for name in share))) for share in own]
-    named = [set().union(*(calls[name] for name in [*share, *copies])) for share, copies in zip(own, copied)]
-    for number, share in enumerate(own):
-        mine = set(share)
-        needed = tabled | named[number]
-        elsewhere = tabled.union(*(names for other, names in enumerate(named) if other != number))
+    of_parts = shared_out(large, functions, callers, parts)
+    copies = [reached(small, set().union(*(calls[name] for name in own))) for own in of_parts]
+    asked_for = [of_tables.union(*(calls[name] for name in [*own, *copied])) for own, copied in zip(of_parts, copies)]
+    for number, own in enumerate(map(set, of_parts)):
+        elsewhere = set().union(*(names for other, names in enumerate(asked_for) if other != number))
         with open(f"part{number}.ll", "w", encoding="utf-8", errors="surrogateescape") as part:
             part.writelines(variable(line, number == 0) for line in outside)
-            for name in share:
-                text = functions[name]
-                part.write(text.replace("define internal ", "define hidden ", 1) if name in elsewhere else text)
-            part.writelines(functions[name] for name in functions if name in copied[number])
-            part.writelines(declared(functions[name]) for name in large if name in needed and name not in mine)
+            for name, text in functions.items():
+                if name in own:
+                    part.write(shown(text) if name in elsewhere else text)
+                elif name in copies[number]:
+                    part.write(text)
+                elif name in asked_for[number]:
+                    part.write(declared(text))
 
 
 main()
