@@ -8,13 +8,14 @@ use super::{SpellError, SpellFault};
 use phoneme::{Letter, Memory, Word};
 use std::alloc::Global;
 
-/// The word that the bytes spell, each being the letter with the code that `codes` has for it.
-pub fn read_bytes(alloc: Global, codes: &[u8; 256], text: &[u8]) -> Result<Word, SpellError>
+/// The word that the bytes spell, in the memory of another one, each byte being the letter with the code that `codes` has for it.
+pub fn read_bytes_over(word: Word, codes: &[u8; 256], text: &[u8]) -> Result<Word, SpellError>
     requires { length text.now < 2 ^ 32 }
     ensures ok { IfOk result (λ word. word_of_bytes (letter_by_code codes.now) 0 text.now ≡ Ok word) }
     ensures fault { IfErr result (λ error. IsFaultOf error (word_of_bytes (letter_by_code codes.now) 0 text.now)) }
 {
-    let mut word = Word::new(alloc);
+    let mut word = word;
+    word.clear();
     for (at, byte) in text.iter().enumerate() {
         match Letter::new(codes[*byte as usize]) {
             Some(letter) => word.push(letter)?,
@@ -24,12 +25,22 @@ pub fn read_bytes(alloc: Global, codes: &[u8; 256], text: &[u8]) -> Result<Word,
     Ok(word)
 }
 
+/// The word that the bytes spell, each being the letter with the code that `codes` has for it.
+pub fn read_bytes(alloc: Global, codes: &[u8; 256], text: &[u8]) -> Result<Word, SpellError>
+    requires { length text.now < 2 ^ 32 }
+    ensures ok { IfOk result (λ word. word_of_bytes (letter_by_code codes.now) 0 text.now ≡ Ok word) }
+    ensures fault { IfErr result (λ error. IsFaultOf error (word_of_bytes (letter_by_code codes.now) 0 text.now)) }
+{
+    let word = Word::with_capacity(alloc, text.len())?;
+    read_bytes_over(word, codes, text)
+}
+
 /// The byte that the table has for each letter of the word.
 pub fn print_bytes(alloc: Global, bytes: &[u8; 50], word: &Word) -> Result<String, Memory>
     requires { IsTrue (list_all (λ byte. nat_lt byte 128) bytes.now) }
     ensures ok { IfOk result (λ text. string_bytes text ≡ map (byte_of_letter bytes.now) word.now) }
 {
-    let mut text = String::new(alloc);
+    let mut text = String::with_capacity(alloc, word.len())?;
     for letter in word.as_slice() {
         text.push(char::from(bytes[letter.code() as usize - 1]))?;
     }

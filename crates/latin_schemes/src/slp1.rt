@@ -3,7 +3,7 @@ ghost use Rattle.text_definitions.specs.Slp1.{word_of_slp1, slp1_of_word};
 ghost use Rattle.latin_schemes.specs.Faults.{IsFaultOf};
 
 use super::SpellError;
-use super::byte_scheme::{print_bytes, read_bytes};
+use super::byte_scheme::{print_bytes, read_bytes, read_bytes_over};
 use phoneme::{Memory, Word};
 use std::alloc::Global;
 
@@ -31,6 +31,15 @@ pub fn read_slp1(alloc: Global, text: &[u8]) -> Result<Word, SpellError>
     ensures fault { IfErr result (λ error. IsFaultOf error (word_of_slp1 text.now)) }
 {
     read_bytes(alloc, &CODES, text)
+}
+
+/// The word that an SLP1 text spells, as `read_slp1` reads it, in the memory of another word.
+pub fn read_slp1_over(word: Word, text: &[u8]) -> Result<Word, SpellError>
+    requires { length text.now < 2 ^ 32 }
+    ensures ok { IfOk result (λ word. word_of_slp1 text.now ≡ Ok word) }
+    ensures fault { IfErr result (λ error. IsFaultOf error (word_of_slp1 text.now)) }
+{
+    read_bytes_over(word, &CODES, text)
 }
 
 /// The SLP1 spelling of a word, one byte a letter.

@@ -39,6 +39,15 @@ impl Word {
         }
     }
 
+    /// The word without letters, with room for so many. Refused only for want of memory.
+    pub fn with_capacity(alloc: Global, capacity: usize) -> Result<Word, Memory>
+        ensures { IfOk result (λ word. word ≡ []) }
+    {
+        Ok(Word {
+            letters: Vec::with_capacity(alloc, capacity)?,
+        })
+    }
+
     /// The word with these letters.
     pub fn from_slice(alloc: Global, letters: &[Letter]) -> Result<Word, Memory>
         ensures ok { IfOk result (λ word. word ≡ letters.now) }
@@ -46,6 +55,13 @@ impl Word {
         let mut word = Word::new(alloc);
         word.extend_from_slice(letters)?;
         Ok(word)
+    }
+
+    /// Takes all letters out, and keeps the memory.
+    pub fn clear(&mut self)
+        ensures { self.new ≡ [] }
+    {
+        self.letters.clear();
     }
 
     /// Appends a letter. Refused only for want of memory, and then the word is as it was.

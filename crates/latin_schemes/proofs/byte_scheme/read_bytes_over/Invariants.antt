@@ -2,7 +2,7 @@
 use Rattle.std.proofs.Common.{◌≡◌, drop}
 use Rattle.text_definitions.specs.Spellings.{with_front, word_of_bytes}
 use Rattle.latin_schemes.specs.Codes.{letter_by_code}
-use Rattle.latin_schemes.proofs.byte_scheme.read_bytes.Given as goal
+use Rattle.latin_schemes.proofs.byte_scheme.read_bytes_over.Given as goal
 
 abbrev pub invariant-loop-at : goal.invariant-loop-at
 invariant-loop-at l =
