@@ -1,5 +1,6 @@
 pub mod DeltaLaws
 pub mod DottedTexts
+pub mod RankOrder
 pub mod TagOrder
 pub mod TagShapes
 pub mod TagsByText

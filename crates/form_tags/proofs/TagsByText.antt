@@ -33,7 +33,7 @@ gender_of-text N = refl
 gender_text-once : (left right : Gender) → gender_text left ≡ gender_text right → left ≡ right
 gender_text-once left right e = sym (gender_of-text left) ∙ ap gender_of e ∙ gender_of-text right
 
-gender_text-is : (gender : Gender) → IsOneOf genders (gender_text gender)
+pub gender_text-is : (gender : Gender) → IsOneOf genders (gender_text gender)
 gender_text-is M = inl refl
 gender_text-is F = inr (inl refl)
 gender_text-is N = inr (inr (inl refl))
@@ -51,7 +51,7 @@ number_of-text Pl = refl
 number_text-once : (left right : Number) → number_text left ≡ number_text right → left ≡ right
 number_text-once left right e = sym (number_of-text left) ∙ ap number_of e ∙ number_of-text right
 
-number_text-is : (number : Number) → IsOneOf numbers (number_text number)
+pub number_text-is : (number : Number) → IsOneOf numbers (number_text number)
 number_text-is Sg = inl refl
 number_text-is Du = inr (inl refl)
 number_text-is Pl = inr (inr (inl refl))
@@ -74,7 +74,7 @@ case_of-text Voc = refl
 case_text-once : (left right : Case) → case_text left ≡ case_text right → left ≡ right
 case_text-once left right e = sym (case_of-text left) ∙ ap case_of e ∙ case_of-text right
 
-case_text-is : (gcase : Case) → IsOneOf cases (case_text gcase)
+pub case_text-is : (gcase : Case) → IsOneOf cases (case_text gcase)
 case_text-is Nom = inl refl
 case_text-is Acc = inr (inl refl)
 case_text-is Ins = inr (inr (inl refl))
@@ -101,7 +101,7 @@ tense_of-text Aor = refl
 tense_text-once : (left right : Tense) → tense_text left ≡ tense_text right → left ≡ right
 tense_text-once left right e = sym (tense_of-text left) ∙ ap tense_of e ∙ tense_of-text right
 
-tense_text-is : (tense : Tense) → IsOneOf tenses (tense_text tense)
+pub tense_text-is : (tense : Tense) → IsOneOf tenses (tense_text tense)
 tense_text-is Pr = inl refl
 tense_text-is Impf = inr (inl refl)
 tense_text-is Imp = inr (inr (inl refl))
@@ -123,7 +123,7 @@ voice_of-text Ps = refl
 voice_text-once : (left right : Voice) → voice_text left ≡ voice_text right → left ≡ right
 voice_text-once left right e = sym (voice_of-text left) ∙ ap voice_of e ∙ voice_of-text right
 
-voice_text-is : (voice : Voice) → IsOneOf voices (voice_text voice)
+pub voice_text-is : (voice : Voice) → IsOneOf voices (voice_text voice)
 voice_text-is Ac = inl refl
 voice_text-is Md = inr (inl refl)
 voice_text-is Ps = inr (inr (inl refl))
@@ -141,7 +141,7 @@ person_of-text Third = refl
 person_text-once : (left right : Person) → person_text left ≡ person_text right → left ≡ right
 person_text-once left right e = sym (person_of-text left) ∙ ap person_of e ∙ person_of-text right
 
-person_text-is : (person : Person) → IsOneOf persons (person_text person)
+pub person_text-is : (person : Person) → IsOneOf persons (person_text person)
 person_text-is First = inl refl
 person_text-is Second = inr (inl refl)
 person_text-is Third = inr (inr (inl refl))

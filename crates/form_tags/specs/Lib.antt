@@ -1,5 +1,6 @@
 pub mod Analyses
 pub mod Entries
 pub mod Dots
+pub mod Ranks
 pub mod TagTexts
 pub mod TagWords

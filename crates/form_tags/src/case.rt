@@ -1,5 +1,6 @@
 ghost use Rattle.std.specs.Prelude.{◌≡◌, ◌↔◌, IsSome, IfSome};
 ghost use Rattle.lexicon_definitions.specs.Tags.{IsOneOf, cases};
+ghost use Rattle.form_tags.specs.Ranks.{rank_among};
 ghost use Rattle.form_tags.specs.TagTexts.{case_text};
 
 /// Nominative, accusative, instrumental, dative, ablative, genitive, locative, vocative.
@@ -29,6 +30,22 @@ impl Case {
             Case::Gen => "gen",
             Case::Loc => "loc",
             Case::Voc => "voc",
+        }
+    }
+
+    /// The place of its text among the texts of all of these, in the order of their bytes.
+    pub(crate) fn rank(self) -> u8
+        ensures { result ≡ rank_among cases (case_text self) }
+    {
+        match self {
+            Case::Nom => 6,
+            Case::Acc => 1,
+            Case::Ins => 4,
+            Case::Dat => 2,
+            Case::Abl => 0,
+            Case::Gen => 3,
+            Case::Loc => 5,
+            Case::Voc => 7,
         }
     }
 

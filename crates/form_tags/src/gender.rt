@@ -1,5 +1,6 @@
 ghost use Rattle.std.specs.Prelude.{◌≡◌, ◌↔◌, IsSome, IfSome};
 ghost use Rattle.lexicon_definitions.specs.Tags.{IsOneOf, genders};
+ghost use Rattle.form_tags.specs.Ranks.{rank_among};
 ghost use Rattle.form_tags.specs.TagTexts.{gender_text};
 
 /// Masculine, feminine, neuter.
@@ -19,6 +20,17 @@ impl Gender {
             Gender::M => "m",
             Gender::F => "f",
             Gender::N => "n",
+        }
+    }
+
+    /// The place of its text among the texts of all of these, in the order of their bytes.
+    pub(crate) fn rank(self) -> u8
+        ensures { result ≡ rank_among genders (gender_text self) }
+    {
+        match self {
+            Gender::M => 1,
+            Gender::F => 0,
+            Gender::N => 2,
         }
     }
 

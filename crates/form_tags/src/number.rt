@@ -1,5 +1,6 @@
 ghost use Rattle.std.specs.Prelude.{◌≡◌, ◌↔◌, IsSome, IfSome};
 ghost use Rattle.lexicon_definitions.specs.Tags.{IsOneOf, numbers};
+ghost use Rattle.form_tags.specs.Ranks.{rank_among};
 ghost use Rattle.form_tags.specs.TagTexts.{number_text};
 
 /// Singular, dual, plural.
@@ -19,6 +20,17 @@ impl Number {
             Number::Sg => "sg",
             Number::Du => "du",
             Number::Pl => "pl",
+        }
+    }
+
+    /// The place of its text among the texts of all of these, in the order of their bytes.
+    pub(crate) fn rank(self) -> u8
+        ensures { result ≡ rank_among numbers (number_text self) }
+    {
+        match self {
+            Number::Sg => 2,
+            Number::Du => 0,
+            Number::Pl => 1,
         }
     }
 

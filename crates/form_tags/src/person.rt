@@ -1,5 +1,6 @@
 ghost use Rattle.std.specs.Prelude.{◌≡◌, ◌↔◌, IsSome, IfSome};
 ghost use Rattle.lexicon_definitions.specs.Tags.{IsOneOf, persons};
+ghost use Rattle.form_tags.specs.Ranks.{rank_among};
 ghost use Rattle.form_tags.specs.TagTexts.{person_text};
 
 /// First, second, third person.
@@ -19,6 +20,17 @@ impl Person {
             Person::First => "1",
             Person::Second => "2",
             Person::Third => "3",
+        }
+    }
+
+    /// The place of its text among the texts of all of these, in the order of their bytes.
+    pub(crate) fn rank(self) -> u8
+        ensures { result ≡ rank_among persons (person_text self) }
+    {
+        match self {
+            Person::First => 0,
+            Person::Second => 1,
+            Person::Third => 2,
         }
     }
 

@@ -12,14 +12,45 @@ impl Tag {
     pub fn compare(&self, other: &Tag) -> Ordering
         ensures { result ≡ slice_cmp nat_cmp (tag_text self.now) (tag_text other.now) }
     {
-        // A dot is below every byte of a word, so texts are ordered as their words are.
-        let left = self.words();
-        let right = other.words();
-        left.0
-            .cmp(&right.0)
-            .then(left.1.cmp(&right.1))
-            .then(left.2.cmp(&right.2))
-            .then(left.3.cmp(&right.3))
+        // A dot is below every byte of a word, so texts are ordered as their words are, and these as their ranks.
+        match (self, other) {
+            (
+                Tag::Nominal {
+                    gender,
+                    number,
+                    gcase,
+                },
+                Tag::Nominal {
+                    gender: other_gender,
+                    number: other_number,
+                    gcase: other_gcase,
+                },
+            ) => (gender.rank(), number.rank(), gcase.rank()).cmp(&(
+                other_gender.rank(),
+                other_number.rank(),
+                other_gcase.rank(),
+            )),
+            (
+                Tag::Verbal {
+                    tense,
+                    voice,
+                    person,
+                    number,
+                },
+                Tag::Verbal {
+                    tense: other_tense,
+                    voice: other_voice,
+                    person: other_person,
+                    number: other_number,
+                },
+            ) => (tense.rank(), voice.rank(), person.rank(), number.rank()).cmp(&(
+                other_tense.rank(),
+                other_voice.rank(),
+                other_person.rank(),
+                other_number.rank(),
+            )),
+            _ => self.words().cmp(&other.words()),
+        }
     }
 
     fn words(&self) -> (&'static str, &'static str, &'static str, &'static str)

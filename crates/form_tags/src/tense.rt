@@ -1,5 +1,6 @@
 ghost use Rattle.std.specs.Prelude.{◌≡◌, ◌↔◌, IsSome, IfSome};
 ghost use Rattle.lexicon_definitions.specs.Tags.{IsOneOf, tenses};
+ghost use Rattle.form_tags.specs.Ranks.{rank_among};
 ghost use Rattle.form_tags.specs.TagTexts.{tense_text};
 
 /// Present, imperfect, imperative, optative, future, perfect, aorist.
@@ -27,6 +28,21 @@ impl Tense {
             Tense::Fut => "fut",
             Tense::Perf => "perf",
             Tense::Aor => "aor",
+        }
+    }
+
+    /// The place of its text among the texts of all of these, in the order of their bytes.
+    pub(crate) fn rank(self) -> u8
+        ensures { result ≡ rank_among tenses (tense_text self) }
+    {
+        match self {
+            Tense::Pr => 6,
+            Tense::Impf => 3,
+            Tense::Imp => 2,
+            Tense::Opt => 4,
+            Tense::Fut => 1,
+            Tense::Perf => 5,
+            Tense::Aor => 0,
         }
     }
 

@@ -1,5 +1,6 @@
 ghost use Rattle.std.specs.Prelude.{◌≡◌, ◌↔◌, IsSome, IfSome};
 ghost use Rattle.lexicon_definitions.specs.Tags.{IsOneOf, voices};
+ghost use Rattle.form_tags.specs.Ranks.{rank_among};
 ghost use Rattle.form_tags.specs.TagTexts.{voice_text};
 
 /// Active, middle, passive.
@@ -19,6 +20,17 @@ impl Voice {
             Voice::Ac => "ac",
             Voice::Md => "md",
             Voice::Ps => "ps",
+        }
+    }
+
+    /// The place of its text among the texts of all of these, in the order of their bytes.
+    pub(crate) fn rank(self) -> u8
+        ensures { result ≡ rank_among voices (voice_text self) }
+    {
+        match self {
+            Voice::Ac => 0,
+            Voice::Md => 1,
+            Voice::Ps => 2,
         }
     }
 
