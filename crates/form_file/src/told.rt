@@ -22,9 +22,9 @@ use crate::cutting::{four_fields, kind_and_rest, one_field, rule_parts, two_fiel
 use crate::kind::Kind;
 use crate::rules_so_far::RulesSoFar;
 use crate::take_error::TakeError;
-use crate::words::{read_letter, read_some_word, read_word};
+use crate::words::{read_letter, read_some_word_over, read_word};
 use crate::{Contents, FileWhy};
-use form_tags::{Analysis, Entry, read_tag};
+use form_tags::{Entry, read_tag};
 use lexicon_definitions::{MOST_FORM_LETTERS, MOST_FORM_LINES, MOST_PHASES, MOST_RULE_LETTERS};
 use phase_automaton::{Automaton, GrammarError, read_grammar};
 use phoneme::{Letter, Memory, Word};
@@ -34,6 +34,7 @@ use std::alloc::Global;
 use std::boxed::Box;
 use std::cmp::Ordering;
 use std::marker::Model;
+use std::mem;
 
 /// What the lines so far told: the kind of the last line, the names of the phases, the grammar's text with its automaton, the
 /// plain pairs, the rules, and the trie of the forms.
@@ -46,6 +47,8 @@ pub struct Told {
     plain: Vec<(Letter, Letter)>,
     rules: Box<RulesSoFar>,
     forms: Box<StoreBuilder>,
+    /// An entry into whose words those of the next line of a form are read.
+    room: Option<Box<Entry>>,
 }
 
 impl Model for Told {
@@ -139,6 +142,7 @@ impl Told {
             plain: Vec::new(alloc),
             rules,
             forms,
+            room: None,
         })
     }
 
@@ -323,23 +327,29 @@ impl Told {
         self.forms.compare_last(entry)
     }
 
-    fn take_entry(&mut self, alloc: Global, entry: Entry) -> Result<(), TakeError>
+    fn take_entry(&mut self, alloc: Global, entry: &mut Entry) -> Result<(), TakeError>
         requires follows { may_follow self.old.last Form ≡ true }
-        requires phase { entry.phase < length self.old.names }
-        requires form { 0 < length entry.form }
-        requires stem { 0 < length entry.analysis.stem }
-        ensures { IsAnswer (take_form_line self.old (text_entry entry)) result self.new }
+        requires phase { entry.old.phase < length self.old.names }
+        requires form { 0 < length entry.old.form }
+        requires stem { 0 < length entry.old.analysis.stem }
+        ensures { IsAnswer (take_form_line self.old (text_entry entry.old)) result self.new }
     {
-        if passes_form_limits(self.forms.lines() as usize, &entry) {
+        if passes_form_limits(self.forms.lines() as usize, entry) {
             return Err(FileWhy::Limit.into());
         }
-        rising(self.compare_last(&entry))?;
+        rising(self.compare_last(entry))?;
         self.forms.push(alloc, entry)?;
         self.last = Kind::Form;
         Ok(())
     }
 
-    fn take_form(&mut self, alloc: Global, text: &[u8]) -> Result<(), TakeError>
+    /// Takes the line of a form, with what comes after its blank, as an entry that is put in place of this one, in its memory.
+    fn take_form_into(
+        &mut self,
+        alloc: Global,
+        entry: &mut Entry,
+        text: &[u8],
+    ) -> Result<(), TakeError>
         requires follows { may_follow self.old.last Form ≡ true }
         requires fits { length text.now < 2 ^ 32 }
         ensures { IsAnswer (take_form_of self.old (fields_of (Some text.now))) result self.new }
@@ -353,18 +363,28 @@ impl Told {
         let Some(tag) = read_tag(tag) else {
             return Err(FileWhy::Field.into());
         };
-        let form = read_some_word(alloc, form)?;
-        let stem = read_some_word(alloc, stem)?;
-        let phase = phase as u32;
-        let analysis = Analysis { stem, tag };
-        self.take_entry(
-            alloc,
-            Entry {
-                phase,
-                form,
-                analysis,
-            },
-        )
+        let room = mem::replace(&mut entry.form, Word::new(alloc));
+        entry.form = read_some_word_over(room, form)?;
+        let room = mem::replace(&mut entry.analysis.stem, Word::new(alloc));
+        entry.analysis.stem = read_some_word_over(room, stem)?;
+        entry.phase = phase as u32;
+        entry.analysis.tag = tag;
+        self.take_entry(alloc, entry)
+    }
+
+    /// Takes the line of a form, with what comes after its blank. It may come next.
+    fn take_form(&mut self, alloc: Global, text: &[u8]) -> Result<(), TakeError>
+        requires follows { may_follow self.old.last Form ≡ true }
+        requires fits { length text.now < 2 ^ 32 }
+        ensures { IsAnswer (take_form_of self.old (fields_of (Some text.now))) result self.new }
+    {
+        let mut room = match self.room.take() {
+            Some(room) => room,
+            None => Box::new(alloc, Entry::empty(alloc))?,
+        };
+        let taken = self.take_form_into(alloc, &mut room, text);
+        self.room = Some(room);
+        taken
     }
 
     fn take_end(&mut self, rest: Option<&[u8]>) -> Result<(), TakeError>
@@ -459,6 +479,7 @@ impl Told {
             plain,
             rules,
             forms,
+            room: _,
         } = self;
         let Some(automaton) = automaton else {
             unreachable!();

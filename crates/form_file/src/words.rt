@@ -5,7 +5,7 @@ ghost use Rattle.form_file.specs.Words.{IsRead, IsSpelled};
 
 use crate::FileWhy;
 use crate::take_error::TakeError;
-use latin_schemes::{SpellError, read_slp1};
+use latin_schemes::{SpellError, read_slp1_over};
 use phoneme::{Letter, Word};
 use std::alloc::Global;
 
@@ -14,19 +14,27 @@ pub fn read_word(alloc: Global, text: &[u8]) -> Result<Word, TakeError>
     requires { length text.now < 2 ^ 32 }
     ensures { IsSpelled (word_of_slp1 text.now) result }
 {
-    match read_slp1(alloc, text) {
+    read_word_over(Word::new(alloc), text)
+}
+
+/// The same, in the memory of another word.
+fn read_word_over(word: Word, text: &[u8]) -> Result<Word, TakeError>
+    requires { length text.now < 2 ^ 32 }
+    ensures { IsSpelled (word_of_slp1 text.now) result }
+{
+    match read_slp1_over(word, text) {
         Ok(word) => Ok(word),
         Err(SpellError::Fault(_)) => Err(FileWhy::Spelling.into()),
         Err(SpellError::Memory) => Err(TakeError::Memory),
     }
 }
 
-/// The word that the bytes spell in SLP1, which has some letter.
-pub(crate) fn read_some_word(alloc: Global, text: &[u8]) -> Result<Word, TakeError>
+/// The word that the bytes spell in SLP1, which has some letter, in the memory of another word.
+pub(crate) fn read_some_word_over(word: Word, text: &[u8]) -> Result<Word, TakeError>
     requires { length text.now < 2 ^ 32 }
     ensures { IsRead (some_word (word_of_slp1 text.now)) result }
 {
-    let word = read_word(alloc, text)?;
+    let word = read_word_over(word, text)?;
     if word.is_empty() {
         return Err(FileWhy::Spelling.into());
     }

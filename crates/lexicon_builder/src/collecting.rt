@@ -55,7 +55,8 @@ fn add_entry(builder: &mut StoreBuilder, alloc: Global, entry: Entry) -> Result<
     if builder.lines() as usize >= MOST_FORM_LINES {
         return Err(BuildError::Limit);
     }
-    builder.push(alloc, entry)?;
+    let mut entry = entry;
+    builder.push(alloc, &mut entry)?;
     Ok(())
 }
 

@@ -1,4 +1,4 @@
-ghost use Rattle.std.specs.Prelude.{◌≡◌, ◌+◌, ◌<◌, ◌≤◌, ℕ, [], length, replicate, All, IfOk, OnOk, OnErr};
+ghost use Rattle.std.specs.Prelude.{◌≡◌, ◌+◌, ◌<◌, ◌≤◌, ℕ, [], length, replicate, Some, All, IfOk, OnOk, OnErr};
 ghost use Rattle.std.specs.Option.{option_map};
 ghost use Rattle.std.specs.declared.cmp.Ordering.TheVariants.{Less};
 ghost use Rattle.form_tags.specs.Analyses.{text_analysis};
@@ -22,6 +22,7 @@ use std::alloc::Global;
 use std::boxed::Box;
 use std::cmp::Ordering;
 use std::marker::Model;
+use std::mem;
 use std::snapshot::Snapshot;
 
 /// A trie with shared subtrees that is built from entries as they rise: by phase, form, stem and tag (Huet 2005). Contracts see it
@@ -101,6 +102,16 @@ fn add(
     Ok(())
 }
 
+/// Keeps the entry as the last one. What was the last one before stands in its place then, or an entry without letters.
+fn keep(alloc: Global, last: &mut Option<Entry>, entry: &mut Entry)
+    ensures { last.new ≡ Some entry.old }
+{
+    match last {
+        Some(last) => mem::swap(last, entry),
+        None => *last = Some(mem::replace(entry, Entry::empty(alloc))),
+    }
+}
+
 /// Gives all phases their roots.
 fn end(
     open_trie: &mut OpenTrie,
@@ -154,16 +165,16 @@ impl StoreBuilder {
         })
     }
 
-    /// Adds an entry that comes after all others. Where memory is wanting nothing is added, and all later calls that could want
-    /// memory say so too.
-    pub fn push(&mut self, alloc: Global, entry: Entry) -> Result<(), Memory>
-        requires phase { entry.phase < length self.old }
-        requires not_empty { 0 < length entry.form }
-        requires short { length entry.form ≤ MOST_FORM_LETTERS }
-        requires stem { IsListedStem (text_analysis entry.analysis) }
+    /// Adds an entry that comes after all others. Another one stands in its place then, whose memory may serve for the next. Where memory
+    /// is wanting nothing is added, and all later calls that could want memory say so too.
+    pub fn push(&mut self, alloc: Global, entry: &mut Entry) -> Result<(), Memory>
+        requires phase { entry.old.phase < length self.old }
+        requires not_empty { 0 < length entry.old.form }
+        requires short { length entry.old.form ≤ MOST_FORM_LETTERS }
+        requires stem { IsListedStem (text_analysis entry.old.analysis) }
         requires lines { count_lines self.old < MOST_FORM_LINES }
-        requires above { compare_last_of compare_entries (entries_from 0 self.old) (text_entry entry) ≡ Less }
-        ensures ok { OnOk result (self.new ≡ with_entry self.old (text_entry entry)) }
+        requires above { compare_last_of compare_entries (entries_from 0 self.old) (text_entry entry.old) ≡ Less }
+        ensures ok { OnOk result (self.new ≡ with_entry self.old (text_entry entry.old)) }
         ensures unchanged { OnErr result (self.new ≡ self.old) }
     {
         // The calls tell that both are words, which the forms keep.
@@ -173,10 +184,10 @@ impl StoreBuilder {
             return Err(Memory);
         }
         self.failed = true;
-        add(&mut self.open_trie, alloc, &self.told, &self.last, &entry)?;
-        tell(&mut self.told, &entry);
+        add(&mut self.open_trie, alloc, &self.told, &self.last, entry)?;
+        tell(&mut self.told, entry);
+        keep(alloc, &mut self.last, entry);
         self.lines += 1;
-        self.last = Some(entry);
         self.failed = false;
         Ok(())
     }

@@ -9,7 +9,7 @@ use Rattle.form_file.specs.declared.error.FileWhy.TheVariants.{Field}
 use Rattle.form_file.proofs.AnswerLemmas.{refused_for}
 use Rattle.form_file.proofs.PairLemmas.{not_spelled}
 use Rattle.form_file.proofs.FormFields.{four_fit, not_four, by_phase, no_tag, by_words, no_letters, no_stem, both_words, answer_moved}
-use Rattle.form_file.proofs.told.Told.take_form.Goals as goal
+use Rattle.form_file.proofs.told.Told.take_form_into.Goals as goal
 
 pub returns-in_default : goal.returns-in_default
 returns-in_default c =
@@ -26,39 +26,39 @@ returns-in_default-read_tag c =
     refused_for (Unit {0}) (take_form_of c.args.self.now (fields_of (Some c.args.text.now))) c.into-in_default-read_tag.result Field c.args.self.now (cc)
     (start ∙ no_tag c.args.self.now c.in-Some-phase_named.phase c.in-Some.form.now c.in-Some.stem.now c.in-Some.tag.now (λ tag. false≢true (c.in_default-read_tag.ensures.some.1 tag)))
 
-pub read_some_word-requires : goal.read_some_word-requires
-read_some_word-requires c =
+pub read_some_word_over-requires : goal.read_some_word_over-requires
+read_some_word_over-requires c =
     let fit = four_fit c.args.text.now c.in-Some.phase.now c.in-Some.form.now c.in-Some.stem.now c.in-Some.tag.now c.in-Some.ensures in
     let fits = c.requires.fits in
     omega (arith, fits, fit.0)
 
-pub read_some_word-requires-2 : goal.read_some_word-requires-2
-read_some_word-requires-2 c =
+pub read_some_word_over-requires-2 : goal.read_some_word_over-requires-2
+read_some_word_over-requires-2 c =
     let fit = four_fit c.args.text.now c.in-Some.phase.now c.in-Some.form.now c.in-Some.stem.now c.in-Some.tag.now c.in-Some.ensures in
     let fits = c.requires.fits in
     omega (arith, fits, fit.1)
 
-pub returns-in_err-form : goal.returns-in_err-form
-returns-in_err-form c =
+pub returns-in_err-entry : goal.returns-in_err-entry
+returns-in_err-entry c =
     let start = by_phase c.args.self.now (fields_of (Some c.args.text.now)) c.in-Some.phase.now c.in-Some.form.now c.in-Some.stem.now c.in-Some.tag.now (Some c.in-Some-phase_named.phase) c.in-Some.ensures c.in-Some-phase_named.ensures.named in
     let words = start ∙ by_words c.args.self.now c.in-Some-phase_named.phase c.in-Some.form.now c.in-Some.stem.now c.in-Some.tag.now (c.in-Some-read_tag.ensures.some.0 refl) in
     let p = err_from_is_err_and c.from_residual.result c.from_residual.ensures.1 in
     rw (p.1, p.2)
-    (not_spelled (Unit {0}) (some_word (word_of_slp1 c.in-Some.form.now)) c.in_err-form.field-0.0 (take_form_of c.args.self.now (fields_of (Some c.args.text.now))) c.args.self.now c.in_err-form.ensures
+    (not_spelled (Unit {0}) (some_word (word_of_slp1 c.in-Some.form.now)) c.in_err-entry.field-0.0 (take_form_of c.args.self.now (fields_of (Some c.args.text.now))) c.args.self.now c.in_err-entry.ensures
     (λ none. words ∙ no_letters c.args.self.now c.in-Some-phase_named.phase c.in-Some.tag.now _ _ none))
 
-pub returns-in_err-stem : goal.returns-in_err-stem
-returns-in_err-stem c =
+pub returns-in_err-entry-2 : goal.returns-in_err-entry-2
+returns-in_err-entry-2 c =
     let start = by_phase c.args.self.now (fields_of (Some c.args.text.now)) c.in-Some.phase.now c.in-Some.form.now c.in-Some.stem.now c.in-Some.tag.now (Some c.in-Some-phase_named.phase) c.in-Some.ensures c.in-Some-phase_named.ensures.named in
     let words = start ∙ by_words c.args.self.now c.in-Some-phase_named.phase c.in-Some.form.now c.in-Some.stem.now c.in-Some.tag.now (c.in-Some-read_tag.ensures.some.0 refl) in
-    let p = err_from_is_err_and c.from_residual-in_err-stem.result c.from_residual-in_err-stem.ensures.1 in
+    let p = err_from_is_err_and c.from_residual-in_err-entry-2.result c.from_residual-in_err-entry-2.ensures.1 in
     rw (p.1, p.2)
-    (not_spelled (Unit {0}) (some_word (word_of_slp1 c.in-Some.stem.now)) c.in_err-stem.field-0.0 (take_form_of c.args.self.now (fields_of (Some c.args.text.now))) c.args.self.now c.in_err-stem.ensures
+    (not_spelled (Unit {0}) (some_word (word_of_slp1 c.in-Some.stem.now)) c.in_err-entry-2.field-0.0 (take_form_of c.args.self.now (fields_of (Some c.args.text.now))) c.args.self.now c.in_err-entry-2.ensures
     (λ none. words ∙ no_stem c.args.self.now c.in-Some-phase_named.phase c.in-Some.tag.now _ _ none))
 
 pub returns : goal.returns
 returns c =
     let start = by_phase c.args.self.now (fields_of (Some c.args.text.now)) c.in-Some.phase.now c.in-Some.form.now c.in-Some.stem.now c.in-Some.tag.now (Some c.in-Some-phase_named.phase) c.in-Some.ensures c.in-Some-phase_named.ensures.named in
     let words = start ∙ by_words c.args.self.now c.in-Some-phase_named.phase c.in-Some.form.now c.in-Some.stem.now c.in-Some.tag.now (c.in-Some-read_tag.ensures.some.0 refl) in
-    let entry = both_words c.args.self.now c.in-Some-phase_named.phase c.in-Some.tag.now _ c.in_ok-form.form c.in_ok-stem.stem _ _ c.in_ok-form.ensures c.in_ok-stem.ensures c.in-Some-read_tag.ensures.value in
+    let entry = both_words c.args.self.now c.in-Some-phase_named.phase c.in-Some.tag.now _ c.in_ok-entry.field-0 c.in_ok-entry-2.field-0 _ _ c.in_ok-entry.ensures c.in_ok-entry-2.ensures c.in-Some-read_tag.ensures.value in
     answer_moved (Unit {0}) _ (take_form_of c.args.self.now (fields_of (Some c.args.text.now))) c.take_entry.result c.take_entry.new.self (words ∙ entry) c.take_entry.ensures
