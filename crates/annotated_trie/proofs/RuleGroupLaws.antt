@@ -1,71 +1,115 @@
 -- Lists one after another stay when one is added; the groups of one list more stand after those of the lists before it.
-use Rattle.std.proofs.Common.{◌≡◌, inl, inr, ℕ, ◌+◌, ◌-◌, ◌*◌, ◌<◌, ◌==◌, Bool, cond, List, [], ◌∷◌, ◌++◌, length, map, take, drop, get_or, refl, sym, ◌∙◌, ap, subst, arith}
+use Rattle.std.proofs.Common.{◌≡◌, inl, inr, ℕ, zero, suc, ◌+◌, ◌-◌, ◌*◌, ◌<◌, ◌≤◌, ◌==◌, Bool, cond, List, [], ◌∷◌, ◌++◌, length, take, drop, get_or, refl, sym, ◌∙◌, ap, subst, arith}
 use Rattle.std.specs.Global.{Vec}
 use Rattle.std.specs.Prelude.{All, slice_range, slice_index}
 use Rattle.std.proofs.lemmas.Bool.{cases_lt}
-use Rattle.std.proofs.lemmas.List.{append-nil, append_assoc, drop-append-le, drop_at, get_or-append-add, get_or-map, get_or_default, get_or_append_left, get_or_push, length-append, length-drop, length-map, length_push, map_push, take-append-le, take_all}
-use Rattle.std.proofs.lemmas.List.Elements.{All-get_or, All-head, All-push, All-tail, All-weaker, filter_more}
+use Rattle.std.proofs.lemmas.List.{append-nil, append_assoc, drop-append-le, drop_at, get_or-append-add, get_or-map, get_or_default, get_or_append_left, get_or_push, length-append, length-drop, length_push, take-append-le, take_all}
+use Rattle.std.proofs.lemmas.List.Elements.{filter_more}
 use Rattle.list_laws.proofs.Sorted.{All-from_Contains}
-use Rattle.annotated_trie.specs.declared.rule_lists.Span.{Span}
 use Rattle.lexicon_definitions.specs.Tries.{Trie}
 use Rattle.annotated_trie.specs.Choices.{AnnotatedTrie, choices_of, choices_with, with_first}
-use Rattle.annotated_trie.specs.RuleGroups.{AddsGroups, AreGroupedBy, HaveNumbersUpTo, IsNumberUpTo, IsSpanOf, part_of}
+use Rattle.annotated_trie.specs.RuleGroups.{AddsGroups, AreBounds, AreGroupedBy, AreStops, HaveNumbersUpTo, IsNumberUpTo, parts_from, parts_of}
 use Rattle.annotated_trie.specs.Suffixes.{AreGroups, AreListsFrom}
 use Rattle.annotated_trie.specs.Views.{ArePlaces, annotated_with, list_at}
 use Rattle.annotated_trie.proofs.ListPlaces.{list_at-append, list_at-push, list_at-read}
 
+-- the start does not lie past the end
+start_below : (end start : ℕ) (stops : List ℕ) → AreStops end start stops → start ≤ end
+unfolding AreStops
+start_below end start [] are = omega (arith, are)
+start_below end start (stop ∷ stops) are =
+    let first = are.0 in
+    let rest = start_below end stop stops are.1 in
+    omega (arith, first, rest)
+
 -- a part that was there
-part_kept : (rules more : List ℕ) (span : Span) → IsSpanOf rules span → part_of (rules ++ more) span ≡ part_of rules span
-part_kept rules more span is =
-    let order = is.order in
-    let within = is.within in
-    let long = length-drop span.start rules in
-    ap (take (span.stop - span.start)) (drop-append-le span.start rules more (omega (arith, order, within)))
-    ∙ take-append-le (span.stop - span.start) (drop span.start rules) more (omega (arith, long, within, order))
-
--- all parts that were there
-parts_kept : (rules more : List ℕ) (spans : List Span) → All (IsSpanOf rules) spans → map (part_of (rules ++ more)) spans ≡ map (part_of rules) spans
-parts_kept rules more [] are = refl
-parts_kept rules more (span ∷ spans) are =
-    let first = part_kept rules more span (All-head (IsSpanOf rules) span spans are) in
-    let rest = parts_kept rules more spans (All-tail (IsSpanOf rules) span spans are) in
-    λ i. first i ∷ rest i
-
--- spans stay parts
-pub spans_kept : (rules more : List ℕ) (spans : List Span) → All (IsSpanOf rules) spans → All (IsSpanOf (rules ++ more)) spans
-spans_kept rules more spans are =
-    let long = length-append rules more in
-    All-weaker (IsSpanOf rules) (IsSpanOf (rules ++ more)) (λ span is.
-    let order = is.order in
-    let within = is.within in
-    record { order = order; within = omega (arith, within, long) }) spans are
+part_kept : (rules more : List ℕ) (start stop : ℕ) → start ≤ stop → stop ≤ length rules → slice_range (rules ++ more) start stop ≡ slice_range rules start stop
+part_kept rules more start stop order within =
+    let long = length-drop start rules in
+    ap (take (stop - start)) (drop-append-le start rules more (omega (arith, order, within)))
+    ∙ take-append-le (stop - start) (drop start rules) more (omega (arith, long, within, order))
 
 -- one list more
-module _ (rules list : List ℕ) (spans : List Span) (are : All (IsSpanOf rules) spans) (start stop : ℕ) (from : start ≡ length rules) (to : stop ≡ length (rules ++ list)) where
-  pub list_spans : All (IsSpanOf (rules ++ list)) (spans ++ record { start = start; stop = stop } ∷ [])
-  list_spans =
+module _ (rules list : List ℕ) (end : ℕ) (to : end ≡ length (rules ++ list)) where
+  stops_pushed : (start : ℕ) (stops : List ℕ) → AreStops (length rules) start stops → AreStops end start (stops ++ end ∷ [])
+  unfolding AreStops
+  stops_pushed start [] are =
       let long = length-append rules list in
-      All-push (IsSpanOf (rules ++ list)) spans (record { start = start; stop = stop }) (spans_kept rules list spans are)
-      (record { order = omega (arith, from, to, long); within = omega (arith, to) })
+      (omega (arith, are, to, long), refl)
+  stops_pushed start (stop ∷ stops) are = (are.0, stops_pushed stop stops are.1)
 
-  pub list_pushed : map (part_of (rules ++ list)) (spans ++ record { start = start; stop = stop } ∷ []) ≡ map (part_of rules) spans ++ list ∷ []
-  list_pushed =
+  parts_pushed : (start : ℕ) (stops : List ℕ) → AreStops (length rules) start stops
+      → parts_from (rules ++ list) start (stops ++ end ∷ []) ≡ parts_from rules start stops ++ list ∷ []
+  unfolding AreStops parts_from
+  parts_pushed start [] are =
       let long = length-append rules list in
-      let last : slice_range (rules ++ list) start stop ≡ list =
-      ap (take (stop - start)) (drop_at rules list start (sym from)) ∙ take_all (stop - start) list (omega (arith, from, to, long)) in
-      let before = parts_kept rules list spans are in
-      map_push (part_of (rules ++ list)) spans (record { start = start; stop = stop }) ∙ (λ i. before i ++ last i ∷ [])
+      let last : slice_range (rules ++ list) start end ≡ list =
+      ap (take (end - start)) (drop_at rules list start (sym are)) ∙ take_all (end - start) list (omega (arith, are, to, long)) in
+      λ i. last i ∷ []
+  parts_pushed start (stop ∷ stops) are =
+      let first = part_kept rules list start stop are.0 (start_below (length rules) stop stops are.1) in
+      let rest = parts_pushed stop stops are.1 in
+      λ i. first i ∷ rest i
+
+  pub bounds_pushed : (bounds : List ℕ) → AreBounds (length rules) bounds → AreBounds end (bounds ++ end ∷ [])
+  unfolding AreBounds
+  bounds_pushed [] are = absurd are
+  bounds_pushed (start ∷ stops) are = stops_pushed start stops are
+
+  pub list_pushed : (bounds : List ℕ) → AreBounds (length rules) bounds → parts_of (rules ++ list) (bounds ++ end ∷ []) ≡ parts_of rules bounds ++ list ∷ []
+  unfolding AreBounds parts_of parts_from
+  list_pushed [] are = absurd are
+  list_pushed (start ∷ stops) are = parts_pushed start stops are
+
+-- how many parts there are
+parts_count : (rules : List ℕ) (start : ℕ) (stops : List ℕ) → length (parts_from rules start stops) ≡ length stops
+unfolding parts_from
+parts_count rules start [] = refl
+parts_count rules start (stop ∷ stops) = ap suc (parts_count rules stop stops)
+
+-- a part that is read lies within the rules
+part_read : (rules : List ℕ) (start : ℕ) (stops : List ℕ) (place from to : ℕ) → AreStops (length rules) start stops → place < length stops
+    → from ≡ get_or (start ∷ stops) place from → to ≡ get_or stops place to
+    → (from ≤ to) × (to ≤ length rules) × (slice_range rules from to ≡ get_or (parts_from rules start stops) place [])
+unfolding AreStops parts_from
+part_read rules start [] place from to are low first last = absurd (omega (arith, low))
+part_read rules start (stop ∷ stops) zero from to are low first last =
+    let order = are.0 in
+    let within = start_below (length rules) stop stops are.1 in
+    (omega (arith, order, first, last), omega (arith, within, last), λ i. slice_range rules (first i) (last i))
+part_read rules start (stop ∷ stops) (suc place) from to are low first last = part_read rules stop stops place from to are.1 (omega (arith, low)) first last
+
+-- where no list was added yet
+pub no_lists : (rules bounds : List ℕ) → rules ≡ [] → bounds ≡ 0 ∷ [] → AreBounds (length rules) bounds × (parts_of rules bounds ≡ [])
+unfolding AreBounds AreStops parts_of parts_from
+no_lists rules bounds none only = (
+  subst (λ (bs : List ℕ). AreBounds (length rules) bs) (sym only) (sym (ap length none)),
+  ap (parts_of rules) only,
+)
+
+-- the bounds of a list that is read are there
+pub bounds_there : (rules bounds : List ℕ) (lists : List (List ℕ)) (place : ℕ) → parts_of rules bounds ≡ lists → place < length lists → place + 1 < length bounds
+unfolding parts_of
+bounds_there rules [] lists place view low =
+    let none = ap length view in
+    absurd (omega (arith, low, none))
+bounds_there rules (start ∷ stops) lists place view low =
+    let count = parts_count rules start stops in
+    let same = ap length view in
+    omega (arith, low, count, same)
 
 -- a list that is read
-pub span_read : (rules : List ℕ) (spans : List Span) (lists : List (List ℕ)) (place : ℕ) (span : Span) → map (part_of rules) spans ≡ lists → place < length lists
-    → All (IsSpanOf rules) spans → span ≡ get_or spans place span → IsSpanOf rules span × (part_of rules span ≡ get_or lists place [])
-span_read rules spans lists place span view low are read =
-    let long = length-map spans (part_of rules) in
-    let same = ap length view in
-    let there : place < length spans = omega (arith, low, long, same) in (
-      subst (IsSpanOf rules) (sym read) (All-get_or (IsSpanOf rules) spans place span there are),
-      sym (ap (λ (ls : List (List ℕ)). get_or ls place []) (sym view) ∙ get_or-map (part_of rules) spans place span [] there ∙ ap (part_of rules) (sym read)),
-    )
+pub list_read : (rules bounds : List ℕ) (lists : List (List ℕ)) (place start stop : ℕ) → parts_of rules bounds ≡ lists → place < length lists
+    → AreBounds (length rules) bounds → start ≡ get_or bounds place start → stop ≡ get_or bounds (place + 1) stop
+    → (start ≤ stop) × (stop ≤ length rules) × (slice_range rules start stop ≡ get_or lists place [])
+unfolding AreBounds parts_of
+list_read rules [] lists place start stop view low are first last = absurd are
+list_read rules (from ∷ stops) lists place start stop view low are first last =
+    let there = bounds_there rules (from ∷ stops) lists place view low in
+    let next : place + 1 ≡ suc place = omega arith in
+    let read = part_read rules from stops place start stop are (omega (arith, there)) first
+    (last ∙ ap (λ (n : ℕ). get_or (from ∷ stops) n stop) next) in
+    (read.0, read.1, read.2 ∙ ap (λ (ls : List (List ℕ)). get_or ls place []) view)
 
 -- no groups were added
 pub AddsGroups-none : (firsts list : List ℕ) (old : List (List ℕ)) → AddsGroups firsts list old old 0

@@ -1,18 +1,28 @@
 -- Lists of rules in groups by the first letters of their `w`, one group after another.
-use Rattle.std.specs.Prelude.{◌≡◌, ℕ, ◌+◌, ◌*◌, ◌<◌, ◌≤◌, List, [], ◌++◌, length, slice_index_or, slice_range, All}
+use Rattle.std.specs.Prelude.{◌≡◌, ℕ, ◌+◌, ◌*◌, ◌<◌, ◌≤◌, List, [], ◌∷◌, ◌++◌, length, slice_index_or, slice_range, All}
 use Rattle.std.specs.Global.{Vec}
-use Rattle.annotated_trie.specs.declared.rule_lists.Span.{Span}
 use Rattle.annotated_trie.specs.Choices.{with_first}
 use Rattle.annotated_trie.specs.Views.{list_at}
 
--- the part of the list
-abbrev pub part_of : List ℕ → Span → List ℕ
-part_of rules span = slice_range rules span.start span.stop
+-- the parts of the list that lie one after another from the start, each up to its stop
+unfoldable pub parts_from : List ℕ → ℕ → List ℕ → List (List ℕ)
+parts_from rules start [] = []
+parts_from rules start (stop ∷ stops) = slice_range rules start stop ∷ parts_from rules stop stops
 
--- the span is a part of the list
-pub record IsSpanOf (rules : List ℕ) (span : Span) : Type 0 where
-  pub order : span.start ≤ span.stop
-  pub within : span.stop ≤ length rules
+-- the parts of the list between each bound and the next
+unfoldable pub parts_of : List ℕ → List ℕ → List (List ℕ)
+parts_of rules [] = []
+parts_of rules (start ∷ stops) = parts_from rules start stops
+
+-- the stops rise from the start, and the last one is the end
+unfoldable pub AreStops : ℕ → ℕ → List ℕ → Type 0
+AreStops end start [] = start ≡ end
+AreStops end start (stop ∷ stops) = (start ≤ stop) × AreStops end stop stops
+
+-- the bounds rise, and the last one, which there is, is the end
+unfoldable pub AreBounds : ℕ → List ℕ → Type 0
+AreBounds end [] = ⊥
+AreBounds end (start ∷ stops) = AreStops end start stops
 
 -- after the old lists so many were added, one for each code from 0 on: the rules whose w begins with the letter of this code
 pub record AddsGroups (firsts list : List ℕ) (old new : List (List ℕ)) (count : ℕ) : Type 0 where

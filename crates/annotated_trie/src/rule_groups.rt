@@ -33,7 +33,7 @@ pub(crate) fn group_lists(
 {
     let firsts = first_letters(alloc, rules)?;
     let letters = firsts.as_slice();
-    let mut groups = RuleLists::new(alloc);
+    let mut groups = RuleLists::new(alloc)?;
     for list in lists {
         push_groups(alloc, &mut groups, list.as_slice(), letters)?;
     }

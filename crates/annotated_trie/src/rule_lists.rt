@@ -1,53 +1,50 @@
-ghost use Rattle.std.specs.Prelude.{◌≡◌, ◌<◌, ◌++◌, ◌∷◌, [], length, slice_index_or, OnOk};
+ghost use Rattle.std.specs.Prelude.{◌≡◌, ◌<◌, ◌++◌, ◌∷◌, [], length, slice_index_or, IfOk, OnOk};
 
 use phoneme::Memory;
 use std::alloc::Global;
 use std::marker::Model;
 
-/// A part of a list, from `start` up to `stop`.
-#[derive(Clone, Copy)]
-pub(crate) struct Span {
-    pub start: usize,
-    pub stop: usize,
-}
-
 /// Lists of rules, by their numbers, one after another in one array.
 #[derive(Drop)]
 pub(crate) struct RuleLists {
     rules: Vec<u32>,
-    spans: Vec<Span>,
+    /// Where each list begins, and where the last one ends. They count in `usize`, since the lists together may have more rules
+    /// than a `u32` can tell.
+    bounds: Vec<usize>,
 }
 
 impl Model for RuleLists {
-    ghost use Rattle.std.specs.Prelude.{ℕ, List, map, All};
-    ghost use Rattle.annotated_trie.specs.RuleGroups.{IsSpanOf, part_of};
+    ghost use Rattle.std.specs.Prelude.{ℕ, List, length};
+    ghost use Rattle.annotated_trie.specs.RuleGroups.{AreBounds, parts_of};
 
     ghost Value = { List (List ℕ) };
 
-    ghost view = { λ l. map (part_of l.rules.items) l.spans.items };
+    ghost view = { λ l. parts_of l.rules.items l.bounds.items };
 
-    ghost invariant = { λ l. All (IsSpanOf l.rules.items) l.spans.items };
+    ghost invariant = { λ l. AreBounds (length l.rules.items) l.bounds.items };
 }
 
 impl RuleLists {
-    /// No lists. Takes no memory.
-    pub(crate) fn new(alloc: Global) -> RuleLists
-        ensures { result ≡ [] }
+    /// No lists.
+    pub(crate) fn new(alloc: Global) -> Result<RuleLists, Memory>
+        ensures ok { IfOk result (λ lists. lists ≡ []) }
     {
-        RuleLists {
+        let mut bounds = Vec::new(alloc);
+        bounds.push(0)?;
+        Ok(RuleLists {
             rules: Vec::new(alloc),
-            spans: Vec::new(alloc),
-        }
+            bounds,
+        })
     }
 
     /// Adds a list after the others.
     pub(crate) fn push(&mut self, list: &[u32]) -> Result<(), Memory>
         ensures ok { OnOk result (self.new ≡ self.old ++ list.now ∷ []) }
     {
-        let start = self.rules.len();
+        // Room for the bound comes first: where memory is wanting, no rules are left without it.
+        self.bounds.reserve(1)?;
         self.rules.extend_from_slice(list)?;
-        let stop = self.rules.len();
-        self.spans.push(Span { start, stop })?;
+        self.bounds.push(self.rules.len())?;
         Ok(())
     }
 
@@ -56,7 +53,8 @@ impl RuleLists {
         requires { place < length self.now }
         ensures { result.now ≡ slice_index_or self.now place [] }
     {
-        let span = self.spans[place];
-        &self.rules[span.start..span.stop]
+        let start = self.bounds[place];
+        let stop = self.bounds[place + 1];
+        &self.rules[start..stop]
     }
 }

@@ -9,7 +9,7 @@ use Rattle.annotated_trie.proofs.RuleGroupLaws.{AreGroupedBy-none, AreGroupedBy-
 use Rattle.annotated_trie.proofs.rule_groups.group_lists.Goals as goal
 
 pub loop-list-init : goal.loop-list-init
-loop-list-init c = AreGroupedBy-none c.as_slice-letters.result.now c.new-groups.result c.new-groups.ensures
+loop-list-init c = AreGroupedBy-none c.as_slice-letters.result.now c.in_ok-groups.groups c.in_ok-groups.ensures.ok
 
 pub push_groups-requires : goal.push_groups-requires
 push_groups-requires c =
