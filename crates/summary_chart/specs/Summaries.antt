@@ -76,14 +76,14 @@ pub record HaveSameU (rules : RuleSet) (same : List ℕ) : Type 0 where
   pub within : (rule : ℕ) → rule ≤ length rules.rules → slice_index_or same rule 0 ≤ length rules.rules
   pub each : (rule : ℕ) → rule ≤ length rules.rules → (rule_of rules (slice_index_or same rule 0)).u ≡ (rule_of rules rule).u
 
--- how many items there were when the last one was made whose rule has the same u as this one
+-- how many items there were when the last one was made whose rule has the same u as this one; 0 as long as no lists of rules are kept
 abbrev pub made_of : Collected → ℕ → ℕ
 made_of collected rule = slice_index_or collected.made.items (slice_index_or collected.same_u.items rule 0) 0
 
--- what was collected tells of each of these rules when an item with its u was made
+-- what was collected tells of each of these rules when an item with its u was made, or has no lists of rules yet
 pub record IsCollected (rules : RuleSet) (collected : Collected) : Type 0 where
-  pub same : HaveSameU rules collected.same_u.items
-  pub size : length collected.made.items ≡ length rules.rules + 1
+  pub same : collected.same_u.items ≢ [] → HaveSameU rules collected.same_u.items
+  pub size : length collected.made.items ≡ length collected.same_u.items
   pub within : (place : ℕ) → slice_index_or collected.made.items place 0 ≤ length collected.items.items
 
 -- each rule with a u that was made since there were so many items has its item after this front

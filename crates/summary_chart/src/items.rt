@@ -8,6 +8,7 @@ ghost use Rattle.derivation.specs.Steps.{key_of};
 ghost use Rattle.answer_paths.specs.Fronts.{supplied};
 ghost use Rattle.answer_paths.specs.Following.{placed_at};
 
+use super::same_u::u_of;
 use derivation::{Entrance, Item, Step};
 use phoneme::{Line, Memory, Word};
 use sandhi_rules::RuleSet;
@@ -50,13 +51,13 @@ pub(crate) fn item_of_step(
     requires within { step.now.at + step.now.taken ≤ length line.now.letters }
     ensures ok { IfOk result (λ item. item ≡ item_of (placed_at rules.now line.now step.now.at (entrance_of (leads_of rules.now.rules) entrance) (key_of step.now))) }
 {
-    let mut form = Word::from_slice(alloc, supplied_letters(rules, entrance))?;
     let at = step.at as usize;
-    let end = at + step.taken as usize;
-    form.extend_from_slice(&line.letters.as_slice()[at..end])?;
-    if let Some(rule) = rules.rule(step.rule) {
-        form.extend_from_slice(rule.u.as_slice())?;
-    }
+    let taken = step.taken as usize;
+    let u = u_of(rules, step.rule);
+    let mut form = Word::with_capacity(alloc, step.lead as usize + taken + u.len())?;
+    form.extend_from_slice(supplied_letters(rules, entrance))?;
+    form.extend_from_slice(&line.letters.as_slice()[at..at + taken])?;
+    form.extend_from_slice(u)?;
     Ok(Item {
         at: step.at,
         lead: step.lead,

@@ -64,8 +64,8 @@ impl PlaceWays {
         ensures ways { self.new.ways.items ≡ self.old.ways.items }
     {
         let start = self.stops.len();
-        if self.starts.len() <= at as usize {
-            self.starts.resize(at as usize + 1, start)?;
+        while self.starts.len() <= at as usize {
+            self.starts.push(start)?;
         }
         self.stops.push(stop)?;
         Ok(())

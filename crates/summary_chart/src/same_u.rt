@@ -7,7 +7,7 @@ use sandhi_rules::RuleSet;
 use std::alloc::Global;
 
 /// The `u` of the rule with this number, counted from 1; empty for 0, which stands for no change, and for a number past the last rule.
-fn u_of(rules: &RuleSet, number: u32) -> &[Letter]
+pub(crate) fn u_of(rules: &RuleSet, number: u32) -> &[Letter]
     ensures { result.now ≡ (rule_of rules.now number).u }
 {
     if number == 0 {

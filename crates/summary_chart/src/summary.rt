@@ -70,7 +70,7 @@ impl Chart {
         ensures items { IfOk result (λ items. HasItemsBefore lexicon.now line.now choices.now self.now.table (length self.now.table.sets.items) items.items) }
         ensures steps { (most : ℕ) → HasAtMostRules lexicon.now.tries most → steps.new ≤ steps.old + steps_of_summary lexicon.now line.now most }
     {
-        let mut collected = Collected::new(alloc, lexicon.rules())?;
+        let mut collected = Collected::new(alloc);
         let mut nodes = Vec::with_capacity(alloc, NODES_OF_FRAME)?;
         let state = lexicon.automaton().start();
         let table = &self.table;

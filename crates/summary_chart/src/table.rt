@@ -13,7 +13,8 @@ use phoneme::{Letter, Line, Memory};
 use sandhi_rules::RuleSet;
 use std::alloc::Global;
 
-/// How many entrances there are besides the leads: the start, and one for each letter.
+/// How many entrances there are besides the leads: the start, and one for each letter. The codes of letters are the numbers from 1 on
+/// below this.
 const OTHER_ENTRANCES: usize = 51;
 
 /// How many sets have their bits in one word.
@@ -41,7 +42,7 @@ fn entrances_over(list: Vec<Entrance>, leads: usize) -> Result<Vec<Entrance>, Me
         entrances.push(Entrance::Lead(place as u16))?;
     }
     entrances.push(Entrance::Start)?;
-    for code in 1..51 {
+    for code in 1..OTHER_ENTRANCES as u8 {
         if let Some(letter) = Letter::new(code) {
             entrances.push(Entrance::Plain(letter))?;
         }

@@ -1,11 +1,10 @@
 -- At the start there is nothing, each index adds the items of its places, no place stands where the sets are empty, and at the end those
 -- of all places are there (`TableItems`).
 use Rattle.std.proofs.Common.{◌≡◌, ◌+◌, ◌<◌, ℕ, length, sym, ap, subst, arith}
-use Rattle.lexicon_definitions.specs.Lexicons.{RuleSet}
 use Rattle.summary_chart.specs.declared.table.Table.{Table}
 use Rattle.summary_chart.specs.PlaceWays.{ChartValue, IsChartOf}
 use Rattle.summary_chart.specs.Spreading.{leads_in}
-use Rattle.summary_chart.specs.Summaries.{AddsItems, HasItemsBefore, IsCollected, IsItemFrom}
+use Rattle.summary_chart.specs.Summaries.{AddsItems, HasItemsBefore, IsItemFrom}
 use Rattle.summary_chart.specs.Tables.{set_of}
 use Rattle.summary_chart.proofs.TableItems.{no_items, items_more, items_on, none_in_empty}
 use Rattle.summary_chart.proofs.SummarySteps.{place_and_skip, places_within}
@@ -20,12 +19,12 @@ loop-index-init g c =
     let chart = subst (IsChartOf searched line choices) (sym c.self.view_is) c.requires.chart in
     let first = c.next_filled-index.result in
     let empty = c.next_filled-index.ensures in
-    let items = c.in_ok-collected.collected.items.items in
+    let items = c.new-collected.result.items.items in
     record {
       items = items_on searched line choices table chart.table.lawful 0 first items (omega arith)
           (none_in_empty searched line choices table chart.table.lawful 0 first empty)
-          (no_items searched line choices table chart.table items c.in_ok-collected.ensures.none);
-      collected = subst (λ (rules : RuleSet). IsCollected rules c.in_ok-collected.collected) c.rules.ensures.value c.in_ok-collected.ensures.collected;
+          (no_items searched line choices table chart.table items c.new-collected.ensures.none);
+      collected = c.new-collected.ensures.collected searched.lexicon.rules;
       within = empty.within;
       spent = λ most few. omega arith;
     }
