@@ -69,21 +69,15 @@ not_four_whole text e = ap four_of (fields_whole text e)
 pub not_four_second : (text first rest : List ℕ) → cut 32 text ≡ Some (first, rest) → cut 32 rest ≡ None → four_of (fields_of (Some text)) ≡ None
 not_four_second text first rest e f = ap four_of (fields_cut text first rest e ∙ ap (◌∷◌ first) (fields_whole rest f))
 
-not_four_by : (first second : List ℕ) (fields : List (List ℕ)) → two_of fields ≡ None → four_of (first ∷ second ∷ fields) ≡ None
-not_four_by first second [] h = refl
-not_four_by first second (third ∷ []) h = refl
-not_four_by first second (third ∷ fourth ∷ []) h = absurd (cc)
-not_four_by first second (third ∷ fourth ∷ fifth ∷ fields) h = refl
-
-pub not_four_rest : (text first rest second last : List ℕ) → cut 32 text ≡ Some (first, rest) → cut 32 rest ≡ Some (second, last) → two_of (fields_of (Some last)) ≡ None
+pub not_four_third : (text first rest second last : List ℕ) → cut 32 text ≡ Some (first, rest) → cut 32 rest ≡ Some (second, last) → cut 32 last ≡ None
     → four_of (fields_of (Some text)) ≡ None
-not_four_rest text first rest second last e f h =
-    ap four_of (fields_cut text first rest e ∙ ap (◌∷◌ first) (fields_cut rest second last f)) ∙ not_four_by first second (fields_of (Some last)) h
+not_four_third text first rest second last e f g =
+    ap four_of (fields_cut text first rest e ∙ ap (◌∷◌ first) (fields_cut rest second last f ∙ ap (◌∷◌ second) (fields_whole last g)))
 
-pub four_fields_are : (text first rest second last third fourth : List ℕ) → cut 32 text ≡ Some (first, rest) → cut 32 rest ≡ Some (second, last)
-    → fields_of (Some last) ≡ third ∷ fourth ∷ [] → fields_of (Some text) ≡ first ∷ second ∷ third ∷ fourth ∷ []
-four_fields_are text first rest second last third fourth e f h =
-    fields_cut text first rest e ∙ ap (◌∷◌ first) (fields_cut rest second last f ∙ ap (◌∷◌ second) h)
+pub three_fields_are : (text first rest second last third more : List ℕ) → cut 32 text ≡ Some (first, rest) → cut 32 rest ≡ Some (second, last)
+    → cut 32 last ≡ Some (third, more) → fields_of (Some text) ≡ first ∷ second ∷ third ∷ fields_of (Some more)
+three_fields_are text first rest second last third more e f g =
+    fields_cut text first rest e ∙ ap (◌∷◌ first) (fields_cut rest second last f ∙ ap (◌∷◌ second) (fields_cut last third more g))
 
 -- ---- the shape of a rule
 

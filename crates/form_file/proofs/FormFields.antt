@@ -12,7 +12,8 @@ use Rattle.lexicon_text_definitions.specs.FileFaults as faults
 use Rattle.lexicon_text_definitions.specs.FileLines.{fields_of}
 use Rattle.lexicon_text_definitions.specs.FileContents.{Told, is_tag_text}
 use Rattle.lexicon_text_definitions.specs.FileSteps.{Taken, some_word, take_form_line, take_analysis, take_entry, take_form}
-use Rattle.lexicon_text_definitions.proofs.TagTests.{tag_from_test, test_from_tag}
+use Rattle.lexicon_text_definitions.proofs.TagTests.{tag_from_test, test_from_tag, tag_free_of_blank}
+use Rattle.lexicon_text_definitions.proofs.LineCuts.{split_none}
 use Rattle.form_file.specs.declared.take_error.TakeError.{TakeError}
 use Rattle.form_file.specs.Fields.{four_of}
 use Rattle.form_file.specs.Told.{IsAnswer}
@@ -44,14 +45,45 @@ four_taken : (told : Told) (name letters stem tag : List ℕ) → take_form told
 unfolding take_form
 four_taken told name letters stem tag = refl
 
+-- a tag is the last field, since it has no blank
+pub four_with_tag : (text name letters stem tag : List ℕ) → fields_of (Some text) ≡ name ∷ letters ∷ stem ∷ fields_of (Some tag) → IsTagText tag
+    → fields_of (Some text) ≡ name ∷ letters ∷ stem ∷ tag ∷ []
+four_with_tag text name letters stem tag e t = e ∙ ap (λ fields. name ∷ letters ∷ stem ∷ fields) (split_none 32 tag (tag_free_of_blank tag t))
+
+no_phase_by : (told : Told) (name letters stem : List ℕ) (fields : List (List ℕ)) → None ≡ position (bytes_eq name) told.names
+    → take_form told (name ∷ letters ∷ stem ∷ fields) ≡ Err faults.Field
+unfolding take_form
+no_phase_by told name letters stem [] p = refl
+no_phase_by told name letters stem (tag ∷ []) p = ap (λ (phase : Option ℕ). take_entry told phase letters stem tag) (sym p)
+no_phase_by told name letters stem (tag ∷ more ∷ fields) p = refl
+
+-- no phase has the name, however many fields there are
+pub no_phase : (told : Told) (fields : List (List ℕ)) (name letters stem tag : List ℕ) → fields ≡ name ∷ letters ∷ stem ∷ fields_of (Some tag)
+    → None ≡ position (bytes_eq name) told.names → take_form told fields ≡ Err faults.Field
+no_phase told fields name letters stem tag e p = ap (take_form told) e ∙ no_phase_by told name letters stem (fields_of (Some tag)) p
+
 -- the phase with the name, where the line has four fields
 pub by_phase : (told : Told) (fields : List (List ℕ)) (name letters stem tag : List ℕ) (phase : Option ℕ) → fields ≡ name ∷ letters ∷ stem ∷ tag ∷ [] → phase ≡ position (bytes_eq name) told.names
     → take_form told fields ≡ take_entry told phase letters stem tag
 by_phase told fields name letters stem tag phase e p =
     ap (take_form told) e ∙ four_taken told name letters stem tag ∙ ap (λ (phase : Option ℕ). take_entry told phase letters stem tag) (sym p)
 
-pub no_tag : (told : Told) (phase : ℕ) (letters stem tag : List ℕ) → (IsTagText tag → ⊥) → take_entry told (Some phase) letters stem tag ≡ Err faults.Field
+no_tag : (told : Told) (phase : ℕ) (letters stem tag : List ℕ) → (IsTagText tag → ⊥) → take_entry told (Some phase) letters stem tag ≡ Err faults.Field
 no_tag told phase letters stem tag n = when_false (is_tag_text tag) _ _ _ (false_from_ne_true (is_tag_text tag) (λ e. n (tag_from_test tag e))) refl
+
+no_tag_by : (told : Told) (name letters stem tag : List ℕ) (phase : Option ℕ) (fields : List (List ℕ)) → fields ≡ fields_of (Some tag) → phase ≡ position (bytes_eq name) told.names
+    → (IsTagText tag → ⊥) → take_form told (name ∷ letters ∷ stem ∷ fields) ≡ Err faults.Field
+no_tag_by told name letters stem tag phase [] e p n = not_four told (name ∷ letters ∷ stem ∷ []) refl
+no_tag_by told name letters stem tag None (last ∷ []) e p n = no_phase_by told name letters stem (last ∷ []) p
+no_tag_by told name letters stem tag (Some phase) (last ∷ []) e p n =
+    let same : last ≡ tag = ap (join_with_byte 32) e ∙ join_with_byte-slice_split 32 tag in
+    by_phase told (name ∷ letters ∷ stem ∷ last ∷ []) name letters stem last (Some phase) refl p ∙ no_tag told phase letters stem last (λ t. n (subst IsTagText same t))
+no_tag_by told name letters stem tag phase (last ∷ more ∷ fields) e p n = not_four told (name ∷ letters ∷ stem ∷ last ∷ more ∷ fields) refl
+
+-- the rest is no tag, however many fields it has
+pub no_tag_at : (told : Told) (fields : List (List ℕ)) (name letters stem tag : List ℕ) (phase : Option ℕ) → fields ≡ name ∷ letters ∷ stem ∷ fields_of (Some tag)
+    → phase ≡ position (bytes_eq name) told.names → (IsTagText tag → ⊥) → take_form told fields ≡ Err faults.Field
+no_tag_at told fields name letters stem tag phase e p n = ap (take_form told) e ∙ no_tag_by told name letters stem tag phase (fields_of (Some tag)) refl p n
 
 pub by_words : (told : Told) (phase : ℕ) (letters stem tag : List ℕ) → IsTagText tag
     → take_entry told (Some phase) letters stem tag ≡ take_analysis told phase tag (some_word (word_of_slp1 letters)) (some_word (word_of_slp1 stem))

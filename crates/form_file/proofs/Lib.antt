@@ -12,4 +12,5 @@ pub mod LinesTaken
 pub mod EntryLemmas
 pub mod FaultsRead
 pub mod FormFields
+pub mod FormBytes
 pub mod TripleLemmas

@@ -1,5 +1,5 @@
 -- What a line is taken as, by its tests one after another; and an answer to a line that is no grammar's.
-use Rattle.std.proofs.Common.{◌≡◌, ◌≢◌, ℕ, ◌<◌, ◌^◌, inl, true, false, not, Option, Some, None, IfSome, Result, Ok, Err, List, [], length, refl, sym, ◌∙◌, ap, subst, arith, Bor}
+use Rattle.std.proofs.Common.{◌≡◌, ◌≢◌, ℕ, ◌<◌, ◌^◌, inl, true, false, not, Option, Some, None, IfSome, Result, Ok, Err, List, [], ◌++◌, codes, length, refl, sym, ◌∙◌, ap, subst, arith, Bor}
 use Rattle.std.specs.Result.{is_err, MatchResult}
 use Rattle.std.specs.Str.{is_utf8, IsUtf8}
 use Rattle.std.proofs.lemmas.Bool.{false_from_ne_true}
@@ -188,6 +188,20 @@ module _ (told : Told) (line : Line) where
 
   pub later_line : told.last ≢ lines.End → told.last ≢ lines.Opening → line.ended ≡ true → is_utf8 line.bytes ≡ true → take_line told line ≡ take_parts told (parts_of line.bytes)
   later_line n o e u = bytes_taken n e u ∙ not_first told.last told line.bytes o
+
+-- a line of a form after another
+another_form : (told : Told) (line text : List ℕ) → told.last ≡ lines.Form → line ≡ codes "form " ++ text → is_utf8 line ≡ true
+    → take_line told (record { bytes = line; ended = true }) ≡ take_form told (fields_of (Some text))
+another_form told line text l e u =
+    later_line told (record { bytes = line; ended = true }) (λ h. cc) (λ h. cc) refl u
+    ∙ ap (λ bytes. take_parts told (parts_of bytes)) e
+    ∙ following told (codes "form " ++ text) (codes "form") (Some text) lines.Form refl refl (ap (λ last. may_follow last lines.Form) l)
+
+pub next_answer : (A : Type 0) (told after : Told) (result : Result A TakeError) (line : List ℕ) (text : Bor (List ℕ)) → told.last ≡ lines.Form → line ≡ codes "form " ++ text.now
+    → is_utf8 line ≡ true → IsAnswer {A = A} (take_form told (fields_of (Some text.now))) result after
+    → IsLineAnswer {A = A} (take_line told (record { bytes = line; ended = true })) result after
+next_answer A told after result line text l e u h =
+    answer_as A _ _ result after (another_form told line text.now l e u) (form_answer A told after result Form (Some text) text refl refl h)
 
 -- ---- the last kind
 

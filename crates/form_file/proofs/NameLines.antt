@@ -1,5 +1,5 @@
 -- What is told of a phase's line: the tests of its name one after another.
-use Rattle.std.proofs.Common.{◌≡◌, ℕ, ◌<◌, ◌≤◌, true, false, Option, Some, None, is_some, Ok, Err, List, [], ◌∷◌, ◌++◌, length, map, refl, sym, ◌∙◌, ap}
+use Rattle.std.proofs.Common.{◌≡◌, ◌≢◌, ℕ, ◌<◌, ◌≤◌, true, false, Option, Some, None, is_some, Ok, Err, List, [], ◌∷◌, ◌++◌, length, map, get_or, AllPairs, refl, sym, ◌∙◌, ap}
 use Rattle.std.specs.List.{list_any, position}
 use Rattle.std.specs.Str.{bytes_eq, IsUtf8}
 use Rattle.std.proofs.lemmas.Bool.{le-leb, lt-leb}
@@ -14,6 +14,9 @@ use Rattle.lexicon_text_definitions.specs.FileContents.{Told}
 use Rattle.lexicon_text_definitions.specs.FileSteps.{take_phase, take_name}
 use Rattle.lexicon_definitions.proofs.NameTests.{name_from_test}
 use Rattle.lexicon_text_definitions.proofs.CleanBytes.{clean_name, clean_utf8}
+use Rattle.lexicon_text_definitions.proofs.LineSteps.{place_of_name}
+use Rattle.lexicon_text_definitions.proofs.LineTests.{pairs_push}
+use Rattle.list_laws.proofs.Texts.{none_same}
 use Rattle.form_file.specs.Fields.{one_of}
 use Rattle.list_laws.proofs.Booleans.{when_true, when_false}
 
@@ -57,6 +60,16 @@ pub told_twice : (told : Told) (name : List ℕ) (place : Option ℕ) → length
     → take_name told name ≡ Err faults.Twice
 told_twice told name place few e h =
     when_false _ _ _ _ (lt-leb MOST_PHASES (length told.names) few) (when_true _ _ _ _ (known_by place name told.names e h) refl)
+
+-- a name that no phase has is apart from all
+pub apart_with : (names : List (List ℕ)) (name : List ℕ) (place : Option ℕ) → AllPairs (λ left right. left ≢ right) names → place ≡ position (bytes_eq name) names → is_some place ≡ false
+    → AllPairs (λ left right. left ≢ right) (names ++ name ∷ [])
+apart_with names name place apart e h = pairs_push (λ left right. left ≢ right) names name apart (none_same name names (new_by place name names e h))
+
+-- the phase that has the name is the only one
+pub place_of : (names : List (List ℕ)) (name : List ℕ) (phase : ℕ) → AllPairs (λ left right. left ≢ right) names → phase < length names → name ≡ get_or names phase []
+    → Some phase ≡ position (bytes_eq name) names
+place_of names name phase apart below e = sym (ap (λ name. position (bytes_eq name) names) e ∙ place_of_name names phase apart below)
 
 -- the name is new
 pub name_told : (told old : Told) (name : List ℕ) (place : Option ℕ) (names : List (List ℕ)) → length told.names < MOST_PHASES → place ≡ position (bytes_eq name) told.names

@@ -1,5 +1,5 @@
 -- What is kept once lines of the body were told, and when they were.
-use Rattle.std.proofs.Common.{◌≡◌, ℕ, true, Option, List, sym, subst}
+use Rattle.std.proofs.Common.{◌≡◌, ℕ, true, Option, List, [], sym, subst}
 use Rattle.lexicon_definitions.specs.Lexicons.{Form}
 use Rattle.phase_automaton.specs.Automata.{StateMachine}
 use Rattle.lexicon_text_definitions.specs.FileLines as lines
@@ -41,6 +41,23 @@ before_end last f = tt
 pub at_end : (last : lines.Kind) → last ≡ lines.End → HasBody last
 at_end last e = subst HasBody (sym e) tt
 
+-- before a phase there are no lists
+lists_before : (last : lines.Kind) (told : Told) (automaton : Option StateMachine) (lists : List (List Form)) → may_follow last lines.Phase ≡ true
+    → IsStage last told automaton lists → lists ≡ []
+lists_before lines.Opening told automaton lists f h = h
+lists_before lines.Head told automaton lists f h = h
+lists_before lines.Phase told automaton lists f h = h.1
+lists_before lines.Grammar told automaton lists f h = absurd (cc)
+lists_before lines.Plain told automaton lists f h = absurd (cc)
+lists_before lines.Rule told automaton lists f h = absurd (cc)
+lists_before lines.Form told automaton lists f h = absurd (cc)
+lists_before lines.End told automaton lists f h = absurd (cc)
+
+pub no_lists : (kept told : Told) (automaton : Option StateMachine) (lists : List (List Form)) → kept ≡ told → may_follow told.last lines.Phase ≡ true
+    → IsKept kept automaton lists → lists ≡ []
+no_lists kept told automaton lists view f h =
+    lists_before kept.last kept automaton lists (subst (λ (told : Told). may_follow told.last lines.Phase ≡ true) (sym view) f) h.stage
+
 -- what is kept stays where a pair was not told, and where it was
 pub pairs_same : (kept told : Told) (pairs : List (ℕ × ℕ)) (automaton : Option StateMachine) (lists : List (List Form)) → kept ≡ told → pairs ≡ kept.plain → IsKept kept automaton lists
     → IsKept (record kept { plain = pairs }) automaton lists
@@ -50,5 +67,7 @@ pub pairs_more : (kept told : Told) (pairs : List (ℕ × ℕ)) (automaton : Opt
     → IsKept kept automaton lists → IsKept (record kept { last = lines.Plain; plain = pairs }) automaton lists
 pairs_more kept told pairs automaton lists view f h = record {
   few = h.few;
+  named = h.named;
+  apart = h.apart;
   stage = body_kept kept told automaton lists view (before_plain told.last f) h;
 }

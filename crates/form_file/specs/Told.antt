@@ -1,9 +1,9 @@
 -- What the reader keeps of the lines so far, and what it answers to a line.
-use Rattle.std.specs.Prelude.{◌≡◌, ℕ, ◌<◌, ◌≤◌, ◌⊎◌, Option, Result, Ok, Err, List, [], length, IfSome, IsSome}
+use Rattle.std.specs.Prelude.{◌≡◌, ◌≢◌, ℕ, ◌<◌, ◌≤◌, ◌⊎◌, Option, Result, Ok, Err, List, [], length, All, AllPairs, IfSome, IsSome}
 use Rattle.lexicon_definitions.specs.declared.limits.TheConstants.{MOST_PHASES}
 use Rattle.lexicon_definitions.specs.GrammarTexts.{grammar_of}
 use Rattle.lexicon_definitions.specs.GrammarFaults.{Fault, IsFirstFault, IsGrammarTextWithinLimits}
-use Rattle.lexicon_definitions.specs.Lexicons.{Form}
+use Rattle.lexicon_definitions.specs.Lexicons.{Form, IsPhaseName}
 use Rattle.phase_automaton.specs.Automata.{StateMachine, Recognizes}
 use Rattle.lexicon_text_definitions.specs.FileFaults as faults
 use Rattle.lexicon_text_definitions.specs.FileLines as lines
@@ -37,6 +37,8 @@ HasBody kind = Unit {0}
 
 pub record IsKept (told : Told) (automaton : Option StateMachine) (lists : List (List Form)) : Type 0 where
   pub few : length told.names ≤ MOST_PHASES
+  pub named : All IsPhaseName told.names
+  pub apart : AllPairs (λ left right. left ≢ right) told.names
   pub stage : IsStage told.last told automaton lists
 
 -- the answer to a line but a grammar's that is taken so: what is told after it, or why it is refused

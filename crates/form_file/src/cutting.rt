@@ -1,4 +1,4 @@
-ghost use Rattle.std.specs.Prelude.{◌≡◌, ◌<◌, ◌≤◌, ◌||◌, ◌∷◌, [], length, MatchOption, IfSome, None, Some};
+ghost use Rattle.std.specs.Prelude.{◌≡◌, ◌≢◌, ◌<◌, ◌≤◌, ◌||◌, ◌∷◌, ◌++◌, [], All, length, MatchOption, IfSome, None, Some};
 ghost use Rattle.lexicon_text_definitions.specs.FileLines.{parts_of, fields_of, lines_of_bytes, has_mark as has_mark_of, shape_of};
 ghost use Rattle.form_file.specs.Fields.{one_of, two_of, four_of, text_of_rest};
 
@@ -54,19 +54,35 @@ pub fn two_fields(text: &[u8]) -> Option<(&[u8], &[u8])>
     }
 }
 
-/// Four fields with a blank between each two.
-pub(crate) fn four_fields(text: &[u8]) -> Option<(&[u8], &[u8], &[u8], &[u8])>
-    ensures { MatchOption result (four_of (fields_of (Some text.now)) ≡ None)
-        (λ fields. fields_of (Some text.now) ≡ fields.0.now ∷ fields.1.now ∷ fields.2.now ∷ fields.3.now ∷ []) }
+/// The bytes before the first blank of a text, and those after it. `None` where it has no blank. The bytes of a field are so few that
+/// looking at them one by one takes less time than `cut_at` takes to begin.
+fn cut_at_blank(text: &[u8]) -> Option<(&[u8], &[u8])>
+    ensures { MatchOption result (All (λ byte. byte ≢ 32) text.now)
+        (λ parts. (text.now ≡ parts.0.now ++ 32 ∷ parts.1.now) × All (λ byte. byte ≢ 32) parts.0.now) }
 {
-    let Some((first, rest)) = cut_at(text, b' ') else {
+    let mut blank = 0;
+    while blank < text.len() {
+        if text[blank] == b' ' {
+            return Some((&text[..blank], &text[blank + 1..]));
+        }
+        blank += 1;
+    }
+    None
+}
+
+/// The first three fields, where a blank comes after each of them, and what comes after the last of these blanks.
+pub(crate) fn three_fields_and_rest(text: &[u8]) -> Option<(&[u8], &[u8], &[u8], &[u8])>
+    ensures { MatchOption result (four_of (fields_of (Some text.now)) ≡ None)
+        (λ parts. fields_of (Some text.now) ≡ parts.0.now ∷ parts.1.now ∷ parts.2.now ∷ fields_of (Some parts.3.now)) }
+{
+    let Some((first, rest)) = cut_at_blank(text) else {
         return None;
     };
-    let Some((second, rest)) = cut_at(rest, b' ') else {
+    let Some((second, rest)) = cut_at_blank(rest) else {
         return None;
     };
-    match two_fields(rest) {
-        Some((third, fourth)) => Some((first, second, third, fourth)),
+    match cut_at_blank(rest) {
+        Some((third, rest)) => Some((first, second, third, rest)),
         None => None,
     }
 }

@@ -1,4 +1,4 @@
-ghost use Rattle.std.specs.Prelude.{◌≡◌, ◌<◌, ◌||◌, nat_le, nat_lt, ◌≤◌, ◌^◌, [], length, map, replicate, true, IfOk, IfErr, OnOk, Some, IfSome, string_bytes};
+ghost use Rattle.std.specs.Prelude.{◌≡◌, ◌<◌, ◌||◌, ◌++◌, codes, nat_le, nat_lt, ◌≤◌, ◌^◌, [], length, map, replicate, true, IfOk, IfErr, OnOk, Some, IfSome, string_bytes};
 ghost use Rattle.std.specs.List.{list_all, position};
 ghost use Rattle.std.specs.Str.{bytes_eq};
 ghost use Rattle.lexicon_definitions.specs.GrammarTexts.{grammar_of};
@@ -18,7 +18,7 @@ ghost use Rattle.form_file.specs.Fields.{text_of_rest};
 ghost use Rattle.form_file.specs.Contents.{lexicon_of};
 ghost use Rattle.form_file.specs.Kinds.{kind_of};
 
-use crate::cutting::{four_fields, kind_and_rest, one_field, rule_parts, two_fields};
+use crate::cutting::{kind_and_rest, one_field, rule_parts, three_fields_and_rest, two_fields};
 use crate::kind::Kind;
 use crate::rules_so_far::RulesSoFar;
 use crate::take_error::TakeError;
@@ -190,6 +190,20 @@ impl Told {
         phase_named(self.names.as_slice(), name)
     }
 
+    /// The number of the phase with this name. The one that is guessed is asked first: most lines of forms have the phase of the line before.
+    fn phase_named_from(&self, guess: u32, name: &[u8]) -> Option<usize>
+        ensures named { result ≡ position (bytes_eq name.now) self.now.names }
+        ensures within { IfSome result (λ phase. phase < length self.now.names) }
+        ensures few { length self.now.names ≤ MOST_PHASES }
+    {
+        let names = self.names.as_slice();
+        let guess = guess as usize;
+        if guess < names.len() && name == names[guess].as_bytes() {
+            return Some(guess);
+        }
+        self.phase_named(name)
+    }
+
     /// Takes the line of a phase, with what comes after its blank. It may come next.
     pub fn take_phase(&mut self, alloc: Global, text: &[u8]) -> Result<(), TakeError>
         requires follows { may_follow self.old.last Phase ≡ true }
@@ -343,7 +357,8 @@ impl Told {
         Ok(())
     }
 
-    /// Takes the line of a form, with what comes after its blank, as an entry that is put in place of this one, in its memory.
+    /// Takes the line of a form, with what comes after its blank, as an entry that is read into the memory of this one. Where the line is
+    /// taken, another entry stands here then.
     fn take_form_into(
         &mut self,
         alloc: Global,
@@ -354,12 +369,13 @@ impl Told {
         requires fits { length text.now < 2 ^ 32 }
         ensures { IsAnswer (take_form_of self.old (fields_of (Some text.now))) result self.new }
     {
-        let Some((phase, form, stem, tag)) = four_fields(text) else {
+        let Some((phase, form, stem, tag)) = three_fields_and_rest(text) else {
             return Err(FileWhy::Field.into());
         };
-        let Some(phase) = self.phase_named(phase) else {
+        let Some(phase) = self.phase_named_from(entry.phase, phase) else {
             return Err(FileWhy::Field.into());
         };
+        // A tag has no blank: where the rest is one, it is the fourth field and the last.
         let Some(tag) = read_tag(tag) else {
             return Err(FileWhy::Field.into());
         };
@@ -435,6 +451,27 @@ impl Told {
         self.take_kind(alloc, kind, rest)
     }
 
+    /// Takes the line of a form that comes after another, with what comes after its blank. Such a line is ASCII where it is taken, so that
+    /// whether it is UTF-8 is asked only where it is refused.
+    fn take_next_form(&mut self, alloc: Global, line: &[u8], text: &[u8]) -> Result<(), TakeError>
+        requires follows { self.old.last ≡ Form }
+        requires fits { length text.now < 2 ^ 32 }
+        requires form { line.now ≡ codes "form " ++ text.now }
+        ensures { IsLineAnswer (take_line_of self.old (record { bytes = line.now; ended = true })) result self.new }
+    {
+        // This tells what is kept of the names: they are names of phases, and so are ASCII.
+        let _ = &self.names;
+        match self.take_form(alloc, text) {
+            Ok(()) => Ok(()),
+            Err(error) => {
+                if std::str::from_utf8(line).is_err() {
+                    return Err(FileWhy::NotUtf8.into());
+                }
+                Err(error)
+            }
+        }
+    }
+
     /// Takes the next line, whether a line end comes after it or not.
     pub(crate) fn take_line(
         &mut self,
@@ -450,6 +487,12 @@ impl Told {
         }
         if !ended {
             return Err(FileWhy::NoEnd.into());
+        }
+        // Nearly all lines are those of forms that come after others.
+        if self.last == Kind::Form {
+            if let [b'f', b'o', b'r', b'm', b' ', text @ ..] = line {
+                return self.take_next_form(alloc, line, text);
+            }
         }
         if std::str::from_utf8(line).is_err() {
             return Err(FileWhy::NotUtf8.into());

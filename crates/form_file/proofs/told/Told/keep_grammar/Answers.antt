@@ -8,6 +8,8 @@ use Rattle.form_file.proofs.told.Told.keep_grammar.Goals as goal
 pub invariant_of-self : goal.invariant_of-self
 invariant_of-self c = record {
   few = c.self.invariant.few;
+  named = c.self.invariant.named;
+  apart = c.self.invariant.apart;
   stage = subst (λ (told : Told). IsBody told.names c.args.grammar.items (Some c.args.automaton) c.args.forms.value) (sym c.self.view_is) c.requires;
 }
 

@@ -13,6 +13,8 @@ returns-then-is_some c =
 pub invariant_of-self : goal.invariant_of-self
 invariant_of-self c = record {
   few = c.self.invariant.few;
+  named = c.self.invariant.named;
+  apart = c.self.invariant.apart;
   stage = body_kept _ c.args.self.now c.self.inside.automaton c.self.inside.forms.value c.self.view_is (before_end _ c.requires) c.self.invariant;
 }
 

@@ -44,6 +44,8 @@ invariant_of-self-2 c =
     let body = body_kept _ c.args.self.now c.self.inside.automaton c.self.inside.forms.value c.self.view_is (before_form _ c.requires.follows) c.self.invariant in
     record {
       few = c.self.invariant.few;
+      named = c.self.invariant.named;
+      apart = c.self.invariant.apart;
       stage = body_with _ _ c.self.inside.automaton c.self.inside.forms.value c.push.new.self (text_entry c.args.entry.now) body
           (c.in_ok-push.ensures.ok ∙ ap (λ lists. with_entry lists (text_entry c.args.entry.now)) c.deref_mut.ensures.value);
     }

@@ -23,8 +23,8 @@ returns-then-is_err c =
     (not_utf8 c.args.self.now _ (last_not_end _ c.args.self.now c.self.inside.last c.self.view_is refl last) ended
     (utf8_bad _ _ c.args.line.now c.from_utf8.result _ _ c.from_utf8.ensures.cases (λ e q. q.0) (sym c.is_err.ensures.value ∙ c.if-is_err.true)))
 
-pub returns-then-eq-2 : goal.returns-then-eq-2
-returns-then-eq-2 c =
+pub returns-then-eq-3 : goal.returns-then-eq-3
+returns-then-eq-3 c =
     let last : c.self.inside.last ≡ Opening = search rules in
     let ended : c.args.ended ≡ true = search rules in
     answer_as (Unit {0}) _ _ c.take_head.result c.take_head.new.self

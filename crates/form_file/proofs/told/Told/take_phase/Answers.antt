@@ -1,12 +1,19 @@
 -- The tests of the name one after another; a name that passes is text, and is told last.
-use Rattle.std.proofs.Common.{◌≡◌, Some, [], ◌∷◌, ◌++◌, sym, ◌∙◌, ap, Global, arith}
+use Rattle.std.proofs.Common.{◌≡◌, ◌≢◌, Some, [], ◌∷◌, ◌++◌, length, map, All, AllPairs, sym, ◌∙◌, ap, subst, Global, arith}
+use Rattle.std.specs.List.{position}
+use Rattle.std.specs.Str.{bytes_eq}
 use Rattle.std.specs.String.{string_bytes}
+use Rattle.std.proofs.lemmas.List.{length-append}
+use Rattle.std.proofs.lemmas.List.Elements.{All-push}
+use Rattle.lexicon_definitions.specs.Lexicons.{IsPhaseName}
+use Rattle.lexicon_definitions.proofs.NameTests.{name_from_test}
 use Rattle.lexicon_text_definitions.specs.FileLines.{fields_of}
 use Rattle.lexicon_text_definitions.specs.FileContents.{Told}
 use Rattle.lexicon_text_definitions.specs.FileSteps.{take_phase as take_phase_of}
 use Rattle.form_file.specs.declared.error.FileWhy.TheVariants.{Field, Limit, Twice}
 use Rattle.form_file.proofs.AnswerLemmas.{refused_for}
-use Rattle.form_file.proofs.NameLines.{no_name, not_name, by_name, over_limit, told_twice, name_told, name_utf8, names_pushed, count_held}
+use Rattle.form_file.proofs.NameLines.{no_name, not_name, by_name, over_limit, told_twice, apart_with, name_told, name_utf8, names_pushed, count_held}
+use Rattle.form_file.proofs.StageLemmas.{no_lists}
 use Rattle.form_file.proofs.told.Told.take_phase.Goals as goal
 
 pub returns-in_default : goal.returns-in_default
@@ -59,3 +66,25 @@ returns c =
 
 pub invariant_of-self : goal.invariant_of-self
 invariant_of-self c = c.self.invariant
+
+pub invariant_of-self-2 : goal.invariant_of-self-2
+invariant_of-self-2 c =
+    let held = map (string_bytes {Z = Global}) c.self.inside.names.items in
+    let name = c.in-Some.name.now in
+    let count =
+    count_held (string_bytes {Z = Global}) c.self.inside.names.items c.args.self.now.names c.self.inside.names.len c.len.result (ap (λ (told : Told). told.names) c.self.view_is)
+    c.self.inside.names.ok.0 c.len.ensures in
+    let few = c.if-len-ge-MOST_PHASES.false in
+    let same : held ≡ c.args.self.now.names = ap (λ (told : Told). told.names) c.self.view_is in
+    let pushed : c.push.new.self.items ≡ c.self.inside.names.items ++ c.in_ok-from_str.field-0 ∷ [] = c.in_ok-push.ensures.items in
+    let names =
+    names_pushed (string_bytes {Z = Global}) c.self.inside.names.items c.push.new.self.items c.in_ok-from_str.field-0 name pushed (c.in_ok-from_str.ensures.ok ∙ c.in-Ok.ensures.cases.0) in
+    let long = ap length names ∙ length-append held (name ∷ []) in
+    let before = ap length same in
+    record {
+      few = omega (arith, long, before, count, few);
+      named = subst (All IsPhaseName) (sym names) (All-push IsPhaseName held name c.self.invariant.named (name_from_test name (sym c.is_phase_name.ensures ∙ c.if-not-is_phase_name.false)));
+      apart = subst (AllPairs (λ left right. left ≢ right)) (sym names)
+          (apart_with held name c.phase_named.result c.self.invariant.apart (c.phase_named.ensures.named ∙ ap (position (bytes_eq name)) (sym same)) (sym c.is_some.ensures ∙ c.if-is_some.false));
+      stage = (omega (arith, long), no_lists _ c.args.self.now c.self.inside.automaton c.self.inside.forms.value c.self.view_is c.requires.follows c.self.invariant);
+    }
