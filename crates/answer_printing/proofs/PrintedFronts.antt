@@ -4,13 +4,13 @@ use Rattle.std.proofs.Common.{◌≡◌, ℕ, zero, suc, ◌+◌, ◌-◌, ◌<�
 use Rattle.std.proofs.Math.Seq.{take-append_seam}
 use Rattle.std.proofs.lemmas.List.{take-append-le, take-append-drop, length-take-le, get_or-take, get_or_append_left, take_all, take_more, map-append, take-map, length-map}
 use Rattle.lexicon_definitions.specs.Lexicons.{RuleSet, rule_of}
-use Rattle.segmentation_definitions.specs.PrintedAnswers.{printed_steps, printed_form, printed_joint, printed_end}
+use Rattle.segmentation_definitions.specs.PrintedAnswers.{printed_steps, printed_form, printed_end}
 use Rattle.derivation.specs.declared.step.Step.{Step}
 use Rattle.derivation.specs.Steps.{step_after, steps_from, steps_of}
 use Rattle.derivation.proofs.StepLemmas.{printed_first, printed_last}
 use Rattle.answer_printing.specs.declared.printed_front.PrintedStep.{PrintedStep}
 use Rattle.answer_printing.specs.Texts.{PrintedWith}
-use Rattle.answer_printing.specs.Fronts.{AreStarts, IsOpen, GoesOn, step_in, printed_at, nothing}
+use Rattle.answer_printing.specs.Fronts.{AreStarts, IsOpen, GoesOn, printed_form_and_joint, step_in, printed_at, nothing}
 
 -- ---- lists
 
@@ -187,18 +187,16 @@ module _ (rules : RuleSet) (letters : List ℕ) where
       }
 
     -- and what joins it to the next
-    pub joined : (with_form new : List ℕ) → step.rule ≤ length rules.rules → with_form ≡ text ++ printed_form rules (step_after rules letters before step)
-        → new ≡ with_form ++ printed_joint rules step.rule → IsOpen rules letters with_step step.rule new
-    joined with_form new rule form_is new_is =
-        let form = printed_form rules (step_after rules letters before step) in
-        let joint = printed_joint rules step.rule in
-        let all : new ≡ text ++ (form ++ joint) = new_is ∙ ap (λ xs. xs ++ joint) form_is ∙ append_assoc text form joint in
+    pub joined : (new : List ℕ) → step.rule ≤ length rules.rules → new ≡ text ++ printed_form_and_joint rules (step_after rules letters before step)
+        → IsOpen rules letters with_step step.rule new
+    joined new rule new_is =
+        let more = printed_form_and_joint rules (step_after rules letters before step) in
         record {
-          starts = starts_with (form ++ joint) new all;
+          starts = starts_with more new new_is;
           rule = rule;
           goes_on = λ rest some.
               let later = printed_steps rules (steps_from rules letters (rule_of rules step.rule).v rest) in
-              ap (λ xs. xs ++ later) all ∙ append_assoc text (form ++ joint) later ∙ ap (λ xs. text ++ xs) (sym (printed_first rules letters before step rest some))
+              ap (λ xs. xs ++ later) new_is ∙ append_assoc text more later ∙ ap (λ xs. text ++ xs) (sym (printed_first rules letters before step rest some))
               ∙ is_open.goes_on (step ∷ rest) (omega arith)
               ∙ ap (λ steps. printed_steps rules (steps_of rules letters steps)) (sym (append_assoc (map step_in printed) (step ∷ []) rest) ∙ ap (λ steps. steps ++ rest) (sym steps_with));
         }
@@ -216,16 +214,17 @@ module _ (rules : RuleSet) (letters : List ℕ) where
         )
 
     -- the same, where the printed step tells by itself where its text begins
-    module _ (at : ℕ) (items : List PrintedStep) (with_form new : List ℕ) (at_is : at ≡ length text)
-        (items_are : items ≡ printed ++ record { step = step; at = at; before = before } ∷ [])
-        (form_is : with_form ≡ text ++ printed_form rules (step_after rules letters before step)) where
+    module _ (at : ℕ) (items : List PrintedStep) (at_is : at ≡ length text)
+        (items_are : items ≡ printed ++ record { step = step; at = at; before = before } ∷ []) where
       items_with : items ≡ with_step
       items_with = items_are ∙ ap (λ (n : ℕ). printed ++ record { step = step; at = n; before = before } ∷ []) at_is
 
-      pub joined_there : step.rule ≤ length rules.rules → new ≡ with_form ++ printed_joint rules step.rule → IsOpen rules letters items step.rule new
-      joined_there rule new_is =
-          subst (λ (ps : List PrintedStep). IsOpen rules letters ps step.rule new) (sym items_with) (joined with_form new rule form_is new_is)
+      pub joined_there : (new : List ℕ) → step.rule ≤ length rules.rules → new ≡ text ++ printed_form_and_joint rules (step_after rules letters before step)
+          → IsOpen rules letters items step.rule new
+      joined_there new rule new_is =
+          subst (λ (ps : List PrintedStep). IsOpen rules letters ps step.rule new) (sym items_with) (joined new rule new_is)
 
-      pub ended_there : new ≡ with_form ++ printed_end rules step.rule → AreStarts rules letters items new
-      ended_there new_is =
+      pub ended_there : (with_form new : List ℕ) → with_form ≡ text ++ printed_form rules (step_after rules letters before step)
+          → new ≡ with_form ++ printed_end rules step.rule → AreStarts rules letters items new
+      ended_there with_form new form_is new_is =
           subst (λ (ps : List PrintedStep). AreStarts rules letters ps new) (sym items_with) (ended with_form new form_is new_is).0

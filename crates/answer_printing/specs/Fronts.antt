@@ -1,10 +1,15 @@
 -- The printed steps of an answer, and what may follow them (own).
 use Rattle.std.specs.Prelude.{◌≡◌, ℕ, ◌<◌, ◌≤◌, List, ◌++◌, length, take, map, slice_index_or}
 use Rattle.lexicon_definitions.specs.Lexicons.{RuleSet, rule_of}
-use Rattle.segmentation_definitions.specs.PrintedAnswers.{printed_steps}
+use Rattle.segmentation_definitions.specs.Derivations.{Step as AnswerStep}
+use Rattle.segmentation_definitions.specs.PrintedAnswers.{printed_form, printed_joint, printed_steps}
 use Rattle.derivation.specs.declared.step.Step.{Step}
 use Rattle.derivation.specs.Steps.{steps_from, steps_of}
 use Rattle.answer_printing.specs.declared.printed_front.PrintedStep.{PrintedStep}
+
+-- a form with its phase, and what stands between it and the next
+abbrev pub printed_form_and_joint : RuleSet → AnswerStep → List ℕ
+printed_form_and_joint rules step = printed_form rules step ++ printed_joint rules step.rule
 
 -- the step that was printed
 abbrev pub step_in : PrintedStep → Step

@@ -1,8 +1,9 @@
 ghost use Rattle.std.specs.Prelude.{◌≡◌, ◌+◌, ◌<◌, ◌≤◌, [], ◌∷◌, ◌++◌, length, map, IfOk, OnOk};
 ghost use Rattle.segmentation_definitions.specs.PrintedAnswers.{printed_answer, printed_form, printed_steps, output_line};
 ghost use Rattle.text_definitions.specs.Slp1.{slp1_of_word};
+ghost use Rattle.lexicon_definitions.specs.Lexicons.{rule_of};
 ghost use Rattle.derivation.specs.Steps.{StandIn, steps_of, step_after, letters_taken};
-ghost use Rattle.answer_printing.specs.Fronts.{AreStarts, IsOpen, step_in};
+ghost use Rattle.answer_printing.specs.Fronts.{AreStarts, IsOpen, printed_form_and_joint, step_in};
 
 use super::RuleTexts;
 use super::printed_front::{PrintedFront, PrintedStep};
@@ -97,29 +98,69 @@ impl<'a> AnswerPrinter<'a> {
         &self.spelled.as_bytes()[at..end]
     }
 
-    /// The form of a step after the rule with the number `before`; 0 stands for no rule.
-    fn push_word(&self, output: &mut Vec<u8>, before: u32, step: &Step) -> Result<(), Memory>
+    /// The letters that the step takes, and before them the `v` of the rule with the number `before`; 0 stands for no rule.
+    fn push_letters(&self, output: &mut Vec<u8>, before: u32, step: &Step) -> Result<(), Memory>
         requires before { before ≤ length self.now.rules.rules }
-        requires rule { step.now.rule ≤ length self.now.rules.rules }
         requires within { step.now.at + step.now.taken ≤ length self.now.letters }
-        ensures ok { OnOk result (output.new.items ≡ output.old.items ++ slp1_of_word (step_after self.now.rules self.now.letters before step.now).form) }
+        ensures ok { OnOk result (output.new.items ≡ output.old.items ++ slp1_of_word ((rule_of self.now.rules before).v ++ letters_taken self.now.letters step.now)) }
     {
         push_some(output, self.texts.v(before))?;
         output.extend_from_slice(self.spelled_letters(step))?;
-        push_some(output, self.texts.u(step.rule))?;
         Ok(())
     }
 
     /// `FORM[PHASE]`, for a step after the rule with the number `before`; 0 stands for no rule.
-    fn push_form(&self, output: &mut Vec<u8>, before: u32, step: &Step) -> Result<(), Memory>
+    fn push_form_and_phase(
+        &self,
+        output: &mut Vec<u8>,
+        before: u32,
+        step: &Step,
+    ) -> Result<(), Memory>
         requires before { before ≤ length self.now.rules.rules }
         requires phase { step.now.phase < length self.now.rules.names }
         requires rule { step.now.rule ≤ length self.now.rules.rules }
         requires within { step.now.at + step.now.taken ≤ length self.now.letters }
         ensures ok { OnOk result (output.new.items ≡ output.old.items ++ printed_form self.now.rules (step_after self.now.rules self.now.letters before step.now)) }
     {
-        self.push_word(output, before, step)?;
+        self.push_letters(output, before, step)?;
+        push_some(output, self.texts.u(step.rule))?;
         output.extend_from_slice(self.texts.phase(step.phase))?;
+        Ok(())
+    }
+
+    /// `FORM[PHASE] + `, for a step without a rule after it.
+    fn push_unchanged(&self, output: &mut Vec<u8>, before: u32, step: &Step) -> Result<(), Memory>
+        requires before { before ≤ length self.now.rules.rules }
+        requires phase { step.now.phase < length self.now.rules.names }
+        requires rule { step.now.rule ≡ 0 }
+        requires within { step.now.at + step.now.taken ≤ length self.now.letters }
+        ensures ok { OnOk result (output.new.items ≡ output.old.items
+            ++ printed_form_and_joint self.now.rules (step_after self.now.rules self.now.letters before step.now)) }
+    {
+        self.push_letters(output, before, step)?;
+        output.extend_from_slice(self.texts.joined_phase(step.phase))?;
+        Ok(())
+    }
+
+    /// `FORM[PHASE]` and what stands between the form and the next, for a step after the rule with the number `before`.
+    fn push_form_and_joint(
+        &self,
+        output: &mut Vec<u8>,
+        before: u32,
+        step: &Step,
+    ) -> Result<(), Memory>
+        requires before { before ≤ length self.now.rules.rules }
+        requires phase { step.now.phase < length self.now.rules.names }
+        requires rule { step.now.rule ≤ length self.now.rules.rules }
+        requires within { step.now.at + step.now.taken ≤ length self.now.letters }
+        ensures ok { OnOk result (output.new.items ≡ output.old.items
+            ++ printed_form_and_joint self.now.rules (step_after self.now.rules self.now.letters before step.now)) }
+    {
+        if step.rule == 0 {
+            return self.push_unchanged(output, before, step);
+        }
+        self.push_form_and_phase(output, before, step)?;
+        output.extend_from_slice(self.texts.joint(step.rule))?;
         Ok(())
     }
 
@@ -138,8 +179,7 @@ impl<'a> AnswerPrinter<'a> {
             at,
             before,
         })?;
-        self.push_form(&mut front.text, before, step)?;
-        front.text.extend_from_slice(self.texts.joint(step.rule))?;
+        self.push_form_and_joint(&mut front.text, before, step)?;
         Ok(())
     }
 
@@ -158,7 +198,7 @@ impl<'a> AnswerPrinter<'a> {
             at,
             before,
         })?;
-        self.push_form(&mut front.text, before, step)?;
+        self.push_form_and_phase(&mut front.text, before, step)?;
         push_some(&mut front.text, self.texts.end(step.rule))?;
         Ok(())
     }

@@ -1,14 +1,17 @@
-ghost use Rattle.std.specs.Prelude.{◌≡◌, ◌<◌, ◌≤◌, IfOk, length, map, string_bytes};
+ghost use Rattle.std.specs.Prelude.{◌≡◌, ◌<◌, ◌≤◌, ◌++◌, IfOk, length, map, string_bytes};
 ghost use Rattle.text_definitions.specs.Slp1.{slp1_of_word};
 ghost use Rattle.lexicon_definitions.specs.Lexicons.{rule_of};
 ghost use Rattle.segmentation_definitions.specs.PrintedAnswers.{name_of, printed_joint, printed_end};
-ghost use Rattle.answer_printing.specs.Texts.{AreTextsOf, joint_text, phase_text, texts_of};
+ghost use Rattle.answer_printing.specs.Texts.{AreTextsOf, joined_phase_text, joint_text, phase_text, texts_of};
 
 use latin_schemes::print_slp1;
 use phoneme::Memory;
 use sandhi_rules::{Rule, RuleSet, print_rule};
 use std::alloc::Global;
 use std::marker::Model;
+
+/// What stands between two forms that are joined unchanged.
+const JOINT: &[u8] = b" + ";
 
 /// The texts of a rule in SLP1: its `u`, its `v`, and what stands between two forms that it joins, ` (u|v>w) `.
 #[derive(Drop)]
@@ -27,7 +30,8 @@ impl Model for RuleText {
     ghost view = { λ t. record { u = string_bytes t.u; v = string_bytes t.v; joint = string_bytes t.joint } };
 }
 
-/// A rule set with the texts of its rules and, as `[NAME]`, of its phases, which are made once for all answers that are printed.
+/// A rule set with the texts of its rules and, as `[NAME] + `, of its phases, which are made once for all answers that are printed.
+/// Most forms are joined unchanged to the next, and then what stands after the form's letters is one text.
 #[derive(Drop)]
 pub struct RuleTexts<'a> {
     rules: &'a RuleSet,
@@ -75,15 +79,15 @@ fn texts_of_rules(alloc: Global, rules: &[Rule]) -> Result<Vec<RuleText>, Memory
     Ok(texts)
 }
 
-/// `[NAME]`, which stands after a form of the phase with this name.
+/// `[NAME] + `, which stands after a form of the phase with this name that is joined unchanged to the next.
 fn print_phase(alloc: Global, name: &str) -> Result<String, Memory>
-    ensures { IfOk result (λ text. string_bytes text ≡ phase_text name.now) }
+    ensures { IfOk result (λ text. string_bytes text ≡ joined_phase_text name.now) }
 {
-    Ok(format!(in alloc; "[{name}]")?)
+    Ok(format!(in alloc; "[{name}] + ")?)
 }
 
 fn texts_of_phases(alloc: Global, names: &[String]) -> Result<Vec<String>, Memory>
-    ensures { IfOk result (λ texts. map string_bytes texts.items ≡ map phase_text (map string_bytes names.now)) }
+    ensures { IfOk result (λ texts. map string_bytes texts.items ≡ map joined_phase_text (map string_bytes names.now)) }
 {
     let mut texts = Vec::with_capacity(alloc, names.len())?;
     for name in names {
@@ -104,12 +108,21 @@ impl<'a> RuleTexts<'a> {
         })
     }
 
+    /// What stands between a form of the phase with this number, counted from 0, and the next where no rule joins them.
+    pub(crate) fn joined_phase(&self, phase: u32) -> &[u8]
+        requires { phase < length self.now.names }
+        ensures { result.now ≡ phase_text (name_of self.now phase) ++ printed_joint self.now 0 }
+    {
+        self.phases[phase as usize].as_bytes()
+    }
+
     /// What stands after a form of the phase with this number, counted from 0.
     pub(crate) fn phase(&self, phase: u32) -> &[u8]
         requires { phase < length self.now.names }
         ensures { result.now ≡ phase_text (name_of self.now phase) }
     {
-        self.phases[phase as usize].as_bytes()
+        let joined = self.joined_phase(phase);
+        &joined[..joined.len() - JOINT.len()]
     }
 
     /// The `u` of the rule with this number, counted from 1; empty for 0.
@@ -140,7 +153,7 @@ impl<'a> RuleTexts<'a> {
         ensures { result.now ≡ printed_joint self.now rule }
     {
         match rule {
-            0 => b" + ",
+            0 => JOINT,
             _ => self.texts[rule as usize - 1].joint.as_bytes(),
         }
     }

@@ -1,12 +1,12 @@
--- The texts of the phases are in the order of their names.
-use Rattle.std.proofs.Common.{map, ap, ◌∙◌, string_bytes}
-use Rattle.lexicon_definitions.specs.Lexicons.{RuleSet}
+-- What stands between a form and the next, without what joins them.
+use Rattle.std.proofs.Common.{codes}
+use Rattle.segmentation_definitions.specs.PrintedAnswers.{name_of}
 use Rattle.answer_printing.specs.Texts.{phase_text}
-use Rattle.answer_printing.proofs.TextLemmas.{phase_there}
+use Rattle.answer_printing.proofs.TextLemmas.{has_end, without_end}
 use Rattle.answer_printing.proofs.rule_texts.RuleTexts.phase.Goals as goal
 
+pub slice_bounds-result-count : goal.slice_bounds-result-count
+slice_bounds-result-count c = has_end _ (phase_text (name_of c.args.self.now c.args.phase)) (codes " + ") c.joined_phase-joined.ensures
+
 pub returns : goal.returns
-returns c =
-    c.as_bytes.ensures.value
-    ∙ phase_there string_bytes c.self.inside.phases.items c.args.self.now.names c.args.phase _
-    (c.self.invariant.of_phases ∙ ap (λ (rules : RuleSet). map phase_text rules.names) c.self.view_is) c.requires c.index.ensures
+returns c = without_end _ (phase_text (name_of c.args.self.now c.args.phase)) (codes " + ") c.joined_phase-joined.ensures

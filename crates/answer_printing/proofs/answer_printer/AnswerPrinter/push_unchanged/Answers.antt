@@ -1,0 +1,12 @@
+-- The phase with what joins the form to the next is appended after the letters.
+use Rattle.std.proofs.Common.{ap, sym}
+use Rattle.answer_printing.specs.Texts.{PrintedWith}
+use Rattle.answer_printing.proofs.TextLemmas.{unchanged_appended}
+use Rattle.answer_printing.proofs.answer_printer.AnswerPrinter.push_unchanged.Goals as goal
+
+pub returns : goal.returns
+returns c = record {
+  ok = unchanged_appended c.args.self.now.rules c.self.inside.texts.now c.args.self.now.letters c.args.before c.args.step.now
+      (sym (ap (λ (v : PrintedWith). v.rules) c.self.view_is)) _ _ c.in_ok-push_letters.ensures.ok _ _ c.joined_phase.ensures c.requires.rule
+      c.in_ok-extend_from_slice.ensures.items;
+}
