@@ -16,6 +16,7 @@ mod printed_front;
 mod refusals;
 mod rule_texts;
 mod sharing;
+mod spelled_line;
 
 pub use answer_printer::AnswerPrinter;
 pub use page_printing::{NextAnswers, push_answers, push_page, rest_line};

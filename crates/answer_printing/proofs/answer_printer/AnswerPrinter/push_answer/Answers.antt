@@ -9,5 +9,5 @@ returns-clause-ok c =
     answer_appended c.args.self.now.rules c.args.number _ _ _ _ _ _ _ _ c.format.ensures.text c.as_bytes.ensures.value
     c.in_ok-extend_from_slice.ensures.items
     c.in_ok-extend_from_slice-2.ensures.items
-    (c.in_ok-extend_from_slice-3.ensures.items ∙ ap (λ text. c.extend_from_slice-2.new.self.items ++ text) (c.as_slice.ensures.value ∙ with_view _ _ c.args.steps.now _ c.self.view_is c.in_ok-self-inside.ensures.text))
+    (c.in_ok-extend_from_slice-3.ensures.items ∙ ap (λ text. c.extend_from_slice-2.new.self.items ++ text) (c.as_slice.ensures.value ∙ with_view _ _ c.args.steps.now _ c.self.view_is c.in_default.ensures.text))
     c.in_ok-push.ensures.items

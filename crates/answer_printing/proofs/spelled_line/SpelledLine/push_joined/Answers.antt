@@ -1,7 +1,7 @@
 -- The form and what joins it to the next are appended.
 use Rattle.std.proofs.Common.{length, ap}
 use Rattle.answer_printing.proofs.PrintedFronts.{joined_there}
-use Rattle.answer_printing.proofs.answer_printer.AnswerPrinter.push_joined.Goals as goal
+use Rattle.answer_printing.proofs.spelled_line.SpelledLine.push_joined.Goals as goal
 
 pub returns-clause-open : goal.returns-clause-open
 returns-clause-open c =

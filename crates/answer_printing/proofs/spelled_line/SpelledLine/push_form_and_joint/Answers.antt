@@ -2,7 +2,7 @@
 use Rattle.std.proofs.Common.{ap, sym}
 use Rattle.answer_printing.specs.Texts.{PrintedWith}
 use Rattle.answer_printing.proofs.TextLemmas.{joint_appended}
-use Rattle.answer_printing.proofs.answer_printer.AnswerPrinter.push_form_and_joint.Goals as goal
+use Rattle.answer_printing.proofs.spelled_line.SpelledLine.push_form_and_joint.Goals as goal
 
 pub returns : goal.returns
 returns c = record {

@@ -7,7 +7,7 @@ use Rattle.derivation.specs.Steps.{steps_of}
 use Rattle.answer_printing.specs.Fronts.{nothing}
 use Rattle.answer_printing.proofs.PrintedFronts.{with_last}
 use Rattle.derivation.proofs.StepLemmas.{within}
-use Rattle.answer_printing.proofs.answer_printer.AnswerPrinter.print_steps.Goals as goal
+use Rattle.answer_printing.proofs.spelled_line.SpelledLine.print_steps.Goals as goal
 
 pub push_joined-requires-clause-phase : goal.push_joined-requires-clause-phase
 push_joined-requires-clause-phase c = let low = c.loop-j-test.true in (within _ _ c.args.steps.now c.loop-j.j _ 0 [] c.requires.stand (omega (arith, low))).phase

@@ -3,7 +3,7 @@ use Rattle.std.proofs.Common.{◌++◌, length, ap, ◌∙◌}
 use Rattle.segmentation_definitions.specs.PrintedAnswers.{printed_end}
 use Rattle.answer_printing.specs.Texts.{PrintedWith}
 use Rattle.answer_printing.proofs.PrintedFronts.{ended, ended_there}
-use Rattle.answer_printing.proofs.answer_printer.AnswerPrinter.push_last.Goals as goal
+use Rattle.answer_printing.proofs.spelled_line.SpelledLine.push_last.Goals as goal
 
 pub returns-clause-starts : goal.returns-clause-starts
 returns-clause-starts c =

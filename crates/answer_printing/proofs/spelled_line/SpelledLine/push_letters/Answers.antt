@@ -2,7 +2,7 @@
 use Rattle.std.proofs.Common.{ap, sym}
 use Rattle.answer_printing.specs.Texts.{PrintedWith}
 use Rattle.answer_printing.proofs.TextLemmas.{letters_appended}
-use Rattle.answer_printing.proofs.answer_printer.AnswerPrinter.push_letters.Goals as goal
+use Rattle.answer_printing.proofs.spelled_line.SpelledLine.push_letters.Goals as goal
 
 pub returns : goal.returns
 returns c = record {
