@@ -3,7 +3,7 @@ ghost use Rattle.std.specs.Bool.{OnTrue};
 ghost use Rattle.segmentation_definitions.specs.Listings.{Key as KeyValue};
 ghost use Rattle.text_definitions.specs.Lines.{Line as LineValue};
 ghost use Rattle.lexicon_definitions.specs.Leads.{Lead, leads_of};
-ghost use Rattle.lexicon_definitions.specs.Lexicons.{RuleSet as RuleSetValue};
+ghost use Rattle.lexicon_definitions.specs.Lexicons.{RuleSet as RuleSetValue, rule_of};
 ghost use Rattle.lexicon_definitions.specs.Limits.{IsRuleSetWithinLimits};
 ghost use Rattle.segmentation_definitions.specs.LocalTests.{Allows};
 ghost use Rattle.segmentation_definitions.specs.Configurations.{last_letter};
@@ -74,6 +74,21 @@ pub fn may_begin(rules: &RuleSet, place: &Configuration, phase: u32) -> bool
         Entrance::Start | Entrance::Plain(_) => true,
         Entrance::Lead(lead) => rules.leads()[usize::from(lead)].may_precede(phase),
     }
+}
+
+/// Whether the `w` of the rule, counted from 1, comes next after so many letters of the line. Where it does not, no key with the rule whose
+/// form ends there leads on or ends the line.
+#[inline(always)]
+pub fn is_written(rules: &RuleSet, line: &Line, end: usize, rule: u32) -> bool
+    requires within { end ≤ length line.now.letters }
+    requires some { 1 ≤ rule }
+    requires rule { rule ≤ length rules.now.rules }
+    ensures { IsTrue result ↔ (take (length (rule_of rules.now rule).w) (drop end line.now.letters) ≡ (rule_of rules.now rule).w) }
+{
+    let Some(found) = rules.rule(rule) else {
+        unreachable!()
+    };
+    begins_with(&line.letters.as_slice()[end..], found.w.as_slice())
 }
 
 /// What the rule, counted from 1, does after a form of the phase that ends after so many letters of the line, wherever the form begins and

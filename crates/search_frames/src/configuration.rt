@@ -17,6 +17,7 @@ pub struct Configuration {
 
 impl Configuration {
     /// The configuration of the frame at the level, counted from 0.
+    #[inline(always)]
     pub fn of_frame(stack: &Resumption, level: usize) -> Configuration
         requires stack { IsStack stack.now }
         requires there { level < length stack.now.frames.items }

@@ -21,6 +21,7 @@ use lexicon_definitions::MOST_FORM_LETTERS;
 use outside::Steps;
 
 /// The first key that is still to try at a frame with the step.
+#[inline(always)]
 fn first_to_try(step: &Step, to_try: ToTry) -> Key
     requires { to_try ≡ AfterStep → step.now.rule ≤ MOST_RULES }
     ensures { key_meant result ≡ first_to_try (key_of step.now) to_try }
@@ -40,6 +41,7 @@ fn first_to_try(step: &Step, to_try: ToTry) -> Key
 }
 
 /// Brings the frame at the level, counted from 0, to the key.
+#[inline(always)]
 pub(crate) fn stand_at(stack: &mut Resumption, level: usize, key: Key)
     requires stack { IsStack stack.old }
     requires there { level < length stack.old.frames.items }
@@ -54,6 +56,7 @@ pub(crate) fn stand_at(stack: &mut Resumption, level: usize, key: Key)
 /// and tells which; it is `Refused` where there is no such key. It leaves out keys with which no path to an answer begins, as far as the
 /// guide tells. A step is counted for each phase, each letter that is walked, each group of rules, each rule, each way that is kept and
 /// each question to the guide.
+#[inline(always)]
 pub fn turn<D: SearchGuide, L>(
     space: &SearchSpace<'_, D>,
     stack: &mut Resumption,

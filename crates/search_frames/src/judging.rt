@@ -22,6 +22,7 @@ use outside::Steps;
 
 /// What the key, which is possible at the place, does there, where the test says what its letters do. It is refused as well where the guide
 /// says that no answer goes on from where it leads.
+#[inline(always)]
 fn judge_test<D: SearchGuide, L>(
     space: &SearchSpace<'_, D>,
     place: &Configuration,
@@ -75,6 +76,7 @@ pub(crate) fn judge<D: SearchGuide, L>(
 }
 
 /// What the way does at the place, from which it is one: the same.
+#[inline(always)]
 pub(crate) fn judge_way<D: SearchGuide, L>(
     space: &SearchSpace<'_, D>,
     place: &Configuration,

@@ -16,6 +16,7 @@ pub(crate) fn u_of(rules: &RuleSet, rule: u32) -> &[Letter]
 }
 
 /// Whether the word comes first among the letters. Words are short, and most differ soon, so that they are compared letter by letter.
+#[inline(always)]
 pub(crate) fn begins_with(letters: &[Letter], word: &[Letter]) -> bool
     ensures { IsTrue result ↔ (take (length word.now) letters.now ≡ word.now) }
 {

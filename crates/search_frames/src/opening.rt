@@ -9,6 +9,7 @@ use derivation::Step;
 use phoneme::Line;
 
 /// Makes the frame at the level, counted from 0, one that stands at the configuration.
+#[inline(always)]
 pub fn open_frame(
     lexicon: &Lexicon,
     line: &Line,

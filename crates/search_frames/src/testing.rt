@@ -27,6 +27,7 @@ pub enum Test {
 }
 
 /// What a key of this phase does at the configuration, where the test says what its letters do there.
+#[inline(always)]
 pub(crate) fn test_in_grammar(
     lexicon: &Lexicon,
     place: &Configuration,

@@ -307,6 +307,7 @@ fn first_in(from: Key, phase: u32) -> Key
 }
 
 /// The first key that does not come before `from`, and what it does. `nodes` is room for the nodes on the way along a form.
+#[inline(never)]
 fn turn_by_walking<D: SearchGuide, L>(
     space: &SearchSpace<'_, D>,
     place: &Configuration,
@@ -339,6 +340,7 @@ fn turn_by_walking<D: SearchGuide, L>(
 
 /// The first key that does not come before `from`, and what it does: among the ways that the guide keeps from the place, or else along
 /// the tries. `nodes` is room for the nodes on the way along a form.
+#[inline(always)]
 pub(crate) fn turn_from<D: SearchGuide, L>(
     space: &SearchSpace<'_, D>,
     place: &Configuration,

@@ -20,6 +20,7 @@ use outside::Steps;
 
 /// The first key of the ways that does not come before `from`, and what it does. The ways are from the place, and each path from there
 /// begins with one of them.
+#[inline(always)]
 pub(crate) fn turn_among_ways<D: SearchGuide, L>(
     space: &SearchSpace<'_, D>,
     place: &Configuration,

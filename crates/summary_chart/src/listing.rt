@@ -22,7 +22,7 @@ use super::walking::walk_fronts;
 use derivation::Key;
 use outside::Steps;
 use phoneme::Memory;
-use search_frames::{Ahead, LetterTest, MOST_WAYS, Way, may_begin, rule_test};
+use search_frames::{Ahead, LetterTest, MOST_WAYS, Way, is_written, may_begin, rule_test};
 use shared_trie::Node;
 
 /// Appends the way, whose key is possible at the place and whose test is what the key does there, if it leads on or ends the line; a step
@@ -93,6 +93,9 @@ fn push_rule<L>(
     } = here.site;
     let ahead = here.ahead;
     let end = place.at as usize + key.taken as usize;
+    if !is_written(lexicon.rules(), line, end, key.rule) {
+        return Ok(());
+    }
     let test = rule_test(
         lexicon.rules(),
         line,
