@@ -9,12 +9,13 @@ use Rattle.std.proofs.lemmas.Bool.{cases_lt, lt-leb, le-leb}
 use Rattle.std.proofs.lemmas.List.{length-append, take-append-le, take_all}
 use Rattle.std.proofs.lemmas.List.Elements.{All-push, All-pop}
 use Rattle.std.proofs.lemmas.Option.{slice_get_within, get_or_from_slice_get}
+use Rattle.lexicon_definitions.specs.Lexicons.{RuleSet}
 use Rattle.segmentation_definitions.specs.declared.limits.TheConstants.{MOST_CHOICES}
 use Rattle.segmentation_definitions.specs.Items.{Item, Choice}
 use Rattle.segmentation_definitions.specs.PrintedAnswers.{output_line}
 use Rattle.bookmark_definitions.specs.Bookmarks.{IsItemWithinBounds}
 use Rattle.session_definitions.specs.States.{State, fresh, after_choice, after_undo}
-use Rattle.session_definitions.specs.Requests.{Request}
+use Rattle.session_definitions.specs.Requests.{Request, Choose}
 use Rattle.session_definitions.specs.Replies.{Reply, Open, agreed, refused, with_summary, with_item, reply_about, reply_to_choice, reply_to_undo, IsReplyTo}
 use Rattle.annotated_trie.specs.Searched.{SearchedLexicon, IsSearchedLexicon}
 use Rattle.reader_session.specs.declared.reading.Reading.{Reading}
@@ -191,3 +192,25 @@ no_summary searched old reading asked number request before after result (follow
     (subst (λ IsIt. IfOk result (GoesOn searched IsIt before after)) (sym (means number))
     (no_summary_for searched reading number (following (Some number) (state_of rules (Some reading))) before after result none
     (subst (IsReadingOver searched) old_is is_reading) bytes same_is)))
+
+-- where the summary has the item, what is replied about its number is what is replied about the item
+about_item : (rules : RuleSet) (reading : Reading) (summary : Option (Vec Item Global)) (number : ℕ) (item : Item) (following : Item → Reply)
+    → reading.summary ≡ summary → IsNumberedItem summary number item → reply_about (state_with rules reading) (Some number) following ≡ following item
+about_item rules reading None number item following e there = absurd there
+about_item rules reading (Some items) number item following e there =
+    let state = state_with rules reading in
+    ap (λ summary. with_summary state (option_map (λ (i : Vec Item Global). i.items) summary) (λ listed. with_item state (slice_get listed (number - 1)) following)) e
+    ∙ ap (λ found. with_item state found following) there
+
+-- so what follows the choice of such an item is the reply to the request for it
+pub item_chosen : (searched : SearchedLexicon) (old : Option (Box Reading)) (reading : Box Reading) (now : Reading) (asked : Option ℕ) (number : ℕ)
+    (kept : Bool) (item : Item) (before after : List ℕ) → old ≡ Some reading → asked ≡ Some number → IsNumberedItem reading.value.summary number item
+    → GoesOnWith searched (λ reply. reply ≡ reply_to_choice (state_with searched.lexicon.rules reading.value) kept item) before after now
+    → GoesOnWith searched (IsReplyTo searched.lexicon (state_of searched.lexicon.rules old) (Choose kept asked)) before after now
+item_chosen searched old reading now asked number kept item before after old_is asked_is there goes =
+    let rules = searched.lexicon.rules in
+    let state = state_with rules reading.value in
+    subst (λ o. GoesOnWith searched (IsReplyTo searched.lexicon (state_of rules o) (Choose kept asked)) before after now) (sym old_is)
+    (subst (λ a. GoesOnWith searched (IsReplyTo searched.lexicon state (Choose kept a)) before after now) (sym asked_is)
+    (subst (λ (said : Reply). GoesOnWith searched (λ reply. reply ≡ said) before after now)
+    (sym (about_item rules reading.value reading.value.summary number item (reply_to_choice state kept) refl there)) goes))

@@ -1,5 +1,5 @@
 -- Block by block the page has the first answers of all fronts so far; it is done when no front is left, or when it is full.
-use Rattle.std.proofs.Common.{◌≡◌, ◌⊎◌, inl, inr, ℕ, ◌+◌, ◌*◌, ◌<◌, ◌≤◌, Bool, true, false, Option, None, List, [], ◌++◌, length, map, All, string_bytes, refl, sym, ap, ◌∙◌, subst, arith}
+use Rattle.std.proofs.Common.{◌≡◌, ◌⊎◌, inl, inr, ℕ, ◌+◌, ◌*◌, ◌-◌, ◌<◌, ◌≤◌, if◌then◌else◌, Bool, true, false, Option, None, List, [], ◌++◌, length, map, All, string_bytes, refl, sym, ap, ◌∙◌, subst, arith}
 use Rattle.std.specs.List.Sorted.{IsStrictlySortedBy}
 use Rattle.std.proofs.lemmas.List.{length-map}
 use Rattle.text_definitions.specs.Lines.{Line}
@@ -18,6 +18,14 @@ use Rattle.search_split.specs.NextFronts.{IsUnderWay}
 use Rattle.search_split.specs.Starts.{front_from, IsStart, HasTaken}
 use Rattle.search_split.specs.Listing.{IsPageOfFronts, IsListedPage}
 use Rattle.search_split.specs.PrintedPages.{text_after_number}
+
+-- a block more leaves fewer answers to be listed, or no front
+pub blocks_fall : (limit old new count : ℕ) (more : Bool) → old < limit → new ≤ limit → (new ≡ limit) ⊎ (old + count ≤ new) → (more ≡ true → count ≡ 16)
+    → 2 * (limit - new) + (if more then 1 else 0) < 2 * (limit - old) + 1
+blocks_fall limit old new count true fewer room (inl full) many = omega (arith, fewer, full)
+blocks_fall limit old new count true fewer room (inr longer) many = let some = many refl in omega (arith, fewer, room, longer, some)
+blocks_fall limit old new count false fewer room (inl full) many = omega (arith, fewer, full)
+blocks_fall limit old new count false fewer room (inr longer) many = omega (arith, fewer, room, longer)
 
 module _ (searched : SearchedLexicon) (line : Line) (choices : List Choice) (depth limit : ℕ) where
   -- the page has the first answers of these fronts, which are all before that where the search stands, or all where none is left

@@ -8,7 +8,7 @@ use Rattle.std.proofs.lemmas.List.{length-set, get_or_past, get_or-set_same, get
 use Rattle.std.proofs.lemmas.Nat.Bits.{bit_at-zero, bit_at_above, bit_at-trailing_zeros, bit_at_set_same, bit_at_set_other, bit_at_clear_other}
 use Rattle.summary_chart.specs.declared.state_set.StateSet.{StateSet}
 use Rattle.summary_chart.specs.StateSets.{HasState}
-use Rattle.summary_chart.specs.Tables.{HaveBits, AreEmptyBetween}
+use Rattle.summary_chart.specs.Tables.{AreMarked, HaveBits, AreEmptyBetween}
 use Rattle.summary_chart.proofs.SetBits.{bit_is, bit_of_right_shift, bit_of_left_shift, none_leading, leading_below}
 
 -- the sets from the first index up to before the second are empty; the second may be past the last set
@@ -44,7 +44,7 @@ module _ (sets : List StateSet) where
         → HasState (slice_index_or sets index (record { bits = 0 })) number → ⊥
     empty_there index number none has =
         let word = slice_index_or filled (index / 64) 0 in
-        let set : bit_at word (index % 64) ≡ 1 = (bit_is word (index % 64)).0 (have.each index number has) in
+        let set : bit_at word (index % 64) ≡ 1 = (bit_is word (index % 64)).0 (have.marked.each index number has) in
         absurd (omega (arith, none, set))
 
     -- ---- onwards: the word of the index is shifted down, so that the index has the lowest bit
@@ -129,6 +129,59 @@ module _ (sets : List StateSet) where
           }) so_far
 
 -- a set is put at an index, with a word that has the set's bit where the set has a state, and the other bits that were set
+pub marked_with : (sets : List StateSet) (filled : List ℕ) (index word put : ℕ) (states : StateSet) → AreMarked sets filled → index < length sets
+    → index / 64 < length filled → word ≡ slice_index_or filled (index / 64) 0
+    → ((number : ℕ) → HasState states number → bit_at put (index % 64) ≡ 1)
+    → ((place : ℕ) → place < 64 → place ≢ index % 64 → bit_at put place ≡ bit_at word place)
+    → AreMarked (slice_set sets index states) (slice_set filled (index / 64) put)
+marked_with sets filled index word put states marked below there word_is here others =
+    let sets_long = length-set sets index states in
+    let new = slice_set filled (index / 64) put in
+    -- another bit of the word is what it was
+    let kept : (other : ℕ) → other / 64 ≡ index / 64 → other ≢ index
+    → bit_at (slice_index_or new (other / 64) 0) (other % 64) ≡ bit_at (slice_index_or filled (other / 64) 0) (other % 64) =
+    λ other same apart.
+    let differ : other % 64 ≢ index % 64 = λ e. apart (omega (arith, e, same)) in
+    let read : slice_index_or new (other / 64) 0 ≡ put =
+    ap (λ n. slice_index_or new n 0) same ∙ get_or-set_same filled (index / 64) put 0 there in
+    let old : word ≡ slice_index_or filled (other / 64) 0 = word_is ∙ ap (λ n. slice_index_or filled n 0) (sym same) in
+    ap (λ n. bit_at n (other % 64)) read ∙ others (other % 64) (omega arith) differ ∙ ap (λ n. bit_at n (other % 64)) old in
+    record {
+      each = λ other number has. elim (cases_eq other index) [
+        | inl same ↦
+            let put_there : HasState states number =
+            subst (λ (s : StateSet). HasState s number) (ap (λ n. slice_index_or (slice_set sets index states) n (record { bits = 0 })) same
+            ∙ get_or-set_same sets index states (record { bits = 0 }) below) has in
+            subst (λ (n : ℕ). IsBitSet (slice_index_or new (n / 64) 0) (n % 64)) (sym same)
+            ((bit_is (slice_index_or new (index / 64) 0) (index % 64)).1
+            (ap (λ n. bit_at n (index % 64)) (get_or-set_same filled (index / 64) put 0 there) ∙ here number put_there))
+        | inr apart ↦
+            let was = marked.each other number
+            (subst (λ (s : StateSet). HasState s number) (get_or-set_other sets index other states (record { bits = 0 }) apart) has) in
+            elim (cases_eq (other / 64) (index / 64)) [
+              | inl same ↦
+                  (bit_is (slice_index_or new (other / 64) 0) (other % 64)).1
+                  (kept other same apart ∙ (bit_is (slice_index_or filled (other / 64) 0) (other % 64)).0 was)
+              | inr elsewhere ↦
+                  subst (λ (n : ℕ). IsBitSet n (other % 64)) (sym (get_or-set_other filled (index / 64) (other / 64) put 0 elsewhere)) was
+            ]
+      ];
+      within = λ other set.
+          let was : other < length sets = elim (cases_eq other index) [
+            | inl same ↦ omega (arith, same, below)
+            | inr apart ↦ elim (cases_eq (other / 64) (index / 64)) [
+              | inl same ↦
+                  marked.within other ((bit_is (slice_index_or filled (other / 64) 0) (other % 64)).1
+                  (sym (kept other same apart) ∙ (bit_is (slice_index_or new (other / 64) 0) (other % 64)).0 set))
+              | inr elsewhere ↦
+                  marked.within other
+                  (subst (λ (n : ℕ). IsBitSet n (other % 64)) (get_or-set_other filled (index / 64) (other / 64) put 0 elsewhere) set)
+            ]
+          ] in
+          omega (arith, was, sets_long);
+    }
+
+-- and all sets have their bits
 with_word : (sets : List StateSet) (filled : List ℕ) (index word put : ℕ) (states : StateSet) → HaveBits sets filled → index < length sets
     → word ≡ slice_index_or filled (index / 64) 0
     → ((number : ℕ) → HasState states number → bit_at put (index % 64) ≡ 1)
@@ -136,54 +189,27 @@ with_word : (sets : List StateSet) (filled : List ℕ) (index word put : ℕ) (s
     → HaveBits (slice_set sets index states) (slice_set filled (index / 64) put)
 with_word sets filled index word put states have below word_is here others =
     let count = have.count in
-    let there : index / 64 < length filled = omega (arith, below, count) in
     record {
       count = (
           let sets_long = length-set sets index states in
           let filled_long = length-set filled (index / 64) put in
           omega (arith, count, sets_long, filled_long)
           );
-      each = λ other number has. elim (cases_eq other index) [
-        | inl same ↦
-            let put_there : HasState states number =
-            subst (λ (s : StateSet). HasState s number) (ap (λ n. slice_index_or (slice_set sets index states) n (record { bits = 0 })) same
-            ∙ get_or-set_same sets index states (record { bits = 0 }) below) has in
-            subst (λ (n : ℕ). IsBitSet (slice_index_or (slice_set filled (index / 64) put) (n / 64) 0) (n % 64)) (sym same)
-            ((bit_is (slice_index_or (slice_set filled (index / 64) put) (index / 64) 0) (index % 64)).1
-            (ap (λ n. bit_at n (index % 64)) (get_or-set_same filled (index / 64) put 0 there) ∙ here number put_there))
-        | inr apart ↦
-            let was = have.each other number
-            (subst (λ (s : StateSet). HasState s number) (get_or-set_other sets index other states (record { bits = 0 }) apart) has) in
-            elim (cases_eq (other / 64) (index / 64)) [
-              | inl same ↦
-                  let differ : other % 64 ≢ index % 64 = λ e. apart (omega (arith, e, same)) in
-                  let read : slice_index_or (slice_set filled (index / 64) put) (other / 64) 0 ≡ put =
-                  ap (λ n. slice_index_or (slice_set filled (index / 64) put) n 0) same ∙ get_or-set_same filled (index / 64) put 0 there in
-                  let old : word ≡ slice_index_or filled (other / 64) 0 = word_is ∙ ap (λ n. slice_index_or filled n 0) (sym same) in
-                  (bit_is (slice_index_or (slice_set filled (index / 64) put) (other / 64) 0) (other % 64)).1
-                  (ap (λ n. bit_at n (other % 64)) read ∙ others (other % 64) (omega arith) differ
-                  ∙ ap (λ n. bit_at n (other % 64)) old ∙ (bit_is (slice_index_or filled (other / 64) 0) (other % 64)).0 was)
-              | inr elsewhere ↦
-                  subst (λ (n : ℕ). IsBitSet n (other % 64)) (sym (get_or-set_other filled (index / 64) (other / 64) put 0 elsewhere)) was
-            ]
-      ];
+      marked = marked_with sets filled index word put states have.marked below (omega (arith, below, count)) word_is here others;
     }
 
--- sets that are all made of an empty one are empty
-pub all_none : (sets : List StateSet) (empty : StateSet) → ((number : ℕ) → HasState empty number → ⊥) → empty.bits ≡ 0
-    → ((index : ℕ) → index < length sets → slice_index_or sets index (record { bits = 0 }) ≡ empty)
-    → (index number : ℕ) → HasState (slice_index_or sets index (record { bits = 0 })) number → ⊥
-all_none sets empty none zero each index number has = elim (cases_lt index (length sets)) [
-  | inl below ↦ none number (subst (λ (s : StateSet). HasState s number) (each index below) has)
-  | inr past ↦
-      none number (subst (λ (n : ℕ). IsBitSet n number) (sym zero)
-      (subst (λ (s : StateSet). HasState s number) (get_or_past sets index (record { bits = 0 }) past) has))
-]
-
--- and each has its bit
-pub none_filled : (sets : List StateSet) (filled : List ℕ) → length filled ≡ length sets / 64 + 1
-    → ((index number : ℕ) → HasState (slice_index_or sets index (record { bits = 0 })) number → ⊥) → HaveBits sets filled
-none_filled sets filled count none = record { count = count; each = λ index number has. absurd (none index number has) }
+-- where no set has a state and no bit is set, the sets have their bits
+pub none_marked : (sets : List StateSet) (filled : List ℕ)
+    → ((index number : ℕ) → HasState (slice_index_or sets index (record { bits = 0 })) number → ⊥)
+    → ((word : ℕ) → slice_index_or filled word 0 ≡ 0) → AreMarked sets filled
+none_marked sets filled none zero = record {
+  each = λ index number has. absurd (none index number has);
+  within = λ index set.
+      let word = slice_index_or filled (index / 64) 0 in
+      let one : bit_at word (index % 64) ≡ 1 = (bit_is word (index % 64)).0 set in
+      let no_bit : bit_at word (index % 64) ≡ 0 = ap (λ n. bit_at n (index % 64)) (zero (index / 64)) ∙ bit_at-zero (index % 64) in
+      absurd (omega (arith, one, no_bit));
+}
 
 -- a set is put at an index, and its bit is set
 pub bit_set : (sets : List StateSet) (filled : List ℕ) (index word : ℕ) (states : StateSet) → HaveBits sets filled → index < length sets

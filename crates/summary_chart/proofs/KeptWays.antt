@@ -1,6 +1,6 @@
 -- The ways from one place at an index are those from each place there that the table has: the states of its set lead by the phases that
 -- were gone over. One stop more stands after those before it, and the ways of these stay where others are appended; and a table that
--- loses places needs no other stops.
+-- loses places needs no other stops, since no more keys go further then.
 use Rattle.std.proofs.Common.{◌≡◌, ℕ, ◌+◌, ◌-◌, ◌<◌, ◌≤◌, inl, inr, IsTrue, IsSome, Option, Some, None, List, [], ◌∷◌, ◌++◌, length, take, drop, Contains, refl, sym, ap, subst, ◌∙◌, arith}
 use Rattle.std.specs.List.{All}
 use Rattle.std.specs.Ordering.{nat_cmp}
@@ -35,9 +35,9 @@ use Rattle.summary_chart.specs.declared.state_set.StateSet.{StateSet}
 use Rattle.summary_chart.specs.declared.table.Table.{Table}
 use Rattle.summary_chart.specs.StateSets.{IsStateOf}
 use Rattle.summary_chart.specs.Tables.{IsTable, IsIn, IsIndexed, IsEntrance, set_of}
-use Rattle.summary_chart.specs.Spreading.{IsLedByPhase, leads_in, place_with, standing_with}
+use Rattle.summary_chart.specs.Spreading.{GoesFurtherBy, IsLedByPhase, leads_in, place_with, standing_with}
 use Rattle.summary_chart.specs.Charts.{index_of_place}
-use Rattle.summary_chart.specs.PlaceWays.{AddsStop, AppendsWays, AreFew, AreWaysAt, AreWaysOf, HasEachKey, HasKept, HasWays, HaveWays, HaveWaysBefore, IsStopWithin, LeadsOnOrEnds, compare_stops, ways_of}
+use Rattle.summary_chart.specs.PlaceWays.{AddsStop, AppendsWays, AreFew, AreWaysAt, AreWaysOf, HasEachKey, HasKept, HasWays, HaveAllWays, HaveLivingWays, HaveWays, HaveWaysBefore, IsStopWithin, LeadsOnOrEnds, compare_stops, ways_of}
 use Rattle.summary_chart.proofs.TableOrder.{same_index}
 use Rattle.summary_chart.proofs.TableStates.{at_index, stands_in, with_within}
 use Rattle.summary_chart.proofs.WaysElsewhere.{possible_elsewhere, neither_elsewhere, ways_elsewhere}
@@ -78,12 +78,13 @@ module _ (searched : SearchedLexicon) (line : Line) (choices : List Choice) wher
   -- ---- ways at an index
 
   -- what is found at an index are the ways from each place there
-  pub found_ways : (index : ℕ) (table : Table) (stops : List Stop) (ways found : List Way) → HaveWays searched line choices table stops ways
+  pub found_ways : (index : ℕ) (table : Table) (stops : List Stop) (ways found : List Way) → HaveLivingWays searched line choices table stops ways
       → AreWaysAt stops ways index found → (place : Configuration) → IsConfigurationIn searched line place → IsEntrance place.entrance
-      → index_of_place searched place ≡ index → AreWaysOf searched line choices table place found
+      → index_of_place searched place ≡ index → AreWaysOf searched line choices (GoesFurtherBy searched line choices table) table place found
   found_ways index table stops ways found have (stop, there, stop_is, found_is) place within proper same =
-      subst (AreWaysOf searched line choices table place) (sym found_is)
-      (All-contains (HasWays searched line choices table ways) stops stop have.each there place within proper (same ∙ sym stop_is))
+      let Goes = GoesFurtherBy searched line choices table in
+      subst (AreWaysOf searched line choices Goes table place) (sym found_is)
+      (All-contains (HasWays searched line choices Goes table ways) stops stop have.each there place within proper (same ∙ sym stop_is))
 
   module _ (index at : ℕ) (entrance : Entrance) (table : Table)
       (lawful : IsTable (leads_in searched) (length line.letters) table)
@@ -92,7 +93,7 @@ module _ (searched : SearchedLexicon) (line : Line) (choices : List Choice) wher
     module _ (state : Option ℕ) (old new : List Way)
         (appends : AppendsWays searched line choices (numbered_of searched (record { at = at; entrance = entrance; state = state }))
         (IsLedByPhase searched.machine (set_of table index)) old new) where
-      pub has_each_key : HasEachKey searched line choices at entrance (set_of table index) appends.ways
+      pub has_each_key : HasEachKey searched (LeadsOnOrEnds searched line choices) at entrance (set_of table index) appends.ways
       has_each_key number key is goes =
           let entered = entrance_of (leads_in searched) entrance in
           let here = standing_with searched at entrance number in
@@ -103,7 +104,7 @@ module _ (searched : SearchedLexicon) (line : Line) (choices : List Choice) wher
       -- they are those of each place there that the table has
       pub ways_there : length new ≤ length old + MOST_WAYS
           → (place : Configuration) → IsConfigurationIn searched line place → IsEntrance place.entrance
-          → index_of_place searched place ≡ index → AreWaysOf searched line choices table place appends.ways
+          → index_of_place searched place ≡ index → AreWaysOf searched line choices (LeadsOnOrEnds searched line choices) table place appends.ways
       ways_there few place within proper same =
           let leads = leads_in searched in
           let cell = same_index leads place.at at place.entrance entrance proper indexed.proper within.over indexed.over (same ∙ sym indexed.is) in
@@ -123,16 +124,16 @@ module _ (searched : SearchedLexicon) (line : Line) (choices : List Choice) wher
           }
 
     -- what is found at the index
-    module _ (stops : List Stop) (ways found : List Way) (have : HaveWays searched line choices table stops ways)
+    module _ (stops : List Stop) (ways found : List Way) (have : HaveLivingWays searched line choices table stops ways)
         (is : AreWaysAt stops ways index found) where
-      pub keys_found : HasEachKey searched line choices at entrance (set_of table index) found
+      pub keys_found : HasEachKey searched (GoesFurtherBy searched line choices table) at entrance (set_of table index) found
       keys_found number key state goes =
           (found_ways index table stops ways found have is (place_with at entrance number)
           (with_within searched line index at entrance table lawful indexed number state) indexed.proper indexed.is).all
           (stands_in searched line index at entrance table lawful indexed number state.1) key goes
 
       pub ways_at : (state : Option ℕ) → IsConfigurationIn searched line (record { at = at; entrance = entrance; state = state })
-          → AreWaysOf searched line choices table (record { at = at; entrance = entrance; state = state }) found
+          → AreWaysOf searched line choices (GoesFurtherBy searched line choices table) table (record { at = at; entrance = entrance; state = state }) found
       ways_at state within =
           found_ways index table stops ways found have is (record { at = at; entrance = entrance; state = state }) within indexed.proper indexed.is
 
@@ -161,7 +162,7 @@ module _ (searched : SearchedLexicon) (line : Line) (choices : List Choice) wher
   no_stops table = record {
     have = record {
       are = record { rising = tt; within = All-nil (IsStopWithin 0) };
-      each = All-nil (HasWays searched line choices table []);
+      each = All-nil (HasWays searched line choices (LeadsOnOrEnds searched line choices) table []);
     };
     before = All-nil (λ (stop : Stop). stop.index < 0);
   }
@@ -178,51 +179,82 @@ module _ (searched : SearchedLexicon) (line : Line) (choices : List Choice) wher
         let low = All-contains (λ (stop : Stop). stop.index < from) stops stop before.before there in omega (arith, low, rises));
   }
 
-  -- a table that loses places
-  of_fewer : (old new : Table) (place : Configuration) (ways : List Way) → (IsIn new place → IsIn old place)
-      → AreWaysOf searched line choices old place ways → AreWaysOf searched line choices new place ways
-  of_fewer old new place ways fewer are = record {
+  -- a table that loses places, and fewer keys that are told
+  of_fewer : (IsTold IsMore : NumberedConfiguration → Key → Type 0) (old new : Table) (place : Configuration) (ways : List Way)
+      → ((key : Key) → IsTold (numbered_of searched place) key → IsMore (numbered_of searched place) key) → (IsIn new place → IsIn old place)
+      → AreWaysOf searched line choices IsMore old place ways → AreWaysOf searched line choices IsTold new place ways
+  of_fewer IsTold IsMore old new place ways more fewer are = record {
     each = are.each;
-    all = λ inside. are.all (fewer inside);
+    all = λ inside key told. are.all (fewer inside) key (more key told);
     rising = are.rising;
     few = are.few;
   }
 
+  have_fewer : (IsTold IsMore : NumberedConfiguration → Key → Type 0) (old new : Table) (stops : List Stop) (ways : List Way)
+      → ((here : NumberedConfiguration) (key : Key) → IsTold here key → IsMore here key)
+      → ((place : Configuration) → IsConfigurationIn searched line place → IsIn new place → IsIn old place)
+      → HaveWays searched line choices IsMore old stops ways → HaveWays searched line choices IsTold new stops ways
+  have_fewer IsTold IsMore old new stops ways more fewer have = record {
+    are = have.are;
+    each = All-from_Contains (HasWays searched line choices IsTold new ways) stops (λ stop there place within proper same.
+        of_fewer IsTold IsMore old new place (ways_of ways stop) (more (numbered_of searched place)) (fewer place within)
+        (All-contains (HasWays searched line choices IsMore old ways) stops stop have.each there place within proper same));
+  }
+
+  -- a key that goes further leads on or ends the line
+  goes_if_further : (table : Table) (here : NumberedConfiguration) (key : Key) → GoesFurtherBy searched line choices table here key
+      → LeadsOnOrEnds searched line choices here key
+  goes_if_further table here key (inl ends) = inl ends
+  goes_if_further table here key (inr (next, leads, there)) = inr (next, leads)
+
+  -- and where a table loses places, no more keys go further
+  further_before : (old new : Table) → ((place : Configuration) → IsConfigurationIn searched line place → IsIn new place → IsIn old place)
+      → (here : NumberedConfiguration) (key : Key) → GoesFurtherBy searched line choices new here key → GoesFurtherBy searched line choices old here key
+  further_before old new fewer here key (inl ends) = inl ends
+  further_before old new fewer here key (inr (next, leads, there)) = inr (next, leads, fewer next leads.within there)
+
+  -- who has all ways has the living ones
+  pub living_of_all : (table : Table) (stops : List Stop) (ways : List Way) → HaveAllWays searched line choices table stops ways
+      → HaveLivingWays searched line choices table stops ways
+  living_of_all table stops ways =
+      have_fewer (GoesFurtherBy searched line choices table) (LeadsOnOrEnds searched line choices) table table stops ways (goes_if_further table)
+      (λ place within inside. inside)
+
   pub fewer_places : (old new : Table) (stops : List Stop) (ways : List Way)
       → ((place : Configuration) → IsConfigurationIn searched line place → IsIn new place → IsIn old place)
-      → HaveWays searched line choices old stops ways → HaveWays searched line choices new stops ways
-  fewer_places old new stops ways fewer have = record {
-    are = have.are;
-    each = All-from_Contains (HasWays searched line choices new ways) stops (λ stop there place within proper same.
-        of_fewer old new place (ways_of ways stop) (fewer place within)
-        (All-contains (HasWays searched line choices old ways) stops stop have.each there place within proper same));
-  }
+      → HaveLivingWays searched line choices old stops ways → HaveLivingWays searched line choices new stops ways
+  fewer_places old new stops ways fewer =
+      have_fewer (GoesFurtherBy searched line choices new) (GoesFurtherBy searched line choices old) old new stops ways (further_before old new fewer)
+      fewer
 
   -- one index more, and at it no stop or one
   module _ (index : ℕ) (old new : Table) (stops : List Stop) (ways : List Way)
       (was : (place : Configuration) → IsConfigurationIn searched line place → index_of_place searched place < index + 1 → IsIn new place → IsIn old place)
       (so_far : HaveWaysBefore searched line choices index old stops ways) where
+    abbrev Goes : NumberedConfiguration → Key → Type 0
+    Goes = LeadsOnOrEnds searched line choices
+
     low_before : (stop : Stop) → Contains stops stop → stop.index < index
     low_before stop there = All-contains (λ (stop : Stop). stop.index < index) stops stop so_far.before there
 
     within_before : (stop : Stop) → Contains stops stop → IsStopWithin (length ways) stop
     within_before stop there = All-contains (IsStopWithin (length ways)) stops stop so_far.have.are.within there
 
-    ways_before : (stop : Stop) → Contains stops stop → HasWays searched line choices new ways stop
+    ways_before : (stop : Stop) → Contains stops stop → HasWays searched line choices Goes new ways stop
     ways_before stop there place within proper same =
         let low = low_before stop there in
-        of_fewer old new place (ways_of ways stop) (was place within (omega (arith, low, same)))
-        (All-contains (HasWays searched line choices old ways) stops stop so_far.have.each there place within proper same)
+        of_fewer Goes Goes old new place (ways_of ways stop) (λ key told. told) (was place within (omega (arith, low, same)))
+        (All-contains (HasWays searched line choices Goes old ways) stops stop so_far.have.each there place within proper same)
 
     pub no_stop_more : HaveWaysBefore searched line choices (index + 1) new stops ways
     no_stop_more = record {
-      have = record { are = so_far.have.are; each = All-from_Contains (HasWays searched line choices new ways) stops ways_before };
+      have = record { are = so_far.have.are; each = All-from_Contains (HasWays searched line choices Goes new ways) stops ways_before };
       before = All-from_Contains (λ (stop : Stop). stop.index < index + 1) stops (λ stop there. let low = low_before stop there in omega (arith, low));
     }
 
     pub one_stop_more : (more : List Way)
         → ((place : Configuration) → IsConfigurationIn searched line place → IsEntrance place.entrance → index_of_place searched place ≡ index
-        → AreWaysOf searched line choices old place more)
+        → AreWaysOf searched line choices Goes old place more)
         → HaveWaysBefore searched line choices (index + 1) new
         (stops ++ record { index = index; first = length ways; end = length (ways ++ more) } ∷ []) (ways ++ more)
     unfolding IsStrictlySortedBy
@@ -242,13 +274,13 @@ module _ (searched : SearchedLexicon) (line : Line) (choices : List Choice) wher
                 | inr same ↦ subst (IsStopWithin (length (ways ++ more))) same (record { rises = omega (arith, sum); within = omega arith })
               ]);
             };
-            each = All-from_Contains (HasWays searched line choices new (ways ++ more)) (stops ++ last ∷ []) (λ stop there. elim (Contains-push_cases stops last stop there) [
+            each = All-from_Contains (HasWays searched line choices Goes new (ways ++ more)) (stops ++ last ∷ []) (λ stop there. elim (Contains-push_cases stops last stop there) [
               | inl earlier ↦ λ place within proper same.
-                  subst (AreWaysOf searched line choices new place) (sym (still_ways ways more stop (within_before stop earlier)))
+                  subst (AreWaysOf searched line choices Goes new place) (sym (still_ways ways more stop (within_before stop earlier)))
                   (ways_before stop earlier place within proper same)
-              | inr same ↦ subst (HasWays searched line choices new (ways ++ more)) same (λ place within proper same_index.
-                  subst (AreWaysOf searched line choices new place) (sym (last_ways ways more index))
-                  (of_fewer old new place more (was place within (omega (arith, same_index))) (are place within proper same_index)))
+              | inr same ↦ subst (HasWays searched line choices Goes new (ways ++ more)) same (λ place within proper same_index.
+                  subst (AreWaysOf searched line choices Goes new place) (sym (last_ways ways more index))
+                  (of_fewer Goes Goes old new place more (λ key told. told) (was place within (omega (arith, same_index))) (are place within proper same_index)))
             ]);
           };
           before = All-from_Contains (λ (stop : Stop). stop.index < index + 1) (stops ++ last ∷ []) (λ stop there. elim (Contains-push_cases stops last stop there) [
@@ -292,9 +324,9 @@ module _ (searched : SearchedLexicon) (line : Line) (choices : List Choice) wher
     each_added stop adds = subst (All (IsWayFrom searched line choices here)) (sym (added_ways stop adds)) adds.appends.each
 
     pub keys_added : (stop : Stop) → Adds stop
-        → HasEachKey searched line choices at entrance (set_of table index) (ways_of kept.ways.items stop)
+        → HasEachKey searched (LeadsOnOrEnds searched line choices) at entrance (set_of table index) (ways_of kept.ways.items stop)
     keys_added stop adds =
-        subst (HasEachKey searched line choices at entrance (set_of table index)) (sym (added_ways stop adds))
+        subst (HasEachKey searched (LeadsOnOrEnds searched line choices) at entrance (set_of table index)) (sym (added_ways stop adds))
         (has_each_key index at entrance table lawful indexed state old.ways.items kept.ways.items adds.appends)
 
     -- whether a stop was put in or not, those that are kept are right up to the next index

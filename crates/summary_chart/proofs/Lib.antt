@@ -10,6 +10,7 @@ mod ProgramPlaces
 mod ReachedPlaces
 mod LivingReached
 mod FilledSets
+mod EmptiedSets
 mod LivingPlaces
 mod LivingMemos
 mod PassCosts
@@ -33,6 +34,8 @@ mod CollectedItems
 mod AnswerItems
 mod TableItems
 mod WaysElsewhere
+mod LivingParts
 mod KeptWays
+mod NarrowedStops
 mod ChartWays
 mod SummarySteps

@@ -17,9 +17,8 @@ use Rattle.search_frames.specs.Configurations.{NumberedConfiguration}
 use Rattle.search_frames.specs.WaysFrom.{IsWayFrom, key_of_way}
 use Rattle.summary_chart.specs.declared.state_set.StateSet.{StateSet}
 use Rattle.summary_chart.specs.declared.table.Table.{Table}
-use Rattle.summary_chart.specs.StateSets.{IsStateOf}
-use Rattle.summary_chart.specs.PlaceWays.{HasEachKey}
-use Rattle.summary_chart.specs.Spreading.{IsLedOnTo, GoesFurtherBy, OnlyKey, EveryKey, standing_with}
+use Rattle.summary_chart.specs.PlaceWays.{HasEachKey, LeadsOnOrEnds}
+use Rattle.summary_chart.specs.Spreading.{IsLedOnTo, GoesFurtherBy, OnlyKey, EveryKey}
 use Rattle.summary_chart.specs.Summaries.{IsItemBy, IsItemFrom, AddsItems}
 use Rattle.summary_chart.proofs.VisitedKeys.{Visit}
 use Rattle.summary_chart.proofs.RisingItems.{adds_none, adds_both, adds_same}
@@ -46,7 +45,7 @@ module _ (ways : List Way) (count : ℕ) (way : Way) (way_at : IsWayAt ways coun
   keys_more = let same = way_at.is in let below = way_at.below in rw (take_more ways count way below, map-append, ← same) refl
 
   -- one way more is one key more
-  one_more : (key : Key) → IsAmongFirst (count + 1) ways key → IsAmongFirst count ways key ⊎ OnlyKey (key_of_way way) key
+  pub one_more : (key : Key) → IsAmongFirst (count + 1) ways key → IsAmongFirst count ways key ⊎ OnlyKey (key_of_way way) key
   one_more key among =
       elim (Contains-push_cases (map key_of_way (take count ways)) (key_of_way way) key (subst (λ keys. Contains keys key) keys_more among)) [
         | inl before ↦ inl before
@@ -61,7 +60,8 @@ module _ (ways : List Way) (count : ℕ) (way : Way) (way_at : IsWayAt ways coun
       (subst (λ k. Contains (map key_of_way (take count ways) ++ key_of_way way ∷ []) k) (sym same)
       (Contains-push (map key_of_way (take count ways)) (key_of_way way)))
 
-among_all : (ways : List Way) (count : ℕ) → length ways ≤ count → (key : Key) → Contains (map key_of_way ways) key → IsAmongFirst count ways key
+-- at the end the key of any way is one of them
+pub among_all : (ways : List Way) (count : ℕ) → length ways ≤ count → (key : Key) → Contains (map key_of_way ways) key → IsAmongFirst count ways key
 among_all ways count enough key among = subst (λ all. Contains (map key_of_way all) key) (sym (take_all count ways enough)) among
 
 -- what the ways do to a table by which they lead on, and to the states that go further by them
@@ -86,16 +86,11 @@ module _ (searched : SearchedLexicon) (line : Line) (choices : List Choice) (pla
       (λ key among. tt)
       so_far
 
--- a key that does something from a state of the set is that of a way
-module _ (searched : SearchedLexicon) (line : Line) (choices : List Choice) (place : Configuration) (set : StateSet) (ways : List Way)
-    (each : HasEachKey searched line choices place.at place.entrance set ways) where
-  pub has_if_led : (key : Key) → (next : Configuration) × IsLedOnTo searched line choices place.at place.entrance set key next → Contains (map key_of_way ways) key
-  has_if_led key (next, (number, state, leads)) = each number key state (inr (next, leads))
-
-  pub has_if_further : (table : Table) (key : Key) (number : ℕ) → IsStateOf searched.machine set number
-      → GoesFurtherBy searched line choices table (standing_with searched place.at place.entrance number) key → Contains (map key_of_way ways) key
-  has_if_further table key number state (inl ends) = each number key state (inl ends)
-  has_if_further table key number state (inr (next, leads, there)) = each number key state (inr (next, leads))
+-- a key that leads on from a state of the set is that of a way
+pub has_if_led : (searched : SearchedLexicon) (line : Line) (choices : List Choice) (place : Configuration) (set : StateSet) (ways : List Way)
+    → HasEachKey searched (LeadsOnOrEnds searched line choices) place.at place.entrance set ways
+    → (key : Key) → (next : Configuration) × IsLedOnTo searched line choices place.at place.entrance set key next → Contains (map key_of_way ways) key
+has_if_led searched line choices place set ways each key (next, (number, state, leads)) = each number key state (inr (next, leads))
 
 -- ---- items
 
@@ -127,12 +122,12 @@ module _ (searched : SearchedLexicon) (line : Line) (choices : List Choice) (tab
       so_far one
 
   -- at the end every item is there
-  pub items_at_last : (count : ℕ) → length ways ≤ count → HasEachKey searched line choices place.at place.entrance set ways → (old items : List Item)
+  pub items_at_last : (count : ℕ) → length ways ≤ count → HasEachKey searched (GoesFurtherBy searched line choices table) place.at place.entrance set ways → (old items : List Item)
       → AddsItems (IsItemAmongFirst searched line choices table place set ways count) old items
       → AddsItems (IsItemFrom searched line choices table place.at place.entrance set) old items
   items_at_last count enough each old items so_far =
       adds_same (IsItemAmongFirst searched line choices table place set ways count) (IsItemFrom searched line choices table place.at place.entrance set) old items
       (λ item (key, by).
-      (key, among_all ways count enough key (has_if_further searched line choices place set ways each table key by.number by.state by.further), by))
+      (key, among_all ways count enough key (each by.number key by.state by.further), by))
       (λ item (key, among, by). (key, by))
       so_far

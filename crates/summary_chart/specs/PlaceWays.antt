@@ -1,5 +1,5 @@
 -- The ways from places of a table, kept one after another (own).
-use Rattle.std.specs.Prelude.{◌≡◌, ℕ, ◌+◌, ◌-◌, ◌*◌, ◌<◌, ◌≤◌, ◌⊎◌, Option, Some, None, List, [], ◌∷◌, ◌++◌, length, take, drop, map, All, Contains}
+use Rattle.std.specs.Prelude.{◌≡◌, ℕ, ◌+◌, ◌-◌, ◌*◌, ◌<◌, ◌≤◌, ◌⊎◌, Option, Some, None, List, [], ◌∷◌, ◌++◌, length, take, drop, map, slice_index_or, All, Contains}
 use Rattle.std.specs.declared.cmp.Ordering.{Ordering}
 use Rattle.std.specs.Ordering.{nat_cmp}
 use Rattle.std.specs.List.Sorted.{IsStrictlySortedBy}
@@ -22,13 +22,25 @@ use Rattle.summary_chart.specs.declared.state_set.StateSet.{StateSet}
 use Rattle.summary_chart.specs.declared.table.Table.{Table}
 use Rattle.summary_chart.specs.declared.passes.TheConstants.{SETS_FOR_A_WAY}
 use Rattle.summary_chart.specs.StateSets.{IsStateOf}
-use Rattle.summary_chart.specs.Spreading.{IsLedByPhase, standing_with}
+use Rattle.summary_chart.specs.Spreading.{GoesFurtherBy, IsLedByPhase, standing_with}
 use Rattle.summary_chart.specs.Tables.{IsIn, IsEntrance, set_of}
 use Rattle.summary_chart.specs.Charts.{IsChartTable, index_of_place, set_count}
 
+-- the ways from the first number to before the end
+abbrev pub part_of : List Way → ℕ → ℕ → List Way
+part_of ways first end = take (end - first) (drop first ways)
+
 -- the ways of a stop
 abbrev pub ways_of : List Way → Stop → List Way
-ways_of ways stop = take (stop.end - stop.first) (drop stop.first ways)
+ways_of ways stop = part_of ways stop.first stop.end
+
+-- the stop with this number
+abbrev pub stop_at : List Stop → ℕ → Stop
+stop_at stops number = slice_index_or stops number (record { index = 0; first = 0; end = 0 })
+
+-- the stop that has of another's ways those from the first number to before the end
+abbrev pub narrowed : Stop → ℕ → ℕ → Stop
+narrowed stop first end = record { index = stop.index; first = stop.first + first; end = stop.first + end }
 
 -- stops are ordered by their indices
 abbrev pub compare_stops : Stop → Stop → Ordering
@@ -82,26 +94,25 @@ HasKeptFew searched line choices here table index old new stop = (most : ℕ)
     × (SETS_FOR_A_WAY * most ≤ length table.sets.items * length (rules_in searched).names)
     × HasKept searched line choices here (set_of table index) index most old new stop
 
--- each key that leads on from a place with one of these states, or ends the line, is that of a way
-abbrev pub HasEachKey : SearchedLexicon → Line → List Choice → ℕ → Entrance → StateSet → List Way → Type 0
-HasEachKey searched line choices at entrance set ways =
-    (number : ℕ) (key : Key) → IsStateOf searched.machine set number
-    → LeadsOnOrEnds searched line choices (standing_with searched at entrance number) key → Contains (map key_of_way ways) key
+-- each key from a place with one of these states that is told by this is that of a way
+abbrev pub HasEachKey : SearchedLexicon → (NumberedConfiguration → Key → Type 0) → ℕ → Entrance → StateSet → List Way → Type 0
+HasEachKey searched IsTold at entrance set ways =
+    (number : ℕ) (key : Key) → IsStateOf searched.machine set number → IsTold (standing_with searched at entrance number) key
+    → Contains (map key_of_way ways) key
 
 -- these are ways from the place in the order of their keys, no more than are kept from one place; and where the table has the place, each
--- key that leads on from there or ends the line is that of one
-pub record AreWaysOf (searched : SearchedLexicon) (line : Line) (choices : List Choice) (table : Table) (place : Configuration)
-    (ways : List Way) : Type 0 where
+-- key from there that is told by this is that of one
+pub record AreWaysOf (searched : SearchedLexicon) (line : Line) (choices : List Choice) (IsTold : NumberedConfiguration → Key → Type 0)
+    (table : Table) (place : Configuration) (ways : List Way) : Type 0 where
   pub each : All (IsWayFrom searched line choices (numbered_of searched place)) ways
-  pub all : IsIn table place → (key : Key) → LeadsOnOrEnds searched line choices (numbered_of searched place) key
-      → Contains (map key_of_way ways) key
+  pub all : IsIn table place → (key : Key) → IsTold (numbered_of searched place) key → Contains (map key_of_way ways) key
   pub rising : IsStrictlySortedBy compare_keys (map key_of_way ways)
   pub few : length ways ≤ MOST_WAYS
 
--- the stop has the ways of each place at its index
-abbrev pub HasWays : SearchedLexicon → Line → List Choice → Table → List Way → Stop → Type 0
-HasWays searched line choices table ways stop = (place : Configuration) → IsConfigurationIn searched line place → IsEntrance place.entrance
-    → index_of_place searched place ≡ stop.index → AreWaysOf searched line choices table place (ways_of ways stop)
+-- the stop has such ways of each place at its index
+abbrev pub HasWays : SearchedLexicon → Line → List Choice → (NumberedConfiguration → Key → Type 0) → Table → List Way → Stop → Type 0
+HasWays searched line choices IsTold table ways stop = (place : Configuration) → IsConfigurationIn searched line place → IsEntrance place.entrance
+    → index_of_place searched place ≡ stop.index → AreWaysOf searched line choices IsTold table place (ways_of ways stop)
 
 -- there is a stop at the index
 abbrev pub HasStopAt : List Stop → ℕ → Type 0
@@ -111,16 +122,43 @@ HasStopAt stops index = (stop : Stop) × Contains stops stop × (stop.index ≡ 
 abbrev pub AreWaysAt : List Stop → List Way → ℕ → List Way → Type 0
 AreWaysAt stops ways index found = (stop : Stop) × Contains stops stop × (stop.index ≡ index) × (found ≡ ways_of ways stop)
 
--- each stop has the ways of its places
-pub record HaveWays (searched : SearchedLexicon) (line : Line) (choices : List Choice) (table : Table) (stops : List Stop)
-    (ways : List Way) : Type 0 where
-  pub are : AreStops stops (length ways)
-  pub each : All (HasWays searched line choices table ways) stops
+-- some state of the set goes further by the key
+abbrev pub IsLivingKey : SearchedLexicon → Line → List Choice → Table → ℕ → Entrance → StateSet → Key → Type 0
+IsLivingKey searched line choices table at entrance set key =
+    (number : ℕ) × IsStateOf searched.machine set number
+    × GoesFurtherBy searched line choices table (standing_with searched at entrance number) key
 
--- and the stops stand before the index
+-- the ways from the first number to before the end are those from the first to the last that is living
+pub record IsLivingPart (IsLiving : Key → Type 0) (ways : List Way) (first end : ℕ) : Type 0 where
+  pub rises : first ≤ end
+  pub within : end ≤ length ways
+  pub all : (key : Key) → IsLiving key → Contains (map key_of_way ways) key → Contains (map key_of_way (part_of ways first end)) key
+  pub begins : (way : Way) → first < end → slice_index_or ways first way ≡ way → IsLiving (key_of_way way)
+  pub ends : (way : Way) → first < end → slice_index_or ways (end - 1) way ≡ way → IsLiving (key_of_way way)
+
+-- the stop with this number is at the index
+pub record IsStopAt (stops : List Stop) (index number : ℕ) : Type 0 where
+  pub below : number < length stops
+  pub is : (stop_at stops number).index ≡ index
+
+-- each stop has such ways of its places
+pub record HaveWays (searched : SearchedLexicon) (line : Line) (choices : List Choice) (IsTold : NumberedConfiguration → Key → Type 0)
+    (table : Table) (stops : List Stop) (ways : List Way) : Type 0 where
+  pub are : AreStops stops (length ways)
+  pub each : All (HasWays searched line choices IsTold table ways) stops
+
+-- each stop has all ways of its places: those of the keys that lead on from there or end the line
+abbrev pub HaveAllWays : SearchedLexicon → Line → List Choice → Table → List Stop → List Way → Type 0
+HaveAllWays searched line choices table stops ways = HaveWays searched line choices (LeadsOnOrEnds searched line choices) table stops ways
+
+-- each stop has the living ways of its places: those of the keys that end the line, or lead on to a place of the table; and it may have others
+abbrev pub HaveLivingWays : SearchedLexicon → Line → List Choice → Table → List Stop → List Way → Type 0
+HaveLivingWays searched line choices table stops ways = HaveWays searched line choices (GoesFurtherBy searched line choices table) table stops ways
+
+-- each stop has all ways of its places, and stands before the index
 pub record HaveWaysBefore (searched : SearchedLexicon) (line : Line) (choices : List Choice) (index : ℕ) (table : Table)
     (stops : List Stop) (ways : List Way) : Type 0 where
-  pub have : HaveWays searched line choices table stops ways
+  pub have : HaveAllWays searched line choices table stops ways
   pub before : All (λ stop. stop.index < index) stops
 
 -- the stops and ways together are no more than a seventh of the table's sets for each phase
@@ -134,7 +172,8 @@ pub record ChartValue : Type 0 where
   pub stops : List Stop
   pub ways : List Way
 
--- the chart is that of the lexicon, the line and the choices: its table has just the living places, and its stops have the ways of these
+-- the chart is that of the lexicon, the line and the choices: its table has just the living places, and its stops have the living ways of
+-- these
 pub record IsChartOf (searched : SearchedLexicon) (line : Line) (choices : List Choice) (chart : ChartValue) : Type 0 where
   pub table : IsChartTable searched line choices chart.table
-  pub ways : HaveWays searched line choices chart.table chart.stops chart.ways
+  pub ways : HaveLivingWays searched line choices chart.table chart.stops chart.ways

@@ -39,11 +39,16 @@ leads_of_table table = length table.entrances.items - 51
 abbrev pub index_in : Table → ℕ → Entrance → ℕ
 index_in table at entrance = index_of (leads_of_table table) at entrance
 
--- each set has a bit, in words of 64 of which at most one is not needed; and where a set has a state, its bit is set
-pub record HaveBits (sets : List StateSet) (filled : List ℕ) : Type 0 where
-  pub count : length filled ≡ length sets / 64 + 1
+-- where a set has a state, its bit is set, in words of 64; and each bit that is set is that of a set
+pub record AreMarked (sets : List StateSet) (filled : List ℕ) : Type 0 where
   pub each : (index number : ℕ) → HasState (slice_index_or sets index (record { bits = 0 })) number
       → IsBitSet (slice_index_or filled (index / 64) 0) (index % 64)
+  pub within : (index : ℕ) → IsBitSet (slice_index_or filled (index / 64) 0) (index % 64) → index < length sets
+
+-- each set has a bit, in words of which at most one is not needed
+pub record HaveBits (sets : List StateSet) (filled : List ℕ) : Type 0 where
+  pub count : length filled ≡ length sets / 64 + 1
+  pub marked : AreMarked sets filled
 
 -- the table has a set there, where the entrance is one of the program's
 pub record HasSet (table : Table) (at : ℕ) (entrance : Entrance) : Type 0 where
@@ -80,6 +85,11 @@ pub record AreEntrances (leads : ℕ) (entrances : List Entrance) : Type 0 where
   pub columns : (column : ℕ) → column < width_over leads → column_of leads (slice_index_or entrances column Start) ≡ column
   pub each : (column : ℕ) → column < width_over leads → IsEntrance (slice_index_or entrances column Start)
   pub over : (column place : ℕ) → column < width_over leads → slice_index_or entrances column Start ≡ ByLead place → place < leads
+
+-- a table, of whatever line, that can be emptied: its bits are those of its sets, and it has no entrances, or those over some number of leads
+pub record CanBeEmptied (table : Table) : Type 0 where
+  pub marked : AreMarked table.sets.items table.filled.items
+  pub entrances : 51 ≤ length table.entrances.items → AreEntrances (leads_of_table table) table.entrances.items
 
 -- the table has the entrances over the leads, and a row of sets for each number of letters up to all of them
 pub record IsTable (leads : List Lead) (letters : ℕ) (table : Table) : Type 0 where

@@ -7,6 +7,7 @@ ghost use Rattle.summary_chart.specs.PlaceWays.{IsChartOf, AreFew};
 ghost use Rattle.summary_chart.specs.Charts.{IsOpenTable, CoversPlace, says_of, set_count};
 ghost use Rattle.summary_chart.specs.Summaries.{steps_of_summary};
 ghost use Rattle.summary_chart.specs.Spreading.{leads_in};
+ghost use Rattle.summary_chart.specs.Tables.{CanBeEmptied};
 
 use super::memo::Memo;
 use super::passes::{keep_living, reach};
@@ -37,15 +38,19 @@ pub struct Chart {
 
 impl Model for Chart {
     ghost use Rattle.summary_chart.specs.PlaceWays.{ChartValue};
+    ghost use Rattle.summary_chart.specs.Tables.{CanBeEmptied};
 
     ghost Value = { ChartValue };
 
     ghost view = { λ c. record { table = c.table; stops = c.kept.stops.items; ways = c.kept.ways.items } };
+
+    ghost invariant = { λ c. CanBeEmptied c.table };
 }
 
 /// A table that has the opening alone, in the memory of this one.
 fn open_table(table: Table, lexicon: &Lexicon, line: &Line) -> Result<Table, Memory>
-    requires { IsLine line.now }
+    requires line { IsLine line.now }
+    requires table { CanBeEmptied table }
     ensures { IfOk result (IsOpenTable lexicon.now line.now) }
 {
     let mut table = table.emptied(lexicon.rules(), line)?;
@@ -67,7 +72,8 @@ impl Chart {
 
     /// The chart of the line with these choices, over the lexicon: a set of states, of four bytes, for each number of letters and each
     /// entrance; and the ways from places that have few of them, as long as ways and stops, of 24 bytes each, take no more than four
-    /// bytes for each of the sets and each phase, and one number for each letter. `steps` counts each phase, node, rule and way that is
+    /// bytes for each of the sets and each phase, and one number for each letter. The ways of a place are told without those that lead to no
+    /// answer before the first that does and after the last; such ways between them are told. `steps` counts each phase, node, rule and way that is
     /// looked at or kept, in two passes. Looking for sets that are not empty is not counted. Refused only for want of memory.
     pub fn build<L>(
         alloc: Global,
@@ -122,7 +128,7 @@ impl Chart {
         };
         reach(passage, &mut table, &mut kept, &mut room, steps)?;
         room.memo.clear();
-        keep_living(passage, &mut table, &kept, &mut room, steps)?;
+        keep_living(passage, &mut table, &mut kept, &mut room, steps)?;
         let Room { nodes, .. } = room;
         Ok(Chart { table, kept, nodes })
     }

@@ -10,7 +10,7 @@ ghost use Rattle.summary_chart.specs.Fronts.{IsFrontAt};
 ghost use Rattle.summary_chart.specs.PlaceWays.{HasEachKey};
 ghost use Rattle.summary_chart.specs.Sites.{IsSite, IsSiteAhead};
 ghost use Rattle.summary_chart.specs.Tables.{IsTable};
-ghost use Rattle.summary_chart.specs.Spreading.{leads_in};
+ghost use Rattle.summary_chart.specs.Spreading.{GoesFurtherBy, leads_in};
 ghost use Rattle.summary_chart.specs.Summaries.{item_with, made_of, AddsItems, HasSeen, IsCollected, IsItemBy, IsItemByRule, IsItemUnchanged, IsItemAtFront, IsItemInPhase, IsItemFrom, steps_of_front, steps_of_fronts, steps_of_items};
 
 use super::collected::Collected;
@@ -58,9 +58,8 @@ fn collect_way<L>(
     put_item(site, way.key, collected, steps)
 }
 
-/// Puts in the items of the ways by which some state of the set goes further. They are from the place, and each key that leads on from
-/// there with one of these states, or ends the line, is that of one. The place's own state is not looked at. Refused only for want of
-/// memory.
+/// Puts in the items of the ways by which some state of the set goes further. They are from the place, and each key by which some state of
+/// the set does so is that of one. The place's own state is not looked at. Refused only for want of memory.
 pub(crate) fn collect_ways<L>(
     site: Site<'_>,
     standing: Standing<'_>,
@@ -70,7 +69,7 @@ pub(crate) fn collect_ways<L>(
 ) -> Result<(), Memory>
     requires site { IsSite site }
     requires ways { All (IsWayFrom site.lexicon.now site.line.now site.choices.now (numbered_of site.lexicon.now site.place.now)) ways.now }
-    requires all { HasEachKey site.lexicon.now site.line.now site.choices.now site.place.now.at site.place.now.entrance standing.states ways.now }
+    requires all { HasEachKey site.lexicon.now (GoesFurtherBy site.lexicon.now site.line.now site.choices.now standing.table.now) site.place.now.at site.place.now.entrance standing.states ways.now }
     requires table { IsTable (leads_in site.lexicon.now) (length site.line.now.letters) standing.table.now }
     requires collected { IsCollected site.lexicon.now.lexicon.rules collected.old }
     ensures collected { OnOk result (IsCollected site.entry.lexicon.now.lexicon.rules collected.new) }

@@ -9,13 +9,13 @@ ghost use Rattle.search_frames.specs.Configurations.{IsPossible};
 ghost use Rattle.search_frames.specs.Costs.{HasAtMostRules};
 ghost use Rattle.search_frames.specs.WaysFrom.{IsWayFrom, key_of_way};
 ghost use Rattle.summary_chart.specs.Fronts.{IsFrontAt};
-ghost use Rattle.summary_chart.specs.PlaceWays.{HasEachKey};
+ghost use Rattle.summary_chart.specs.PlaceWays.{HasEachKey, IsLivingKey, IsLivingPart};
 ghost use Rattle.summary_chart.specs.Effects.{AreEffects};
 ghost use Rattle.summary_chart.specs.Memos.{AreLiving, EndFrom, LivesBy};
 ghost use Rattle.summary_chart.specs.Sites.{IsSite, IsSiteAhead};
 ghost use Rattle.summary_chart.specs.StateSets.{HasState};
 ghost use Rattle.summary_chart.specs.Tables.{IsTable};
-ghost use Rattle.summary_chart.specs.Spreading.{AreGoingFurther, EveryKey, OnlyKey, IsByRule, IsAtFront, IsInPhase, leads_in};
+ghost use Rattle.summary_chart.specs.Spreading.{AreGoingFurther, EveryKey, GoesFurtherBy, OnlyKey, IsByRule, IsAtFront, IsInPhase, leads_in};
 ghost use Rattle.summary_chart.specs.Summaries.{steps_of_front, steps_of_fronts, steps_of_items};
 
 use super::memo::{Memo, Work};
@@ -332,27 +332,49 @@ pub(crate) fn states_by_way(site: Site<'_>, states: StateSet, way: &Way, table: 
     }
 }
 
-/// The states of the set from which one of the ways ends the line or leads on to a place of the table. They are from the place, and each
-/// key that leads on from there with one of these states, or ends the line, is that of one. The place's own state is not looked at. Each
-/// way takes a step.
+/// The states of a set that go further by some ways, and where the ways stand that are left without the dead ones before the first living way
+/// and after the last: from `first` to before `end` among these ways.
+#[derive(Clone, Copy)]
+pub(crate) struct LivingWays {
+    pub states: StateSet,
+    pub first: usize,
+    pub end: usize,
+}
+
+/// The states of the set from which one of the ways ends the line or leads on to a place of the table, and the part of the ways from the
+/// first to the last by which some state does so. They are from the place, and each key by which some state of the set does so is that of
+/// one. The place's own state is not looked at. Each way takes a step.
 pub(crate) fn gather_ways<L>(
     site: Site<'_>,
     states: StateSet,
     ways: &[Way],
     table: &Table,
     steps: &mut Steps<L>,
-) -> StateSet
+) -> LivingWays
     requires site { IsSite site }
     requires ways { All (IsWayFrom site.lexicon.now site.line.now site.choices.now (numbered_of site.lexicon.now site.place.now)) ways.now }
-    requires all { HasEachKey site.lexicon.now site.line.now site.choices.now site.place.now.at site.place.now.entrance states ways.now }
+    requires all { HasEachKey site.lexicon.now (GoesFurtherBy site.lexicon.now site.line.now site.choices.now table.now) site.place.now.at site.place.now.entrance states ways.now }
     requires table { IsTable (leads_in site.lexicon.now) (length site.line.now.letters) table.now }
-    ensures gathers { AreGoingFurther site.entry.lexicon.now site.entry.line.now site.entry.choices.now table.now site.entry.place.now.at site.entry.place.now.entrance states EveryKey result }
+    ensures gathers { AreGoingFurther site.entry.lexicon.now site.entry.line.now site.entry.choices.now table.now site.entry.place.now.at site.entry.place.now.entrance states EveryKey result.states }
+    ensures part { let here = site.entry in IsLivingPart (IsLivingKey here.lexicon.now here.line.now here.choices.now table.now here.place.now.at here.place.now.entrance states) ways.now result.first result.end }
     ensures steps { steps.new ≡ steps.old + length ways.now }
 {
-    let mut further = StateSet::empty();
-    for way in ways {
+    let mut living = LivingWays {
+        states: StateSet::empty(),
+        first: 0,
+        end: 0,
+    };
+    for number in 0..ways.len() {
         steps.tick();
-        further = further.union(states_by_way(site, states, way, table));
+        let further = states_by_way(site, states, &ways[number], table);
+        if further.is_empty() {
+            continue;
+        }
+        living.states = living.states.union(further);
+        if living.end == 0 {
+            living.first = number;
+        }
+        living.end = number + 1;
     }
-    further
+    living
 }

@@ -6,7 +6,8 @@
 //!
 //! Proved: a chart is a guide of a search that never says false of what stands in an answer (`guide` of `Chart::build`), and says
 //! true of nothing else (`exact`). Its table has just the places that a search comes to and from which there is a path to an answer, and
-//! what it keeps for places of the table are ways from there, among which is each that leads on or ends the line (`chart`). It is made within
+//! what it keeps for places of the table are ways from there, among which is each that ends the line or leads on to a place of the table
+//! (`chart`); which other ways are among them is in no clause of a chart. It is made within
 //! the stated number of steps (`steps`, and `bound`), of which each phase, node, rule and way that is looked at or kept takes one. It keeps
 //! one set, of four bytes and a bit, for each number of letters and entrance (`stored`), and at most one way or stop, of 24 bytes, for each
 //! seven of these sets and each phase (`few`); for which places it keeps ways is in no clause. As a `SearchGuide` it tells those that it

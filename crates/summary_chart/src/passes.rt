@@ -10,7 +10,7 @@ ghost use Rattle.summary_chart.specs.Memos.{AreLiving, AreSpread, EndFrom, IsKno
 ghost use Rattle.summary_chart.specs.Tables.{IsTable, IsIndexed, set_of};
 ghost use Rattle.summary_chart.specs.Spreading.{AreGoingFurther, EveryKey, leads_in};
 ghost use Rattle.summary_chart.specs.Charts.{HasReached, IsChartTable, IsOpenTable, IsReachedBefore};
-ghost use Rattle.summary_chart.specs.PlaceWays.{AreFew, HasKeptFew, HaveWays, HaveWaysBefore};
+ghost use Rattle.summary_chart.specs.PlaceWays.{AreFew, HasKeptFew, HaveAllWays, HaveLivingWays, HaveWaysBefore};
 ghost use Rattle.summary_chart.specs.Sites.{IsSite};
 ghost use Rattle.summary_chart.specs.Summaries.{steps_of_items, steps_of_summary};
 
@@ -128,7 +128,7 @@ pub(crate) fn reach<L>(
     requires effects { AreEffects passage.lexicon.now.lexicon.rules room.old.memo.effects }
     ensures effects { OnOk result (AreEffects passage.entry.lexicon.now.lexicon.rules room.new.memo.effects) }
     ensures reached { OnOk result (HasReached passage.entry.lexicon.now passage.entry.line.now passage.entry.choices.now table.new) }
-    ensures kept { OnOk result (HaveWays passage.entry.lexicon.now passage.entry.line.now passage.entry.choices.now table.new kept.new.stops.items kept.new.ways.items) }
+    ensures kept { OnOk result (HaveAllWays passage.entry.lexicon.now passage.entry.line.now passage.entry.choices.now table.new kept.new.stops.items kept.new.ways.items) }
     ensures few { OnOk result (AreFew passage.entry.lexicon.now passage.entry.line.now kept.new.stops.items kept.new.ways.items) }
     ensures steps { (most : ℕ) → HasAtMostRules passage.entry.lexicon.now.tries most → steps.new ≤ steps.old + 2 * steps_of_summary passage.entry.lexicon.now passage.entry.line.now most }
 {
@@ -154,13 +154,13 @@ pub(crate) fn reach<L>(
 }
 
 /// The states of the places at the index, of which this is one, from which some key ends the line, or leads on to a place of the table: by
-/// the ways that are kept from there, or else by all that the lexicon has. The place's own state is not looked at. Refused only for want
-/// of memory.
+/// the ways that are kept from there, or else by all that the lexicon has. The stop of these ways is left with those from the first to the
+/// last by which some state goes further. The place's own state is not looked at. Refused only for want of memory.
 fn gather_from<L>(
     site: Site<'_>,
     index: usize,
     table: &Table,
-    kept: &PlaceWays,
+    kept: &mut PlaceWays,
     room: &mut Room,
     steps: &mut Steps<L>,
 ) -> Result<StateSet, Memory>
@@ -168,37 +168,45 @@ fn gather_from<L>(
     requires there { index < length table.now.sets.items }
     requires indexed { IsIndexed (leads_in site.lexicon.now) (length site.line.now.letters) index site.place.now.at site.place.now.entrance }
     requires table { IsTable (leads_in site.lexicon.now) (length site.line.now.letters) table.now }
-    requires kept { HaveWays site.lexicon.now site.line.now site.choices.now table.now kept.now.stops.items kept.now.ways.items }
+    requires kept { HaveLivingWays site.lexicon.now site.line.now site.choices.now table.now kept.old.stops.items kept.old.ways.items }
     requires memo { AreLiving site.lexicon.now site.line.now table.now room.old.memo }
     ensures memo { OnOk result (AreLiving site.entry.lexicon.now site.entry.line.now table.now room.new.memo) }
     ensures ends { OnOk result (EndFrom site.entry.place.now.at room.old.memo → EndFrom site.entry.place.now.at room.new.memo) }
     ensures gathers { IfOk result (λ gathered. AreGoingFurther site.entry.lexicon.now site.entry.line.now site.entry.choices.now table.now site.entry.place.now.at site.entry.place.now.entrance (set_of table.now index) EveryKey gathered) }
+    ensures kept { OnOk result (HaveLivingWays site.entry.lexicon.now site.entry.line.now site.entry.choices.now table.now kept.new.stops.items kept.new.ways.items) }
+    ensures count { OnOk result (length kept.new.stops.items ≡ length kept.old.stops.items) }
+    ensures ways { OnOk result (kept.new.ways.items ≡ kept.old.ways.items) }
     ensures steps { (most : ℕ) → HasAtMostRules site.entry.lexicon.now.tries most → steps.new ≤ steps.old + steps_of_items site.entry.lexicon.now most }
 {
     let states = table.sets[index];
-    let Some(ways) = kept.at(site.place.at, index) else {
+    let Some(number) = kept.number_at(site.place.at, index) else {
         return gather(site, states, table, room, steps);
     };
-    Ok(gather_ways(site, states, ways, table, steps))
+    let living = gather_ways(site, states, kept.of(kept.stops[number]), table, steps);
+    kept.narrow(number, living.first, living.end);
+    Ok(living.states)
 }
 
 /// Leaves in the table, which has every place that a search comes to, those alone from which there is a path to an answer: from the
-/// last place in the order of the table to the first. The ways that are kept stay those of its places. Refused only for want of memory.
+/// last place in the order of the table to the first. Each stop is left with the ways from its first living one to its last, where a way is
+/// living that ends the line or leads on to a place of the table. Refused only for want of memory.
 pub(crate) fn keep_living<L>(
     passage: Passage<'_>,
     table: &mut Table,
-    kept: &PlaceWays,
+    kept: &mut PlaceWays,
     room: &mut Room,
     steps: &mut Steps<L>,
 ) -> Result<(), Memory>
     requires searched { IsSearchedLexicon passage.lexicon.now }
     requires line { IsLine passage.line.now }
     requires reached { HasReached passage.lexicon.now passage.line.now passage.choices.now table.old }
-    requires kept { HaveWays passage.lexicon.now passage.line.now passage.choices.now table.old kept.now.stops.items kept.now.ways.items }
+    requires kept { HaveAllWays passage.lexicon.now passage.line.now passage.choices.now table.old kept.old.stops.items kept.old.ways.items }
     requires memo { (done : DoneValue) → IsKnown room.old.memo done → ⊥ }
     requires effects { AreEffects passage.lexicon.now.lexicon.rules room.old.memo.effects }
     ensures living { OnOk result (IsChartTable passage.entry.lexicon.now passage.entry.line.now passage.entry.choices.now table.new) }
-    ensures kept { OnOk result (HaveWays passage.entry.lexicon.now passage.entry.line.now passage.entry.choices.now table.new kept.now.stops.items kept.now.ways.items) }
+    ensures kept { OnOk result (HaveLivingWays passage.entry.lexicon.now passage.entry.line.now passage.entry.choices.now table.new kept.new.stops.items kept.new.ways.items) }
+    ensures count { OnOk result (length kept.new.stops.items ≡ length kept.old.stops.items) }
+    ensures ways { OnOk result (kept.new.ways.items ≡ kept.old.ways.items) }
     ensures steps { (most : ℕ) → HasAtMostRules passage.entry.lexicon.now.tries most → steps.new ≤ steps.old + steps_of_summary passage.entry.lexicon.now passage.entry.line.now most }
 {
     let state = passage.lexicon.automaton().start();

@@ -1,11 +1,12 @@
-ghost use Rattle.std.specs.Prelude.{◌≡◌, ◌+◌, ◌<◌, ◌≤◌, ◌↔◌, ◌++◌, ◌∷◌, [], length, IsTrue, IfSome, MatchOption, OnOk};
-ghost use Rattle.summary_chart.specs.PlaceWays.{AreStops, AreWaysAt, HasStopAt, IsStopWithin, ways_of};
+ghost use Rattle.std.specs.Prelude.{◌≡◌, ◌+◌, ◌-◌, ◌<◌, ◌≤◌, ◌↔◌, ◌++◌, ◌∷◌, [], length, slice_set, IsTrue, IfSome, MatchOption, OnOk};
+ghost use Rattle.summary_chart.specs.PlaceWays.{AreStops, AreWaysAt, HasStopAt, IsStopAt, IsStopWithin, narrowed, stop_at, ways_of};
 
 use phoneme::Memory;
 use search_frames::Way;
 use std::alloc::Global;
 
-/// Where the ways stand that lead from the places at an index of a table: from `first` to before `end` among all ways.
+/// Where the ways stand that lead from the places at an index of a table: from `first` to before `end` among all ways. After the pass
+/// back these are the ways without the dead ones before the first living way and after the last.
 #[derive(Clone, Copy)]
 pub(crate) struct Stop {
     pub index: usize,
@@ -13,7 +14,8 @@ pub(crate) struct Stop {
     pub end: usize,
 }
 
-/// The ways from places of a table, one stop after another in the order of the table. Not every place has a stop.
+/// The ways from places of a table, one stop after another in the order of the table. Not every place has a stop, and not every way is
+/// that of one.
 #[derive(Drop)]
 pub(crate) struct PlaceWays {
     pub stops: Vec<Stop>,
@@ -82,28 +84,40 @@ impl PlaceWays {
         }
     }
 
-    /// The ways of a stop at the index of the table, if there is one among the stops of places after so many letters of the line.
-    fn among_stops_after(&self, at: u32, index: usize) -> Option<&[Way]>
-        requires stops { AreStops self.now.stops.items (length self.now.ways.items) }
-        ensures found { IfSome result (λ ways. AreWaysAt self.now.stops.items self.now.ways.items index ways.now) }
+    /// The number of a stop at the index of the table, if there is one among the stops of places after so many letters of the line.
+    fn among_stops_after(&self, at: u32, index: usize) -> Option<usize>
+        ensures found { IfSome result (λ number. IsStopAt self.now.stops.items index number) }
     {
         let until = self.stops_before(at as usize + 1);
         let first = until.min(self.stops_before(at as usize));
         let stops = &self.stops.as_slice()[first..until];
         match stops.binary_search_by(|stop| stop.index.cmp(&index)) {
-            Ok(number) => Some(self.of(stops[number])),
+            Ok(number) => Some(first + number),
             Err(_) => None,
         }
     }
 
-    /// The ways of the stop at the index of the table. `None` where there is no stop.
-    fn among_all_stops(&self, index: usize) -> Option<&[Way]>
+    /// The number of the stop at the index of the table. `None` where there is no stop.
+    fn among_all_stops(&self, index: usize) -> Option<usize>
         requires stops { AreStops self.now.stops.items (length self.now.ways.items) }
-        ensures found { MatchOption result (HasStopAt self.now.stops.items index → ⊥) (λ ways. AreWaysAt self.now.stops.items self.now.ways.items index ways.now) }
+        ensures found { MatchOption result (HasStopAt self.now.stops.items index → ⊥) (λ number. IsStopAt self.now.stops.items index number) }
     {
         match self.stops.binary_search_by(|stop| stop.index.cmp(&index)) {
-            Ok(number) => Some(self.of(self.stops[number])),
+            Ok(number) => Some(number),
             Err(_) => None,
+        }
+    }
+
+    /// The number of the stop of the places at the index of the table, which stand after so many letters of the line. `None` where there is
+    /// no stop.
+    pub fn number_at(&self, at: u32, index: usize) -> Option<usize>
+        requires stops { AreStops self.now.stops.items (length self.now.ways.items) }
+        ensures found { MatchOption result (HasStopAt self.now.stops.items index → ⊥) (λ number. IsStopAt self.now.stops.items index number) }
+    {
+        // The stops after so many letters are few, so they are looked at first.
+        match self.among_stops_after(at, index) {
+            Some(number) => Some(number),
+            None => self.among_all_stops(index),
         }
     }
 
@@ -112,10 +126,25 @@ impl PlaceWays {
         requires stops { AreStops self.now.stops.items (length self.now.ways.items) }
         ensures found { MatchOption result (HasStopAt self.now.stops.items index → ⊥) (λ ways. AreWaysAt self.now.stops.items self.now.ways.items index ways.now) }
     {
-        // The stops after so many letters are few, so they are looked at first.
-        match self.among_stops_after(at, index) {
-            Some(ways) => Some(ways),
-            None => self.among_all_stops(index),
+        match self.number_at(at, index) {
+            Some(number) => Some(self.of(self.stops[number])),
+            None => None,
         }
+    }
+
+    /// Leaves to the stop with this number only its ways from the first number to before the end, where these count the stop's own ways.
+    pub fn narrow(&mut self, number: usize, first: usize, end: usize)
+        requires there { number < length self.old.stops.items }
+        requires rises { first ≤ end }
+        requires within { end ≤ (stop_at self.old.stops.items number).end - (stop_at self.old.stops.items number).first }
+        ensures stops { self.new.stops.items ≡ slice_set self.old.stops.items number (narrowed (stop_at self.old.stops.items number) first end) }
+        ensures ways { self.new.ways.items ≡ self.old.ways.items }
+    {
+        let stop = self.stops[number];
+        self.stops[number] = Stop {
+            index: stop.index,
+            first: stop.first + first,
+            end: stop.first + end,
+        };
     }
 }

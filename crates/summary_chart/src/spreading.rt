@@ -7,7 +7,7 @@ ghost use Rattle.search_frames.specs.Configurations.{IsPossible};
 ghost use Rattle.search_frames.specs.Costs.{HasAtMostRules};
 ghost use Rattle.search_frames.specs.WaysFrom.{IsWayFrom, key_of_way};
 ghost use Rattle.summary_chart.specs.Fronts.{IsFrontAt};
-ghost use Rattle.summary_chart.specs.PlaceWays.{HasEachKey};
+ghost use Rattle.summary_chart.specs.PlaceWays.{HasEachKey, LeadsOnOrEnds};
 ghost use Rattle.summary_chart.specs.StateSets.{HasState};
 ghost use Rattle.annotated_trie.specs.Choices.{choices_with};
 ghost use Rattle.summary_chart.specs.Effects.{AreEffects};
@@ -339,7 +339,7 @@ pub(crate) fn spread_ways<L>(
 )
     requires site { IsSite site }
     requires ways { All (IsWayFrom site.lexicon.now site.line.now site.choices.now (numbered_of site.lexicon.now site.place.now)) ways.now }
-    requires all { HasEachKey site.lexicon.now site.line.now site.choices.now site.place.now.at site.place.now.entrance states ways.now }
+    requires all { HasEachKey site.lexicon.now (LeadsOnOrEnds site.lexicon.now site.line.now site.choices.now) site.place.now.at site.place.now.entrance states ways.now }
     requires table { IsTable (leads_in site.lexicon.now) (length site.line.now.letters) table.old }
     ensures table { IsTable (leads_in site.entry.lexicon.now) (length site.entry.line.now.letters) table.new }
     ensures spreads { Spreads site.entry.lexicon.now site.entry.line.now site.entry.choices.now site.entry.place.now.at site.entry.place.now.entrance states EveryKey table.old table.new }

@@ -1,10 +1,10 @@
-ghost use Rattle.std.specs.Prelude.{◌≡◌, ◌^◌, ◌<◌, ◌≤◌, ◌⊎◌, ◌↔◌, ℕ, List, length, IfOk, IsTrue};
+ghost use Rattle.std.specs.Prelude.{◌≡◌, ◌-◌, ◌^◌, ◌<◌, ◌≤◌, ◌⊎◌, ◌↔◌, ℕ, List, length, slice_index_or, slice_set, IfOk, IsTrue};
 ghost use Rattle.std.specs.Bool.{OnTrue};
 ghost use Rattle.text_definitions.specs.Lines.{IsLine};
 ghost use Rattle.lexicon_definitions.specs.Leads.{Lead, leads_of};
 ghost use Rattle.lexicon_definitions.specs.declared.limits.TheConstants.{MOST_LEADS};
 ghost use Rattle.summary_chart.specs.StateSets.{HasState};
-ghost use Rattle.summary_chart.specs.Tables.{IsTable, AreEntrances, IsEntrance, HasSet, HasThisState, HaveBits, ChangesAt, IsIndexed, IsStateNumber, AreEmptyBetween, index_in, set_of, set_at};
+ghost use Rattle.summary_chart.specs.Tables.{IsTable, AreEntrances, AreMarked, CanBeEmptied, IsEntrance, HasSet, HasThisState, HaveBits, ChangesAt, IsIndexed, IsStateNumber, AreEmptyBetween, index_in, set_of, set_at};
 
 use super::state_set::StateSet;
 use derivation::Entrance;
@@ -30,11 +30,16 @@ pub(crate) struct Table {
     pub filled: Vec<u64>,
 }
 
-/// The entrances over so many leads, in the order of their columns, in place of what is in the list.
+/// The entrances over so many leads, in the order of their columns, in place of those in the list, which are over another number of leads or
+/// the same, or none.
 fn entrances_over(list: Vec<Entrance>, leads: usize) -> Result<Vec<Entrance>, Memory>
     requires few { leads ≤ MOST_LEADS }
+    requires list { 51 ≤ length list.items → AreEntrances (length list.items - 51) list.items }
     ensures { IfOk result (λ entrances. AreEntrances leads entrances.items) }
 {
+    if list.len() == leads + OTHER_ENTRANCES {
+        return Ok(list);
+    }
     let mut entrances = list;
     entrances.clear();
     entrances.reserve(leads + OTHER_ENTRANCES)?;
@@ -52,7 +57,9 @@ fn entrances_over(list: Vec<Entrance>, leads: usize) -> Result<Vec<Entrance>, Me
 
 impl Table {
     /// A table without sets. Takes no memory.
-    pub fn new(alloc: Global) -> Table {
+    pub fn new(alloc: Global) -> Table
+        ensures { CanBeEmptied result }
+    {
         Table {
             entrances: Vec::new(alloc),
             sets: Vec::new(alloc),
@@ -60,21 +67,55 @@ impl Table {
         }
     }
 
-    /// A table for the rules and the line whose sets are empty, in the memory of this one. Refused only for want of memory.
+    /// Empties the sets that have their bits in the word with this number, and takes these bits away.
+    fn empty_word(&mut self, word: usize)
+        requires there { word < length self.old.filled.items }
+        requires marked { AreMarked self.old.sets.items self.old.filled.items }
+        ensures marked { AreMarked self.new.sets.items self.new.filled.items }
+        ensures filled { self.new.filled.items ≡ slice_set self.old.filled.items word 0 }
+        ensures entrances { self.new.entrances ≡ self.old.entrances }
+    {
+        let mut bits = self.filled[word];
+        while bits != 0 {
+            let first = bits.trailing_zeros();
+            self.sets[word * SETS_OF_WORD + first as usize] = StateSet::empty();
+            bits &= !(1 << first);
+        }
+        self.filled[word] = 0;
+    }
+
+    /// Empties all sets: those that have their bits, since the others are empty. Takes the bits away.
+    fn empty_sets(&mut self)
+        requires marked { AreMarked self.old.sets.items self.old.filled.items }
+        ensures empty { (index number : ℕ) → HasState (set_of self.new index) number → ⊥ }
+        ensures filled { (word : ℕ) → slice_index_or self.new.filled.items word 0 ≡ 0 }
+        ensures entrances { self.new.entrances ≡ self.old.entrances }
+    {
+        for word in 0..self.filled.len() {
+            if self.filled[word] == 0 {
+                continue;
+            }
+            self.empty_word(word);
+        }
+    }
+
+    /// A table for the rules and the line whose sets are empty, in the memory of this one, whatever line it was for. Only the sets that are
+    /// not empty are gone over. Refused only for want of memory.
     pub fn emptied(self, rules: &RuleSet, line: &Line) -> Result<Table, Memory>
-        requires { IsLine line.now }
+        requires line { IsLine line.now }
+        requires table { CanBeEmptied self }
         ensures is_table { IfOk result (λ table. IsTable (leads_of rules.now.rules) (length line.now.letters) table) }
         ensures empty { IfOk result (λ table. (index number : ℕ) → HasState (set_of table index) number → ⊥) }
     {
         // Its contract says that there are not too many leads.
         rules.rules();
-        let entrances = entrances_over(self.entrances, rules.leads().len())?;
+        let mut table = self;
+        table.empty_sets();
+        let entrances = entrances_over(table.entrances, rules.leads().len())?;
         let count = (line.letters.as_slice().len() + 1) * entrances.len();
-        let mut sets = self.sets;
-        sets.clear();
+        let mut sets = table.sets;
         sets.resize(count, StateSet::empty())?;
-        let mut filled = self.filled;
-        filled.clear();
+        let mut filled = table.filled;
         filled.resize(count / SETS_OF_WORD + 1, 0)?;
         Ok(Table {
             entrances,

@@ -1,11 +1,11 @@
 -- There is no summary; or the item of the number is within the bounds.
-use Rattle.std.proofs.Common.{refl, sym, ap, ◌∙◌, subst, arith}
+use Rattle.std.proofs.Common.{◌≡◌, refl, sym, ap, ◌∙◌, subst, arith}
 use Rattle.session_definitions.specs.Requests.{Choose}
 use Rattle.session_definitions.specs.Replies.{reply_to_choice}
-use Rattle.reader_session.specs.Readings.{IsReadingOver}
+use Rattle.reader_session.specs.Readings.{GoesOnWith, IsReadingOver, state_with}
 use Rattle.reader_session.specs.declared.reading.Reading.{Reading}
 use Rattle.reader_session.specs.NumberedItems.{IsNoItem, IsNumberedItem}
-use Rattle.reader_session.proofs.ChosenItems.{no_summary, numbered_within}
+use Rattle.reader_session.proofs.ChosenItems.{item_chosen, no_summary, numbered_within}
 use Rattle.std.proofs.lemmas.Grind.{common_steps}
 use Rattle.reader_session.proofs.choice_reply.reply_to_choice.Goals as goal
 
@@ -27,7 +27,15 @@ returns-in-Err-NoSummary c =
     }
 
 pub returns-in_ok-choose-in-Ok : goal.returns-in_ok-choose-in-Ok
-returns-in_ok-choose-in-Ok c = grind (arith, common_steps)
+returns-in_ok-choose-in-Ok c =
+    let searched = c.args.lexicon.now in
+    let there = subst (λ (reading : Reading). IsNumberedItem reading.summary c.in-Some.number c.in-Ok.item) c.deref.ensures c.in-Ok.ensures.ok in
+    record {
+      ok = item_chosen searched c.args.old c.in-Some-old.reading c.choose.new.reading c.args.number c.in-Some.number c.args.kept c.in-Ok.item
+          c.args.output.now.items c.choose.new.output.items c.in-Some-old.is c.in-Some.is there
+          (subst (λ (reading : Reading). GoesOnWith searched (λ reply. reply ≡ reply_to_choice (state_with searched.lexicon.rules reading) c.args.kept c.in-Ok.item)
+          c.args.output.now.items c.choose.new.output.items c.choose.new.reading) c.deref_mut.ensures.value c.in_ok-choose-in-Ok.ensures.ok);
+    }
 
 pub returns-in-Err-NoNumber : goal.returns-in-Err-NoNumber
 returns-in-Err-NoNumber c = grind (arith, common_steps)

@@ -1,8 +1,8 @@
 -- One block more is listed; at the end no front is left, or the page is full.
-use Rattle.std.proofs.Common.{rules, ◌≡◌, ◌+◌, ◌<◌, ◌≤◌, true, false, None, length, refl, subst}
+use Rattle.std.proofs.Common.{rules, ◌≡◌, ◌+◌, ◌-◌, ◌*◌, ◌<◌, ◌≤◌, if◌then◌else◌, sym, true, false, None, length, refl, subst}
 use Rattle.segmentation_definitions.specs.Listings.{BeforeFirst}
 use Rattle.search_split.proofs.PartsFound.{fronts_begin_there}
-use Rattle.search_split.proofs.BlocksListed.{IsSoFar, blocks_begin, block_starts, blocks_go_on, blocks_done}
+use Rattle.search_split.proofs.BlocksListed.{IsSoFar, blocks_begin, block_starts, blocks_go_on, blocks_done, blocks_fall}
 use Rattle.search_split.proofs.paging.list_page.Goals.{then-loop-more-test+else-len-lister, else-loop-more-test}
 use Rattle.search_split.proofs.paging.list_page.Goals as goal
 
@@ -52,3 +52,17 @@ returns g c =
       ok = blocks_done lister.lexicon.now lister.line.now lister.choices.now lister.depth lister.limit c.loop-more.page c.loop-more.search c.loop-more.passed
           c.loop-more.more c.loop-more.invariant full c.with_rest.result c.with_rest.ensures.texts c.with_rest.ensures.told c.with_rest.ensures.says;
     }
+
+pub loop-more-smaller : goal.loop-more-smaller
+loop-more-smaller g c =
+    let lister = c.args.lister.now in
+    let starts = c.in_ok-starts.starts in
+    let told : c.loop-more.more ≡ true = search rules in
+    let so_far = subst (IsSoFar lister.lexicon.now lister.line.now lister.choices.now lister.depth lister.limit c.loop-more.page c.loop-more.search c.loop-more.passed)
+    told c.loop-more.invariant in
+    let fewer : length c.loop-more.page.texts.items < lister.limit = search rules in
+    let old = length c.loop-more.page.texts.items in
+    let new = length c.add_block.new.page.texts.items in
+    subst (λ more. 2 * (lister.limit - new) + (if starts.more then 1 else 0) < 2 * (lister.limit - old) + (if more then 1 else 0)) (sym told)
+    (blocks_fall lister.limit old new (length starts.list.items) starts.more fewer c.in_ok-add_block.ensures.room c.in_ok-add_block.ensures.grows
+    (λ more. (c.in_ok-starts.ensures.ok lister.lexicon.now lister.line.now lister.choices.now None so_far.fronts so_far.under).full more))

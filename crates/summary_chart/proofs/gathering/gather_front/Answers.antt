@@ -128,3 +128,6 @@ returns-clause-gathers g c =
     (further_shared searched line choices place c.args.states table c.requires.here.site.searched c.args.front.now.phase c.args.front.now.taken c.args.front.now.node c.requires.front
     c.args.here.ahead c.requires.here.ahead living c.in_ok-living.ensures.living (OnTrue_at c.if-not-fits_all.false c.fits_all.ensures) c.requires.begins c.states_into-changed.result into)
     c.union-2.ensures)
+
+pub returns-clause-steps : goal.returns-clause-steps
+returns-clause-steps g c most few = (let more = c.living_after.ensures.steps most few in omega (arith, c.tick.ensures, more))

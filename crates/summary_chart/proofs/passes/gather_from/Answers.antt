@@ -1,34 +1,104 @@
--- What is kept at the index are the ways from each place there, and to go over them takes no more steps than to go over all.
-use Rattle.std.proofs.Common.{length, subst, arith}
+-- What is kept at the index are the ways from each place there, of which a part has all that are living, and to go over them takes no more
+-- steps than to go over all (`NarrowedStops`).
+use Rattle.std.proofs.Common.{◌≡◌, List, length, slice_set, sym, ap, subst, ◌∙◌, arith}
+use Rattle.std.specs.List.{All}
+use Rattle.std.proofs.lemmas.List.{get_or_read}
+use Rattle.search_frames.specs.declared.way.Way.{Way}
+use Rattle.search_frames.specs.Frames.{numbered_of}
+use Rattle.search_frames.specs.WaysFrom.{IsWayFrom}
+use Rattle.summary_chart.specs.declared.place_ways.Stop.{Stop}
 use Rattle.summary_chart.specs.declared.state_set.StateSet.{StateSet}
-use Rattle.summary_chart.specs.PlaceWays.{HasEachKey}
+use Rattle.summary_chart.specs.Spreading.{GoesFurtherBy}
+use Rattle.summary_chart.specs.PlaceWays.{HasEachKey, HaveLivingWays, IsLivingKey, IsLivingPart, narrowed, stop_at, ways_of}
 use Rattle.summary_chart.proofs.KeptWays.{keys_found, ways_at}
+use Rattle.summary_chart.proofs.NarrowedStops.{at_number, still_living}
 use Rattle.summary_chart.proofs.TableItems.{read_set}
 use Rattle.summary_chart.proofs.SummarySteps.{ways_within}
 use Rattle.summary_chart.proofs.passes.gather_from.Goals as goal
 
-pub gather_ways-requires-clause-ways : goal.gather_ways-requires-clause-ways
-gather_ways-requires-clause-ways g c =
+pub gather_ways-living-requires-clause-ways : goal.gather_ways-living-requires-clause-ways
+gather_ways-living-requires-clause-ways g c =
+    let searched = c.args.site.lexicon.now in
+    let line = c.args.site.line.now in
+    let choices = c.args.site.choices.now in
     let place = c.args.site.place.now in
-    let kept = c.args.kept.now in
-    (ways_at c.args.site.lexicon.now c.args.site.line.now c.args.site.choices.now c.args.index place.at place.entrance c.args.table.now c.requires.table c.requires.indexed
-    kept.stops.items kept.ways.items c.in-Some.ways.now c.requires.kept c.in-Some.ensures.found place.state c.requires.site.place).each
+    let table = c.args.table.now in
+    let stops = c.args.kept.now.stops.items in
+    let ways = c.args.kept.now.ways.items in
+    let is = c.in-Some.ensures.found in
+    let stop = stop_at stops c.in-Some.number in
+    let read : c.index.result.now ≡ stop =
+    get_or_read stops c.in-Some.number c.index.result.now is.below c.index.ensures (record { index = 0; first = 0; end = 0 }) in
+    let found = at_number searched line choices c.args.index place.at place.entrance table c.requires.table c.requires.indexed stops ways c.requires.kept
+    c.in-Some.number is in
+    let are = ways_at searched line choices c.args.index place.at place.entrance table c.requires.table c.requires.indexed stops ways (ways_of ways stop)
+    c.requires.kept found place.state c.requires.site.place in
+    subst (All (IsWayFrom searched line choices (numbered_of searched place))) (sym (c.of.ensures ∙ ap (ways_of ways) read)) are.each
 
-pub gather_ways-requires-clause-all : goal.gather_ways-requires-clause-all
-gather_ways-requires-clause-all g c =
+pub gather_ways-living-requires-clause-all : goal.gather_ways-living-requires-clause-all
+gather_ways-living-requires-clause-all g c =
+    let searched = c.args.site.lexicon.now in
+    let line = c.args.site.line.now in
+    let choices = c.args.site.choices.now in
     let place = c.args.site.place.now in
-    let kept = c.args.kept.now in
-    subst (λ (set : StateSet). HasEachKey c.args.site.lexicon.now c.args.site.line.now c.args.site.choices.now place.at place.entrance set c.in-Some.ways.now)
-    (read_set c.args.table.now c.args.index c.index-states.result.now c.requires.there c.index-states.ensures)
-    (keys_found c.args.site.lexicon.now c.args.site.line.now c.args.site.choices.now c.args.index place.at place.entrance c.args.table.now c.requires.table c.requires.indexed
-    kept.stops.items kept.ways.items c.in-Some.ways.now c.requires.kept c.in-Some.ensures.found)
+    let table = c.args.table.now in
+    let stops = c.args.kept.now.stops.items in
+    let ways = c.args.kept.now.ways.items in
+    let is = c.in-Some.ensures.found in
+    let stop = stop_at stops c.in-Some.number in
+    let read : c.index.result.now ≡ stop =
+    get_or_read stops c.in-Some.number c.index.result.now is.below c.index.ensures (record { index = 0; first = 0; end = 0 }) in
+    let found = at_number searched line choices c.args.index place.at place.entrance table c.requires.table c.requires.indexed stops ways c.requires.kept
+    c.in-Some.number is in
+    let each = keys_found searched line choices c.args.index place.at place.entrance table c.requires.table c.requires.indexed stops ways (ways_of ways stop)
+    c.requires.kept found in
+    let Goes = GoesFurtherBy searched line choices table in
+    subst (HasEachKey searched Goes place.at place.entrance c.index-states.result.now) (sym (c.of.ensures ∙ ap (ways_of ways) read))
+    (subst (λ (set : StateSet). HasEachKey searched Goes place.at place.entrance set (ways_of ways stop))
+    (read_set table c.args.index c.index-states.result.now c.requires.there c.index-states.ensures) each)
+
+pub returns-clause-kept : goal.returns-clause-kept
+returns-clause-kept g c =
+    let searched = c.args.site.lexicon.now in
+    let line = c.args.site.line.now in
+    let choices = c.args.site.choices.now in
+    let place = c.args.site.place.now in
+    let table = c.args.table.now in
+    let stops = c.args.kept.now.stops.items in
+    let ways = c.args.kept.now.ways.items in
+    let is = c.in-Some.ensures.found in
+    let stop = stop_at stops c.in-Some.number in
+    let read : c.index.result.now ≡ stop =
+    get_or_read stops c.in-Some.number c.index.result.now is.below c.index.ensures (record { index = 0; first = 0; end = 0 }) in
+    let first = c.gather_ways-living.result.first in
+    let end = c.gather_ways-living.result.end in
+    let part = subst (λ (set : StateSet). IsLivingPart (IsLivingKey searched line choices table place.at place.entrance set) (ways_of ways stop) first end)
+    (sym (read_set table c.args.index c.index-states.result.now c.requires.there c.index-states.ensures))
+    (subst (λ (found : List Way). IsLivingPart (IsLivingKey searched line choices table place.at place.entrance c.index-states.result.now) found first end)
+    (c.of.ensures ∙ ap (ways_of ways) read) c.gather_ways-living.ensures.part) in
+    let still = still_living searched line choices c.args.index place.at place.entrance table c.requires.table c.requires.indexed stops ways
+    c.requires.kept c.in-Some.number is first end part in
+    subst (λ (s : List Stop). HaveLivingWays searched line choices table s c.narrow.new.self.ways.items) (sym c.narrow.ensures.stops)
+    (subst (λ (w : List Way). HaveLivingWays searched line choices table (slice_set stops c.in-Some.number (narrowed stop first end)) w) (sym c.narrow.ensures.ways) still)
 
 pub returns-clause-steps : goal.returns-clause-steps
 returns-clause-steps g c most few =
+    let searched = c.args.site.lexicon.now in
+    let line = c.args.site.line.now in
+    let choices = c.args.site.choices.now in
     let place = c.args.site.place.now in
-    let kept = c.args.kept.now in
-    let are = ways_at c.args.site.lexicon.now c.args.site.line.now c.args.site.choices.now c.args.index place.at place.entrance c.args.table.now c.requires.table c.requires.indexed
-    kept.stops.items kept.ways.items c.in-Some.ways.now c.requires.kept c.in-Some.ensures.found place.state c.requires.site.place in
-    let less = ways_within c.args.site.lexicon.now most (length c.in-Some.ways.now) c.requires.site.searched are.few in
-    let spent = c.gather_ways.ensures.steps in
+    let table = c.args.table.now in
+    let stops = c.args.kept.now.stops.items in
+    let ways = c.args.kept.now.ways.items in
+    let is = c.in-Some.ensures.found in
+    let stop = stop_at stops c.in-Some.number in
+    let read : c.index.result.now ≡ stop =
+    get_or_read stops c.in-Some.number c.index.result.now is.below c.index.ensures (record { index = 0; first = 0; end = 0 }) in
+    let found = at_number searched line choices c.args.index place.at place.entrance table c.requires.table c.requires.indexed stops ways c.requires.kept
+    c.in-Some.number is in
+    let are = ways_at searched line choices c.args.index place.at place.entrance table c.requires.table c.requires.indexed stops ways (ways_of ways stop)
+    c.requires.kept found place.state c.requires.site.place in
+    let many = ap length (c.of.ensures ∙ ap (ways_of ways) read) in
+    let less = ways_within searched most (length c.of.result.now) c.requires.site.searched (let low = are.few in omega (arith, low, many)) in
+    let spent = c.gather_ways-living.ensures.steps in
     omega (arith, less, spent)

@@ -1,11 +1,11 @@
 -- One turn by the lemmas on turns, from an index to the last one before it whose set is not empty; before the pass the table has only
 -- places that are reached, and every living one.
-use Rattle.std.proofs.Common.{◌≡◌, ◌+◌, ◌-◌, ◌*◌, ℕ, length, sym, ap, subst, arith}
+use Rattle.std.proofs.Common.{◌≡◌, ◌+◌, ◌-◌, ◌*◌, ℕ, length, refl, sym, ap, subst, ◌∙◌, arith}
 use Rattle.summary_chart.specs.Spreading.{leads_in}
 use Rattle.summary_chart.specs.Charts.{IsAliveFrom, set_count}
 use Rattle.summary_chart.specs.Summaries.{steps_of_items, steps_of_summary}
 use Rattle.summary_chart.proofs.LivingPlaces.{gather_back, old_if_new, living_down, reached_back, chart_if_alive}
-use Rattle.summary_chart.proofs.KeptWays.{fewer_places}
+use Rattle.summary_chart.proofs.KeptWays.{living_of_all, fewer_places}
 use Rattle.summary_chart.proofs.LivingMemos.{LeadPast, nothing_living, nothing_past, past_down, ends_if_past, past_if_ends, living_stays}
 use Rattle.summary_chart.proofs.TableItems.{none_in_empty}
 use Rattle.summary_chart.proofs.PassCosts.{one_frame_less, fewer_left}
@@ -25,7 +25,9 @@ loop-until-init g c =
     record {
       from = living_down searched line choices first c.len.result table from (none_in_empty searched line choices table lawful first c.len.result empty);
       low = (let rises = empty.rises in let within = empty.within in omega (arith, rises, within));
-      kept = c.requires.kept;
+      kept = living_of_all searched line choices table c.args.kept.now.stops.items c.args.kept.now.ways.items c.requires.kept;
+      count = refl;
+      ways = refl;
       memo = nothing_living searched line table c.args.room.now.memo c.requires.memo c.requires.effects;
       past = nothing_past searched first c.args.room.now.memo c.requires.memo;
       steps = λ most few.
@@ -61,7 +63,10 @@ loop-until-preserved g c =
     let empty = c.filled_until-until-in-loop-until.ensures in
     record {
       from = living_down searched line choices next index new back (none_in_empty searched line choices new back.has.lawful next index empty);
-      kept = fewer_places searched line choices old new c.args.kept.now.stops.items c.args.kept.now.ways.items fewer inv.kept;
+      kept = fewer_places searched line choices old new c.gather_from.new.kept.stops.items c.gather_from.new.kept.ways.items fewer
+          c.in_ok-living.ensures.kept;
+      count = c.in_ok-living.ensures.count ∙ inv.count;
+      ways = c.in_ok-living.ensures.ways ∙ inv.ways;
       memo = living_stays searched line index old new c.requires.searched from.has.lawful replace.changes c.gather_from.new.room.memo past c.in_ok-living.ensures.memo;
       past = past_down searched next (index + 1) c.gather_from.new.room.memo (let rises = empty.rises in omega (arith, rises)) past;
       low = (let rises = empty.rises in let within = empty.within in omega (arith, rises, within));

@@ -1,10 +1,10 @@
--- From each index on the table has only living places, and the ways that are kept are those of its places; each of these indices took its
+-- From each index on the table has only living places, and the living ways of its places are kept; each of these indices took its
 -- steps.
-use Rattle.std.proofs.Common.{◌+◌, ◌*◌, ◌≤◌, ℕ, length}
+use Rattle.std.proofs.Common.{◌≡◌, ◌+◌, ◌*◌, ◌≤◌, ℕ, length}
 use Rattle.search_frames.specs.Costs.{HasAtMostRules}
 use Rattle.summary_chart.specs.Charts.{IsAliveFrom}
 use Rattle.summary_chart.specs.Memos.{AreLiving}
-use Rattle.summary_chart.specs.PlaceWays.{HaveWays}
+use Rattle.summary_chart.specs.PlaceWays.{HaveLivingWays}
 use Rattle.summary_chart.specs.Summaries.{steps_of_items, steps_of_summary}
 use Rattle.summary_chart.proofs.LivingMemos.{LeadPast}
 use Rattle.summary_chart.proofs.passes.keep_living.Given as goal
@@ -13,7 +13,9 @@ abbrev pub invariant-loop-until : goal.invariant-loop-until
 invariant-loop-until g l =
     record {
       from : IsAliveFrom l.passage.lexicon.now l.passage.line.now l.passage.choices.now l.until l.table;
-      kept : HaveWays l.passage.lexicon.now l.passage.line.now l.passage.choices.now l.table l.kept.stops.items l.kept.ways.items;
+      kept : HaveLivingWays l.passage.lexicon.now l.passage.line.now l.passage.choices.now l.table l.kept.stops.items l.kept.ways.items;
+      count : length l.kept.stops.items ≡ length l.fn.kept.stops.items;
+      ways : l.kept.ways.items ≡ l.fn.kept.ways.items;
       memo : AreLiving l.passage.lexicon.now l.passage.line.now l.table l.room.memo;
       past : LeadPast l.passage.lexicon.now l.until l.room.memo;
       low : l.until ≤ length l.table.sets.items;

@@ -8,7 +8,7 @@ use Rattle.search_frames.specs.WaysFrom.{IsWayFrom}
 use Rattle.summary_chart.specs.declared.state_set.StateSet.{StateSet}
 use Rattle.summary_chart.specs.Spreading.{Spreads, EveryKey}
 use Rattle.summary_chart.specs.Tables.{set_of}
-use Rattle.summary_chart.specs.PlaceWays.{HasEachKey, ways_of}
+use Rattle.summary_chart.specs.PlaceWays.{HasEachKey, LeadsOnOrEnds, ways_of}
 use Rattle.summary_chart.proofs.ReachedPlaces.{spread_on, old_before}
 use Rattle.summary_chart.proofs.KeptWays.{each_added, keys_added, left, put_in, with_stop, without_stop}
 use Rattle.summary_chart.proofs.SpreadMemos.{all_grown}
@@ -92,8 +92,8 @@ spread_ways-requires-clause-all g c =
     let adds = put_in searched line choices index most place.at place.entrance place.state table c.requires.before.lawful c.requires.indexed
     old kept
     (set_of table index) c.in_ok-stop.field-0 c.in-Some.stop refl c.in-Some.is c.in_ok-stop.ensures.kept.2 in
-    subst (λ (ways : List Way). HasEachKey searched line choices place.at place.entrance c.index-states.result.now ways) (sym c.of.ensures)
-    (subst (λ (set : StateSet). HasEachKey searched line choices place.at place.entrance set (ways_of kept.ways.items c.in-Some.stop)) read
+    subst (λ (ways : List Way). HasEachKey searched (LeadsOnOrEnds searched line choices) place.at place.entrance c.index-states.result.now ways) (sym c.of.ensures)
+    (subst (λ (set : StateSet). HasEachKey searched (LeadsOnOrEnds searched line choices) place.at place.entrance set (ways_of kept.ways.items c.in-Some.stop)) read
     (keys_added searched line choices index most place.at place.entrance place.state table c.requires.before.lawful c.requires.indexed
     old kept c.in-Some.stop adds))
 

@@ -3,6 +3,7 @@ use Rattle.std.proofs.Common.{◌<◌, length, sym, ap, subst, arith}
 use Rattle.summary_chart.specs.declared.state_set.StateSet.{StateSet}
 use Rattle.summary_chart.specs.declared.table.Table.{Table}
 use Rattle.summary_chart.specs.PlaceWays.{ChartValue, HasEachKey, IsChartOf}
+use Rattle.summary_chart.specs.Spreading.{GoesFurtherBy}
 use Rattle.summary_chart.proofs.KeptWays.{keys_found, ways_at}
 use Rattle.summary_chart.proofs.TableItems.{read_set}
 use Rattle.summary_chart.proofs.SummarySteps.{ways_within}
@@ -28,7 +29,7 @@ collect_ways-requires-clause-all g c =
     let kept = c.self.inside.kept in
     let table = c.self.inside.table in
     let chart = subst (IsChartOf searched line choices) (sym c.self.view_is) c.requires.chart in
-    subst (λ (set : StateSet). HasEachKey searched line choices place.at place.entrance set c.in-Some.ways.now)
+    subst (λ (set : StateSet). HasEachKey searched (GoesFurtherBy searched line choices table) place.at place.entrance set c.in-Some.ways.now)
     (read_set table c.args.index c.index-states.result.now
     (subst (λ (t : Table). c.args.index < length t.sets.items) (sym (ap (λ (v : ChartValue). v.table) c.self.view_is)) c.requires.there) c.index-states.ensures)
     (keys_found searched line choices c.args.index place.at place.entrance table chart.table.lawful c.requires.indexed

@@ -7,16 +7,17 @@ use Rattle.std.proofs.lemmas.Cmp.{nat_cmp_total}
 use Rattle.std.proofs.lemmas.Map.Lookups.{exact_unsigned}
 use Rattle.list_laws.proofs.Searches.{found_at, absent, not_falling}
 use Rattle.list_laws.proofs.FirstOnes.{Contains-map}
-use Rattle.search_frames.specs.declared.way.Way.{Way}
 use Rattle.summary_chart.specs.declared.place_ways.Stop.{Stop}
-use Rattle.summary_chart.specs.PlaceWays.{AreWaysAt, HasStopAt, compare_stops, ways_of}
+use Rattle.summary_chart.specs.PlaceWays.{HasStopAt, IsStopAt, compare_stops}
 use Rattle.summary_chart.proofs.place_ways.PlaceWays.among_all_stops.Goals as goal
 
--- the stop that the search found has the index, and these are its ways
-found_ways : (stops : List Stop) (ways found : List Way) (index number : ℕ) (stop : Stop) → number < length stops → get_or stops number stop ≡ stop
-    → IsBinarySearchResult (λ (s : Stop). nat_cmp s.index index) stops (Ok number) → found ≡ ways_of ways stop → AreWaysAt stops ways index found
-found_ways stops ways found index number stop low is search are =
-    (stop, (number, low, is), ap (λ (s : Stop). s.index) (sym is) ∙ found_at nat_cmp_total exact_unsigned (λ (s : Stop). s.index) stops index (Ok number) search stop, are)
+-- the stop that the search found has the index
+found_stop : (stops : List Stop) (index number : ℕ) → number < length stops
+    → IsBinarySearchResult (λ (s : Stop). nat_cmp s.index index) stops (Ok number) → IsStopAt stops index number
+found_stop stops index number low search = record {
+  below = low;
+  is = found_at nat_cmp_total exact_unsigned (λ (s : Stop). s.index) stops index (Ok number) search (record { index = 0; first = 0; end = 0 });
+}
 
 -- where the search finds no stop, there is no stop
 no_stop : (stops : List Stop) (index place : ℕ) → IsStrictlySortedBy compare_stops stops
@@ -32,7 +33,7 @@ returns-in-Ok c =
     let search = c.in-Ok.ensures.position (λ (s : Stop). nat_cmp s.index c.args.index) (always_returns_same _ _ _ (λ a r f' k. search rules)) in
     let low : c.in-Ok.number < length stops = subst (λ (stops : List Stop). c.in-Ok.number < length stops) c.deref.ensures.value c.in-Ok.ensures.bound in
     let at = subst (λ (stops : List Stop). IsBinarySearchResult (λ (s : Stop). nat_cmp s.index c.args.index) stops (Ok c.in-Ok.number)) c.deref.ensures.value search in
-    record { found = found_ways stops c.args.self.now.ways.items c.of.result.now c.args.index c.in-Ok.number c.index.result.now low (sym c.index.ensures) at c.of.ensures }
+    record { found = found_stop stops c.args.index c.in-Ok.number low at }
 
 pub returns-in-Err : goal.returns-in-Err
 returns-in-Err c =
