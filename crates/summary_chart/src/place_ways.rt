@@ -53,6 +53,7 @@ impl PlaceWays {
     }
 
     /// The ways of the stop.
+    #[inline(always)]
     pub fn of(&self, stop: Stop) -> &[Way]
         requires within { IsStopWithin (length self.now.ways.items) stop }
         ensures { result.now ≡ ways_of self.now.ways.items stop }
@@ -74,6 +75,7 @@ impl PlaceWays {
     }
 
     /// How many stops stand before the places after so many letters of the line.
+    #[inline(always)]
     fn stops_before(&self, at: usize) -> usize
         ensures { result ≤ length self.now.stops.items }
     {
@@ -85,6 +87,7 @@ impl PlaceWays {
     }
 
     /// The number of a stop at the index of the table, if there is one among the stops of places after so many letters of the line.
+    #[inline(always)]
     fn among_stops_after(&self, at: u32, index: usize) -> Option<usize>
         ensures found { IfSome result (λ number. IsStopAt self.now.stops.items index number) }
     {
@@ -98,6 +101,7 @@ impl PlaceWays {
     }
 
     /// The number of the stop at the index of the table. `None` where there is no stop.
+    #[inline(never)]
     fn among_all_stops(&self, index: usize) -> Option<usize>
         requires stops { AreStops self.now.stops.items (length self.now.ways.items) }
         ensures found { MatchOption result (HasStopAt self.now.stops.items index → ⊥) (λ number. IsStopAt self.now.stops.items index number) }
@@ -110,6 +114,7 @@ impl PlaceWays {
 
     /// The number of the stop of the places at the index of the table, which stand after so many letters of the line. `None` where there is
     /// no stop.
+    #[inline(always)]
     pub fn number_at(&self, at: u32, index: usize) -> Option<usize>
         requires stops { AreStops self.now.stops.items (length self.now.ways.items) }
         ensures found { MatchOption result (HasStopAt self.now.stops.items index → ⊥) (λ number. IsStopAt self.now.stops.items index number) }
@@ -122,6 +127,7 @@ impl PlaceWays {
     }
 
     /// The ways from the places at the index of the table, which stand after so many letters of the line. `None` where there is no stop.
+    #[inline(always)]
     pub fn at(&self, at: u32, index: usize) -> Option<&[Way]>
         requires stops { AreStops self.now.stops.items (length self.now.ways.items) }
         ensures found { MatchOption result (HasStopAt self.now.stops.items index → ⊥) (λ ways. AreWaysAt self.now.stops.items self.now.ways.items index ways.now) }
