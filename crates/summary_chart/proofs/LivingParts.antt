@@ -1,6 +1,6 @@
 -- The part of some ways from the first to the last that is living: no part at first, and with each way more the part stays where that way is
 -- dead, begins with it where it is the first living one, and else is longer. So the keys of all living ways stay those of ways of the part.
-use Rattle.std.proofs.Common.{◌≡◌, inl, inr, ℕ, ◌+◌, ◌-◌, ◌<◌, ◌≤◌, List, length, take, drop, get_or, map, Contains, refl, sym, ap, subst, ◌∙◌, arith}
+use Rattle.std.proofs.Common.{◌≡◌, inl, inr, ℕ, ◌+◌, ◌-◌, ◌<◌, ◌≤◌, List, length, drop, get_or, map, Contains, refl, sym, ap, subst, ◌∙◌, arith}
 use Rattle.std.proofs.lemmas.List.{get_or-take, get_or-drop, get_or_default, length-take, length-drop}
 use Rattle.list_laws.proofs.FirstOnes.{Contains-map}
 use Rattle.text_definitions.specs.Lines.{Line}

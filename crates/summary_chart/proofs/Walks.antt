@@ -1,18 +1,21 @@
 -- The nodes of fronts up to a limit: each number of letters more leads from where the letters so far lead; where they lead nowhere, more of
 -- them lead nowhere, so no possible key takes as many.
-use Rattle.std.proofs.Common.{◌≡◌, ℕ, ◌-◌, ◌<◌, ◌≤◌, inl, inr, Some, None, List, [], ◌∷◌, ◌++◌, length, take, drop, get_or, sym, ap, subst, ◌∙◌, refl, arith, length-append, length-drop}
+use Rattle.std.proofs.Common.{◌≡◌, ℕ, ◌+◌, ◌-◌, ◌<◌, ◌≤◌, inl, inr, Some, None, List, [], ◌∷◌, ◌++◌, length, take, drop, get_or, sym, ap, subst, ◌∙◌, refl, arith, length-append, length-drop}
 use Rattle.std.specs.Prelude.{is_some}
 use Rattle.std.proofs.lemmas.Bool.{cases_lt}
-use Rattle.std.proofs.lemmas.List.{get_or_append_left, get_or_at, length-take-le, take-take}
+use Rattle.std.proofs.lemmas.List.{append-nil, get_or-drop, get_or-append-add, get_or_append_left, get_or_at, length-take-le, take-take}
+use Rattle.std.proofs.Math.Seq.{take-append-add}
 use Rattle.text_definitions.specs.Lines.{Line}
-use Rattle.lexicon_definitions.specs.Tries.{Row, walk}
+use Rattle.lexicon_definitions.specs.Tries.{Row, walk, child_in}
 use Rattle.lexicon_definitions.proofs.TrieWalks.{walk-two}
 use Rattle.answer_paths.specs.Fronts.{supplied}
 use Rattle.annotated_trie.specs.Searched.{SearchedLexicon, IsSearchedLexicon}
+use Rattle.search_frames.specs.declared.frame.TheConstants.{NODES_OF_FRAME}
 use Rattle.search_frames.specs.Configurations.{NumberedConfiguration, rules_in}
-use Rattle.search_frames.proofs.PossibleKeys.{root_in, possible_walks}
-use Rattle.search_frames.proofs.WalkLemmas.{nowhere_after}
-use Rattle.summary_chart.specs.Fronts.{AreWalkedFrom, AreFronts, front_after}
+use Rattle.search_frames.proofs.PossibleKeys.{root_in, possible_walks, short_walks}
+use Rattle.search_frames.proofs.WalkLemmas.{nowhere_after, walk_next, walked_below}
+use Rattle.summary_chart.specs.declared.site.Front.{Front}
+use Rattle.summary_chart.specs.Fronts.{AreWalkedFrom, AreFronts, IsFrontAt, front_after, IsNearFront, IsNextFront}
 
 -- each number of first letters below that of the nodes leads from the node to the one there
 pub record AreWalkedBelow (rows : List Row) (node : ℕ) (letters nodes : List ℕ) : Type 0 where
@@ -85,3 +88,84 @@ module _ (searched : SearchedLexicon) (is : IsSearchedLexicon searched) (line : 
         subst (λ (p : ℕ). walk searched.tries.trie.rows (root_in searched p) (front_after line here key.taken) ≡ Some node) same reached in
         absurd (nowhere_after searched.tries.trie.rows (supplied here.entrance) (take key.taken (drop here.at line.letters)) (root_in searched phase) nowhere (ap is_some there));
   })
+
+  -- so no possible key takes even no letter
+  pub no_first : walk searched.tries.trie.rows (root_in searched phase) (supplied here.entrance) ≡ None → IsNextFront searched line here phase limit 0 None
+  no_first nowhere key possible same near = (no_fronts [] refl nowhere).all key possible same near
+
+  -- the front that takes no letter
+  pub first_near : (front : Front) → front.phase ≡ phase → front.taken ≡ 0 → phase < length (rules_in searched).names
+      → here.at ≤ length line.letters → here.at ≤ limit
+      → walk searched.tries.trie.rows (root_in searched phase) (supplied here.entrance) ≡ Some front.node
+      → IsNearFront searched line here phase limit 0 front
+  first_near front same none low within near walked = record {
+    phase_is = same;
+    taken_is = none;
+    is = record {
+      named = low;
+      within = omega (arith, within);
+      walked = ap (walk searched.tries.trie.rows (root_in searched phase)) (append-nil (supplied here.entrance)) ∙ walked;
+    };
+    near = omega (arith, near);
+  }
+
+  -- ---- one letter more
+
+  -- what leads to a front is the first letters of what is supplied and the rest of the line
+  front_taken : (taken : ℕ) → front_after line here taken ≡ take (length (supplied here.entrance) + taken) (supplied here.entrance ++ drop here.at line.letters)
+  front_taken taken = sym (take-append-add (supplied here.entrance) (drop here.at line.letters) taken)
+
+  module _ (taken node : ℕ) (front : IsFrontAt searched line here phase taken node) where
+    -- a front has fewer letters than a frame has nodes
+    pub front_short : taken < NODES_OF_FRAME
+    front_short =
+        let short = short_walks searched is phase (front_after line here taken) front.named (ap is_some front.walked) in
+        let long = length-append (supplied here.entrance) (take taken (drop here.at line.letters)) in
+        let left = length-drop here.at line.letters in
+        let within = front.within in
+        let rest : length (take taken (drop here.at line.letters)) ≡ taken = length-take-le taken (drop here.at line.letters) (omega (arith, left, within)) in
+        omega (arith, short, long, rest)
+
+    module _ (letter : ℕ) (low : here.at + taken < length line.letters) (next : letter ≡ get_or line.letters (here.at + taken) letter) where
+      -- the next letter leads from its node to that of the next front
+      pub front_next : walk searched.tries.trie.rows (root_in searched phase) (front_after line here (taken + 1)) ≡ child_in searched.tries.trie.rows node letter
+      front_next =
+          let lead = supplied here.entrance in
+          let rest = drop here.at line.letters in
+          let long = length-append lead rest in
+          let left = length-drop here.at line.letters in
+          let there : letter ≡ get_or (lead ++ rest) (length lead + taken) letter =
+          next ∙ sym (get_or-drop here.at line.letters taken letter) ∙ sym (get_or-append-add lead rest taken letter) in
+          ap (walk searched.tries.trie.rows (root_in searched phase)) (front_taken (taken + 1) ∙ ap (λ (n : ℕ). take n (lead ++ rest)) (omega arith))
+          ∙ walk_next searched.tries.trie.rows (root_in searched phase) node (lead ++ rest) (length lead + taken) letter
+          (ap (walk searched.tries.trie.rows (root_in searched phase)) (sym (front_taken taken)) ∙ front.walked) (omega (arith, long, left, low)) there
+
+      pub longer_near : (longer : Front) → longer.phase ≡ phase → longer.taken ≡ taken + 1 → here.at + taken + 1 ≤ limit
+          → child_in searched.tries.trie.rows node letter ≡ Some longer.node → IsNearFront searched line here phase limit (taken + 1) longer
+      longer_near longer same more near leads = record {
+        phase_is = same;
+        taken_is = more;
+        is = record {
+          named = front.named;
+          within = omega (arith, low);
+          walked = front_next ∙ leads;
+        };
+        near = omega (arith, near);
+      }
+
+      -- where it leads nowhere, no possible key takes more letters
+      pub no_longer : child_in searched.tries.trie.rows node letter ≡ None → IsNextFront searched line here phase limit (taken + 1) None
+      no_longer nowhere key possible same near =
+          let (reached, walked) = possible_walks searched is line here key possible in
+          let there : walk searched.tries.trie.rows (root_in searched phase) (front_after line here key.taken) ≡ Some reached =
+          subst (λ (p : ℕ). walk searched.tries.trie.rows (root_in searched p) (front_after line here key.taken) ≡ Some reached) same walked in
+          let all = supplied here.entrance ++ drop here.at line.letters in
+          let below = walked_below searched.tries.trie.rows (root_in searched phase) all (length (supplied here.entrance) + (taken + 1))
+          (length (supplied here.entrance) + key.taken)
+          (ap (walk searched.tries.trie.rows (root_in searched phase)) (sym (front_taken (taken + 1))) ∙ front_next ∙ nowhere)
+          (ap is_some (ap (walk searched.tries.trie.rows (root_in searched phase)) (sym (front_taken key.taken)) ∙ there)) in
+          omega (arith, below)
+
+  -- and none does at the limit
+  pub none_past : (taken : ℕ) → here.at + taken ≡ limit → IsNextFront searched line here phase limit (taken + 1) None
+  none_past taken at key possible same near = omega (arith, at, near)

@@ -72,6 +72,21 @@ pub record AppendsWays (searched : SearchedLexicon) (line : Line) (choices : Lis
   pub all : (key : Key) → IsTold key → IsPossible searched line here key → (MayNeither searched line choices here key → ⊥)
       → Contains (map key_of_way ways) key
 
+-- keys in the falling order
+abbrev pub compare_falling : Key → Key → Ordering
+compare_falling left right = compare_keys right left
+
+-- ways from here were appended, in the falling order of their keys: those of the keys that are told by this
+pub record AppendsFalling (searched : SearchedLexicon) (line : Line) (choices : List Choice) (here : NumberedConfiguration)
+    (IsTold : Key → Type 0) (old new : List Way) : Type 0 where
+  pub ways : List Way
+  pub appended : new ≡ old ++ ways
+  pub each : All (IsWayFrom searched line choices here) ways
+  pub told : All (λ way. IsTold (key_of_way way)) ways
+  pub falling : IsStrictlySortedBy compare_falling (map key_of_way ways)
+  pub all : (key : Key) → IsTold key → IsPossible searched line here key → (MayNeither searched line choices here key → ⊥)
+      → Contains (map key_of_way ways) key
+
 -- a stop for the index was put in, with ways from here: those by phases to which some state of the set leads, no more than are kept from one
 -- place, and stops and ways no more than this together
 pub record AddsStop (searched : SearchedLexicon) (line : Line) (choices : List Choice) (here : NumberedConfiguration) (set : StateSet)

@@ -1,4 +1,4 @@
-ghost use Rattle.std.specs.Prelude.{◌≡◌, ◌+◌, ◌*◌, ◌<◌, ◌≤◌, ℕ, length, take, All, IfOk, OnOk};
+ghost use Rattle.std.specs.Prelude.{◌≡◌, ◌+◌, ◌*◌, ◌<◌, ◌≤◌, ℕ, length, take, drop, ◌++◌, reverse, All, IfOk, OnOk};
 ghost use Rattle.std.specs.Bool.{OnTrue, OnFalse};
 ghost use Rattle.std.specs.Ordering.{nat_cmp};
 ghost use Rattle.std.specs.List.Sorted.{IsStrictlySortedBy};
@@ -10,7 +10,7 @@ ghost use Rattle.search_frames.specs.Configurations.{IsPossible};
 ghost use Rattle.search_frames.specs.Costs.{HasAtMostRules};
 ghost use Rattle.search_frames.specs.LetterTests.{IsLetterTestOf};
 ghost use Rattle.summary_chart.specs.Fronts.{IsFrontAt};
-ghost use Rattle.summary_chart.specs.PlaceWays.{AppendsWays};
+ghost use Rattle.summary_chart.specs.PlaceWays.{AppendsWays, AppendsFalling};
 ghost use Rattle.summary_chart.specs.Sites.{IsSite, IsSiteAhead};
 ghost use Rattle.summary_chart.specs.Spreading.{IsLedByPhase, OnlyKey, IsByRule, IsAtFront, IsInPhase};
 ghost use Rattle.summary_chart.specs.Summaries.{steps_of_front, steps_of_fronts, steps_of_items};
@@ -18,12 +18,11 @@ ghost use Rattle.summary_chart.specs.Summaries.{steps_of_front, steps_of_fronts,
 use super::site::{Front, Site, SiteAhead};
 use super::state_set::StateSet;
 use super::state_steps::states_after;
-use super::walking::walk_fronts;
+use super::walking::{first_front, longer_front};
 use derivation::Key;
 use outside::Steps;
 use phoneme::Memory;
 use search_frames::{Ahead, LetterTest, MOST_WAYS, Way, is_written, may_begin, rule_test};
-use shared_trie::Node;
 
 /// Appends the way, whose key is possible at the place and whose test is what the key does there, if it leads on or ends the line; a step
 /// is counted where it does. The place's own state is not looked at. Refused only for want of memory.
@@ -35,7 +34,7 @@ fn push_tested<L>(
 ) -> Result<(), Memory>
     requires possible { IsPossible site.lexicon.now site.line.now (numbered_of site.lexicon.now site.place.now) (key_meant way.key) }
     requires exact { IsLetterTestOf site.lexicon.now site.line.now site.choices.now (numbered_of site.lexicon.now site.place.now) (key_meant way.key) way.test }
-    ensures appends { let here = site.entry in OnOk result (AppendsWays here.lexicon.now here.line.now here.choices.now (numbered_of here.lexicon.now here.place.now) (OnlyKey (key_meant way.key)) ways.old.items ways.new.items) }
+    ensures appends { let here = site.entry in OnOk result (AppendsFalling here.lexicon.now here.line.now here.choices.now (numbered_of here.lexicon.now here.place.now) (OnlyKey (key_meant way.key)) ways.old.items ways.new.items) }
     ensures steps { steps.new ≤ steps.old + 1 }
     ensures counted { steps.old ≤ steps.new }
 {
@@ -58,7 +57,7 @@ fn push_key<L>(
     requires limit { here.site.place.now.at + key.taken ≤ here.ahead.limit }
     requires begins { MayBegin (numbered_of here.site.lexicon.now here.site.place.now).entrance key.phase }
     requires possible { IsPossible here.site.lexicon.now here.site.line.now (numbered_of here.site.lexicon.now here.site.place.now) (key_meant key) }
-    ensures appends { let site = here.entry.site in OnOk result (AppendsWays site.lexicon.now site.line.now site.choices.now (numbered_of site.lexicon.now site.place.now) (OnlyKey (key_meant key)) ways.old.items ways.new.items) }
+    ensures appends { let site = here.entry.site in OnOk result (AppendsFalling site.lexicon.now site.line.now site.choices.now (numbered_of site.lexicon.now site.place.now) (OnlyKey (key_meant key)) ways.old.items ways.new.items) }
     ensures steps { steps.new ≤ steps.old + 1 }
     ensures counted { steps.old ≤ steps.new }
 {
@@ -81,7 +80,7 @@ fn push_rule<L>(
     requires begins { MayBegin (numbered_of here.site.lexicon.now here.site.place.now).entrance key.phase }
     requires possible { IsPossible here.site.lexicon.now here.site.line.now (numbered_of here.site.lexicon.now here.site.place.now) (key_meant key) }
     requires rule { 1 ≤ key.rule }
-    ensures appends { let site = here.entry.site in OnOk result (AppendsWays site.lexicon.now site.line.now site.choices.now (numbered_of site.lexicon.now site.place.now) (OnlyKey (key_meant key)) ways.old.items ways.new.items) }
+    ensures appends { let site = here.entry.site in OnOk result (AppendsFalling site.lexicon.now site.line.now site.choices.now (numbered_of site.lexicon.now site.place.now) (OnlyKey (key_meant key)) ways.old.items ways.new.items) }
     ensures steps { steps.new ≤ steps.old + 1 }
     ensures counted { steps.old ≤ steps.new }
 {
@@ -108,7 +107,8 @@ fn push_rule<L>(
     push_tested(here.site, Way { key, test }, ways, steps)
 }
 
-/// Appends those of the keys with these rules, each of which is possible after this front. Refused only for want of memory.
+/// Appends those of the keys with these rules, the last rule first, each of which is possible after this front. Refused only for want of
+/// memory.
 fn push_rules<L>(
     here: SiteAhead<'_>,
     front: &Front,
@@ -122,16 +122,17 @@ fn push_rules<L>(
     requires possible { All (λ rule. IsPossible here.site.lexicon.now here.site.line.now (numbered_of here.site.lexicon.now here.site.place.now) (record { phase = front.now.phase; taken = front.now.taken; rule = rule })) rules.now }
     requires rules { All (λ rule. 0 < rule) rules.now }
     requires rising { IsStrictlySortedBy nat_cmp rules.now }
-    ensures appends { let site = here.entry.site in OnOk result (AppendsWays site.lexicon.now site.line.now site.choices.now (numbered_of site.lexicon.now site.place.now) (IsByRule front.now.phase front.now.taken rules.now) ways.old.items ways.new.items) }
+    ensures appends { let site = here.entry.site in OnOk result (AppendsFalling site.lexicon.now site.line.now site.choices.now (numbered_of site.lexicon.now site.place.now) (IsByRule front.now.phase front.now.taken rules.now) ways.old.items ways.new.items) }
     ensures steps { steps.new ≤ steps.old + 2 * length rules.now }
     ensures counted { OnOk result (steps.old + length rules.now ≤ steps.new) }
 {
-    for rule in rules {
+    for place in (0..rules.len()).rev() {
         steps.tick();
+        let rule = rules[place];
         let key = Key {
             phase: front.phase,
             taken: front.taken,
-            rule: *rule,
+            rule,
         };
         push_rule(here, key, ways, steps)?;
     }
@@ -149,7 +150,7 @@ fn push_unchanged<L>(
     requires limit { here.site.place.now.at + front.now.taken ≤ here.ahead.limit }
     requires begins { MayBegin (numbered_of here.site.lexicon.now here.site.place.now).entrance front.now.phase }
     requires front { IsFrontAt here.site.lexicon.now here.site.line.now (numbered_of here.site.lexicon.now here.site.place.now) front.now.phase front.now.taken front.now.node }
-    ensures appends { let site = here.entry.site in OnOk result (AppendsWays site.lexicon.now site.line.now site.choices.now (numbered_of site.lexicon.now site.place.now) (OnlyKey (record { phase = front.now.phase; taken = front.now.taken; rule = 0 })) ways.old.items ways.new.items) }
+    ensures appends { let site = here.entry.site in OnOk result (AppendsFalling site.lexicon.now site.line.now site.choices.now (numbered_of site.lexicon.now site.place.now) (OnlyKey (record { phase = front.now.phase; taken = front.now.taken; rule = 0 })) ways.old.items ways.new.items) }
     ensures steps { steps.new ≤ steps.old + 1 }
 {
     if !here.site.lexicon.tries().store().accepts(front.node) {
@@ -163,7 +164,7 @@ fn push_unchanged<L>(
     push_key(here, key, ways, steps)
 }
 
-/// Appends those of the keys with this front. Refused only for want of memory.
+/// Appends those of the keys with this front, in the falling order of their keys. Refused only for want of memory.
 fn push_front<L>(
     here: SiteAhead<'_>,
     front: &Front,
@@ -174,7 +175,7 @@ fn push_front<L>(
     requires limit { here.site.place.now.at + front.now.taken ≤ here.ahead.limit }
     requires begins { MayBegin (numbered_of here.site.lexicon.now here.site.place.now).entrance front.now.phase }
     requires front { IsFrontAt here.site.lexicon.now here.site.line.now (numbered_of here.site.lexicon.now here.site.place.now) front.now.phase front.now.taken front.now.node }
-    ensures appends { let site = here.entry.site in OnOk result (AppendsWays site.lexicon.now site.line.now site.choices.now (numbered_of site.lexicon.now site.place.now) (IsAtFront front.now.phase front.now.taken) ways.old.items ways.new.items) }
+    ensures appends { let site = here.entry.site in OnOk result (AppendsFalling site.lexicon.now site.line.now site.choices.now (numbered_of site.lexicon.now site.place.now) (IsAtFront front.now.phase front.now.taken) ways.old.items ways.new.items) }
     ensures steps { (most : ℕ) → HasAtMostRules here.entry.site.lexicon.now.tries most → steps.new ≤ steps.old + steps_of_front most }
 {
     let Site {
@@ -184,22 +185,22 @@ fn push_front<L>(
         ..
     } = here.site;
     steps.tick();
-    push_unchanged(here, front, ways, steps)?;
     let end = place.at as usize + front.taken as usize;
     let Some(letter) = line.letters.as_slice().get(end) else {
-        return Ok(());
+        return push_unchanged(here, front, ways, steps);
     };
     let rules = lexicon.tries().choices_with(front.node, *letter, steps);
-    push_rules(here, front, rules, ways, steps)
+    push_rules(here, front, rules, ways, steps)?;
+    push_unchanged(here, front, ways, steps)
 }
 
-/// Appends those of the keys of the phase. False where these are not all of them, since more are appended than are kept from one place, of
-/// which the ways begin at `first`. Refused only for want of memory.
+/// Appends those of the keys of the phase, in the falling order of their keys: the shortest front first, and each is looked at as it is
+/// reached. False where these are not all of them, since more are appended than are kept from one place, of which the ways begin at `first`.
+/// Refused only for want of memory.
 fn push_phase<L>(
     here: SiteAhead<'_>,
     phase: u32,
     first: usize,
-    nodes: &mut Vec<Node>,
     ways: &mut Vec<Way>,
     steps: &mut Steps<L>,
 ) -> Result<bool, Memory>
@@ -209,33 +210,37 @@ fn push_phase<L>(
     requires first { first ≤ length ways.old.items }
     requires few { length ways.old.items ≤ first + MOST_WAYS }
     ensures kept { OnOk result (take (length ways.old.items) ways.new.items ≡ ways.old.items) }
-    ensures appends { let site = here.entry.site in IfOk result (λ all. OnTrue all (AppendsWays site.lexicon.now site.line.now site.choices.now (numbered_of site.lexicon.now site.place.now) (IsInPhase phase) ways.old.items ways.new.items)) }
+    ensures appends { let site = here.entry.site in IfOk result (λ all. OnTrue all (AppendsFalling site.lexicon.now site.line.now site.choices.now (numbered_of site.lexicon.now site.place.now) (IsInPhase phase) ways.old.items ways.new.items)) }
     ensures few { IfOk result (λ all. OnTrue all (length ways.new.items ≤ first + MOST_WAYS)) }
     ensures many { IfOk result (λ all. OnFalse all (first + MOST_WAYS < length ways.new.items)) }
     ensures steps { (most : ℕ) → HasAtMostRules here.entry.site.lexicon.now.tries most → steps.new ≤ steps.old + steps_of_fronts most }
 {
-    walk_fronts(here.site, phase, here.ahead.limit, nodes, steps)?;
-    for taken in (0..nodes.len()).rev() {
-        let front = Front {
-            phase,
-            taken: taken as u32,
-            node: nodes[taken],
-        };
+    let limit = here.ahead.limit;
+    let mut next = first_front(here.site, phase, steps);
+    while let Some(front) = next {
         push_front(here, &front, ways, steps)?;
         if ways.len() - first > MOST_WAYS {
             return Ok(false);
         }
+        next = longer_front(here.site, &front, limit, steps);
     }
     Ok(true)
 }
 
+/// Turns round the ways from `first` on.
+fn reverse_from(ways: &mut Vec<Way>, first: usize)
+    requires first { first ≤ length ways.old.items }
+    ensures items { ways.new.items ≡ take first ways.old.items ++ reverse (drop first ways.old.items) }
+{
+    ways.as_mut_slice()[first..].reverse();
+}
+
 /// Appends the ways from the place by phases to which some state of the set leads, in the order of their keys. False where these are not
 /// all of them, since more are appended than are kept from one place. The place's own state is not looked at. Refused only for want of
-/// memory.
+/// memory. The trie is walked from short fronts to long ones, so that ways are found in the falling order, and turned round at the end.
 pub(crate) fn push_ways<L>(
     site: Site<'_>,
     states: StateSet,
-    nodes: &mut Vec<Node>,
     ways: &mut Vec<Way>,
     steps: &mut Steps<L>,
 ) -> Result<bool, Memory>
@@ -252,16 +257,17 @@ pub(crate) fn push_ways<L>(
     let ahead = Ahead::of(rules, site.line, site.place);
     let here = SiteAhead { site, ahead };
     let phases = rules.phases().len();
-    for phase in 0..phases as u32 {
+    for phase in (0..phases as u32).rev() {
         steps.tick();
         if states_after(lexicon.automaton(), states, phase).is_empty()
             || !may_begin(rules, site.place, phase)
         {
             continue;
         }
-        if !push_phase(here, phase, first, nodes, ways, steps)? {
+        if !push_phase(here, phase, first, ways, steps)? {
             return Ok(false);
         }
     }
+    reverse_from(ways, first);
     Ok(true)
 }

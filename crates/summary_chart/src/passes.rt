@@ -26,7 +26,6 @@ use annotated_trie::Lexicon;
 use outside::Steps;
 use phoneme::{Line, Memory};
 use search_frames::Configuration;
-use shared_trie::Node;
 
 /// A way or a stop takes 24 bytes, as much as six sets of the table. There is room for one for each seven sets, where each set is counted
 /// once for each phase: so the sets, their bits, ways and stops take no more than eight bytes for each set and phase.
@@ -48,7 +47,6 @@ fn keep_ways<L>(
     site: Site<'_>,
     index: usize,
     table: &Table,
-    nodes: &mut Vec<Node>,
     kept: &mut PlaceWays,
     steps: &mut Steps<L>,
 ) -> Result<Option<Stop>, Memory>
@@ -64,7 +62,7 @@ fn keep_ways<L>(
     }
     let states = table.sets[index];
     let first = kept.ways.len();
-    let all = push_ways(site, states, nodes, &mut kept.ways, steps)?;
+    let all = push_ways(site, states, &mut kept.ways, steps)?;
     if !all || !kept.has_room(most) {
         kept.ways.truncate(first);
         return Ok(None);
@@ -102,7 +100,7 @@ fn reach_from<L>(
     ensures steps { (most : ℕ) → HasAtMostRules site.entry.lexicon.now.tries most → steps.new ≤ steps.old + 2 * steps_of_items site.entry.lexicon.now most }
 {
     let states = table.sets[index];
-    let Some(stop) = keep_ways(site, index, table, &mut room.nodes, kept, steps)? else {
+    let Some(stop) = keep_ways(site, index, table, kept, steps)? else {
         return spread(site, states, table, room, steps);
     };
     spread_ways(site, states, kept.of(stop), table, steps);

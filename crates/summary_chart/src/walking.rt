@@ -3,10 +3,10 @@ ghost use Rattle.lexicon_definitions.specs.Tries.{walk};
 ghost use Rattle.lexicon_definitions.specs.declared.limits.TheConstants.{MOST_RULE_LETTERS};
 ghost use Rattle.search_frames.specs.Frames.{numbered_of};
 ghost use Rattle.search_frames.specs.declared.frame.TheConstants.{NODES_OF_FRAME};
-ghost use Rattle.summary_chart.specs.Fronts.{AreFronts, AreWalkedFrom};
+ghost use Rattle.summary_chart.specs.Fronts.{AreFronts, AreWalkedFrom, IsFrontAt, IsNextFront};
 ghost use Rattle.summary_chart.specs.Sites.{IsSite};
 
-use super::site::Site;
+use super::site::{Front, Site};
 use outside::Steps;
 use phoneme::{Letter, Memory};
 use search_frames::supplied_letters;
@@ -81,4 +81,56 @@ pub(crate) fn walk_fronts<L>(
     let line = site.line;
     let letters = &line.letters.as_slice()[site.place.at as usize..limit as usize];
     walk_letters(store, entered, letters, nodes, steps)
+}
+
+/// The front of the phase, counted from 0, that takes no letter of the line, if the letters that the rule before supplies at the place lead
+/// anywhere.
+pub(crate) fn first_front<L>(site: Site<'_>, phase: u32, steps: &mut Steps<L>) -> Option<Front>
+    requires site { IsSite site }
+    requires phase { phase < length site.lexicon.now.lexicon.rules.names }
+    ensures front { let here = site.entry in (limit : ℕ) → here.place.now.at ≤ limit → IsNextFront here.lexicon.now here.line.now (numbered_of here.lexicon.now here.place.now) phase limit 0 result }
+    ensures steps { steps.new ≤ steps.old + MOST_RULE_LETTERS }
+{
+    let lexicon = site.lexicon;
+    let store = lexicon.tries().store();
+    let lead = supplied_letters(lexicon.rules(), site.place.entrance);
+    let Some(node) = walk_word(store, store.root(phase), lead, steps) else {
+        return None;
+    };
+    Some(Front {
+        phase,
+        taken: 0,
+        node,
+    })
+}
+
+/// The front with one letter of the line more, if it goes no further than the limit and leads anywhere.
+pub(crate) fn longer_front<L>(
+    site: Site<'_>,
+    front: &Front,
+    limit: u32,
+    steps: &mut Steps<L>,
+) -> Option<Front>
+    requires site { IsSite site }
+    requires front { IsFrontAt site.lexicon.now site.line.now (numbered_of site.lexicon.now site.place.now) front.now.phase front.now.taken front.now.node }
+    requires near { site.place.now.at + front.now.taken ≤ limit }
+    requires within { limit ≤ length site.line.now.letters }
+    ensures front { let here = site.entry in IsNextFront here.lexicon.now here.line.now (numbered_of here.lexicon.now here.place.now) front.now.phase limit (front.now.taken + 1) result }
+    ensures steps { steps.new ≤ steps.old + 1 }
+{
+    let end = site.place.at + front.taken;
+    if end == limit {
+        return None;
+    }
+    let line = site.line;
+    let letter = line.letters.as_slice()[end as usize];
+    let store = site.lexicon.tries().store();
+    let Some(node) = store.child(front.node, letter, steps) else {
+        return None;
+    };
+    Some(Front {
+        phase: front.phase,
+        taken: front.taken + 1,
+        node,
+    })
 }

@@ -1,33 +1,48 @@
--- One rule more, which is above those before it (`OrderedKeys`).
-use Rattle.std.proofs.Common.{◌≡◌, get_or, arith}
+-- One rule more, which is below those before it (`OrderedKeys`).
+use Rattle.std.proofs.Common.{◌≡◌, ◌+◌, ◌-◌, ◌<◌, ℕ, drop, get_or, length, subst, arith}
 use Rattle.std.proofs.lemmas.List.{get_or_default}
 use Rattle.search_frames.specs.Frames.{numbered_of}
-use Rattle.summary_chart.proofs.OrderedKeys.{append_no_rule, append_rule, append_all_rules}
+use Rattle.summary_chart.specs.PlaceWays.{AppendsFalling}
+use Rattle.summary_chart.specs.Spreading.{IsByRule}
+use Rattle.summary_chart.proofs.OrderedKeys.{append_no_rule, append_rule}
 use Rattle.summary_chart.proofs.listing.push_rules.Goals as goal
 
-pub loop-rule-init : goal.loop-rule-init
-loop-rule-init g c = record {
-  appends = append_no_rule c.args.here.site.lexicon.now c.args.here.site.line.now c.args.here.site.choices.now (numbered_of c.args.here.site.lexicon.now c.args.here.site.place.now) c.args.front.now.phase c.args.front.now.taken
-      c.args.rules.now c.requires.rising c.args.ways.now.items;
-  spent = omega arith;
-  counted = omega arith;
-}
-
-pub loop-rule-preserved : goal.loop-rule-preserved
-loop-rule-preserved g c =
-    let inv = c.loop-rule.invariant in
-    let rules = c.args.rules.now in
-    let rule = get_or rules c.loop-rule.rule-index 0 in
-    let is : rule ≡ get_or rules c.loop-rule.rule-index rule = get_or_default rules c.loop-rule.rule-index 0 rule c.loop-rule-test.true in
+pub loop-place-init : goal.loop-place-init
+loop-place-init g c =
     record {
-      appends = append_rule c.args.here.site.lexicon.now c.args.here.site.line.now c.args.here.site.choices.now (numbered_of c.args.here.site.lexicon.now c.args.here.site.place.now) c.args.front.now.phase c.args.front.now.taken
-          rules c.requires.rising c.loop-rule.rule-index rule c.loop-rule-test.true is
-          c.args.ways.now.items c.loop-rule.ways.items c.push_rule.new.ways.items inv.appends c.in_ok-push_rule.ensures.appends;
-      spent = omega (arith, inv.spent, c.tick.ensures, c.push_rule.ensures.steps);
-      counted = omega (arith, inv.counted, c.tick.ensures, c.push_rule.ensures.counted);
+      low = omega arith;
+      appends = append_no_rule c.args.here.site.lexicon.now c.args.here.site.line.now c.args.here.site.choices.now (numbered_of c.args.here.site.lexicon.now c.args.here.site.place.now) c.args.front.now.phase c.args.front.now.taken
+          c.args.rules.now c.requires.rising (length c.args.rules.now) (omega arith) c.args.ways.now.items;
+      spent = omega arith;
+      counted = omega arith;
+    }
+
+pub loop-place-preserved : goal.loop-place-preserved
+loop-place-preserved g c =
+    let inv = c.loop-place.invariant in
+    let rules = c.args.rules.now in
+    let searched = c.args.here.site.lexicon.now in
+    let here = numbered_of searched c.args.here.site.place.now in
+    let place = c.loop-place.place - 1 in
+    let one : c.loop-place.place ≡ place + 1 = omega (arith, c.loop-place-test.true) in
+    let low : place < length rules = omega (arith, inv.low, one) in
+    let rule = get_or rules place 0 in
+    record {
+      low = omega (arith, inv.low);
+      appends = append_rule searched c.args.here.site.line.now c.args.here.site.choices.now here c.args.front.now.phase c.args.front.now.taken
+          rules c.requires.rising place rule low (get_or_default rules place 0 rule low)
+          c.args.ways.now.items c.loop-place.ways.items c.push_rule.new.ways.items
+          (subst (λ (n : ℕ). AppendsFalling searched c.args.here.site.line.now c.args.here.site.choices.now here
+          (IsByRule c.args.front.now.phase c.args.front.now.taken (drop n rules)) c.args.ways.now.items c.loop-place.ways.items) one inv.appends)
+          c.in_ok-push_rule.ensures.appends;
+      spent = omega (arith, inv.spent, one, c.tick.ensures, c.push_rule.ensures.steps);
+      counted = omega (arith, inv.counted, one, c.tick.ensures, c.push_rule.ensures.counted);
     }
 
 pub returns-clause-appends : goal.returns-clause-appends
 returns-clause-appends g c =
-    append_all_rules c.args.here.site.lexicon.now c.args.here.site.line.now c.args.here.site.choices.now (numbered_of c.args.here.site.lexicon.now c.args.here.site.place.now) c.args.front.now.phase c.args.front.now.taken
-    c.args.rules.now c.requires.rising c.loop-rule.rule-index c.loop-rule-test.false c.args.ways.now.items c.loop-rule.ways.items c.loop-rule.invariant.appends
+    let none : c.loop-place.place ≡ 0 = omega (arith, c.loop-place-test.false) in
+    let searched = c.args.here.site.lexicon.now in
+    subst (λ (n : ℕ). AppendsFalling searched c.args.here.site.line.now c.args.here.site.choices.now (numbered_of searched c.args.here.site.place.now)
+    (IsByRule c.args.front.now.phase c.args.front.now.taken (drop n c.args.rules.now)) c.args.ways.now.items c.loop-place.ways.items) none
+    c.loop-place.invariant.appends

@@ -1,19 +1,20 @@
--- The ways of the phases so far to which some state leads are appended, and are not too many; each phase took its steps.
-use Rattle.std.proofs.Common.{◌≡◌, ◌+◌, ◌*◌, ◌≤◌, ℕ, length}
+-- The ways of the phases so far to which some state leads, which are the last ones, are appended, and are not too many; each phase took its
+-- steps.
+use Rattle.std.proofs.Common.{◌+◌, ◌*◌, ◌≤◌, ℕ, length}
 use Rattle.search_frames.specs.declared.way.TheConstants.{MOST_WAYS}
 use Rattle.search_frames.specs.Costs.{HasAtMostRules}
 use Rattle.search_frames.specs.Configurations.{rules_in}
 use Rattle.search_frames.specs.Frames.{numbered_of}
-use Rattle.summary_chart.specs.PlaceWays.{AppendsWays}
+use Rattle.summary_chart.specs.PlaceWays.{AppendsFalling}
 use Rattle.summary_chart.specs.Summaries.{steps_of_fronts}
-use Rattle.summary_chart.proofs.OrderedKeys.{IsLedEarlier}
+use Rattle.summary_chart.proofs.OrderedKeys.{IsLedFrom}
 use Rattle.summary_chart.proofs.listing.push_ways.Given as goal
 
 abbrev pub invariant-loop-phase : goal.invariant-loop-phase
 invariant-loop-phase g l = record {
-  end : l.phase-end ≡ length (rules_in l.site.lexicon.now).names;
   low : l.phase ≤ length (rules_in l.site.lexicon.now).names;
-  appends : AppendsWays l.site.lexicon.now l.site.line.now l.site.choices.now (numbered_of l.site.lexicon.now l.site.place.now) (IsLedEarlier l.site.lexicon.now.machine l.states l.phase) l.fn.ways.items l.ways.items;
+  appends : AppendsFalling l.site.lexicon.now l.site.line.now l.site.choices.now (numbered_of l.site.lexicon.now l.site.place.now) (IsLedFrom l.site.lexicon.now.machine l.states l.phase) l.fn.ways.items l.ways.items;
   few : length l.ways.items ≤ length l.fn.ways.items + MOST_WAYS;
-  spent : (most : ℕ) → HasAtMostRules l.site.lexicon.now.tries most → l.steps ≤ l.fn.steps + l.phase * (1 + steps_of_fronts most);
+  spent : (most : ℕ) → HasAtMostRules l.site.lexicon.now.tries most
+      → l.steps + l.phase * (1 + steps_of_fronts most) ≤ l.fn.steps + length (rules_in l.site.lexicon.now).names * (1 + steps_of_fronts most);
 }

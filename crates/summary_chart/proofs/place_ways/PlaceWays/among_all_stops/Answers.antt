@@ -1,5 +1,5 @@
 -- The search among the rising stops finds the one at the index, or there is no such stop (list_laws' `Searches`).
-use Rattle.std.proofs.Common.{rules, ◌≡◌, ◌∙◌, ℕ, ◌<◌, List, length, get_or, Ok, Err, Contains, sym, ap, subst, map}
+use Rattle.std.proofs.Common.{rules, ℕ, ◌<◌, List, length, Ok, Err, Contains, subst, map}
 use Rattle.std.specs.Ordering.{nat_cmp}
 use Rattle.std.specs.List.Sorted.{IsStrictlySortedBy, IsBinarySearchResult}
 use Rattle.std.proofs.lemmas.Fn.{always_returns_same}

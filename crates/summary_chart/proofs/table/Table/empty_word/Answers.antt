@@ -1,8 +1,6 @@
 -- The set of the lowest bit that is left is emptied, and its bit taken away (`EmptiedSets`).
-use Rattle.std.proofs.Common.{◌≡◌, ◌≢◌, ◌+◌, ◌*◌, ◌<◌, length, slice_set, ap, sym, subst, ◌∙◌, arith}
-use Rattle.std.specs.Int.{trailing_zeros, w64}
-use Rattle.std.proofs.lemmas.List.{get_or_read, length-set}
-use Rattle.summary_chart.specs.Tables.{AreMarked}
+use Rattle.std.proofs.Common.{◌≢◌, arith}
+use Rattle.std.proofs.lemmas.List.{get_or_read}
 use Rattle.summary_chart.proofs.EmptiedSets.{first_within, first_emptied, fewer_bits, same_word}
 use Rattle.summary_chart.proofs.table.Table.empty_word.Goals as goal
 
