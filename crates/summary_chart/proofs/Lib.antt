@@ -39,3 +39,4 @@ mod KeptWays
 mod NarrowedStops
 mod ChartWays
 mod SummarySteps
+mod StopIndices

@@ -192,3 +192,26 @@ pub record ChartValue : Type 0 where
 pub record IsChartOf (searched : SearchedLexicon) (line : Line) (choices : List Choice) (chart : ChartValue) : Type 0 where
   pub table : IsChartTable searched line choices chart.table
   pub ways : HaveLivingWays searched line choices chart.table chart.stops chart.ways
+
+-- the indices of stops
+abbrev pub indices_of : List Stop → List ℕ
+indices_of stops = map (λ (stop : Stop). stop.index) stops
+
+-- each place that the table has before the index stands at one of these indices of stops
+abbrev pub HaveStopsBefore : SearchedLexicon → Line → ℕ → Table → List ℕ → Type 0
+HaveStopsBefore searched line index table indices = (place : Configuration) → IsConfigurationIn searched line place → IsIn table place
+    → index_of_place searched place < index → Contains indices (index_of_place searched place)
+
+-- each place that the table has stands at one of these indices of stops
+abbrev pub HaveStops : SearchedLexicon → Line → Table → List ℕ → Type 0
+HaveStops searched line table indices = (place : Configuration) → IsConfigurationIn searched line place → IsIn table place
+    → Contains indices (index_of_place searched place)
+
+-- the table has no place from the first index up to before the second
+abbrev pub HasNoPlaceBetween : SearchedLexicon → Line → Table → ℕ → ℕ → Type 0
+HasNoPlaceBetween searched line table from until = (place : Configuration) → IsConfigurationIn searched line place → IsIn table place
+    → from ≤ index_of_place searched place → index_of_place searched place < until → ⊥
+
+-- from this number on the indices do not come before the index
+abbrev pub AreFrom : ℕ → List ℕ → ℕ → Type 0
+AreFrom index indices number = (later : ℕ) → number ≤ later → later < length indices → index ≤ slice_index_or indices later 0

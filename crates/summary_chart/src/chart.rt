@@ -126,9 +126,16 @@ impl Chart {
             line,
             choices,
         };
-        reach(passage, &mut table, &mut kept, &mut room, steps)?;
+        let each_has_stop = reach(passage, &mut table, &mut kept, &mut room, steps)?;
         room.memo.clear();
-        keep_living(passage, &mut table, &mut kept, &mut room, steps)?;
+        keep_living(
+            passage,
+            each_has_stop,
+            &mut table,
+            &mut kept,
+            &mut room,
+            steps,
+        )?;
         let Room { nodes, .. } = room;
         Ok(Chart { table, kept, nodes })
     }

@@ -1,16 +1,16 @@
-ghost use Rattle.std.specs.Prelude.{◌≡◌, ◌<◌, ◌+◌, ◌*◌, ◌≤◌, ℕ, [], length, IfOk, OnOk};
-ghost use Rattle.text_definitions.specs.Lines.{IsLine};
-ghost use Rattle.annotated_trie.specs.Searched.{IsSearchedLexicon};
+ghost use Rattle.std.specs.Prelude.{◌≡◌, ◌<◌, ◌+◌, ◌*◌, ◌≤◌, ℕ, [], length, IfOk, IfSome, IsTrue, OnOk};
+ghost use Rattle.text_definitions.specs.Lines.{IsLine, Line as LineValue};
+ghost use Rattle.annotated_trie.specs.Searched.{IsSearchedLexicon, SearchedLexicon};
 ghost use Rattle.search_frames.specs.Costs.{HasAtMostRules};
 ghost use Rattle.search_frames.specs.Frames.{numbered_of};
 ghost use Rattle.summary_chart.specs.declared.passes.TheConstants.{SETS_FOR_A_WAY};
 ghost use Rattle.summary_chart.specs.declared.memo.Done.{Done as DoneValue};
 ghost use Rattle.summary_chart.specs.Effects.{AreEffects};
 ghost use Rattle.summary_chart.specs.Memos.{AreLiving, AreSpread, EndFrom, IsKnown};
-ghost use Rattle.summary_chart.specs.Tables.{IsTable, IsIndexed, set_of};
+ghost use Rattle.summary_chart.specs.Tables.{HaveBits, IsTable, IsIndexed, set_of};
 ghost use Rattle.summary_chart.specs.Spreading.{AreGoingFurther, EveryKey, leads_in};
 ghost use Rattle.summary_chart.specs.Charts.{HasReached, IsChartTable, IsOpenTable, IsReachedBefore};
-ghost use Rattle.summary_chart.specs.PlaceWays.{AreFew, HasKeptFew, HaveAllWays, HaveLivingWays, HaveWaysBefore};
+ghost use Rattle.summary_chart.specs.PlaceWays.{AreFew, AreFrom, AreStops, HasKeptFew, HasNoPlaceBetween, HaveAllWays, HaveLivingWays, HaveStops, HaveStopsBefore, HaveWaysBefore, IsStopAt, indices_of};
 ghost use Rattle.summary_chart.specs.Sites.{IsSite};
 ghost use Rattle.summary_chart.specs.Summaries.{steps_of_items, steps_of_summary};
 
@@ -77,7 +77,8 @@ fn keep_ways<L>(
 }
 
 /// Puts into the table where any key leads on to from the places at the index, of which this is one; and keeps the ways from there, if they
-/// are few and there is room for them. The place's own state is not looked at. Refused only for want of memory.
+/// are few and there is room for them. Tells whether they were kept. The place's own state is not looked at. Refused only for want of
+/// memory.
 fn reach_from<L>(
     site: Site<'_>,
     index: usize,
@@ -85,7 +86,7 @@ fn reach_from<L>(
     kept: &mut PlaceWays,
     room: &mut Room,
     steps: &mut Steps<L>,
-) -> Result<(), Memory>
+) -> Result<bool, Memory>
     requires site { IsSite site }
     requires there { index < length table.old.sets.items }
     requires indexed { IsIndexed (leads_in site.lexicon.now) (length site.line.now.letters) index site.place.now.at site.place.now.entrance }
@@ -96,27 +97,29 @@ fn reach_from<L>(
     ensures memo { OnOk result (AreSpread site.entry.lexicon.now site.entry.line.now table.new room.new.memo) }
     ensures before { OnOk result (IsReachedBefore site.entry.lexicon.now site.entry.line.now site.entry.choices.now (index + 1) table.new) }
     ensures kept { OnOk result (HaveWaysBefore site.entry.lexicon.now site.entry.line.now site.entry.choices.now (index + 1) table.new kept.new.stops.items kept.new.ways.items) }
+    ensures stops { IfOk result (λ has_stop. IsTrue has_stop → HaveStopsBefore site.entry.lexicon.now site.entry.line.now index table.old (indices_of kept.old.stops.items) → HaveStopsBefore site.entry.lexicon.now site.entry.line.now (index + 1) table.new (indices_of kept.new.stops.items)) }
     ensures few { OnOk result (AreFew site.entry.lexicon.now site.entry.line.now kept.new.stops.items kept.new.ways.items) }
     ensures steps { (most : ℕ) → HasAtMostRules site.entry.lexicon.now.tries most → steps.new ≤ steps.old + 2 * steps_of_items site.entry.lexicon.now most }
 {
     let states = table.sets[index];
     let Some(stop) = keep_ways(site, index, table, kept, steps)? else {
-        return spread(site, states, table, room, steps);
+        spread(site, states, table, room, steps)?;
+        return Ok(false);
     };
     spread_ways(site, states, kept.of(stop), table, steps);
-    Ok(())
+    Ok(true)
 }
 
 /// Puts into the table, which has the opening alone, every place that a search comes to: from each place in the order of the table,
 /// wherever a key leads on to. A key leads only to places that stand later in the table. Keeps the ways from places that have few, while
-/// there is room for them. Refused only for want of memory.
+/// there is room for them, and tells whether each place that it came to has its stop. Refused only for want of memory.
 pub(crate) fn reach<L>(
     passage: Passage<'_>,
     table: &mut Table,
     kept: &mut PlaceWays,
     room: &mut Room,
     steps: &mut Steps<L>,
-) -> Result<(), Memory>
+) -> Result<bool, Memory>
     requires searched { IsSearchedLexicon passage.lexicon.now }
     requires line { IsLine passage.line.now }
     requires opening { IsOpenTable passage.lexicon.now passage.line.now table.old }
@@ -127,10 +130,12 @@ pub(crate) fn reach<L>(
     ensures effects { OnOk result (AreEffects passage.entry.lexicon.now.lexicon.rules room.new.memo.effects) }
     ensures reached { OnOk result (HasReached passage.entry.lexicon.now passage.entry.line.now passage.entry.choices.now table.new) }
     ensures kept { OnOk result (HaveAllWays passage.entry.lexicon.now passage.entry.line.now passage.entry.choices.now table.new kept.new.stops.items kept.new.ways.items) }
+    ensures stops { IfOk result (λ each_has_stop. IsTrue each_has_stop → HaveStops passage.entry.lexicon.now passage.entry.line.now table.new (indices_of kept.new.stops.items)) }
     ensures few { OnOk result (AreFew passage.entry.lexicon.now passage.entry.line.now kept.new.stops.items kept.new.ways.items) }
     ensures steps { (most : ℕ) → HasAtMostRules passage.entry.lexicon.now.tries most → steps.new ≤ steps.old + 2 * steps_of_summary passage.entry.lexicon.now passage.entry.line.now most }
 {
     let state = passage.lexicon.automaton().start();
+    let mut each_has_stop = true;
     let mut index = table.next_filled(0);
     while index < table.sets.len() {
         let (at, entrance) = table.place(index);
@@ -145,39 +150,49 @@ pub(crate) fn reach<L>(
             choices: passage.choices,
             place: &place,
         };
-        reach_from(site, index, table, kept, room, steps)?;
+        each_has_stop &= reach_from(site, index, table, kept, room, steps)?;
         index = table.next_filled(index + 1);
     }
-    Ok(())
+    Ok(each_has_stop)
+}
+
+/// A set of the table that the pass back comes to: its index, and the number of its stop where this is known.
+#[derive(Clone, Copy)]
+struct Visit {
+    index: usize,
+    known: Option<usize>,
 }
 
 /// The states of the places at the index, of which this is one, from which some key ends the line, or leads on to a place of the table: by
-/// the ways that are kept from there, or else by all that the lexicon has. The stop of these ways is left with those from the first to the
-/// last by which some state goes further. The place's own state is not looked at. Refused only for want of memory.
+/// the ways that are kept from there, or else by all that the lexicon has. The number of their stop may be known. This stop is left with
+/// the ways from the first to the last by which some state goes further. The place's own state is not looked at. Refused only for want of
+/// memory.
 fn gather_from<L>(
     site: Site<'_>,
-    index: usize,
+    visit: Visit,
     table: &Table,
     kept: &mut PlaceWays,
     room: &mut Room,
     steps: &mut Steps<L>,
 ) -> Result<StateSet, Memory>
     requires site { IsSite site }
-    requires there { index < length table.now.sets.items }
-    requires indexed { IsIndexed (leads_in site.lexicon.now) (length site.line.now.letters) index site.place.now.at site.place.now.entrance }
+    requires there { visit.index < length table.now.sets.items }
+    requires indexed { IsIndexed (leads_in site.lexicon.now) (length site.line.now.letters) visit.index site.place.now.at site.place.now.entrance }
     requires table { IsTable (leads_in site.lexicon.now) (length site.line.now.letters) table.now }
     requires kept { HaveLivingWays site.lexicon.now site.line.now site.choices.now table.now kept.old.stops.items kept.old.ways.items }
+    requires known { IfSome visit.known (λ number. IsStopAt kept.old.stops.items visit.index number) }
     requires memo { AreLiving site.lexicon.now site.line.now table.now room.old.memo }
     ensures memo { OnOk result (AreLiving site.entry.lexicon.now site.entry.line.now table.now room.new.memo) }
     ensures ends { OnOk result (EndFrom site.entry.place.now.at room.old.memo → EndFrom site.entry.place.now.at room.new.memo) }
-    ensures gathers { IfOk result (λ gathered. AreGoingFurther site.entry.lexicon.now site.entry.line.now site.entry.choices.now table.now site.entry.place.now.at site.entry.place.now.entrance (set_of table.now index) EveryKey gathered) }
+    ensures gathers { IfOk result (λ gathered. AreGoingFurther site.entry.lexicon.now site.entry.line.now site.entry.choices.now table.now site.entry.place.now.at site.entry.place.now.entrance (set_of table.now visit.index) EveryKey gathered) }
     ensures kept { OnOk result (HaveLivingWays site.entry.lexicon.now site.entry.line.now site.entry.choices.now table.now kept.new.stops.items kept.new.ways.items) }
     ensures count { OnOk result (length kept.new.stops.items ≡ length kept.old.stops.items) }
+    ensures indices { OnOk result (indices_of kept.new.stops.items ≡ indices_of kept.old.stops.items) }
     ensures ways { OnOk result (kept.new.ways.items ≡ kept.old.ways.items) }
     ensures steps { (most : ℕ) → HasAtMostRules site.entry.lexicon.now.tries most → steps.new ≤ steps.old + steps_of_items site.entry.lexicon.now most }
 {
-    let states = table.sets[index];
-    let Some(number) = kept.number_at(site.place.at, index) else {
+    let states = table.sets[visit.index];
+    let Some(number) = kept.known_or_number_at(visit.known, site.place.at, visit.index) else {
         return gather(site, states, table, room, steps);
     };
     let living = gather_ways(site, states, kept.of(kept.stops[number]), table, steps);
@@ -185,11 +200,42 @@ fn gather_from<L>(
     Ok(living.states)
 }
 
+/// An index up to this one, from which on the table has no places before this one. Where each place has its stop, this is the index after
+/// the last of the stops that are left, since those after it stand at this index or later: so no bits are looked at. Otherwise it is what
+/// `filled_until` tells.
+#[inline(always)]
+fn visit_until(
+    table: &Table,
+    kept: &PlaceWays,
+    left: usize,
+    each_has_stop: bool,
+    until: usize,
+) -> usize
+    requires bits { HaveBits table.now.sets.items table.now.filled.items }
+    requires until { until ≤ length table.now.sets.items }
+    requires stops { AreStops kept.now.stops.items (length kept.now.ways.items) }
+    requires left { left ≤ length kept.now.stops.items }
+    requires later { AreFrom until (indices_of kept.now.stops.items) left }
+    ensures rises { result ≤ until }
+    ensures none { (searched : SearchedLexicon) (line : LineValue) → IsTable (leads_in searched) (length line.letters) table.now → (IsTrue each_has_stop → HaveStops searched line table.now (indices_of kept.now.stops.items)) → HasNoPlaceBetween searched line table.now result until }
+{
+    if !each_has_stop {
+        return table.filled_until(until);
+    }
+    if left == 0 {
+        return 0;
+    }
+    let last = kept.stops[left - 1].index;
+    if last < until { last + 1 } else { until }
+}
+
 /// Leaves in the table, which has every place that a search comes to, those alone from which there is a path to an answer: from the
 /// last place in the order of the table to the first. Each stop is left with the ways from its first living one to its last, where a way is
-/// living that ends the line or leads on to a place of the table. Refused only for want of memory.
+/// living that ends the line or leads on to a place of the table. Where each place has its stop, the stops tell which sets to go over.
+/// Refused only for want of memory.
 pub(crate) fn keep_living<L>(
     passage: Passage<'_>,
+    each_has_stop: bool,
     table: &mut Table,
     kept: &mut PlaceWays,
     room: &mut Room,
@@ -199,6 +245,7 @@ pub(crate) fn keep_living<L>(
     requires line { IsLine passage.line.now }
     requires reached { HasReached passage.lexicon.now passage.line.now passage.choices.now table.old }
     requires kept { HaveAllWays passage.lexicon.now passage.line.now passage.choices.now table.old kept.old.stops.items kept.old.ways.items }
+    requires stops { IsTrue each_has_stop → HaveStops passage.lexicon.now passage.line.now table.old (indices_of kept.old.stops.items) }
     requires memo { (done : DoneValue) → IsKnown room.old.memo done → ⊥ }
     requires effects { AreEffects passage.lexicon.now.lexicon.rules room.old.memo.effects }
     ensures living { OnOk result (IsChartTable passage.entry.lexicon.now passage.entry.line.now passage.entry.choices.now table.new) }
@@ -208,7 +255,8 @@ pub(crate) fn keep_living<L>(
     ensures steps { (most : ℕ) → HasAtMostRules passage.entry.lexicon.now.tries most → steps.new ≤ steps.old + steps_of_summary passage.entry.lexicon.now passage.entry.line.now most }
 {
     let state = passage.lexicon.automaton().start();
-    let mut until = table.filled_until(table.sets.len());
+    let mut left = kept.stops.len();
+    let mut until = visit_until(table, kept, left, each_has_stop, table.sets.len());
     while until > 0 {
         let index = until - 1;
         let (at, entrance) = table.place(index);
@@ -223,9 +271,11 @@ pub(crate) fn keep_living<L>(
             choices: passage.choices,
             place: &place,
         };
-        let living = gather_from(site, index, table, kept, room, steps)?;
+        let known = kept.last_at(left, index);
+        let living = gather_from(site, Visit { index, known }, table, kept, room, steps)?;
         table.replace(index, living);
-        until = table.filled_until(index);
+        left = known.unwrap_or(left);
+        until = visit_until(table, kept, left, each_has_stop, index);
     }
     Ok(())
 }

@@ -126,6 +126,31 @@ impl PlaceWays {
         }
     }
 
+    /// The number of the last of so many stops, if it is the one at the index of the table.
+    #[inline(always)]
+    pub fn last_at(&self, count: usize, index: usize) -> Option<usize>
+        requires count { count ≤ length self.now.stops.items }
+        ensures found { IfSome result (λ number. IsStopAt self.now.stops.items index number) }
+    {
+        if count > 0 && self.stops[count - 1].index == index {
+            return Some(count - 1);
+        }
+        None
+    }
+
+    /// The number that is known, or else what `number_at` tells.
+    #[inline(always)]
+    pub fn known_or_number_at(&self, known: Option<usize>, at: u32, index: usize) -> Option<usize>
+        requires stops { AreStops self.now.stops.items (length self.now.ways.items) }
+        requires known { IfSome known (λ number. IsStopAt self.now.stops.items index number) }
+        ensures found { MatchOption result (HasStopAt self.now.stops.items index → ⊥) (λ number. IsStopAt self.now.stops.items index number) }
+    {
+        match known {
+            Some(number) => Some(number),
+            None => self.number_at(at, index),
+        }
+    }
+
     /// The ways from the places at the index of the table, which stand after so many letters of the line. `None` where there is no stop.
     #[inline(always)]
     pub fn at(&self, at: u32, index: usize) -> Option<&[Way]>

@@ -9,9 +9,10 @@ use Rattle.search_frames.specs.WaysFrom.{IsWayFrom}
 use Rattle.summary_chart.specs.declared.place_ways.Stop.{Stop}
 use Rattle.summary_chart.specs.declared.state_set.StateSet.{StateSet}
 use Rattle.summary_chart.specs.Spreading.{GoesFurtherBy}
-use Rattle.summary_chart.specs.PlaceWays.{HasEachKey, HaveLivingWays, IsLivingKey, IsLivingPart, narrowed, stop_at, ways_of}
+use Rattle.summary_chart.specs.PlaceWays.{HasEachKey, HaveLivingWays, IsLivingKey, IsLivingPart, indices_of, narrowed, stop_at, ways_of}
 use Rattle.summary_chart.proofs.KeptWays.{keys_found, ways_at}
 use Rattle.summary_chart.proofs.NarrowedStops.{at_number, still_living}
+use Rattle.summary_chart.proofs.StopIndices.{narrowed_indices}
 use Rattle.summary_chart.proofs.TableItems.{read_set}
 use Rattle.summary_chart.proofs.SummarySteps.{ways_within}
 use Rattle.summary_chart.proofs.passes.gather_from.Goals as goal
@@ -29,9 +30,9 @@ gather_ways-living-requires-clause-ways g c =
     let stop = stop_at stops c.in-Some.number in
     let read : c.index.result.now ≡ stop =
     get_or_read stops c.in-Some.number c.index.result.now is.below c.index.ensures (record { index = 0; first = 0; end = 0 }) in
-    let found = at_number searched line choices c.args.index place.at place.entrance table c.requires.table c.requires.indexed stops ways c.requires.kept
+    let found = at_number searched line choices c.args.visit.index place.at place.entrance table c.requires.table c.requires.indexed stops ways c.requires.kept
     c.in-Some.number is in
-    let are = ways_at searched line choices c.args.index place.at place.entrance table c.requires.table c.requires.indexed stops ways (ways_of ways stop)
+    let are = ways_at searched line choices c.args.visit.index place.at place.entrance table c.requires.table c.requires.indexed stops ways (ways_of ways stop)
     c.requires.kept found place.state c.requires.site.place in
     subst (All (IsWayFrom searched line choices (numbered_of searched place))) (sym (c.of.ensures ∙ ap (ways_of ways) read)) are.each
 
@@ -48,14 +49,14 @@ gather_ways-living-requires-clause-all g c =
     let stop = stop_at stops c.in-Some.number in
     let read : c.index.result.now ≡ stop =
     get_or_read stops c.in-Some.number c.index.result.now is.below c.index.ensures (record { index = 0; first = 0; end = 0 }) in
-    let found = at_number searched line choices c.args.index place.at place.entrance table c.requires.table c.requires.indexed stops ways c.requires.kept
+    let found = at_number searched line choices c.args.visit.index place.at place.entrance table c.requires.table c.requires.indexed stops ways c.requires.kept
     c.in-Some.number is in
-    let each = keys_found searched line choices c.args.index place.at place.entrance table c.requires.table c.requires.indexed stops ways (ways_of ways stop)
+    let each = keys_found searched line choices c.args.visit.index place.at place.entrance table c.requires.table c.requires.indexed stops ways (ways_of ways stop)
     c.requires.kept found in
     let Goes = GoesFurtherBy searched line choices table in
     subst (HasEachKey searched Goes place.at place.entrance c.index-states.result.now) (sym (c.of.ensures ∙ ap (ways_of ways) read))
     (subst (λ (set : StateSet). HasEachKey searched Goes place.at place.entrance set (ways_of ways stop))
-    (read_set table c.args.index c.index-states.result.now c.requires.there c.index-states.ensures) each)
+    (read_set table c.args.visit.index c.index-states.result.now c.requires.there c.index-states.ensures) each)
 
 pub returns-clause-kept : goal.returns-clause-kept
 returns-clause-kept g c =
@@ -73,13 +74,18 @@ returns-clause-kept g c =
     let first = c.gather_ways-living.result.first in
     let end = c.gather_ways-living.result.end in
     let part = subst (λ (set : StateSet). IsLivingPart (IsLivingKey searched line choices table place.at place.entrance set) (ways_of ways stop) first end)
-    (sym (read_set table c.args.index c.index-states.result.now c.requires.there c.index-states.ensures))
+    (sym (read_set table c.args.visit.index c.index-states.result.now c.requires.there c.index-states.ensures))
     (subst (λ (found : List Way). IsLivingPart (IsLivingKey searched line choices table place.at place.entrance c.index-states.result.now) found first end)
     (c.of.ensures ∙ ap (ways_of ways) read) c.gather_ways-living.ensures.part) in
-    let still = still_living searched line choices c.args.index place.at place.entrance table c.requires.table c.requires.indexed stops ways
+    let still = still_living searched line choices c.args.visit.index place.at place.entrance table c.requires.table c.requires.indexed stops ways
     c.requires.kept c.in-Some.number is first end part in
     subst (λ (s : List Stop). HaveLivingWays searched line choices table s c.narrow.new.self.ways.items) (sym c.narrow.ensures.stops)
     (subst (λ (w : List Way). HaveLivingWays searched line choices table (slice_set stops c.in-Some.number (narrowed stop first end)) w) (sym c.narrow.ensures.ways) still)
+
+pub returns-clause-indices : goal.returns-clause-indices
+returns-clause-indices g c =
+    ap indices_of c.narrow.ensures.stops
+    ∙ narrowed_indices c.args.kept.now.stops.items c.in-Some.number c.gather_ways-living.result.first c.gather_ways-living.result.end
 
 pub returns-clause-steps : goal.returns-clause-steps
 returns-clause-steps g c most few =
@@ -94,9 +100,9 @@ returns-clause-steps g c most few =
     let stop = stop_at stops c.in-Some.number in
     let read : c.index.result.now ≡ stop =
     get_or_read stops c.in-Some.number c.index.result.now is.below c.index.ensures (record { index = 0; first = 0; end = 0 }) in
-    let found = at_number searched line choices c.args.index place.at place.entrance table c.requires.table c.requires.indexed stops ways c.requires.kept
+    let found = at_number searched line choices c.args.visit.index place.at place.entrance table c.requires.table c.requires.indexed stops ways c.requires.kept
     c.in-Some.number is in
-    let are = ways_at searched line choices c.args.index place.at place.entrance table c.requires.table c.requires.indexed stops ways (ways_of ways stop)
+    let are = ways_at searched line choices c.args.visit.index place.at place.entrance table c.requires.table c.requires.indexed stops ways (ways_of ways stop)
     c.requires.kept found place.state c.requires.site.place in
     let many = ap length (c.of.ensures ∙ ap (ways_of ways) read) in
     let less = ways_within searched most (length c.of.result.now) c.requires.site.searched (let low = are.few in omega (arith, low, many)) in

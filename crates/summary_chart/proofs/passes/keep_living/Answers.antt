@@ -1,13 +1,14 @@
--- One turn by the lemmas on turns, from an index to the last one before it whose set is not empty; before the pass the table has only
--- places that are reached, and every living one.
-use Rattle.std.proofs.Common.{◌≡◌, ◌+◌, ◌-◌, ◌*◌, ℕ, length, refl, sym, ap, subst, ◌∙◌, arith}
+-- One turn by the lemmas on turns, from an index to one before it from which on no place is passed over; before the pass the table has only
+-- places that are reached, and every living one. What a turn leaves of the stops is told by their indices (`StopIndices`).
+use Rattle.std.proofs.Common.{◌≡◌, ◌+◌, ◌-◌, ◌*◌, ℕ, IsTrue, length, refl, sym, ap, subst, ◌∙◌, arith}
 use Rattle.summary_chart.specs.Spreading.{leads_in}
 use Rattle.summary_chart.specs.Charts.{IsAliveFrom, set_count}
+use Rattle.summary_chart.specs.PlaceWays.{HaveStops, indices_of}
 use Rattle.summary_chart.specs.Summaries.{steps_of_items, steps_of_summary}
 use Rattle.summary_chart.proofs.LivingPlaces.{gather_back, old_if_new, living_down, reached_back, chart_if_alive}
 use Rattle.summary_chart.proofs.KeptWays.{living_of_all, fewer_places}
 use Rattle.summary_chart.proofs.LivingMemos.{LeadPast, nothing_living, nothing_past, past_down, ends_if_past, past_if_ends, living_stays}
-use Rattle.summary_chart.proofs.TableItems.{none_in_empty}
+use Rattle.summary_chart.proofs.StopIndices.{from_end, from_lower, left_from, left_within, stops_of_fewer}
 use Rattle.summary_chart.proofs.PassCosts.{one_frame_less, fewer_left}
 use Rattle.summary_chart.proofs.passes.keep_living.Goals as goal
 
@@ -17,21 +18,25 @@ loop-until-init g c =
     let line = c.args.passage.line.now in
     let choices = c.args.passage.choices.now in
     let table = c.args.table.now in
-    let first = c.filled_until-until.result in
-    let empty = c.filled_until-until.ensures in
+    let first = c.visit_until-until.result in
+    let visit = c.visit_until-until.ensures in
     let lawful = c.requires.reached.lawful in
+    let left : c.len-left.result ≡ length c.args.kept.now.stops.items = omega (arith, c.len-left.ensures, c.args.kept.now.stops.ok) in
     let all : c.len.result ≡ set_count searched line = omega (arith, c.len.ensures, table.sets.ok, lawful.count) in
     let from = subst (λ (n : ℕ). IsAliveFrom searched line choices n table) (sym all) (reached_back searched line choices table c.requires.reached) in
     record {
-      from = living_down searched line choices first c.len.result table from (none_in_empty searched line choices table lawful first c.len.result empty);
-      low = (let rises = empty.rises in let within = empty.within in omega (arith, rises, within));
+      from = living_down searched line choices first c.len.result table from (visit.none searched line lawful c.requires.stops);
+      low = (let rises = visit.rises in omega (arith, rises, c.len.ensures, table.sets.ok));
+      left = omega (arith, left);
+      later = from_end c.args.kept.now.stops.items first c.len-left.result left;
+      stops = c.requires.stops;
       kept = living_of_all searched line choices table c.args.kept.now.stops.items c.args.kept.now.ways.items c.requires.kept;
       count = refl;
       ways = refl;
       memo = nothing_living searched line table c.args.room.now.memo c.requires.memo c.requires.effects;
       past = nothing_past searched first c.args.room.now.memo c.requires.memo;
       steps = λ most few.
-          let less = fewer_left (c.args.steps.now + steps_of_summary searched line most) c.len.result first (steps_of_items searched most) c.args.steps.now empty.rises
+          let less = fewer_left (c.args.steps.now + steps_of_summary searched line most) c.len.result first (steps_of_items searched most) c.args.steps.now visit.rises
           (let same = ap (λ (n : ℕ). n * steps_of_items searched most) all in omega (arith, same)) in
           less;
     }
@@ -59,22 +64,45 @@ loop-until-preserved g c =
     past_if_ends searched line index c.place-at.result.0 c.place-at.result.1 indexed c.gather_from.new.room.memo
     (c.in_ok-living.ensures.ends (ends_if_past searched line index c.place-at.result.0 c.place-at.result.1 indexed c.loop-until.room.memo
     (subst (λ (n : ℕ). LeadPast searched n c.loop-until.room.memo) here inv.past))) in
-    let next = c.filled_until-until-in-loop-until.result in
-    let empty = c.filled_until-until-in-loop-until.ensures in
+    let next = c.visit_until-until-in-loop-until.result in
+    let visit = c.visit_until-until-in-loop-until.ensures in
+    let stops = c.loop-until.kept.stops.items in
+    let gathered = c.in_ok-living.ensures in
+    let known = c.last_at-known.ensures.found in
+    let left = c.unwrap_or-left.ensures in
+    let later = left_from stops c.gather_from.new.kept.stops.items (length c.loop-until.kept.ways.items) index c.loop-until.until c.loop-until.left
+    c.unwrap_or-left.result c.last_at-known.result inv.kept.are here inv.later known gathered.indices left in
+    let each : IsTrue c.args.each_has_stop → HaveStops searched line new (indices_of c.gather_from.new.kept.stops.items) =
+    λ told. subst (HaveStops searched line new) (sym gathered.indices)
+    (stops_of_fewer searched line old new (indices_of stops) fewer (inv.stops told)) in
     record {
-      from = living_down searched line choices next index new back (none_in_empty searched line choices new back.has.lawful next index empty);
+      from = living_down searched line choices next index new back (visit.none searched line back.has.lawful each);
+      left = (
+          let within = left_within stops index c.loop-until.left c.last_at-known.result inv.left known in
+          let count = gathered.count in
+          omega (arith, within, count, left)
+          );
+      later = from_lower (indices_of c.gather_from.new.kept.stops.items) next index c.unwrap_or-left.result visit.rises later;
+      stops = each;
       kept = fewer_places searched line choices old new c.gather_from.new.kept.stops.items c.gather_from.new.kept.ways.items fewer
           c.in_ok-living.ensures.kept;
       count = c.in_ok-living.ensures.count ∙ inv.count;
       ways = c.in_ok-living.ensures.ways ∙ inv.ways;
       memo = living_stays searched line index old new c.requires.searched from.has.lawful replace.changes c.gather_from.new.room.memo past c.in_ok-living.ensures.memo;
-      past = past_down searched next (index + 1) c.gather_from.new.room.memo (let rises = empty.rises in omega (arith, rises)) past;
-      low = (let rises = empty.rises in let within = empty.within in omega (arith, rises, within));
+      past = past_down searched next (index + 1) c.gather_from.new.room.memo (let rises = visit.rises in omega (arith, rises)) past;
+      low = (let rises = visit.rises in let low = inv.low in let count = replace.changes.count in omega (arith, rises, low, count, here));
       steps = λ most few.
-          fewer_left (c.args.steps.now + steps_of_summary searched line most) index next (steps_of_items searched most) c.gather_from.new.steps empty.rises
+          fewer_left (c.args.steps.now + steps_of_summary searched line most) index next (steps_of_items searched most) c.gather_from.new.steps visit.rises
           (one_frame_less (c.args.steps.now + steps_of_summary searched line most) c.loop-until.until (steps_of_items searched most)
           c.loop-until.steps c.gather_from.new.steps (omega (arith, here)) (inv.steps most few) (c.gather_from.ensures.steps most few));
     }
+
+pub visit_until-until-requires-in-loop-until-clause-later : goal.visit_until-until-requires-in-loop-until-clause-later
+visit_until-until-requires-in-loop-until-clause-later g c =
+    let inv = c.loop-until.invariant in
+    left_from c.loop-until.kept.stops.items c.gather_from.new.kept.stops.items (length c.loop-until.kept.ways.items) (c.loop-until.until - 1) c.loop-until.until
+    c.loop-until.left c.unwrap_or-left.result c.last_at-known.result inv.kept.are (omega (arith, c.loop-until-test.true)) inv.later c.last_at-known.ensures.found
+    c.in_ok-living.ensures.indices c.unwrap_or-left.ensures
 
 pub returns-in_err-living-clause-steps : goal.returns-in_err-living-clause-steps
 returns-in_err-living-clause-steps g c most few =

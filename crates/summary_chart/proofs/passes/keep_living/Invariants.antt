@@ -1,10 +1,10 @@
 -- From each index on the table has only living places, and the living ways of its places are kept; each of these indices took its
--- steps.
-use Rattle.std.proofs.Common.{◌≡◌, ◌+◌, ◌*◌, ◌≤◌, ℕ, length}
+-- steps. The stops that are not left stand there too, and where each place had its stop, each still has.
+use Rattle.std.proofs.Common.{◌≡◌, ◌+◌, ◌*◌, ◌≤◌, ℕ, IsTrue, length}
 use Rattle.search_frames.specs.Costs.{HasAtMostRules}
 use Rattle.summary_chart.specs.Charts.{IsAliveFrom}
 use Rattle.summary_chart.specs.Memos.{AreLiving}
-use Rattle.summary_chart.specs.PlaceWays.{HaveLivingWays}
+use Rattle.summary_chart.specs.PlaceWays.{AreFrom, HaveLivingWays, HaveStops, indices_of}
 use Rattle.summary_chart.specs.Summaries.{steps_of_items, steps_of_summary}
 use Rattle.summary_chart.proofs.LivingMemos.{LeadPast}
 use Rattle.summary_chart.proofs.passes.keep_living.Given as goal
@@ -16,6 +16,9 @@ invariant-loop-until g l =
       kept : HaveLivingWays l.passage.lexicon.now l.passage.line.now l.passage.choices.now l.table l.kept.stops.items l.kept.ways.items;
       count : length l.kept.stops.items ≡ length l.fn.kept.stops.items;
       ways : l.kept.ways.items ≡ l.fn.kept.ways.items;
+      left : l.left ≤ length l.kept.stops.items;
+      later : AreFrom l.until (indices_of l.kept.stops.items) l.left;
+      stops : IsTrue l.each_has_stop → HaveStops l.passage.lexicon.now l.passage.line.now l.table (indices_of l.kept.stops.items);
       memo : AreLiving l.passage.lexicon.now l.passage.line.now l.table l.room.memo;
       past : LeadPast l.passage.lexicon.now l.until l.room.memo;
       low : l.until ≤ length l.table.sets.items;

@@ -1,17 +1,25 @@
 -- The turn is that of `reach_from`, and where sets are empty nothing is to be done (`ReachedPlaces`, `KeptWays`); at the end the table is
 -- closed everywhere.
-use Rattle.std.proofs.Common.{◌≡◌, ◌+◌, ◌*◌, [], ℕ, List, sym, subst, arith}
+use Rattle.std.proofs.Common.{◌≡◌, ◌+◌, ◌*◌, ◌&&◌, Bool, true, false, [], ℕ, List, refl, sym, subst, arith}
+use Rattle.std.proofs.lemmas.Bool.{false≢true}
 use Rattle.summary_chart.specs.declared.place_ways.Stop.{Stop}
 use Rattle.summary_chart.specs.Charts.{IsReachedBefore, set_count}
-use Rattle.summary_chart.specs.PlaceWays.{AreFew, HaveWaysBefore}
+use Rattle.summary_chart.specs.PlaceWays.{AreFew, HaveWaysBefore, indices_of}
 use Rattle.summary_chart.specs.Summaries.{steps_of_items}
 use Rattle.summary_chart.proofs.ReachedPlaces.{nothing_until, opened}
 use Rattle.summary_chart.proofs.LivingMemos.{nothing_spread}
 use Rattle.summary_chart.proofs.LivingReached.{has_reached}
 use Rattle.summary_chart.proofs.KeptWays.{no_stops, none_few, until}
+use Rattle.summary_chart.proofs.StopIndices.{all_stops, none_before, stops_on}
+use Rattle.summary_chart.proofs.TableItems.{none_in_empty}
 use Rattle.summary_chart.proofs.PassCosts.{frame_and_skip, one_frame_more}
 use Rattle.summary_chart.proofs.SummarySteps.{places_twice}
 use Rattle.summary_chart.proofs.passes.reach.Goals as goal
+
+both_true : (one other : Bool) → (one && other) ≡ true → (one ≡ true) × (other ≡ true)
+both_true true true both = (refl, refl)
+both_true true false both = absurd (false≢true both)
+both_true false other both = absurd (false≢true both)
 
 pub loop-index-init : goal.loop-index-init
 loop-index-init g c =
@@ -29,13 +37,15 @@ loop-index-init g c =
       kept = until searched line choices 0 c.next_filled-index.result table stops ways (omega arith) none;
       few = subst (λ (s : List Stop). AreFew searched line s ways) (sym c.requires.stops)
           (subst (AreFew searched line []) (sym c.requires.ways) (none_few searched line choices));
+      stops = λ told. stops_on searched line 0 c.next_filled-index.result table (indices_of stops)
+          (none_in_empty searched line choices table c.requires.opening.lawful 0 c.next_filled-index.result empty) (none_before searched line table (indices_of stops));
       memo = nothing_spread searched line table c.args.room.now.memo c.requires.memo c.requires.effects;
       within = empty.within;
       steps = λ most few. omega arith;
     }
 
-pub returns-in_err-reach_from-clause-steps : goal.returns-in_err-reach_from-clause-steps
-returns-in_err-reach_from-clause-steps g c most few =
+pub returns-in_err-each_has_stop-clause-steps : goal.returns-in_err-each_has_stop-clause-steps
+returns-in_err-each_has_stop-clause-steps g c most few =
     let searched = c.args.passage.lexicon.now in
     let line = c.args.passage.line.now in
     let index = c.loop-index.index in
@@ -54,12 +64,16 @@ loop-index-preserved g c =
     let inv = c.loop-index.invariant in
     let next = c.next_filled-index-in-loop-index.result in
     let empty = c.next_filled-index-in-loop-index.ensures in
-    let from = c.in_ok-reach_from.ensures in
+    let from = c.in_ok-each_has_stop.ensures in
     let new = c.reach_from.new in
     record {
       before = nothing_until searched line choices (index + 1) next new.table from.before empty;
       kept = until searched line choices (index + 1) next new.table new.kept.stops.items new.kept.ways.items empty.rises from.kept;
       few = from.few;
+      stops = λ told.
+          let both = both_true c.loop-index.each_has_stop c.in_ok-each_has_stop.field-0 told in
+          stops_on searched line (index + 1) next new.table (indices_of new.kept.stops.items)
+          (none_in_empty searched line choices new.table from.before.lawful (index + 1) next empty) (from.stops both.1 (inv.stops both.0));
       memo = from.memo;
       within = empty.within;
       steps = λ most few. frame_and_skip c.args.steps.now index next (2 * steps_of_items searched most) c.loop-index.steps new.steps empty.rises
@@ -73,6 +87,15 @@ returns-clause-reached g c =
     omega (arith, c.loop-index-test.false, c.len.ensures, c.loop-index.table.sets.ok, inv.within, inv.before.lawful.count) in
     has_reached c.args.passage.lexicon.now c.args.passage.line.now c.args.passage.choices.now c.loop-index.table c.requires.searched
     (subst (λ (n : ℕ). IsReachedBefore c.args.passage.lexicon.now c.args.passage.line.now c.args.passage.choices.now n c.loop-index.table) all inv.before) c.requires.line
+
+pub returns-clause-stops : goal.returns-clause-stops
+returns-clause-stops g c told =
+    let searched = c.args.passage.lexicon.now in
+    let line = c.args.passage.line.now in
+    let inv = c.loop-index.invariant in
+    let all : c.loop-index.index ≡ set_count searched line =
+    omega (arith, c.loop-index-test.false, c.len.ensures, c.loop-index.table.sets.ok, inv.within, inv.before.lawful.count) in
+    all_stops searched line c.loop-index.table c.loop-index.index (indices_of c.loop-index.kept.stops.items) all (inv.stops told)
 
 pub returns-clause-steps : goal.returns-clause-steps
 returns-clause-steps g c most few =

@@ -1,10 +1,11 @@
 -- One turn by the lemmas on turns (`ReachedPlaces`), and what is kept by those on one index more (`KeptWays`).
-use Rattle.std.proofs.Common.{Result, Ok, Err, ℕ, ◌*◌, List, length, refl, sym, ap, subst, arith, OnOk}
+use Rattle.std.proofs.Common.{ℕ, ◌*◌, List, length, refl, sym, ap, subst, arith}
 use Rattle.std.specs.List.{All}
 use Rattle.search_frames.specs.declared.way.Way.{Way}
 use Rattle.search_frames.specs.Configurations.{rules_in}
 use Rattle.search_frames.specs.Frames.{numbered_of}
 use Rattle.search_frames.specs.WaysFrom.{IsWayFrom}
+use Rattle.summary_chart.specs.declared.place_ways.Stop.{Stop}
 use Rattle.summary_chart.specs.declared.state_set.StateSet.{StateSet}
 use Rattle.summary_chart.specs.Spreading.{Spreads, EveryKey}
 use Rattle.summary_chart.specs.Tables.{set_of}
@@ -12,12 +13,9 @@ use Rattle.summary_chart.specs.PlaceWays.{HasEachKey, LeadsOnOrEnds, ways_of}
 use Rattle.summary_chart.proofs.ReachedPlaces.{spread_on, old_before}
 use Rattle.summary_chart.proofs.KeptWays.{each_added, keys_added, left, put_in, with_stop, without_stop}
 use Rattle.summary_chart.proofs.SpreadMemos.{all_grown}
+use Rattle.summary_chart.proofs.StopIndices.{one_more_stop}
 use Rattle.summary_chart.proofs.TableItems.{read_set}
 use Rattle.summary_chart.proofs.passes.reach_from.Goals as goal
-
-on_ok : {X E : Type 0} (result : Result X E) (First Second Third : Type 0) → (First → Second → Third) → OnOk result First → OnOk result Second → OnOk result Third
-on_ok (Ok x) First Second Third both first second = both first second
-on_ok (Err e) First Second Third both first second = tt
 
 pub returns-in_default-clause-before : goal.returns-in_default-clause-before
 returns-in_default-clause-before g c =
@@ -29,10 +27,9 @@ returns-in_default-clause-before g c =
     let table = c.args.table.now in
     let new = c.spread.new.table in
     let read = read_set table index c.index-states.result.now c.requires.there c.index-states.ensures in
-    on_ok c.spread.result _ _ _ (λ lawful spreads.
-    spread_on searched line choices index place.at place.entrance table c.requires.site.searched c.requires.before c.requires.indexed new lawful
-    (subst (λ (set : StateSet). Spreads searched line choices place.at place.entrance set EveryKey table new) (sym read) spreads))
-    c.spread.ensures.table c.spread.ensures.spreads
+    spread_on searched line choices index place.at place.entrance table c.requires.site.searched c.requires.before c.requires.indexed new
+    c.in_ok-spread.ensures.table
+    (subst (λ (set : StateSet). Spreads searched line choices place.at place.entrance set EveryKey table new) (sym read) c.in_ok-spread.ensures.spreads)
 
 pub returns-in_default-clause-kept : goal.returns-in_default-clause-kept
 returns-in_default-clause-kept g c =
@@ -50,13 +47,12 @@ returns-in_default-clause-kept g c =
     let same = left searched line choices index most place.at place.entrance place.state table c.requires.before.lawful c.requires.indexed
     old kept
     (set_of table index) c.in_ok-stop.field-0 c.in_default.not-Some c.in_ok-stop.ensures.kept.2 in
-    on_ok c.spread.result _ _ _ (λ lawful spreads.
     without_stop searched line choices index most place.at place.entrance place.state table c.requires.before.lawful c.requires.indexed
     old kept new
-    (old_before searched line choices index place.at place.entrance table c.requires.site.searched c.requires.before c.requires.indexed new lawful
-    (subst (λ (set : StateSet). Spreads searched line choices place.at place.entrance set EveryKey table new) (sym read) spreads))
-    c.requires.kept same)
-    c.spread.ensures.table c.spread.ensures.spreads
+    (old_before searched line choices index place.at place.entrance table c.requires.site.searched c.requires.before c.requires.indexed new
+    c.in_ok-spread.ensures.table
+    (subst (λ (set : StateSet). Spreads searched line choices place.at place.entrance set EveryKey table new) (sym read) c.in_ok-spread.ensures.spreads))
+    c.requires.kept same
 
 pub spread_ways-requires-clause-ways : goal.spread_ways-requires-clause-ways
 spread_ways-requires-clause-ways g c =
@@ -131,6 +127,27 @@ returns-clause-kept g c =
     (old_before searched line choices index place.at place.entrance table c.requires.site.searched c.requires.before c.requires.indexed new c.spread_ways.ensures.table
     (subst (λ (set : StateSet). Spreads searched line choices place.at place.entrance set EveryKey table new) (sym read) c.spread_ways.ensures.spreads))
     c.requires.kept c.in-Some.stop adds
+
+pub returns-clause-stops : goal.returns-clause-stops
+returns-clause-stops g c told so_far =
+    let searched = c.args.site.lexicon.now in
+    let line = c.args.site.line.now in
+    let choices = c.args.site.choices.now in
+    let place = c.args.site.place.now in
+    let index = c.args.index in
+    let table = c.args.table.now in
+    let most = c.in_ok-stop.ensures.kept.0 in
+    let old = c.args.kept.now in
+    let kept = c.keep_ways.new.kept in
+    let new = c.spread_ways.new.table in
+    let read = read_set table index c.index-states.result.now c.requires.there c.index-states.ensures in
+    let adds = put_in searched line choices index most place.at place.entrance place.state table c.requires.before.lawful c.requires.indexed
+    old kept
+    (set_of table index) c.in_ok-stop.field-0 c.in-Some.stop refl c.in-Some.is c.in_ok-stop.ensures.kept.2 in
+    one_more_stop searched line index table new old.stops.items kept.stops.items c.in-Some.stop adds.added (ap (λ (s : Stop). s.index) adds.is)
+    (old_before searched line choices index place.at place.entrance table c.requires.site.searched c.requires.before c.requires.indexed new c.spread_ways.ensures.table
+    (subst (λ (set : StateSet). Spreads searched line choices place.at place.entrance set EveryKey table new) (sym read) c.spread_ways.ensures.spreads))
+    so_far
 
 pub returns-clause-memo : goal.returns-clause-memo
 returns-clause-memo g c =

@@ -29,7 +29,7 @@ returns-in_err-keep_living-clause-bound g c most few =
     let second = c.keep_living.ensures.steps most few in
     passes_within c.args.lexicon.now c.args.line.now most c.args.steps.now c.keep_living.new.steps c.rules-rules.ensures.searched (omega (arith, first, second))
 
-pub returns-in_err-reach-clause-bound : goal.returns-in_err-reach-clause-bound
-returns-in_err-reach-clause-bound g c most few =
+pub returns-in_err-each_has_stop-clause-bound : goal.returns-in_err-each_has_stop-clause-bound
+returns-in_err-each_has_stop-clause-bound g c most few =
     let first = c.reach.ensures.steps most few in
     passes_within c.args.lexicon.now c.args.line.now most c.args.steps.now c.reach.new.steps c.rules-rules.ensures.searched (omega (arith, first))
