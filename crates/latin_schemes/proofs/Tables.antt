@@ -1,7 +1,8 @@
 -- A table of codes agrees with a table of bytes: by a test of each byte that the prover computes, and then by induction on the text.
-use Rattle.std.proofs.Common.{◌≡◌, ℕ, suc, ◌+◌, ◌<◌, Bool, true, false, List, [], ◌∷◌, get_or, Option, Some, None, eqb, ap, ◌∙◌, refl}
+use Rattle.std.proofs.Common.{◌≡◌, ℕ, suc, ◌+◌, ◌<◌, Bool, true, false, List, [], ◌∷◌, map, take, get_or, Option, Some, None, Ok, eqb, ap, sym, ◌∙◌, refl}
 use Rattle.std.proofs.lemmas.Bool.{eqb-true}
-use Rattle.text_definitions.specs.Spellings.{letter_at, letter_of_byte, word_of_bytes}
+use Rattle.std.proofs.lemmas.List.{take-map}
+use Rattle.text_definitions.specs.Spellings.{with_letter, letter_at, letter_of_byte, word_of_bytes}
 use Rattle.text_definitions.proofs.Tables.{passes_below, passes_at}
 use Rattle.latin_schemes.specs.Codes.{letter_by_code}
 
@@ -33,3 +34,27 @@ same_word codes table h place (byte ∷ text) bytes =
     let rest = word_of_bytes (letter_by_code codes) (place + 1) text in
     let same = same_letter _ _ (passes_at 256 (agrees_at codes table) h byte (bytes 0)) in
     ap (λ found. letter_at place found rest) same ∙ ap (letter_at place (letter_of_byte table byte)) (same_word codes table h (place + 1) text (λ i. bytes (suc i)))
+
+-- bytes that are letters, each by the table, spell these letters
+pub spelled_word : (letter : ℕ → Option ℕ) (place : ℕ) (bytes word : List ℕ) → map letter bytes ≡ map (λ (n : ℕ). Some n) word → word_of_bytes letter place bytes ≡ Ok word
+spelled_word letter place [] [] h = refl
+spelled_word letter place [] (n ∷ word) h = absurd (cc)
+spelled_word letter place (byte ∷ bytes) [] h = absurd (cc)
+spelled_word letter place (byte ∷ bytes) (n ∷ word) h =
+    let first : letter byte ≡ Some n = cc in
+    let others : map letter bytes ≡ map (λ (n : ℕ). Some n) word = cc in
+    ap (λ found. letter_at place found (word_of_bytes letter (place + 1) bytes)) first ∙ ap (with_letter n) (spelled_word letter (place + 1) bytes word others)
+
+-- both tables give the first bytes of a text the same letters
+pub same_letters : (codes table : List ℕ) → agree codes table ≡ true → (text : List ℕ) → ((i : ℕ) → get_or text i 0 < 256) → map (letter_by_code codes) text ≡ map (letter_of_byte table) text
+same_letters codes table h [] bytes = refl
+same_letters codes table h (byte ∷ text) bytes =
+    let same = same_letter _ _ (passes_at 256 (agrees_at codes table) h byte (bytes 0)) in
+    λ i. same i ∷ same_letters codes table h text (λ j. bytes (suc j)) i
+
+-- so bytes that are letters by the codes spell a word of these by the table
+pub spelled_front : (codes table : List ℕ) → agree codes table ≡ true → (text : List ℕ) → ((i : ℕ) → get_or text i 0 < 256) → (n : ℕ) (word : List ℕ)
+    → map (letter_by_code codes) (take n text) ≡ map (λ (n : ℕ). Some n) word → word_of_bytes (letter_of_byte table) 0 (take n text) ≡ Ok word
+spelled_front codes table h text bytes n word e =
+    let same = sym (take-map (letter_of_byte table) n text) ∙ ap (take n) (sym (same_letters codes table h text bytes)) ∙ take-map (letter_by_code codes) n text in
+    spelled_word (letter_of_byte table) 0 (take n text) word (same ∙ e)

@@ -1,4 +1,4 @@
-ghost use Rattle.std.specs.Prelude.{◌≡◌, ◌^◌, ◌<◌, Ok, length, map, nat_lt, IsTrue, IfOk, IfErr, string_bytes};
+ghost use Rattle.std.specs.Prelude.{◌≡◌, ◌^◌, ◌<◌, ◌≤◌, ℕ, Ok, Some, length, map, take, nat_lt, IsTrue, IfOk, IfErr, string_bytes};
 ghost use Rattle.std.specs.List.{list_all};
 ghost use Rattle.text_definitions.specs.Spellings.{word_of_bytes, byte_of_letter};
 ghost use Rattle.latin_schemes.specs.Faults.{IsFaultOf};
@@ -23,6 +23,23 @@ pub fn read_bytes_over(word: Word, codes: &[u8; 256], text: &[u8]) -> Result<Wor
         }
     }
     Ok(word)
+}
+
+/// The word that the first bytes spell, in the memory of another one, up to the first byte for which `codes` has no letter, and how
+/// many these bytes are.
+pub fn read_front_over(word: Word, codes: &[u8; 256], text: &[u8]) -> Result<(Word, usize), Memory>
+    ensures within { IfOk result (λ front. front.1 ≤ length text.now) }
+    ensures spelled { IfOk result (λ front. map (letter_by_code codes.now) (take front.1 text.now) ≡ map (λ (letter : ℕ). Some letter) front.0) }
+{
+    let mut word = word;
+    word.clear();
+    for (at, byte) in text.iter().enumerate() {
+        match Letter::new(codes[*byte as usize]) {
+            Some(letter) => word.push(letter)?,
+            None => return Ok((word, at)),
+        }
+    }
+    Ok((word, text.len()))
 }
 
 /// The word that the bytes spell, each being the letter with the code that `codes` has for it.

@@ -1,9 +1,9 @@
-ghost use Rattle.std.specs.Prelude.{◌≡◌, ◌^◌, ◌<◌, Ok, length, IfOk, IfErr, string_bytes};
+ghost use Rattle.std.specs.Prelude.{◌≡◌, ◌^◌, ◌<◌, ◌≤◌, Ok, length, take, IfOk, IfErr, string_bytes};
 ghost use Rattle.text_definitions.specs.Slp1.{word_of_slp1, slp1_of_word};
 ghost use Rattle.latin_schemes.specs.Faults.{IsFaultOf};
 
 use super::SpellError;
-use super::byte_scheme::{print_bytes, read_bytes, read_bytes_over};
+use super::byte_scheme::{print_bytes, read_bytes, read_bytes_over, read_front_over};
 use phoneme::{Memory, Word};
 use std::alloc::Global;
 
@@ -40,6 +40,15 @@ pub fn read_slp1_over(word: Word, text: &[u8]) -> Result<Word, SpellError>
     ensures fault { IfErr result (λ error. IsFaultOf error (word_of_slp1 text.now)) }
 {
     read_bytes_over(word, &CODES, text)
+}
+
+/// The word that the first bytes of a text spell in SLP1, in the memory of another word, up to the first byte that spells no letter;
+/// and how many these bytes are. Refused only for want of memory.
+pub fn read_slp1_front_over(word: Word, text: &[u8]) -> Result<(Word, usize), Memory>
+    ensures within { IfOk result (λ front. front.1 ≤ length text.now) }
+    ensures spelled { IfOk result (λ front. word_of_slp1 (take front.1 text.now) ≡ Ok front.0) }
+{
+    read_front_over(word, &CODES, text)
 }
 
 /// The SLP1 spelling of a word, one byte a letter.
