@@ -1,23 +1,27 @@
 -- The answers to a line of a form, by its four fields: the phase's number, the tag, and the two words that are spelled.
-use Rattle.std.proofs.Common.{◌≡◌, ℕ, ◌<◌, ◌≤◌, Option, Some, None, Result, Ok, Err, List, [], ◌∷◌, ◌++◌, length, refl, sym, ◌∙◌, ap, subst, arith}
+use Rattle.std.proofs.Common.{IsTrue, false, ◌≡◌, ℕ, ◌<◌, ◌≤◌, Option, Some, None, Result, Ok, Err, ◌≢◌, ◌+◌, ◌-◌, List, [], ◌∷◌, ◌++◌, All, take, drop, length, slice_index_or, refl, sym, ◌∙◌, ap, subst, arith}
 use Rattle.std.specs.List.{join_with_byte, position}
 use Rattle.std.specs.Str.{bytes_eq}
-use Rattle.std.proofs.lemmas.Bool.{false_from_ne_true}
-use Rattle.std.proofs.lemmas.List.{length-append}
+use Rattle.std.proofs.lemmas.Bool.{false≢true, false_from_ne_true}
+use Rattle.std.proofs.lemmas.List.{length-append, take-append-drop, drop_more, take_rest}
 use Rattle.std.proofs.lemmas.List.Splits.{join_with_byte-slice_split}
 use Rattle.text_definitions.specs.Spellings.{Reading}
-use Rattle.text_definitions.specs.Slp1.{word_of_slp1}
+use Rattle.text_definitions.specs.Words.{IsWord}
+use Rattle.text_definitions.specs.Slp1.{word_of_slp1, slp1_of_word}
+use Rattle.text_definitions.proofs.SpelledWords.{spelled_from_read, word_from_read, read_from_spelled, free_of_blank}
 use Rattle.lexicon_definitions.specs.Tags.{IsTagText}
 use Rattle.lexicon_text_definitions.specs.FileFaults as faults
 use Rattle.lexicon_text_definitions.specs.FileLines.{fields_of}
 use Rattle.lexicon_text_definitions.specs.FileContents.{Told, is_tag_text}
 use Rattle.lexicon_text_definitions.specs.FileSteps.{Taken, some_word, take_form_line, take_analysis, take_entry, take_form}
 use Rattle.lexicon_text_definitions.proofs.TagTests.{tag_from_test, test_from_tag, tag_free_of_blank}
-use Rattle.lexicon_text_definitions.proofs.LineCuts.{split_none}
+use Rattle.lexicon_text_definitions.proofs.LineCuts.{split_at, split_none}
 use Rattle.form_file.specs.declared.take_error.TakeError.{TakeError}
 use Rattle.form_file.specs.Fields.{four_of}
 use Rattle.form_file.specs.Told.{IsAnswer}
+use Rattle.form_file.specs.Words.{BeginsWithWord}
 use Rattle.list_laws.proofs.Booleans.{when_true, when_false}
+use Rattle.list_laws.proofs.Marks.{free_from_All}
 
 -- ---- no field is longer than the text
 
@@ -112,3 +116,36 @@ some_letter (Err fault) word h = absurd (cc)
 
 pub answer_moved : (A : Type 0) (taken other : Taken) (result : Result A TakeError) (after : Told) → other ≡ taken → IsAnswer taken result after → IsAnswer other result after
 answer_moved A taken other result after e h = subst (λ (taken : Taken). IsAnswer taken result after) (sym e) h
+
+-- ---- a line that is read in one pass
+
+pub not_empty : (word : List ℕ) → (IsTrue false → word ≡ []) × (word ≡ [] → IsTrue false) → 0 < length word
+not_empty [] h = absurd (false≢true (h.1 refl))
+not_empty (letter ∷ word) h = omega arith
+
+pub begins_with_word : (text word : List ℕ) (count : ℕ) → word_of_slp1 (take count text) ≡ Ok word → 0 < length word → count < length text → slice_index_or text count 0 ≡ 32
+    → BeginsWithWord text word (take (length text - (count + 1)) (drop (count + 1) text))
+begins_with_word text word count e some below blank =
+    let is = spelled_from_read (take count text) word e in
+    let rest = drop_more text count 0 below ∙ (λ i. blank i ∷ sym (take_rest text (count + 1)) i) in
+    (word_from_read (take count text) word e, some, sym (take-append-drop count text) ∙ (λ i. sym is i ++ rest i))
+
+some_word_read : (word : List ℕ) → IsWord word → 0 < length word → some_word (word_of_slp1 (slp1_of_word word)) ≡ Some word
+some_word_read [] w some = absurd (omega arith)
+some_word_read (letter ∷ word) w some = ap some_word (read_from_spelled (slp1_of_word (letter ∷ word)) (letter ∷ word) w refl)
+
+fields_read : (text name rest form after stem tag : List ℕ) → (text ≡ name ++ 32 ∷ rest) × All (λ byte. byte ≢ 32) name → BeginsWithWord rest form after → BeginsWithWord after stem tag → IsTagText tag
+    → fields_of (Some text) ≡ name ∷ slp1_of_word form ∷ slp1_of_word stem ∷ tag ∷ []
+fields_read text name rest form after stem tag t f s g =
+    let last = split_none 32 tag (tag_free_of_blank tag g) in
+    let third = ap (λ (text : List ℕ). fields_of (Some text)) s.2 ∙ split_at 32 (slp1_of_word stem) tag (free_of_blank stem s.0) ∙ ap (◌∷◌ (slp1_of_word stem)) last in
+    let second = ap (λ (text : List ℕ). fields_of (Some text)) f.2 ∙ split_at 32 (slp1_of_word form) after (free_of_blank form f.0) ∙ ap (◌∷◌ (slp1_of_word form)) third in
+    ap (λ (text : List ℕ). fields_of (Some text)) t.0 ∙ split_at 32 name rest (free_from_All 32 name t.1) ∙ ap (◌∷◌ name) second
+
+pub form_read : (told : Told) (text name rest form after stem tag is_tag : List ℕ) (phase : ℕ) → (text ≡ name ++ 32 ∷ rest) × All (λ byte. byte ≢ 32) name
+    → Some phase ≡ position (bytes_eq name) told.names → BeginsWithWord rest form after → BeginsWithWord after stem tag → IsTagText tag → is_tag ≡ tag
+    → take_form told (fields_of (Some text)) ≡ take_form_line told (record { phase = phase; letters = form; analysis = record { stem = stem; tag = is_tag } })
+form_read told text name rest form after stem tag is_tag phase t p f s g e =
+    by_phase told (fields_of (Some text)) name (slp1_of_word form) (slp1_of_word stem) tag (Some phase) (fields_read text name rest form after stem tag t f s g) p
+    ∙ by_words told phase (slp1_of_word form) (slp1_of_word stem) tag g
+    ∙ both_words told phase tag is_tag form stem _ _ (some_word_read form f.0 f.1) (some_word_read stem s.0 s.1) e

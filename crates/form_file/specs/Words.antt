@@ -1,6 +1,8 @@
 -- What the readers of a word answer.
-use Rattle.std.specs.Prelude.{◌≡◌, ℕ, Option, Some, None, Result, Ok, Err, List}
+use Rattle.std.specs.Prelude.{◌≡◌, ◌<◌, ◌∷◌, ◌++◌, ℕ, Option, Some, None, Result, Ok, Err, List, length}
+use Rattle.text_definitions.specs.Words.{IsWord}
 use Rattle.text_definitions.specs.Spellings.{Reading}
+use Rattle.text_definitions.specs.Slp1.{slp1_of_word}
 use Rattle.form_file.specs.declared.error.FileWhy.TheVariants.{Spelling}
 use Rattle.form_file.specs.declared.take_error.TakeError.{TakeError}
 use Rattle.form_file.specs.declared.take_error.TakeError.TheVariants.{Why, Memory}
@@ -18,3 +20,7 @@ word_of (Err fault) = None
 
 abbrev pub IsSpelled : Reading → Result (List ℕ) TakeError → Type 0
 IsSpelled reading result = IsRead (word_of reading) result
+
+-- the text is the word, which has some letter, in SLP1, then a blank, and then the rest
+abbrev pub BeginsWithWord : List ℕ → List ℕ → List ℕ → Type 0
+BeginsWithWord text word rest = IsWord word × (0 < length word) × (text ≡ slp1_of_word word ++ 32 ∷ rest)

@@ -56,7 +56,7 @@ pub fn two_fields(text: &[u8]) -> Option<(&[u8], &[u8])>
 
 /// The bytes before the first blank of a text, and those after it. `None` where it has no blank. The bytes of a field are so few that
 /// looking at them one by one takes less time than `cut_at` takes to begin.
-fn cut_at_blank(text: &[u8]) -> Option<(&[u8], &[u8])>
+pub(crate) fn cut_at_blank(text: &[u8]) -> Option<(&[u8], &[u8])>
     ensures { MatchOption result (All (λ byte. byte ≢ 32) text.now)
         (λ parts. (text.now ≡ parts.0.now ++ 32 ∷ parts.1.now) × All (λ byte. byte ≢ 32) parts.0.now) }
 {

@@ -1,4 +1,4 @@
-ghost use Rattle.std.specs.Prelude.{◌≡◌, ◌<◌, ◌||◌, ◌++◌, codes, nat_le, nat_lt, ◌≤◌, ◌^◌, [], length, map, replicate, true, IfOk, IfErr, OnOk, Some, IfSome, string_bytes};
+ghost use Rattle.std.specs.Prelude.{◌≡◌, ◌<◌, ◌||◌, ◌++◌, codes, nat_le, nat_lt, ◌≤◌, ◌^◌, [], length, map, replicate, true, IfOk, IfErr, OnOk, Some, IfSome, IsTrue, string_bytes};
 ghost use Rattle.std.specs.List.{list_all, position};
 ghost use Rattle.std.specs.Str.{bytes_eq};
 ghost use Rattle.lexicon_definitions.specs.GrammarTexts.{grammar_of};
@@ -18,11 +18,13 @@ ghost use Rattle.form_file.specs.Fields.{text_of_rest};
 ghost use Rattle.form_file.specs.Contents.{lexicon_of};
 ghost use Rattle.form_file.specs.Kinds.{kind_of};
 
-use crate::cutting::{kind_and_rest, one_field, rule_parts, three_fields_and_rest, two_fields};
+use crate::cutting::{
+    cut_at_blank, kind_and_rest, one_field, rule_parts, three_fields_and_rest, two_fields,
+};
 use crate::kind::Kind;
 use crate::rules_so_far::RulesSoFar;
 use crate::take_error::TakeError;
-use crate::words::{read_letter, read_some_word_over, read_word};
+use crate::words::{read_letter, read_some_word_over, read_word, read_word_before_blank};
 use crate::{Contents, FileWhy};
 use form_tags::{Entry, read_tag};
 use lexicon_definitions::{MOST_FORM_LETTERS, MOST_FORM_LINES, MOST_PHASES, MOST_RULE_LETTERS};
@@ -357,9 +359,40 @@ impl Told {
         Ok(())
     }
 
-    /// Takes the line of a form, with what comes after its blank, as an entry that is read into the memory of this one. Where the line is
-    /// taken, another entry stands here then.
-    fn take_form_into(
+    /// Reads the line of a form, with what comes after its blank, in one pass into an entry, in whose memory it is read. `false` where this
+    /// does not succeed, and then nothing is known of the entry.
+    fn read_form_into(&self, alloc: Global, entry: &mut Entry, text: &[u8]) -> Result<bool, Memory>
+        ensures phase { IfOk result (λ read. IsTrue read → entry.new.phase < length self.now.names) }
+        ensures form { IfOk result (λ read. IsTrue read → 0 < length entry.new.form) }
+        ensures stem { IfOk result (λ read. IsTrue read → 0 < length entry.new.analysis.stem) }
+        ensures taken { IfOk result (λ read. IsTrue read → take_form_of self.now (fields_of (Some text.now)) ≡ take_form_line self.now (text_entry entry.new)) }
+    {
+        let Some((phase, rest)) = cut_at_blank(text) else {
+            return Ok(false);
+        };
+        let Some(phase) = self.phase_named_from(entry.phase, phase) else {
+            return Ok(false);
+        };
+        let room = mem::replace(&mut entry.form, Word::new(alloc));
+        let Some((form, rest)) = read_word_before_blank(room, rest)? else {
+            return Ok(false);
+        };
+        entry.form = form;
+        let room = mem::replace(&mut entry.analysis.stem, Word::new(alloc));
+        let Some((stem, rest)) = read_word_before_blank(room, rest)? else {
+            return Ok(false);
+        };
+        entry.analysis.stem = stem;
+        let Some(tag) = read_tag(rest) else {
+            return Ok(false);
+        };
+        entry.phase = phase as u32;
+        entry.analysis.tag = tag;
+        Ok(true)
+    }
+
+    /// Takes the line of a form, with what comes after its blank, field by field, as an entry that is read into the memory of this one.
+    fn take_fields_into(
         &mut self,
         alloc: Global,
         entry: &mut Entry,
@@ -386,6 +419,24 @@ impl Told {
         entry.phase = phase as u32;
         entry.analysis.tag = tag;
         self.take_entry(alloc, entry)
+    }
+
+    /// Takes the line of a form, with what comes after its blank, as an entry that is read into the memory of this one, in one pass. Only a
+    /// line that cannot be read so is looked at field by field, for its fault. Where the line is taken, another entry stands here then.
+    fn take_form_into(
+        &mut self,
+        alloc: Global,
+        entry: &mut Entry,
+        text: &[u8],
+    ) -> Result<(), TakeError>
+        requires follows { may_follow self.old.last Form ≡ true }
+        requires fits { length text.now < 2 ^ 32 }
+        ensures { IsAnswer (take_form_of self.old (fields_of (Some text.now))) result self.new }
+    {
+        if self.read_form_into(alloc, entry, text)? {
+            return self.take_entry(alloc, entry);
+        }
+        self.take_fields_into(alloc, entry, text)
     }
 
     /// Takes the line of a form, with what comes after its blank. It may come next.

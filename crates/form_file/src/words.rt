@@ -1,12 +1,12 @@
-ghost use Rattle.std.specs.Prelude.{◌≡◌, ◌<◌, ◌^◌, length, Some, Ok};
+ghost use Rattle.std.specs.Prelude.{◌≡◌, ◌<◌, ◌^◌, length, Some, Ok, IfOk, IfSome};
 ghost use Rattle.text_definitions.specs.Slp1.{word_of_slp1};
 ghost use Rattle.lexicon_text_definitions.specs.FileSteps.{one_letter, some_word};
-ghost use Rattle.form_file.specs.Words.{IsRead, IsSpelled};
+ghost use Rattle.form_file.specs.Words.{IsRead, IsSpelled, BeginsWithWord};
 
 use crate::FileWhy;
 use crate::take_error::TakeError;
-use latin_schemes::{SpellError, read_slp1_over};
-use phoneme::{Letter, Word};
+use latin_schemes::{SpellError, read_slp1_front_over, read_slp1_over};
+use phoneme::{Letter, Memory, Word};
 use std::alloc::Global;
 
 /// The word that the bytes spell in SLP1.
@@ -39,6 +39,21 @@ pub(crate) fn read_some_word_over(word: Word, text: &[u8]) -> Result<Word, TakeE
         return Err(FileWhy::Spelling.into());
     }
     Ok(word)
+}
+
+/// The word of some letters with which the text begins in SLP1, before a blank, in the memory of another word; and what comes after the
+/// blank. `None` where the text does not begin so.
+pub(crate) fn read_word_before_blank(
+    word: Word,
+    text: &[u8],
+) -> Result<Option<(Word, &[u8])>, Memory>
+    ensures { IfOk result (λ found. IfSome found (λ parts. BeginsWithWord text.now parts.0 parts.1.now)) }
+{
+    let (word, count) = read_slp1_front_over(word, text)?;
+    if word.is_empty() || count >= text.len() || text[count] != b' ' {
+        return Ok(None);
+    }
+    Ok(Some((word, &text[count + 1..])))
 }
 
 /// The one letter that the bytes spell in SLP1.

@@ -9,7 +9,7 @@ use Rattle.form_file.specs.declared.error.FileWhy.TheVariants.{Field}
 use Rattle.form_file.proofs.AnswerLemmas.{refused_for}
 use Rattle.form_file.proofs.PairLemmas.{not_spelled}
 use Rattle.form_file.proofs.FormFields.{four_fit, not_four, four_with_tag, no_phase, by_phase, no_tag_at, by_words, no_letters, no_stem, both_words, answer_moved}
-use Rattle.form_file.proofs.told.Told.take_form_into.Goals as goal
+use Rattle.form_file.proofs.told.Told.take_fields_into.Goals as goal
 
 pub returns-in_default : goal.returns-in_default
 returns-in_default c =
