@@ -6,3 +6,5 @@ pub mod TagShapes
 pub mod TagsByText
 pub mod TagEquality
 pub mod AnalysisOrder
+pub mod CaseTexts
+pub mod PlacedDots

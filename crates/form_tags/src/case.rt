@@ -1,4 +1,4 @@
-ghost use Rattle.std.specs.Prelude.{◌≡◌, ◌↔◌, IsSome, IfSome};
+ghost use Rattle.std.specs.Prelude.{◌≡◌, ◌↔◌, ℕ, List, ◌∷◌, IsSome, IfSome};
 ghost use Rattle.lexicon_definitions.specs.Tags.{IsOneOf, cases};
 ghost use Rattle.form_tags.specs.Ranks.{rank_among};
 ghost use Rattle.form_tags.specs.TagTexts.{case_text};
@@ -49,20 +49,36 @@ impl Case {
         }
     }
 
+    /// The one case whose text may begin with these two bytes. One number tells it, so that `read` compares with one
+    /// text: which of eight texts it will be is what a processor guesses wrongly.
+    fn begun_by(first: u8, second: u8) -> Case
+        ensures { (gcase : Case) (rest : List ℕ) → case_text gcase ≡ first ∷ second ∷ rest → result ≡ gcase }
+    {
+        let sum = 5 * u32::from(first) + 4 * u32::from(second);
+        match sum / 8 % 8 {
+            0 => Case::Ins,
+            1 => Case::Voc,
+            2 => Case::Gen,
+            3 => Case::Loc,
+            4 => Case::Nom,
+            5 => Case::Abl,
+            6 => Case::Acc,
+            _ => Case::Dat,
+        }
+    }
+
     pub(crate) fn read(text: &[u8]) -> Option<Case>
         ensures some { IsSome result ↔ IsOneOf cases text.now }
         ensures value { IfSome result (λ case. case_text case ≡ text.now) }
     {
-        match text {
-            b"nom" => Some(Case::Nom),
-            b"acc" => Some(Case::Acc),
-            b"ins" => Some(Case::Ins),
-            b"dat" => Some(Case::Dat),
-            b"abl" => Some(Case::Abl),
-            b"gen" => Some(Case::Gen),
-            b"loc" => Some(Case::Loc),
-            b"voc" => Some(Case::Voc),
-            _ => None,
+        let [first, second, _] = text else {
+            return None;
+        };
+        let gcase = Case::begun_by(*first, *second);
+        if gcase.text().as_bytes() == text {
+            Some(gcase)
+        } else {
+            None
         }
     }
 }

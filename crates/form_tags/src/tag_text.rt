@@ -14,6 +14,9 @@ pub fn read_tag(text: &[u8]) -> Option<Tag>
     ensures some { IsSome result ↔ IsTagText text.now }
     ensures value { IfSome result (λ tag. tag_text tag ≡ text.now) }
 {
+    if let Some(tag) = read_placed(text) {
+        return Some(tag);
+    }
     let Some((first, rest)) = split_at_dot(text) else {
         return read_lone_word(text);
     };
@@ -29,6 +32,17 @@ pub fn print_tag(alloc: Global, tag: &Tag) -> Result<String, Memory>
     ensures ok { IfOk result (λ text. string_bytes text ≡ tag_text tag.now) }
 {
     Ok(tag.to_string(alloc)?)
+}
+
+/// The tag that has this text, where it is that of a nominal form: all of these have eight bytes and their dots at the
+/// same two places, so that no dot is looked for.
+fn read_placed(text: &[u8]) -> Option<Tag>
+    ensures { IfSome result (λ tag. tag_text tag ≡ text.now) }
+{
+    let [_, b'.', _, _, b'.', _, _, _] = text else {
+        return None;
+    };
+    read_nominal(&text[..1], &text[2..4], &text[5..])
 }
 
 fn split_at_dot(text: &[u8]) -> Option<(&[u8], &[u8])>
