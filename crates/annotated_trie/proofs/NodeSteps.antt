@@ -3,12 +3,13 @@
 use Rattle.std.proofs.Common.{◌≡◌, ◌≢◌, ℕ, ◌+◌, ◌<◌, ◌≤◌, ◌⊎◌, ◌↔◌, inl, inr, Bool, true, false, Option, Some, None, List, [], ◌∷◌, ◌++◌, length, get_or, slice_get, nat_eq, if◌then◌else◌, refl, sym, ◌∙◌, ap, subst, arith, length-append, append-nil}
 use Rattle.std.specs.Global.{Vec}
 use Rattle.std.specs.Cmp.Lexicographic.{pointwise}
-use Rattle.std.specs.Prelude.{Contains}
+use Rattle.std.specs.Prelude.{Contains, position}
 use Rattle.std.proofs.lemmas.Bool.Decides.{Decides-eqb}
 use Rattle.std.proofs.lemmas.Slice.Eq.{slice_eq-Decides}
 use Rattle.std.proofs.lemmas.Bool.{cases_lt}
 use Rattle.std.proofs.lemmas.List.{get_or_append_left, get_or_default, get_or_push, length_push}
 use Rattle.std.proofs.lemmas.List.Elements.{All-contains, Contains-get_or, Contains-append_left, Contains-push, Contains-push_cases}
+use Rattle.std.proofs.lemmas.List.Quantifiers.{position-Some}
 use Rattle.std.proofs.lemmas.Option.{same_Some, slice_get_within, get_or_from_slice_get}
 use Rattle.lexicon_definitions.specs.Tries.{Row, AreRows, IsChild, child_in, row_of}
 use Rattle.lexicon_definitions.proofs.TrieChildren.{Contains-child_among, IsChild-child_in}
@@ -144,6 +145,24 @@ AddsNode-insert old new numbers old_places new_places place b keys (list, at, sa
       places = places;
       there = there;
       has = list_at-read new place list there (sym (get_or_from_slice_get new place list list at)) ∙ sym equal;
+    }
+
+-- a list that is found in a set of lists stands there, and the set stays
+pub AddsNode-found : (sets : List (Vec ℕ)) (numbers old_places new_places : List ℕ) (place : ℕ) (default : Vec ℕ)
+    → position (λ (list : Vec ℕ). pointwise nat_eq numbers list.items) sets ≡ Some place → new_places ≡ old_places ++ place ∷ []
+    → AddsNode sets sets old_places new_places numbers
+AddsNode-found sets numbers old_places new_places place default found places =
+    let (there, same, before) = position-Some (λ (list : Vec ℕ). pointwise nat_eq numbers list.items) sets place default found in
+    let list = get_or sets place default in
+    let equal : numbers ≡ list.items = (slice_eq-Decides Decides-eqb numbers list.items (pointwise nat_eq numbers list.items) refl).0 same in
+    record {
+      more = [];
+      sets = sym (append-nil sets);
+      few = omega arith;
+      place = place;
+      places = places;
+      there = there;
+      has = list_at-read sets place list there (get_or_default sets place default list there) ∙ sym equal;
     }
 
 -- one node more

@@ -31,40 +31,47 @@ pub(crate) fn number_nodes(
         sets: IndexSet::new(alloc),
         places: Vec::new(alloc),
     };
+    let mut numbers = Vec::new(alloc);
     for number in 0..store.len() {
-        let numbers = suffixes_at(alloc, store, suffixes, &nodes, store.node(number))?;
-        add_node(&mut nodes, numbers)?;
+        suffixes_at(store, suffixes, &nodes, store.node(number), &mut numbers)?;
+        add_node(alloc, &mut nodes, numbers.as_slice())?;
     }
     Ok(nodes)
 }
 
-/// Gives the next node this list.
-fn add_node(nodes: &mut NodeSuffixes, numbers: Vec<u32>) -> Result<(), Memory>
+/// Gives the next node this list. Most nodes have the list of one before, so it is copied only where it is new.
+fn add_node(alloc: Global, nodes: &mut NodeSuffixes, numbers: &[u32]) -> Result<(), Memory>
     requires few { length nodes.old.sets.keys + 1 < 2 ^ 32 }
-    ensures ok { OnOk result (AddsNode nodes.old.sets.keys nodes.new.sets.keys nodes.old.places.items nodes.new.places.items numbers.items) }
+    ensures ok { OnOk result (AddsNode nodes.old.sets.keys nodes.new.sets.keys nodes.old.places.items nodes.new.places.items numbers.now) }
 {
-    let Ok((place, _is_new)) = nodes.sets.insert_full(numbers) else {
+    if let Some(place) = nodes.sets.get_index_of(numbers) {
+        nodes.places.push(place as u32)?;
+        return Ok(());
+    }
+    let copy = Vec::from_slice(alloc, numbers)?;
+    let Ok((place, _is_new)) = nodes.sets.insert_full(copy) else {
         return Err(Memory);
     };
     nodes.places.push(place as u32)?;
     Ok(())
 }
 
-/// The numbers of the suffixes that lead from the node to the end of a form, where those of all nodes before it are known.
+/// Makes these the numbers of the suffixes that lead from the node to the end of a form, where those of all nodes before it are
+/// known.
 fn suffixes_at(
-    alloc: Global,
     store: &Store,
     suffixes: &IndexSet<(Letter, u32)>,
     nodes: &NodeSuffixes,
     node: Node,
-) -> Result<Vec<u32>, Memory>
+    numbers: &mut Vec<u32>,
+) -> Result<(), Memory>
     requires few { length suffixes.now.keys < 2 ^ 31 }
     requires trie { IsTrie store.now }
     requires node { node < length store.now.rows }
     requires known { AreSetsAt suffixes.now.keys store.now.rows node nodes.now.sets.keys nodes.now.places.items }
-    ensures ok { IfOk result (λ numbers. AreSuffixesAt suffixes.now.keys store.now.rows node numbers.items) }
+    ensures ok { OnOk result (AreSuffixesAt suffixes.now.keys store.now.rows node numbers.new.items) }
 {
-    let mut numbers = Vec::new(alloc);
+    numbers.clear();
     if store.accepts(node) {
         numbers.push(0)?;
     }
@@ -72,9 +79,9 @@ fn suffixes_at(
     for (letter, child) in children {
         let place = nodes.places[child.number() as usize];
         let rests = nodes.sets.as_slice()[place as usize].as_slice();
-        add_longer(suffixes, *letter, rests, &mut numbers)?;
+        add_longer(suffixes, *letter, rests, numbers)?;
     }
-    Ok(numbers)
+    Ok(())
 }
 
 /// Appends the numbers of the suffixes that begin with the letter and go on as one of these.
