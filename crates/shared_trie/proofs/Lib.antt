@@ -26,6 +26,7 @@ pub mod OpenRowLaws
 pub mod PathRows
 pub mod Roots
 pub mod LetterLists
+pub mod PackedParts
 pub mod PackedRows
 pub mod SetPlaces
 pub mod ToldRows

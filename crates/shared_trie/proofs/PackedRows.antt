@@ -25,14 +25,14 @@ use Rattle.shared_trie.proofs.DeltaLists.{some_element}
 use Rattle.shared_trie.proofs.LetterLists.{few_letters, letters_rise}
 
 -- a part that was there
-part_kept : {X : Type 0} (xs more : List X) (from to : ℕ) → from ≤ to → to ≤ length xs → slice_range (xs ++ more) from to ≡ slice_range xs from to
+pub part_kept : {X : Type 0} (xs more : List X) (from to : ℕ) → from ≤ to → to ≤ length xs → slice_range (xs ++ more) from to ≡ slice_range xs from to
 part_kept xs more from to order within =
     let long = length-drop from xs in
     ap (take (to - from)) (drop-append-le from xs more (omega (arith, order, within)))
     ∙ take-append-le (to - from) (drop from xs) more (omega (arith, long, within, order))
 
 -- the part that was added
-part_added : {X : Type 0} (xs more : List X) (from to : ℕ) → from ≡ length xs → to ≡ from + length more → slice_range (xs ++ more) from to ≡ more
+pub part_added : {X : Type 0} (xs more : List X) (from to : ℕ) → from ≡ length xs → to ≡ from + length more → slice_range (xs ++ more) from to ≡ more
 part_added xs more from to start end =
     ap (take (to - from)) (drop_at xs more from (sym start)) ∙ take_all (to - from) more (omega (arith, end))
 

@@ -156,6 +156,15 @@ goes_on_after last word shared less front within =
           absurd (not_below_empty (drop shared last) (sym (compare_words-front word (drop shared last) []) ∙ (λ i. compare_words (sym longer i) (append-nil word i)) ∙ less))
     ]
 
+-- equal words share all their letters
+pub shares_all : (last word : List ℕ) (shared : ℕ) → shared ≤ length last
+    → (shared < length last → shared < length word → get_or last shared 0 ≢ get_or word shared 0) → last ≡ word → shared ≡ length last
+shares_all last word shared within differ e =
+    elim (cases_lt shared (length last)) [
+      | inl low ↦ absurd (let long = ap length e in differ low (omega (arith, low, long)) (ap (λ (w : List ℕ). get_or w shared 0) e))
+      | inr past ↦ omega (arith, past, within)
+    ]
+
 -- ---- the entry is one of the last form
 
 pub ready_again : (phases : List (List Form)) (lines : ℕ) (last entry : Entry) (open_trie : OpenTrie) → All IsListedPhase phases → IsPending phases lines last open_trie

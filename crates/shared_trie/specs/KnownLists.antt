@@ -1,7 +1,12 @@
--- Lists of deltas that are known by the numbers of their deltas.
-use Rattle.std.specs.Prelude.{ℕ, List, map}
+-- Lists of deltas that are known by the numbers of their deltas, which stand in one list.
+use Rattle.std.specs.Prelude.{ℕ, ◌≤◌, List, length, slice_range}
 use Rattle.shared_trie.specs.declared.list_numbers.KnownList.{KnownList}
 
--- the numbers of the deltas of each, and the number of the list
-abbrev pub known_of : List KnownList → List (List ℕ × ℕ)
-known_of known = map (λ (one : KnownList). (one.numbers.items, one.list)) known
+-- the numbers of the deltas, and the number of the list
+abbrev pub known_in : List ℕ → KnownList → List ℕ × ℕ
+known_in numbers known = (slice_range numbers known.first known.end, known.list)
+
+-- the numbers of the deltas are there
+pub record IsKnownIn (numbers : List ℕ) (known : KnownList) : Type 0 where
+  pub order : known.first ≤ known.end
+  pub within : known.end ≤ length numbers

@@ -13,6 +13,7 @@ pub mod OpenForms
 pub mod OpenPaths
 pub mod OpenRows
 pub mod Packed
+pub mod PackedDeltas
 pub mod Interned
 pub mod Runs
 pub mod Stages

@@ -10,25 +10,30 @@ use std::marker::Model;
 #[derive(Drop)]
 pub(crate) struct ListNumbers {
     known: Vec<KnownList>,
+    /// The numbers of the deltas of all lists, one list's after another's.
+    numbers: Vec<u32>,
     chains: Chains,
 }
 
-/// The numbers of some deltas, and that of their list.
-#[derive(Drop)]
+/// Where the numbers of some deltas stand among those of all lists, and the number of their list.
+#[derive(Clone, Copy)]
 struct KnownList {
-    numbers: Vec<u32>,
+    /// The place of the first number.
+    first: usize,
+    /// The place after the last one.
+    end: usize,
     list: u32,
 }
 
 impl Model for ListNumbers {
-    ghost use Rattle.std.specs.Prelude.{◌≡◌, ℕ, List, length};
-    ghost use Rattle.shared_trie.specs.KnownLists.{known_of};
+    ghost use Rattle.std.specs.Prelude.{◌≡◌, ℕ, List, length, map, All};
+    ghost use Rattle.shared_trie.specs.KnownLists.{IsKnownIn, known_in};
 
     ghost Value = { List (List ℕ × ℕ) };
 
-    ghost view = { λ l. known_of l.known.items };
+    ghost view = { λ l. map (known_in l.numbers.items) l.known.items };
 
-    ghost invariant = { λ l. length l.chains ≡ length l.known.items };
+    ghost invariant = { λ l. (length l.chains ≡ length l.known.items) × All (IsKnownIn l.numbers.items) l.known.items };
 }
 
 impl ListNumbers {
@@ -38,6 +43,7 @@ impl ListNumbers {
     {
         ListNumbers {
             known: Vec::new(alloc),
+            numbers: Vec::new(alloc),
             chains: Chains::new(alloc),
         }
     }
@@ -49,8 +55,8 @@ impl ListNumbers {
         let hash = hash_numbers(numbers);
         let mut found = self.chains.last_with(hash, None);
         while let Some(number) = found {
-            let known = &self.known[number as usize];
-            if known.numbers.as_slice() == numbers {
+            let known = self.known[number as usize];
+            if &self.numbers[known.first..known.end] == numbers {
                 return Some(known.list);
             }
             found = self.chains.last_with(hash, Some(number));
@@ -59,15 +65,25 @@ impl ListNumbers {
     }
 
     /// Makes the number of the list of the deltas with these numbers known.
-    pub(crate) fn add(&mut self, alloc: Global, numbers: &[u32], list: u32) -> Result<(), Memory>
+    pub(crate) fn add(&mut self, numbers: &[u32], list: u32) -> Result<(), Memory>
         requires { length self.old + 1 < 2 ^ 32 }
         ensures ok { OnOk result (self.new ≡ self.old ++ (numbers.now, list) ∷ []) }
         ensures unchanged { OnErr result (self.new ≡ self.old) }
     {
         self.known.reserve(1)?;
-        let numbers = Vec::from_slice(alloc, numbers)?;
-        self.chains.push(hash_numbers(numbers.as_slice()))?;
-        let Ok(()) = self.known.push(KnownList { numbers, list }) else {
+        self.numbers.reserve(numbers.len())?;
+        self.chains.push(hash_numbers(numbers))?;
+        // There is room for all, so that no want of memory comes between them.
+        let first = self.numbers.len();
+        let Ok(()) = self.numbers.extend_from_slice(numbers) else {
+            unreachable!();
+        };
+        let known = KnownList {
+            first,
+            end: self.numbers.len(),
+            list,
+        };
+        let Ok(()) = self.known.push(known) else {
             unreachable!();
         };
         Ok(())

@@ -68,7 +68,7 @@ impl OpenTrie {
         }
         let deltas = self.deltas.list(alloc, self.numbers.as_slice())?;
         let list = self.trie.number_list(deltas)?;
-        self.known.add(alloc, self.numbers.as_slice(), list)?;
+        self.known.add(self.numbers.as_slice(), list)?;
         Ok(list)
     }
 
@@ -197,10 +197,10 @@ impl OpenTrie {
             self.fill_roots(told, last.phase + 1, next.phase)?;
             return Ok(());
         }
-        if last.form == next.form {
+        let shared = shared_len(last.form.as_slice(), next.form.as_slice());
+        if shared == last.form.len() && shared == next.form.len() {
             return Ok(());
         }
-        let shared = shared_len(last.form.as_slice(), next.form.as_slice());
         self.end_form(alloc, told, last)?;
         self.close_to(told, last, shared)?;
         Ok(())

@@ -97,7 +97,7 @@ fn add(
 {
     leave(open_trie, alloc, told, last, next)?;
     let form = next.form.as_slice();
-    let number = open_trie.deltas.number(alloc, form, &next.analysis)?;
+    let number = open_trie.deltas.number(form, &next.analysis)?;
     open_trie.numbers.push(number)?;
     Ok(())
 }
