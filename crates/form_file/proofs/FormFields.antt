@@ -1,27 +1,30 @@
 -- The answers to a line of a form, by its four fields: the phase's number, the tag, and the two words that are spelled.
-use Rattle.std.proofs.Common.{IsTrue, false, ◌≡◌, ℕ, ◌<◌, ◌≤◌, Option, Some, None, Result, Ok, Err, ◌≢◌, ◌+◌, ◌-◌, List, [], ◌∷◌, ◌++◌, All, take, drop, length, slice_index_or, refl, sym, ◌∙◌, ap, subst, arith}
-use Rattle.std.specs.List.{join_with_byte, position}
+use Rattle.std.proofs.Common.{IsTrue, true, false, ◌≡◌, ℕ, ◌<◌, ◌≤◌, Option, Some, None, Result, Ok, Err, ◌≢◌, ◌+◌, ◌-◌, List, [], ◌∷◌, ◌++◌, All, take, drop, length, slice_index_or, refl, sym, ◌∙◌, ap, subst, arith}
+use Rattle.std.specs.List.{AllByRecursion, join_with_byte, position}
 use Rattle.std.specs.Str.{bytes_eq}
-use Rattle.std.proofs.lemmas.Bool.{false≢true, false_from_ne_true}
+use Rattle.std.proofs.lemmas.Bool.{eqb-false, false≢true, false_from_ne_true}
 use Rattle.std.proofs.lemmas.List.{length-append, take-append-drop, drop_more, take_rest}
+use Rattle.std.proofs.lemmas.List.Elements.{All-from_recursion}
 use Rattle.std.proofs.lemmas.List.Splits.{join_with_byte-slice_split}
 use Rattle.text_definitions.specs.Spellings.{Reading}
 use Rattle.text_definitions.specs.Words.{IsWord}
 use Rattle.text_definitions.specs.Slp1.{word_of_slp1, slp1_of_word}
 use Rattle.text_definitions.proofs.SpelledWords.{spelled_from_read, word_from_read, read_from_spelled, free_of_blank}
+use Rattle.lexicon_definitions.specs.Lexicons.{IsPhaseName}
 use Rattle.lexicon_definitions.specs.Tags.{IsTagText}
 use Rattle.lexicon_text_definitions.specs.FileFaults as faults
 use Rattle.lexicon_text_definitions.specs.FileLines.{fields_of}
 use Rattle.lexicon_text_definitions.specs.FileContents.{Told, is_tag_text}
 use Rattle.lexicon_text_definitions.specs.FileSteps.{Taken, some_word, take_form_line, take_analysis, take_entry, take_form}
 use Rattle.lexicon_text_definitions.proofs.TagTests.{tag_from_test, test_from_tag, tag_free_of_blank}
+use Rattle.lexicon_text_definitions.proofs.LineTests.{free_name}
 use Rattle.lexicon_text_definitions.proofs.LineCuts.{split_at, split_none}
 use Rattle.form_file.specs.declared.take_error.TakeError.{TakeError}
-use Rattle.form_file.specs.Fields.{four_of}
+use Rattle.form_file.specs.Fields.{BeginsWithPhase, four_of}
 use Rattle.form_file.specs.Told.{IsAnswer}
 use Rattle.form_file.specs.Words.{BeginsWithWord}
 use Rattle.list_laws.proofs.Booleans.{when_true, when_false}
-use Rattle.list_laws.proofs.Marks.{free_from_All}
+use Rattle.list_laws.proofs.Marks.{free_from_All, free_parts, is_free}
 
 -- ---- no field is longer than the text
 
@@ -142,10 +145,22 @@ fields_read text name rest form after stem tag t f s g =
     let second = ap (λ (text : List ℕ). fields_of (Some text)) f.2 ∙ split_at 32 (slp1_of_word form) after (free_of_blank form f.0) ∙ ap (◌∷◌ (slp1_of_word form)) third in
     ap (λ (text : List ℕ). fields_of (Some text)) t.0 ∙ split_at 32 name rest (free_from_All 32 name t.1) ∙ ap (◌∷◌ name) second
 
-pub form_read : (told : Told) (text name rest form after stem tag is_tag : List ℕ) (phase : ℕ) → (text ≡ name ++ 32 ∷ rest) × All (λ byte. byte ≢ 32) name
-    → Some phase ≡ position (bytes_eq name) told.names → BeginsWithWord rest form after → BeginsWithWord after stem tag → IsTagText tag → is_tag ≡ tag
+no_blank_by_recursion : (text : List ℕ) → is_free 32 text ≡ true → AllByRecursion (λ byte. byte ≢ 32) text
+no_blank_by_recursion [] h = tt
+no_blank_by_recursion (byte ∷ text) h = let parts = free_parts 32 byte text h in (eqb-false byte 32 parts.0, no_blank_by_recursion text parts.1)
+
+-- the name of a phase before a blank
+pub begins_with_name : (names : List (List ℕ)) (text name : List ℕ) (phase : ℕ) → IsPhaseName name → length name < length text → take (length name) text ≡ name
+    → slice_index_or text (length name) 0 ≡ 32 → Some phase ≡ position (bytes_eq name) names
+    → BeginsWithPhase names text phase (take (length text - (length name + 1)) (drop (length name + 1) text))
+begins_with_name names text name phase h below is blank p =
+    let rest = drop_more text (length name) 0 below ∙ (λ i. blank i ∷ sym (take_rest text (length name + 1)) i) in
+    let free = All-from_recursion (λ byte. byte ≢ 32) name (no_blank_by_recursion name (free_name 32 name refl h)) in
+    (name, sym (take-append-drop (length name) text) ∙ (λ i. is i ++ rest i), free, p)
+
+pub form_read : (told : Told) (text rest form after stem tag is_tag : List ℕ) (phase : ℕ) → BeginsWithPhase told.names text phase rest → BeginsWithWord rest form after → BeginsWithWord after stem tag → IsTagText tag → is_tag ≡ tag
     → take_form told (fields_of (Some text)) ≡ take_form_line told (record { phase = phase; letters = form; analysis = record { stem = stem; tag = is_tag } })
-form_read told text name rest form after stem tag is_tag phase t p f s g e =
-    by_phase told (fields_of (Some text)) name (slp1_of_word form) (slp1_of_word stem) tag (Some phase) (fields_read text name rest form after stem tag t f s g) p
+form_read told text rest form after stem tag is_tag phase p f s g e =
+    by_phase told (fields_of (Some text)) p.0 (slp1_of_word form) (slp1_of_word stem) tag (Some phase) (fields_read text p.0 rest form after stem tag (p.1, p.2) f s g) p.3
     ∙ by_words told phase (slp1_of_word form) (slp1_of_word stem) tag g
     ∙ both_words told phase tag is_tag form stem _ _ (some_word_read form f.0 f.1) (some_word_read stem s.0 s.1) e

@@ -1,6 +1,8 @@
 -- Fields of a line by their number.
-use Rattle.std.specs.Prelude.{ℕ, Option, Some, None, List, [], ◌∷◌}
+use Rattle.std.specs.Prelude.{◌≡◌, ◌≢◌, ℕ, Option, Some, None, List, [], ◌∷◌, ◌++◌, All}
 use Rattle.std.specs.Borrow.{Bor}
+use Rattle.std.specs.List.{position}
+use Rattle.std.specs.Str.{bytes_eq}
 
 -- what comes after the blank, as bytes
 abbrev pub text_of_rest : Option (Bor (List ℕ)) → Option (List ℕ)
@@ -21,3 +23,8 @@ two_of fields = None
 abbrev pub four_of : List (List ℕ) → Option (List ℕ × List ℕ × List ℕ × List ℕ)
 four_of (first ∷ second ∷ third ∷ fourth ∷ []) = Some (first, second, third, fourth)
 four_of fields = None
+
+-- the text is the name of the phase with this number, which has no blank, then a blank, and then the rest
+abbrev pub BeginsWithPhase : List (List ℕ) → List ℕ → ℕ → List ℕ → Type 0
+BeginsWithPhase names text phase rest =
+    (name : List ℕ) × (text ≡ name ++ 32 ∷ rest) × All (λ byte. byte ≢ 32) name × (Some phase ≡ position (bytes_eq name) names)

@@ -1,5 +1,5 @@
-ghost use Rattle.std.specs.Prelude.{◌≡◌, ◌<◌, ◌||◌, ◌++◌, codes, nat_le, nat_lt, ◌≤◌, ◌^◌, [], length, map, replicate, true, IfOk, IfErr, OnOk, Some, IfSome, IsTrue, string_bytes};
-ghost use Rattle.std.specs.List.{list_all, position};
+ghost use Rattle.std.specs.Prelude.{◌≡◌, ◌<◌, ◌||◌, nat_lt, ◌≤◌, ◌^◌, [], length, map, replicate, true, IfOk, IfErr, OnOk, Some, IfSome, string_bytes};
+ghost use Rattle.std.specs.List.{position};
 ghost use Rattle.std.specs.Str.{bytes_eq};
 ghost use Rattle.lexicon_definitions.specs.GrammarTexts.{grammar_of};
 ghost use Rattle.lexicon_definitions.specs.GrammarFaults.{IsGrammarTextWithinLimits};
@@ -9,25 +9,24 @@ ghost use Rattle.lexicon_definitions.specs.Tries.{IsTrieOf};
 ghost use Rattle.trie_text_definitions.specs.TrieForms.{phases_of};
 ghost use Rattle.phase_automaton.specs.Automata.{Recognizes};
 ghost use Rattle.lexicon_text_definitions.specs.FileLines.{Opening, Head as HeadLine, End, may_follow, Phase, Grammar, Plain, Rule as RuleLine, Form, fields_of, parts_of};
-ghost use Rattle.lexicon_text_definitions.specs.FileContents.{Told as ToldValue, entries_from, nothing_told, rules_told, lexicon_told, compare_entries, compare_last as compare_last_of};
-ghost use Rattle.lexicon_text_definitions.specs.FileSteps.{if_rising, passes_rule_limits as passes_rule_limits_of, take_triple as take_triple_of, take_line as take_line_of, take_head as take_head_of, take_end as take_end_of, take_phase as take_phase_of, take_grammar as take_grammar_of, take_plain as take_plain_of, take_rule as take_rule_of, take_form as take_form_of, take_kind as take_kind_of, take_parts as take_parts_of, take_form_line};
-ghost use Rattle.form_tags.specs.Entries.{text_entry};
+ghost use Rattle.lexicon_text_definitions.specs.FileContents.{Told as ToldValue, entries_from, nothing_told, rules_told, lexicon_told, compare_last as compare_last_of};
+ghost use Rattle.lexicon_text_definitions.specs.FileSteps.{if_rising, passes_rule_limits as passes_rule_limits_of, take_triple as take_triple_of, take_line as take_line_of, take_head as take_head_of, take_end as take_end_of, take_phase as take_phase_of, take_grammar as take_grammar_of, take_plain as take_plain_of, take_rule as take_rule_of, take_kind as take_kind_of, take_parts as take_parts_of};
 ghost use Rattle.form_file.specs.Told.{IsAnswer, IsLineAnswer, IsTextFault, HasBody, IsBody};
 ghost use Rattle.form_file.specs.LimitedRules.{take_limited as take_limited_of};
 ghost use Rattle.form_file.specs.Fields.{text_of_rest};
 ghost use Rattle.form_file.specs.Contents.{lexicon_of};
 ghost use Rattle.form_file.specs.Kinds.{kind_of};
 
-use crate::cutting::{
-    cut_at_blank, kind_and_rest, one_field, rule_parts, three_fields_and_rest, two_fields,
-};
+mod form_lines;
+
+use crate::cutting::{kind_and_rest, one_field, rule_parts, two_fields};
 use crate::kind::Kind;
 use crate::rules_so_far::RulesSoFar;
 use crate::take_error::TakeError;
-use crate::words::{read_letter, read_some_word_over, read_word, read_word_before_blank};
+use crate::words::{read_letter, read_word};
 use crate::{Contents, FileWhy};
-use form_tags::{Entry, read_tag};
-use lexicon_definitions::{MOST_FORM_LETTERS, MOST_FORM_LINES, MOST_PHASES, MOST_RULE_LETTERS};
+use form_tags::Entry;
+use lexicon_definitions::{MOST_PHASES, MOST_RULE_LETTERS};
 use phase_automaton::{Automaton, GrammarError, read_grammar};
 use phoneme::{Letter, Memory, Word};
 use sandhi_rules::{Rule, RuleSet, is_phase_name, phase_named};
@@ -36,7 +35,6 @@ use std::alloc::Global;
 use std::boxed::Box;
 use std::cmp::Ordering;
 use std::marker::Model;
-use std::mem;
 
 /// What the lines so far told: the kind of the last line, the names of the phases, the grammar's text with its automaton, the
 /// plain pairs, the rules, and the trie of the forms.
@@ -85,15 +83,6 @@ fn compare_last_pair(pairs: &[(Letter, Letter)], pair: &(Letter, Letter)) -> Ord
         [] => Ordering::Less,
         [.., last] => last.cmp(pair),
     }
-}
-
-/// Whether no entry may come after so many, or the entry's form or its stem is too long.
-fn passes_form_limits(lines: usize, entry: &Entry) -> bool
-    ensures { result ≡ (nat_le MOST_FORM_LINES lines || nat_lt MOST_FORM_LETTERS (length entry.now.form) || nat_lt MOST_FORM_LETTERS (length entry.now.analysis.stem)) }
-{
-    lines >= MOST_FORM_LINES
-        || entry.form.len() > MOST_FORM_LETTERS
-        || entry.analysis.stem.len() > MOST_FORM_LETTERS
 }
 
 /// Whether a part of the rule is too long.
@@ -190,20 +179,6 @@ impl Told {
         ensures few { length self.now.names ≤ MOST_PHASES }
     {
         phase_named(self.names.as_slice(), name)
-    }
-
-    /// The number of the phase with this name. The one that is guessed is asked first: most lines of forms have the phase of the line before.
-    fn phase_named_from(&self, guess: u32, name: &[u8]) -> Option<usize>
-        ensures named { result ≡ position (bytes_eq name.now) self.now.names }
-        ensures within { IfSome result (λ phase. phase < length self.now.names) }
-        ensures few { length self.now.names ≤ MOST_PHASES }
-    {
-        let names = self.names.as_slice();
-        let guess = guess as usize;
-        if guess < names.len() && name == names[guess].as_bytes() {
-            return Some(guess);
-        }
-        self.phase_named(name)
     }
 
     /// Takes the line of a phase, with what comes after its blank. It may come next.
@@ -335,125 +310,6 @@ impl Told {
         Ok(())
     }
 
-    /// How the last entry compares with a new one; `Less` where there is no entry yet.
-    fn compare_last(&self, entry: &Entry) -> Ordering
-        requires { may_follow self.now.last Form ≡ true }
-        ensures { result ≡ compare_last_of compare_entries self.now.forms (text_entry entry.now) }
-    {
-        self.forms.compare_last(entry)
-    }
-
-    fn take_entry(&mut self, alloc: Global, entry: &mut Entry) -> Result<(), TakeError>
-        requires follows { may_follow self.old.last Form ≡ true }
-        requires phase { entry.old.phase < length self.old.names }
-        requires form { 0 < length entry.old.form }
-        requires stem { 0 < length entry.old.analysis.stem }
-        ensures { IsAnswer (take_form_line self.old (text_entry entry.old)) result self.new }
-    {
-        if passes_form_limits(self.forms.lines() as usize, entry) {
-            return Err(FileWhy::Limit.into());
-        }
-        rising(self.compare_last(entry))?;
-        self.forms.push(alloc, entry)?;
-        self.last = Kind::Form;
-        Ok(())
-    }
-
-    /// Reads the line of a form, with what comes after its blank, in one pass into an entry, in whose memory it is read. `false` where this
-    /// does not succeed, and then nothing is known of the entry.
-    fn read_form_into(&self, alloc: Global, entry: &mut Entry, text: &[u8]) -> Result<bool, Memory>
-        ensures phase { IfOk result (λ read. IsTrue read → entry.new.phase < length self.now.names) }
-        ensures form { IfOk result (λ read. IsTrue read → 0 < length entry.new.form) }
-        ensures stem { IfOk result (λ read. IsTrue read → 0 < length entry.new.analysis.stem) }
-        ensures taken { IfOk result (λ read. IsTrue read → take_form_of self.now (fields_of (Some text.now)) ≡ take_form_line self.now (text_entry entry.new)) }
-    {
-        let Some((phase, rest)) = cut_at_blank(text) else {
-            return Ok(false);
-        };
-        let Some(phase) = self.phase_named_from(entry.phase, phase) else {
-            return Ok(false);
-        };
-        let room = mem::replace(&mut entry.form, Word::new(alloc));
-        let Some((form, rest)) = read_word_before_blank(room, rest)? else {
-            return Ok(false);
-        };
-        entry.form = form;
-        let room = mem::replace(&mut entry.analysis.stem, Word::new(alloc));
-        let Some((stem, rest)) = read_word_before_blank(room, rest)? else {
-            return Ok(false);
-        };
-        entry.analysis.stem = stem;
-        let Some(tag) = read_tag(rest) else {
-            return Ok(false);
-        };
-        entry.phase = phase as u32;
-        entry.analysis.tag = tag;
-        Ok(true)
-    }
-
-    /// Takes the line of a form, with what comes after its blank, field by field, as an entry that is read into the memory of this one.
-    fn take_fields_into(
-        &mut self,
-        alloc: Global,
-        entry: &mut Entry,
-        text: &[u8],
-    ) -> Result<(), TakeError>
-        requires follows { may_follow self.old.last Form ≡ true }
-        requires fits { length text.now < 2 ^ 32 }
-        ensures { IsAnswer (take_form_of self.old (fields_of (Some text.now))) result self.new }
-    {
-        let Some((phase, form, stem, tag)) = three_fields_and_rest(text) else {
-            return Err(FileWhy::Field.into());
-        };
-        let Some(phase) = self.phase_named_from(entry.phase, phase) else {
-            return Err(FileWhy::Field.into());
-        };
-        // A tag has no blank: where the rest is one, it is the fourth field and the last.
-        let Some(tag) = read_tag(tag) else {
-            return Err(FileWhy::Field.into());
-        };
-        let room = mem::replace(&mut entry.form, Word::new(alloc));
-        entry.form = read_some_word_over(room, form)?;
-        let room = mem::replace(&mut entry.analysis.stem, Word::new(alloc));
-        entry.analysis.stem = read_some_word_over(room, stem)?;
-        entry.phase = phase as u32;
-        entry.analysis.tag = tag;
-        self.take_entry(alloc, entry)
-    }
-
-    /// Takes the line of a form, with what comes after its blank, as an entry that is read into the memory of this one, in one pass. Only a
-    /// line that cannot be read so is looked at field by field, for its fault. Where the line is taken, another entry stands here then.
-    fn take_form_into(
-        &mut self,
-        alloc: Global,
-        entry: &mut Entry,
-        text: &[u8],
-    ) -> Result<(), TakeError>
-        requires follows { may_follow self.old.last Form ≡ true }
-        requires fits { length text.now < 2 ^ 32 }
-        ensures { IsAnswer (take_form_of self.old (fields_of (Some text.now))) result self.new }
-    {
-        if self.read_form_into(alloc, entry, text)? {
-            return self.take_entry(alloc, entry);
-        }
-        self.take_fields_into(alloc, entry, text)
-    }
-
-    /// Takes the line of a form, with what comes after its blank. It may come next.
-    fn take_form(&mut self, alloc: Global, text: &[u8]) -> Result<(), TakeError>
-        requires follows { may_follow self.old.last Form ≡ true }
-        requires fits { length text.now < 2 ^ 32 }
-        ensures { IsAnswer (take_form_of self.old (fields_of (Some text.now))) result self.new }
-    {
-        let mut room = match self.room.take() {
-            Some(room) => room,
-            None => Box::new(alloc, Entry::empty(alloc))?,
-        };
-        let taken = self.take_form_into(alloc, &mut room, text);
-        self.room = Some(room);
-        taken
-    }
-
     fn take_end(&mut self, rest: Option<&[u8]>) -> Result<(), TakeError>
         requires { may_follow self.old.last End ≡ true }
         ensures { IsAnswer (take_end_of self.old (text_of_rest rest.entry)) result self.new }
@@ -500,27 +356,6 @@ impl Told {
             return Err(FileWhy::Order.into());
         }
         self.take_kind(alloc, kind, rest)
-    }
-
-    /// Takes the line of a form that comes after another, with what comes after its blank. Such a line is ASCII where it is taken, so that
-    /// whether it is UTF-8 is asked only where it is refused.
-    fn take_next_form(&mut self, alloc: Global, line: &[u8], text: &[u8]) -> Result<(), TakeError>
-        requires follows { self.old.last ≡ Form }
-        requires fits { length text.now < 2 ^ 32 }
-        requires form { line.now ≡ codes "form " ++ text.now }
-        ensures { IsLineAnswer (take_line_of self.old (record { bytes = line.now; ended = true })) result self.new }
-    {
-        // This tells what is kept of the names: they are names of phases, and so are ASCII.
-        let _ = &self.names;
-        match self.take_form(alloc, text) {
-            Ok(()) => Ok(()),
-            Err(error) => {
-                if std::str::from_utf8(line).is_err() {
-                    return Err(FileWhy::NotUtf8.into());
-                }
-                Err(error)
-            }
-        }
     }
 
     /// Takes the next line, whether a line end comes after it or not.

@@ -8,6 +8,7 @@ use crate::take_error::TakeError;
 use latin_schemes::{SpellError, read_slp1_front_over, read_slp1_over};
 use phoneme::{Letter, Memory, Word};
 use std::alloc::Global;
+use std::mem;
 
 /// The word that the bytes spell in SLP1.
 pub fn read_word(alloc: Global, text: &[u8]) -> Result<Word, TakeError>
@@ -41,19 +42,23 @@ pub(crate) fn read_some_word_over(word: Word, text: &[u8]) -> Result<Word, TakeE
     Ok(word)
 }
 
-/// The word of some letters with which the text begins in SLP1, before a blank, in the memory of another word; and what comes after the
-/// blank. `None` where the text does not begin so.
-pub(crate) fn read_word_before_blank(
-    word: Word,
-    text: &[u8],
-) -> Result<Option<(Word, &[u8])>, Memory>
-    ensures { IfOk result (λ found. IfSome found (λ parts. BeginsWithWord text.now parts.0 parts.1.now)) }
+/// Reads the word of some letters with which the text begins in SLP1, before a blank, in the memory of a word and as that word, and gives
+/// what comes after the blank. `None` where the text does not begin so, and then nothing is known of the word.
+pub(crate) fn read_word_before_blank<'a>(
+    alloc: Global,
+    word: &mut Word,
+    text: &'a [u8],
+) -> Result<Option<&'a [u8]>, Memory>
+    ensures { IfOk result (λ found. IfSome found (λ rest. BeginsWithWord text.now word.new rest.now)) }
 {
-    let (word, count) = read_slp1_front_over(word, text)?;
-    if word.is_empty() || count >= text.len() || text[count] != b' ' {
+    let room = mem::replace(word, Word::new(alloc));
+    let (front, count) = read_slp1_front_over(room, text)?;
+    let is_empty = front.is_empty();
+    *word = front;
+    if is_empty || count >= text.len() || text[count] != b' ' {
         return Ok(None);
     }
-    Ok(Some((word, &text[count + 1..])))
+    Ok(Some(&text[count + 1..]))
 }
 
 /// The one letter that the bytes spell in SLP1.

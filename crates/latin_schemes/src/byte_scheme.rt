@@ -1,4 +1,4 @@
-ghost use Rattle.std.specs.Prelude.{◌≡◌, ◌^◌, ◌<◌, ◌≤◌, ℕ, Ok, Some, length, map, take, nat_lt, IsTrue, IfOk, IfErr, string_bytes};
+ghost use Rattle.std.specs.Prelude.{◌≡◌, ◌^◌, ◌<◌, ◌≤◌, ℕ, Ok, Some, None, length, map, take, slice_index, nat_lt, IsTrue, IfOk, IfErr, string_bytes};
 ghost use Rattle.std.specs.List.{list_all};
 ghost use Rattle.text_definitions.specs.Spellings.{word_of_bytes, byte_of_letter};
 ghost use Rattle.latin_schemes.specs.Faults.{IsFaultOf};
@@ -14,13 +14,9 @@ pub fn read_bytes_over(word: Word, codes: &[u8; 256], text: &[u8]) -> Result<Wor
     ensures ok { IfOk result (λ word. word_of_bytes (letter_by_code codes.now) 0 text.now ≡ Ok word) }
     ensures fault { IfErr result (λ error. IsFaultOf error (word_of_bytes (letter_by_code codes.now) 0 text.now)) }
 {
-    let mut word = word;
-    word.clear();
-    for (at, byte) in text.iter().enumerate() {
-        match Letter::new(codes[*byte as usize]) {
-            Some(letter) => word.push(letter)?,
-            None => return Err(SpellFault::NotLetter { at: at as u32 }.into()),
-        }
+    let (word, count) = read_front_over(word, codes, text)?;
+    if count < text.len() {
+        return Err(SpellFault::NotLetter { at: count as u32 }.into());
     }
     Ok(word)
 }
@@ -30,6 +26,7 @@ pub fn read_bytes_over(word: Word, codes: &[u8; 256], text: &[u8]) -> Result<Wor
 pub fn read_front_over(word: Word, codes: &[u8; 256], text: &[u8]) -> Result<(Word, usize), Memory>
     ensures within { IfOk result (λ front. front.1 ≤ length text.now) }
     ensures spelled { IfOk result (λ front. map (letter_by_code codes.now) (take front.1 text.now) ≡ map (λ (letter : ℕ). Some letter) front.0) }
+    ensures longest { IfOk result (λ front. front.1 < length text.now → letter_by_code codes.now (slice_index text.now front.1) ≡ None) }
 {
     let mut word = word;
     word.clear();

@@ -1,5 +1,6 @@
-ghost use Rattle.std.specs.Prelude.{◌≡◌, ◌^◌, ◌<◌, ◌≤◌, Ok, length, take, IfOk, IfErr, string_bytes};
-ghost use Rattle.text_definitions.specs.Slp1.{word_of_slp1, slp1_of_word};
+ghost use Rattle.std.specs.Prelude.{◌≡◌, ◌^◌, ◌<◌, ◌≤◌, Ok, None, length, take, slice_index, IfOk, IfErr, string_bytes};
+ghost use Rattle.text_definitions.specs.Spellings.{letter_of_byte};
+ghost use Rattle.text_definitions.specs.Slp1.{word_of_slp1, slp1_of_word, slp1_table};
 ghost use Rattle.latin_schemes.specs.Faults.{IsFaultOf};
 
 use super::SpellError;
@@ -47,6 +48,7 @@ pub fn read_slp1_over(word: Word, text: &[u8]) -> Result<Word, SpellError>
 pub fn read_slp1_front_over(word: Word, text: &[u8]) -> Result<(Word, usize), Memory>
     ensures within { IfOk result (λ front. front.1 ≤ length text.now) }
     ensures spelled { IfOk result (λ front. word_of_slp1 (take front.1 text.now) ≡ Ok front.0) }
+    ensures longest { IfOk result (λ front. front.1 < length text.now → letter_of_byte slp1_table (slice_index text.now front.1) ≡ None) }
 {
     read_front_over(word, &CODES, text)
 }

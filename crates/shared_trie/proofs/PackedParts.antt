@@ -6,7 +6,7 @@ use Rattle.std.proofs.lemmas.List.{map_push}
 use Rattle.std.proofs.lemmas.List.Elements.{All-head, All-tail}
 use Rattle.form_tags.specs.TagTexts.{tag_text}
 use Rattle.shared_trie.specs.declared.delta_numbers.DeltaParts.{DeltaParts}
-use Rattle.shared_trie.specs.declared.list_numbers.KnownList.{KnownList}
+use Rattle.shared_trie.specs.declared.known_lists.KnownList.{KnownList}
 use Rattle.shared_trie.specs.KnownLists.{IsKnownIn, known_in}
 use Rattle.shared_trie.specs.PackedDeltas.{IsDeltaIn, delta_in}
 use Rattle.shared_trie.proofs.PackedRows.{part_added, part_kept}

@@ -1,5 +1,5 @@
 ghost use Rattle.std.specs.Prelude.{◌≡◌};
-ghost use Rattle.shared_trie.specs.Hashes.{hash_of, mixed as mixed_of};
+ghost use Rattle.shared_trie.specs.Hashes.{folded as folded_of, hash_of, mixed as mixed_of};
 
 use super::Node;
 use form_tags::Tag;
@@ -15,6 +15,13 @@ fn mixed(hash: u64, part: u64) -> u64
     hash.wrapping_add(part).wrapping_mul(SPREAD)
 }
 
+/// A hash in half as many bits: both halves laid over each other, since `mixed` spreads the bits of each half alone less.
+fn folded(hash: u64) -> u32
+    ensures { result ≡ folded_of hash }
+{
+    ((hash >> 32) ^ (hash & 0xFFFF_FFFF)) as u32
+}
+
 /// The hash of a row with this list of deltas, by its number, and these children.
 pub(crate) fn hash_row(list: u32, children: &[(Letter, Node)]) -> u32
     ensures { result ≡ hash_of list children.now }
@@ -24,7 +31,7 @@ pub(crate) fn hash_row(list: u32, children: &[(Letter, Node)]) -> u32
         let part = 64 * u64::from(child.1.number()) + u64::from(child.0.code());
         hash = mixed(hash, part);
     }
-    (hash >> 32) as u32
+    folded(hash)
 }
 
 /// A hash of some numbers.
@@ -33,7 +40,7 @@ pub(crate) fn hash_numbers(numbers: &[u32]) -> u32 {
     for number in numbers {
         hash = mixed(hash, u64::from(*number));
     }
-    (hash >> 32) as u32
+    folded(hash)
 }
 
 /// A number of the tag, which some tags share.
@@ -64,9 +71,9 @@ fn number_of_tag(tag: &Tag) -> u64 {
 
 /// A hash of the delta with these parts.
 pub(crate) fn hash_delta(cut: u32, append: &[Letter], tag: &Tag) -> u32 {
-    let mut hash = mixed(number_of_tag(tag), u64::from(cut));
+    let mut hash = mixed(mixed(0, number_of_tag(tag)), u64::from(cut));
     for letter in append {
         hash = mixed(hash, u64::from(letter.code()));
     }
-    (hash >> 32) as u32
+    folded(hash)
 }

@@ -12,6 +12,7 @@ use super::hashes::hash_row;
 use super::heights::height_above;
 use super::node_table::NodeTable;
 use super::packed_node::{PackedNode, letters_of};
+use super::shortcuts::Shortcuts;
 use super::{Node, Store};
 use form_tags::Delta;
 use indexmap::IndexSet;
@@ -28,6 +29,8 @@ pub(crate) struct Interned {
     chains: Chains,
     heights: Vec<u32>,
     roots: Vec<Node>,
+    /// Nodes without children by the numbers of their lists. That a list's node stands here is not promised, and is looked at.
+    leaves: Shortcuts,
 }
 
 impl Model for Interned {
@@ -54,6 +57,7 @@ impl Interned {
             chains: Chains::new(alloc),
             heights: Vec::new(alloc),
             roots: Vec::new(alloc),
+            leaves: Shortcuts::new(alloc),
         }
     }
 
@@ -70,6 +74,45 @@ impl Interned {
 
     /// The node with this row, which is added where no node has it.
     pub(crate) fn intern(&mut self, list: u32, children: &[(Letter, Node)]) -> Result<Node, Memory>
+        requires room { 64 * (length self.old.rows + 1) < 2 ^ 32 }
+        requires list { list < length self.old.lists }
+        requires row { IsRow self.old.rows (length self.old.rows) (row_of_list self.old.lists list children.now) }
+        ensures trie { IsTrie (trie_of self.new) }
+        ensures lists { self.new.lists ≡ self.old.lists }
+        ensures roots { self.new.roots ≡ self.old.roots }
+        ensures grown { Grows 1 self.old.rows self.new.rows }
+        ensures ok { IfOk result (HasRow self.new.rows (row_of_list self.old.lists list children.now)) }
+    {
+        if children.is_empty() {
+            return self.intern_leaf(list);
+        }
+        self.intern_hashed(list, children)
+    }
+
+    /// The node with this list of deltas and no child, which is added where no node has it.
+    fn intern_leaf(&mut self, list: u32) -> Result<Node, Memory>
+        requires room { 64 * (length self.old.rows + 1) < 2 ^ 32 }
+        requires list { list < length self.old.lists }
+        requires row { IsRow self.old.rows (length self.old.rows) (row_of_list self.old.lists list []) }
+        ensures trie { IsTrie (trie_of self.new) }
+        ensures lists { self.new.lists ≡ self.old.lists }
+        ensures roots { self.new.roots ≡ self.old.roots }
+        ensures grown { Grows 1 self.old.rows self.new.rows }
+        ensures ok { IfOk result (HasRow self.new.rows (row_of_list self.old.lists list [])) }
+    {
+        if let Some(number) = self.leaves.get(list) {
+            if (number as usize) < self.nodes.len() && self.has_row(number, list, &[]) {
+                return Ok(Node::new(number));
+            }
+        }
+        let node = self.intern_hashed(list, &[])?;
+        self.leaves.make_room(list)?;
+        self.leaves.set(list, node.number());
+        Ok(node)
+    }
+
+    /// The node with this row, which is sought by its hash, and added where no node has it.
+    fn intern_hashed(&mut self, list: u32, children: &[(Letter, Node)]) -> Result<Node, Memory>
         requires room { 64 * (length self.old.rows + 1) < 2 ^ 32 }
         requires list { list < length self.old.lists }
         requires row { IsRow self.old.rows (length self.old.rows) (row_of_list self.old.lists list children.now) }
@@ -184,6 +227,7 @@ impl Interned {
             chains: _,
             heights,
             roots,
+            leaves: _,
         } = self;
         let table = NodeTable::with_parts(alloc, nodes, children, lists)?;
         Ok(Store::new(table, heights, roots))

@@ -1,39 +1,29 @@
 ghost use Rattle.std.specs.Prelude.{◌≡◌, ◌+◌, ◌<◌, ◌^◌, [], ◌∷◌, ◌++◌, length, Contains, IfSome, OnOk, OnErr};
 
-use super::chains::Chains;
-use super::hashes::hash_numbers;
+use super::known_lists::KnownLists;
+use super::shortcuts::Shortcuts;
 use phoneme::Memory;
 use std::alloc::Global;
 use std::marker::Model;
 
-/// The numbers of lists of deltas that were made before, each by the numbers of its deltas in the order in which they came.
+/// The numbers of lists of deltas that were made before, each by the numbers of its deltas in the order in which they came. More than half
+/// of the forms have one delta alone, whose list is found at once.
 #[derive(Drop)]
 pub(crate) struct ListNumbers {
-    known: Vec<KnownList>,
-    /// The numbers of the deltas of all lists, one list's after another's.
-    numbers: Vec<u32>,
-    chains: Chains,
-}
-
-/// Where the numbers of some deltas stand among those of all lists, and the number of their list.
-#[derive(Clone, Copy)]
-struct KnownList {
-    /// The place of the first number.
-    first: usize,
-    /// The place after the last one.
-    end: usize,
-    list: u32,
+    known: KnownLists,
+    /// The number of the list that has one delta alone, by the delta's number.
+    alone: Shortcuts,
 }
 
 impl Model for ListNumbers {
-    ghost use Rattle.std.specs.Prelude.{◌≡◌, ℕ, List, length, map, All};
-    ghost use Rattle.shared_trie.specs.KnownLists.{IsKnownIn, known_in};
+    ghost use Rattle.std.specs.Prelude.{ℕ, List};
+    ghost use Rattle.shared_trie.specs.KnownLists.{AreAlone};
 
     ghost Value = { List (List ℕ × ℕ) };
 
-    ghost view = { λ l. map (known_in l.numbers.items) l.known.items };
+    ghost view = { λ l. l.known };
 
-    ghost invariant = { λ l. (length l.chains ≡ length l.known.items) × All (IsKnownIn l.numbers.items) l.known.items };
+    ghost invariant = { λ l. AreAlone l.known l.alone };
 }
 
 impl ListNumbers {
@@ -42,9 +32,8 @@ impl ListNumbers {
         ensures { result ≡ [] }
     {
         ListNumbers {
-            known: Vec::new(alloc),
-            numbers: Vec::new(alloc),
-            chains: Chains::new(alloc),
+            known: KnownLists::new(alloc),
+            alone: Shortcuts::new(alloc),
         }
     }
 
@@ -52,16 +41,12 @@ impl ListNumbers {
     pub(crate) fn find(&self, numbers: &[u32]) -> Option<u32>
         ensures { IfSome result (λ list. Contains self.now (numbers.now, list)) }
     {
-        let hash = hash_numbers(numbers);
-        let mut found = self.chains.last_with(hash, None);
-        while let Some(number) = found {
-            let known = self.known[number as usize];
-            if &self.numbers[known.first..known.end] == numbers {
-                return Some(known.list);
+        if let [number] = numbers {
+            if let Some(list) = self.alone.get(*number) {
+                return Some(list);
             }
-            found = self.chains.last_with(hash, Some(number));
         }
-        None
+        self.known.find(numbers)
     }
 
     /// Makes the number of the list of the deltas with these numbers known.
@@ -70,22 +55,12 @@ impl ListNumbers {
         ensures ok { OnOk result (self.new ≡ self.old ++ (numbers.now, list) ∷ []) }
         ensures unchanged { OnErr result (self.new ≡ self.old) }
     {
-        self.known.reserve(1)?;
-        self.numbers.reserve(numbers.len())?;
-        self.chains.push(hash_numbers(numbers))?;
-        // There is room for all, so that no want of memory comes between them.
-        let first = self.numbers.len();
-        let Ok(()) = self.numbers.extend_from_slice(numbers) else {
-            unreachable!();
+        let [number] = numbers else {
+            return self.known.add(numbers, list);
         };
-        let known = KnownList {
-            first,
-            end: self.numbers.len(),
-            list,
-        };
-        let Ok(()) = self.known.push(known) else {
-            unreachable!();
-        };
+        self.alone.make_room(*number)?;
+        self.known.add(numbers, list)?;
+        self.alone.set(*number, list);
         Ok(())
     }
 }

@@ -7,7 +7,7 @@ use Rattle.std.proofs.lemmas.List.{get_or-map, length-map}
 use Rattle.std.proofs.lemmas.Slice.Eq.{slice_eq-Decides}
 use Rattle.shared_trie.specs.KnownLists.{known_in}
 use Rattle.shared_trie.proofs.ChainLaws.{HasHash}
-use Rattle.shared_trie.proofs.list_numbers.ListNumbers.find.Goals as goal
+use Rattle.shared_trie.proofs.known_lists.KnownLists.find.Goals as goal
 
 pub returns-then-eq : goal.returns-then-eq
 returns-then-eq c =

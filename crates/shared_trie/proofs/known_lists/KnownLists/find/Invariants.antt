@@ -1,6 +1,6 @@
 -- What is found has the hash.
 use Rattle.shared_trie.proofs.ChainLaws.{HasHash, left_of}
-use Rattle.shared_trie.proofs.list_numbers.ListNumbers.find.Given as goal
+use Rattle.shared_trie.proofs.known_lists.KnownLists.find.Given as goal
 
 abbrev pub invariant-loop-found : goal.invariant-loop-found
 invariant-loop-found l = HasHash l.self-inside.chains l.hash l.found
