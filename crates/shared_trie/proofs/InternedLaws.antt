@@ -1,6 +1,6 @@
 -- Rows by the numbers of their lists of deltas: lists that are told apart have one number each, so rows are the same where list
 -- and children are; and one row more, with its hash and its height.
-use Rattle.std.proofs.Common.{◌≡◌, ◌≢◌, ◌↔◌, inl, inr, ℕ, zero, suc, ◌+◌, ◌*◌, ◌<◌, ◌≤◌, ◌^◌, Bool, true, false, List, [], ◌∷◌, ◌++◌, length, map, get_or, Some, None, Option, refl, sym, ◌∙◌, ap, subst, arith, append-nil, true≢false}
+use Rattle.std.proofs.Common.{◌≡◌, ◌≢◌, ◌↔◌, inl, inr, ℕ, zero, suc, ◌+◌, ◌*◌, ◌<◌, ◌≤◌, ◌^◌, Bool, false, List, [], ◌∷◌, ◌++◌, length, map, get_or, Some, None, Option, refl, sym, ◌∙◌, ap, subst, arith, append-nil, true≢false}
 use Rattle.std.specs.Global.{Vec}
 use Rattle.std.specs.Prelude.{All, AllPairs, Err, IfOk, Ok, Result}
 use Rattle.std.specs.List.{IsDistinct}

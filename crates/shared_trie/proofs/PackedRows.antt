@@ -1,13 +1,12 @@
 -- Rows that are packed: they stay when children and lists are added after those that are there, and one node more adds its row.
-use Rattle.std.proofs.Common.{◌≡◌, ◌≢◌, ◌⊎◌, inl, inr, ℕ, zero, suc, ◌+◌, ◌-◌, ◌*◌, ◌<◌, ◌≤◌, ◌↔◌, List, [], ◌∷◌, ◌++◌, Option, Some, None, length, map, take, drop, get_or, slice_get, Bool, true, false, not, nat_eq, IsTrue, refl, sym, ◌∙◌, ap, subst, arith, true≢false}
+use Rattle.std.proofs.Common.{◌≡◌, ◌≢◌, ℕ, zero, suc, ◌+◌, ◌-◌, ◌<◌, ◌≤◌, ◌↔◌, List, [], ◌∷◌, ◌++◌, Option, Some, None, length, map, take, drop, get_or, slice_get, false, not, nat_eq, IsTrue, refl, sym, ◌∙◌, ap, subst, arith, true≢false}
 use Rattle.std.specs.Global.{Vec}
 use Rattle.std.specs.Prelude.{All, Contains, slice_range}
 use Rattle.std.specs.Ordering.{nat_cmp, on}
 use Rattle.std.specs.declared.cmp.Ordering.TheVariants.{Less}
 use Rattle.std.specs.List.Sorted.{IsStrictlySortedBy}
-use Rattle.std.proofs.lemmas.List.{drop-append-le, drop_at, get_or-drop, get_or-map, get_or-take, get_or_append_left, length-append, length-drop, length-map, length-take-le, length_push, map-append, map_push, nil_from_length, take-append-le, take_all}
-use Rattle.std.proofs.lemmas.List.Elements.{All-append, All-cons, All-head, All-nil, All-push, All-get_or, All-tail, All-weaker, Contains-get_or}
-use Rattle.std.proofs.lemmas.Map.Keys.{sorted_head, sorted_tail}
+use Rattle.std.proofs.lemmas.List.{drop-append-le, drop_at, get_or-drop, get_or-map, get_or-take, get_or_append_left, length-append, length-drop, length-map, length_push, map-append, map_push, nil_from_length, take-append-le, take_all}
+use Rattle.std.proofs.lemmas.List.Elements.{All-append, All-head, All-push, All-get_or, All-tail, All-weaker, Contains-get_or}
 use Rattle.std.proofs.lemmas.Bool.{eqb-true, false_from_ne_true}
 use Rattle.std.proofs.lemmas.Option.{get_or_from_slice_get, slice_get_within}
 use Rattle.list_laws.proofs.Elements.{all_of_map}

@@ -1,5 +1,5 @@
 -- One row of a path is read, or replaced by another.
-use Rattle.std.proofs.Common.{◌≡◌, ◌<◌, ℕ, List, length, map, get_or, set, sym, ◌∙◌, ap, arith}
+use Rattle.std.proofs.Common.{◌≡◌, ◌<◌, ℕ, List, length, get_or, set, sym, ◌∙◌, ap, arith}
 use Rattle.std.proofs.lemmas.List.{get_or-map, length-map, map-set}
 use Rattle.shared_trie.specs.declared.open_path.OpenRow.{OpenRow}
 use Rattle.shared_trie.specs.OpenPaths.{PathRow, no_row, path_row}

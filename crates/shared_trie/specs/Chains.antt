@@ -1,5 +1,5 @@
 -- Numbers in chains by their hashes: hashes fall into buckets, and each number knows the one before it in its bucket.
-use Rattle.std.specs.Prelude.{◌≡◌, ◌≢◌, ℕ, ◌-◌, ◌<◌, ◌≤◌, ◌^◌, Option, None, Some, List, [], length, slice_index}
+use Rattle.std.specs.Prelude.{◌≡◌, ◌≢◌, ℕ, ◌-◌, ◌<◌, ◌≤◌, ◌^◌, Option, None, Some, List, length, slice_index}
 use Rattle.std.specs.Int.RustNames.{bit_and}
 
 -- the bucket of the hash among so many

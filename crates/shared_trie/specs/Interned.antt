@@ -1,5 +1,5 @@
 -- A trie that grows row by row, packed, with the hash and the height of each row.
-use Rattle.std.specs.Prelude.{◌≡◌, ℕ, ◌+◌, ◌*◌, ◌<◌, ◌≤◌, ◌^◌, List, [], ◌∷◌, ◌++◌, length, map, slice_index_or}
+use Rattle.std.specs.Prelude.{◌≡◌, ℕ, ◌*◌, ◌<◌, ◌≤◌, ◌^◌, List, [], ◌∷◌, ◌++◌, length, map, slice_index_or}
 use Rattle.std.specs.Global.{Vec}
 use Rattle.form_tags.specs.declared.delta.Delta.{Delta}
 use Rattle.form_tags.specs.Analyses.{text_delta}

@@ -1,5 +1,5 @@
 -- A node more is of the level, or not.
-use Rattle.std.proofs.Common.{◌≡◌, ◌+◌, ◌++◌, ◌∙◌, [], ◌∷◌, ℕ, List, true≢false, sym, ap, subst, arith}
+use Rattle.std.proofs.Common.{◌≡◌, ◌+◌, ◌++◌, ◌∙◌, [], ◌∷◌, ℕ, true≢false, sym, ap, subst, arith}
 use Rattle.trie_text_definitions.specs.VersionTexts.{IsLedTo}
 use Rattle.shared_trie.specs.CanonicalNodes.{height_of}
 use Rattle.shared_trie.proofs.CanonicalSteps.{IsLevelBelow, level_with, level_without, whole_level}

@@ -1,5 +1,5 @@
 -- The nodes of the level come after all that are less high, in the order of their lines.
-use Rattle.std.proofs.Common.{◌≡◌, ◌≢◌, ◌∙◌, ◌++◌, ◌+◌, ◌<◌, ℕ, List, length, map, sym, ap, subst, arith}
+use Rattle.std.proofs.Common.{◌≢◌, ◌∙◌, ◌++◌, ◌+◌, ◌<◌, ℕ, List, length, map, sym, ap, subst}
 use Rattle.std.specs.Prelude.{All, AllPairs, Contains}
 use Rattle.lexicon_definitions.specs.Tries.{row_of}
 use Rattle.shared_trie.specs.CanonicalNodes.{ArePlaced, NodeText}

@@ -1,5 +1,5 @@
 -- A word has letters, and a tag's text is one.
-use Rattle.std.proofs.Common.{◌<◌, ◌^◌, arith}
+use Rattle.std.proofs.Common.{arith}
 use Rattle.form_tags.proofs.TagsByText.{tag_text-is}
 use Rattle.shared_trie.proofs.canonical_lines.push_delta.Goals as goal
 

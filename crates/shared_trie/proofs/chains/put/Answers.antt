@@ -1,5 +1,5 @@
 -- The new number is the last in its bucket.
-use Rattle.std.proofs.Common.{ℕ, ◌≡◌, ◌<◌, List, ◌∷◌, [], ◌++◌, length, set, ◌∙◌, ap, subst, sym, arith}
+use Rattle.std.proofs.Common.{ℕ, ◌≡◌, List, ◌∷◌, [], ◌++◌, length, set, ◌∙◌, ap, subst, sym, arith}
 use Rattle.std.proofs.lemmas.List.{get_or_default, length-map, length_push, map_push}
 use Rattle.shared_trie.specs.Chains.{AreChained, bucket_in}
 use Rattle.shared_trie.specs.ChainLinks.{befores_of, hashes_of}

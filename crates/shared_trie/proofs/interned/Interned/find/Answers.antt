@@ -1,5 +1,5 @@
 -- The search goes on along the numbers that have the hash.
-use Rattle.std.proofs.Common.{◌≡◌, ◌<◌, ℕ, length, get_or, sym, ◌∙◌, ap, subst, true≢false}
+use Rattle.std.proofs.Common.{◌≡◌, ◌<◌, ℕ, length, get_or, sym, ◌∙◌, subst, true≢false}
 use Rattle.lexicon_definitions.specs.Tries.{row_of}
 use Rattle.shared_trie.specs.Interned.{row_of_list}
 use Rattle.shared_trie.proofs.InternedLaws.{IsSearched, hash_there, hashes_count, searched_first, searched_next}

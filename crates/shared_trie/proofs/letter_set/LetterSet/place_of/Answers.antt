@@ -1,6 +1,6 @@
 -- the letter's bit is 0, or its place follows as many places as there are bits below it
-use Rattle.std.proofs.Common.{◌≡◌, ℕ, ◌<◌, ◌-◌, ◌%◌, ◌*◌, ◌^◌, bit_and, Some, slice_get, sym, ◌∙◌, ap, subst, arith}
-use Rattle.std.specs.Prelude.{Contains, count_ones}
+use Rattle.std.proofs.Common.{◌<◌, Some, sym, ◌∙◌, ap, subst, arith}
+use Rattle.std.specs.Prelude.{Contains}
 use Rattle.shared_trie.specs.LetterSets.{letters_in, set_places}
 use Rattle.shared_trie.proofs.SetPlaces.{letter_absent, letter_found}
 use Rattle.shared_trie.proofs.letter_set.LetterSet.place_of.Goals as goal

@@ -1,5 +1,5 @@
 -- the bit of the letter is set besides
-use Rattle.std.proofs.Common.{◌≡◌, ◌⊎◌, ◌↔◌, ℕ, ◌<◌, ◌%◌, ◌*◌, ◌^◌, bit_or, sym, subst, arith}
+use Rattle.std.proofs.Common.{◌≡◌, ◌⊎◌, ◌↔◌, ℕ, ◌<◌, ◌%◌, ◌*◌, ◌^◌, bit_or, subst, arith}
 use Rattle.std.specs.Prelude.{Contains}
 use Rattle.shared_trie.specs.LetterSets.{letters_in, set_places}
 use Rattle.shared_trie.proofs.SetPlaces.{letter_added}

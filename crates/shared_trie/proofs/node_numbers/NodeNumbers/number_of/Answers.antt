@@ -1,5 +1,5 @@
 -- A node that is there has its number at its place.
-use Rattle.std.proofs.Common.{◌<◌, ◌≡◌, ◌∙◌, sym, ap, subst, arith, List, ℕ}
+use Rattle.std.proofs.Common.{sym, subst, arith}
 use Rattle.std.specs.Prelude.{Contains}
 use Rattle.shared_trie.specs.CanonicalNodes.{Numbered}
 use Rattle.shared_trie.proofs.node_numbers.NodeNumbers.number_of.Goals as goal

@@ -1,5 +1,5 @@
 -- The new node has the next number, and the others have theirs.
-use Rattle.std.proofs.Common.{◌≡◌, ◌<◌, ◌∙◌, ◌++◌, [], ◌∷◌, ℕ, List, length, sym, ap, subst, arith}
+use Rattle.std.proofs.Common.{◌≡◌, ◌<◌, ◌∙◌, ◌++◌, [], ◌∷◌, ℕ, List, length, sym, subst}
 use Rattle.std.specs.Prelude.{Contains, slice_set}
 use Rattle.shared_trie.specs.CanonicalNodes.{AreNumbered, Numbered}
 use Rattle.shared_trie.proofs.MarkSteps.{numbered_push}

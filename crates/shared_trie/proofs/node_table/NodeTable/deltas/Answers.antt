@@ -1,5 +1,5 @@
 -- the node is read, and its list by its number
-use Rattle.std.proofs.Common.{◌≡◌, ◌-◌, ℕ, List, get_or, map, sym, ◌∙◌, ap}
+use Rattle.std.proofs.Common.{◌≡◌, ◌-◌, List, get_or, map, sym, ◌∙◌, ap}
 use Rattle.std.specs.Global.{Vec}
 use Rattle.form_tags.specs.declared.delta.Delta.{Delta}
 use Rattle.form_tags.specs.Analyses.{text_delta}

@@ -1,5 +1,4 @@
 -- The row is replaced by an empty one.
-use Rattle.std.proofs.Common.{ap, refl}
 use Rattle.shared_trie.proofs.PathRows.{row_set}
 use Rattle.shared_trie.proofs.open_path.OpenPath.clear.Goals as goal
 

@@ -1,5 +1,5 @@
 -- The row has one child more.
-use Rattle.std.proofs.Common.{◌≡◌, ◌++◌, ◌∷◌, [], ℕ, List, sym, ◌∙◌, ap}
+use Rattle.std.proofs.Common.{◌++◌, ◌∷◌, [], sym, ◌∙◌, ap}
 use Rattle.shared_trie.specs.OpenPaths.{PathRow}
 use Rattle.shared_trie.proofs.PathRows.{row_read, row_set}
 use Rattle.shared_trie.proofs.open_path.OpenPath.push_child.Goals as goal

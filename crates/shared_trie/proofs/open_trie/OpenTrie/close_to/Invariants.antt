@@ -1,5 +1,5 @@
 -- The rows of longer fronts are nodes.
-use Rattle.std.proofs.Common.{◌-◌, ◌≤◌, length}
+use Rattle.std.proofs.Common.{◌≤◌, length}
 use Rattle.form_tags.specs.Entries.{text_entry}
 use Rattle.shared_trie.specs.OpenForms.{IsEnded}
 use Rattle.shared_trie.proofs.open_trie.OpenTrie.close_to.Given as goal

@@ -1,5 +1,5 @@
 -- The root of a phase without forms has the empty row.
-use Rattle.std.proofs.Common.{◌≡◌, ◌∙◌, ◌++◌, ◌∷◌, [], ℕ, List, refl, sym, ap, subst}
+use Rattle.std.proofs.Common.{◌∙◌, ◌++◌, ◌∷◌, [], ℕ, List, refl, sym, ap, subst}
 use Rattle.lexicon_definitions.specs.Tries.{Row}
 use Rattle.shared_trie.specs.Growth.{Grows, HasRow}
 use Rattle.shared_trie.specs.Interned.{row_of_list}

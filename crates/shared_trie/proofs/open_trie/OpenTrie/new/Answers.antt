@@ -1,5 +1,4 @@
 -- Nothing is open.
-use Rattle.std.proofs.Common.{rules}
 use Rattle.shared_trie.proofs.EndedForms.{begun}
 use Rattle.shared_trie.proofs.open_trie.OpenTrie.new.Goals as goal
 

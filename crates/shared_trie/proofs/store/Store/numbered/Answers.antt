@@ -1,5 +1,5 @@
 -- With all levels placed the nodes are in their order.
-use Rattle.std.proofs.Common.{◌∙◌, ℕ, ap, sym, subst, arith}
+use Rattle.std.proofs.Common.{◌∙◌, ap, sym, subst, arith}
 use Rattle.shared_trie.specs.CanonicalNodes.{ArePlaced, Numbered}
 use Rattle.shared_trie.proofs.CanonicalSteps.{nothing_placed, all_placed}
 use Rattle.shared_trie.proofs.NumberedTries.{ordered_trie}
