@@ -3,8 +3,8 @@
 //! Proved of `read_slp1`, `read_slp1_over`, `read_wx` and `read_velthuis`: the word that the text spells (`ok`), or the text's first fault
 //! with its place (`fault`), by the definitions of `text_definitions`; nothing else but want of memory refuses a text. Of
 //! `print_slp1`, `print_wx` and `print_velthuis`: the spelling of the word (`ok`), which spells this word again by a law of
-//! `text_definitions`. Of `read_slp1_front_over`: the word that so many first bytes spell (`spelled`); that the byte after them is no letter is
-//! not said. `SpellFault::place` is the place that the fault names.
+//! `text_definitions`. Of `read_slp1_front_over`: the word that so many first bytes spell (`spelled`), after which no byte comes or one that is
+//! no letter (`longest`). `SpellFault::place` is the place that the fault names.
 #![tactic(auto)]
 
 mod byte_scheme;
