@@ -6,7 +6,9 @@
 Each word is a crate with what it uses, as crates.txt has it, and stands after those of the crates that it uses; the last is
 the program's. A crate is begun once all that it uses is built, and first the one with the longest chain of others above it,
 counted in lines. There run as many as there are processors, and 3 GB of free memory for each. A crate beside which fewer
-wait than there are processors gets the processors that are left, at most four.
+wait than there are processors gets the processors that are left, at most four. The crate on which all others wait in the
+end, since none that is not built has a longer chain, gets as many as let that chain end with the rest: so the program is not
+waited for while processors stand idle. For those it does not wait either, and the next crates are begun once as many are free.
 
 Each crate is checked whole, and from nothing, by `rattle build`, over the statements of the crates below it; the check takes
 nothing that earlier checks kept. Its last line must say that the crate is proved, and have no word of trust but those that the
@@ -47,10 +49,9 @@ def lines_of(crate):
     return sum(it.read_bytes().count(b"\n") for it in files)
 
 
-def work_from(uses):
+def work_from(uses, own):
     """For each crate, the lines of it and of those above it on the longest way to the program."""
-    above = {crate: lines_of(crate) for crate in uses}
-    own = dict(above)
+    above = dict(own)
     for crate in reversed(uses):
         for below in uses[crate]:
             above[below] = max(above[below], own[below] + above[crate])
@@ -194,8 +195,17 @@ def stop_at_signal(*_):
 
 def prove(uses, builder):
     """Builds all crates, and returns whether each is. Where one is refused or this is broken off, the others are ended."""
-    above, lanes = work_from(uses), count_lanes()
+    own, lanes = {crate: lines_of(crate) for crate in uses}, count_lanes()
+    above = work_from(uses, own)
     left, running, built, busy = sorted(uses, key=lambda it: -above[it]), {}, set(), 0
+
+    def jobs_for(crate, waiting):
+        """The processors for a crate that is begun while so many wait, with it, for those that are free."""
+        share = max(1, (lanes - busy) // waiting)
+        unbuilt = [it for it in uses if it not in built]
+        if above[crate] == max(above[it] for it in unbuilt):
+            share = max(share, -(-lanes * above[crate] // sum(own[it] for it in unbuilt)))
+        return min(MOST_JOBS, share)
 
     def one(crate, jobs, log):
         began = time.monotonic()
@@ -210,7 +220,7 @@ def prove(uses, builder):
                 for at, crate in enumerate(ready):
                     if busy >= lanes:
                         break
-                    jobs = max(1, min(MOST_JOBS, (lanes - busy) // (len(ready) - at)))
+                    jobs = jobs_for(crate, len(ready) - at)
                     left.remove(crate)
                     busy += jobs
                     say(f"crate {len(uses) - len(left)} of {len(uses)}, {crate}")

@@ -5,12 +5,12 @@ use Rattle.std.specs.List.{AllZip}
 use Rattle.std.specs.Option.{option_or}
 use Rattle.std.proofs.Math.Seq.{take-suc}
 use Rattle.std.proofs.lemmas.Option.{same_Some}
-use Rattle.text_definitions.specs.Lines.{Line}
 use Rattle.lexicon_definitions.specs.Lexicons.{Lexicon}
-use Rattle.batch_reader.specs.Replies.{IsReply, IsFound, AreFound}
+use Rattle.batch_reader.specs.Replies.{IsReplyTo, IsFound, AreFound}
+use Rattle.batch_reader.specs.declared.asked.Asked.{Asked}
 
 module _ {A B : Type 0} (R : A → B → Type 0) where
-  zip_together : (front back : List A) (earlier later : List B) → AllZip R front earlier → AllZip R back later → AllZip R (front ++ back) (earlier ++ later)
+  pub zip_together : (front back : List A) (earlier later : List B) → AllZip R front earlier → AllZip R back later → AllZip R (front ++ back) (earlier ++ later)
   zip_together [] back [] later holds rest = rest
   zip_together [] back (y ∷ earlier) later holds rest = absurd holds
   zip_together (x ∷ front) back [] later holds rest = absurd holds
@@ -34,29 +34,34 @@ module _ {A B : Type 0} (R : A → B → Type 0) where
   zip_length (x ∷ xs) [] holds = absurd holds
   zip_length (x ∷ xs) (y ∷ ys) holds = ap suc (zip_length xs ys holds.1)
 
-module _ (lexicon : Lexicon) (count : ℕ) (lines : List Line) where
+-- there is a first one where there is one at a place
+pub first_one : (lines : List Asked) (place : ℕ) → place < length lines → Asked
+first_one [] place low = absurd (omega (arith, low))
+first_one (first ∷ lines) place low = first
+
+module _ (lexicon : Lexicon) (count : ℕ) (lines : List Asked) where
   -- one place more, where nothing was found
-  pub none_more : (place : ℕ) (line : Line) (before : List (Option (Vec ℕ Global))) → place < length lines → line ≡ get_or lines place line
+  pub none_more : (place : ℕ) (line : Asked) (before : List (Option (Vec ℕ Global))) → place < length lines → line ≡ get_or lines place line
       → AreFound lexicon count (take place lines) before → AreFound lexicon count (take (place + 1) lines) (before ++ (None ∷ []))
   none_more place line before within same found =
       let shorter = take-suc lines place line within in
-      let front = ap (λ (last : Line). take place lines ++ (last ∷ [])) same ∙ sym shorter ∙ ap (λ (n : ℕ). take n lines) (sym (add-one place)) in
+      let front = ap (λ (last : Asked). take place lines ++ (last ∷ [])) same ∙ sym shorter ∙ ap (λ (n : ℕ). take n lines) (sym (add-one place)) in
       subst (λ whole. AreFound lexicon count whole (before ++ (None ∷ []))) front
       (zip_together (IsFound lexicon count) (take place lines) (line ∷ []) before (None ∷ []) found ((λ text none. absurd (cc (none))), tt))
 
   -- the reply to a line is found
-  pub one_found : (found : List (Option (Vec ℕ Global))) (place : ℕ) (line : Line) (text : Vec ℕ Global) → AreFound lexicon count lines found
-      → place < length lines → IsReply lexicon count (get_or lines place line) text.items → AreFound lexicon count lines (slice_set found place (Some text))
+  pub one_found : (found : List (Option (Vec ℕ Global))) (place : ℕ) (line : Asked) (text : Vec ℕ Global) → AreFound lexicon count lines found
+      → place < length lines → IsReplyTo lexicon count (get_or lines place line) text.items → AreFound lexicon count lines (slice_set found place (Some text))
   one_found found place line text are low reply =
       zip_set (IsFound lexicon count) lines found place line (Some text) are low
-      (λ other same. subst (λ (t : Vec ℕ Global). IsReply lexicon count (get_or lines place line) t.items) (same_Some text other same) reply)
+      (λ other same. subst (λ (t : Vec ℕ Global). IsReplyTo lexicon count (get_or lines place line) t.items) (same_Some text other same) reply)
 
   -- nothing is left at a place
-  pub taken_out : (found : List (Option (Vec ℕ Global))) (place : ℕ) (line : Line) → AreFound lexicon count lines found → place < length lines
+  pub taken_out : (found : List (Option (Vec ℕ Global))) (place : ℕ) (line : Asked) → AreFound lexicon count lines found → place < length lines
       → AreFound lexicon count lines (slice_set found place None)
   taken_out found place line are low = zip_set (IsFound lexicon count) lines found place line None are low (λ text none. absurd (cc (none)))
 
-  either : (line : Line) (own other : Option (Vec ℕ Global)) → IsFound lexicon count line own → IsFound lexicon count line other → IsFound lexicon count line (option_or own other)
+  either : (line : Asked) (own other : Option (Vec ℕ Global)) → IsFound lexicon count line own → IsFound lexicon count line other → IsFound lexicon count line (option_or own other)
   either line None other own_is other_is = other_is
   either line (Some text) other own_is other_is = own_is
 
@@ -64,14 +69,13 @@ module _ (lexicon : Lexicon) (count : ℕ) (lines : List Line) where
   pub either_found : (found others : List (Option (Vec ℕ Global))) (place : ℕ) → AreFound lexicon count lines found → AreFound lexicon count lines others
       → place < length lines → AreFound lexicon count lines (slice_set (slice_set found place None) place (option_or (get_or found place None) (get_or others place None)))
   either_found found others place are other low =
-      let line = get_or lines place (record { letters = []; blanks = [] }) in
-      zip_set (IsFound lexicon count) lines (slice_set found place None) place (record { letters = []; blanks = [] }) (option_or (get_or found place None) (get_or others place None))
-      (taken_out found place (record { letters = []; blanks = [] }) are low) low
-      (either line (get_or found place None) (get_or others place None)
-      (zip_at (IsFound lexicon count) lines found place (record { letters = []; blanks = [] }) None are low)
-      (zip_at (IsFound lexicon count) lines others place (record { letters = []; blanks = [] }) None other low))
+      let line = first_one lines place low in
+      zip_set (IsFound lexicon count) lines (slice_set found place None) place line (option_or (get_or found place None) (get_or others place None))
+      (taken_out found place line are low) low
+      (either (get_or lines place line) (get_or found place None) (get_or others place None)
+      (zip_at (IsFound lexicon count) lines found place line None are low) (zip_at (IsFound lexicon count) lines others place line None other low))
 
   -- what was found at a place is the reply
-  pub reply_found : (found : List (Option (Vec ℕ Global))) (place : ℕ) (line : Line) (text : Vec ℕ Global) → AreFound lexicon count lines found
-      → place < length lines → get_or found place None ≡ Some text → IsReply lexicon count (get_or lines place line) text.items
+  pub reply_found : (found : List (Option (Vec ℕ Global))) (place : ℕ) (line : Asked) (text : Vec ℕ Global) → AreFound lexicon count lines found
+      → place < length lines → get_or found place None ≡ Some text → IsReplyTo lexicon count (get_or lines place line) text.items
   reply_found found place line text are low is = zip_at (IsFound lexicon count) lines found place line None are low text is

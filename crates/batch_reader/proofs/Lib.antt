@@ -1,6 +1,7 @@
 mod RepliesInOrder
 mod SharedRepliers
 mod FoundReplies
-pub mod ReadLines
+pub mod CutLines
+mod RepliedTexts
 pub mod RepliedLines
 pub mod ServedLines

@@ -1,40 +1,42 @@
 -- The replies to the lines of a block, and what is written of them piece by piece.
-use Rattle.std.proofs.Common.{◌≡◌, ℕ, ◌+◌, ◌<◌, List, [], ◌∷◌, ◌++◌, length, drop, get_or, Option, Some, None, refl, sym, ◌∙◌, ap, subst, append_assoc, append-nil, drop-cons, suc, add-one}
+use Rattle.std.proofs.Common.{◌≡◌, ℕ, ◌+◌, ◌<◌, List, [], ◌∷◌, ◌++◌, length, drop, map, get_or, Option, Some, None, Vec, Global, refl, sym, ◌∙◌, ap, subst, append_assoc, append-nil, drop-cons, suc, add-one}
+use Rattle.std.specs.List.{AllZip}
 use Rattle.outside.specs.Told.{bytes_after, GrowsByPrefix}
 use Rattle.outside.proofs.ToldLemmas.{bytes_after-bytes_after, GrowsByPrefix-after, GrowsByPrefix-all, GrowsByPrefix-more}
-use Rattle.text_definitions.specs.Lines.{Line}
 use Rattle.text_definitions.specs.Schemes.{Scheme}
 use Rattle.lexicon_definitions.specs.Lexicons.{Lexicon}
 use Rattle.lexicon_text_definitions.specs.FileLines as file
-use Rattle.run_definitions.specs.BatchOutcomes.{OfFault, OfPage, numbered_reply, AreNumberedReplies}
-use Rattle.batch_reader.specs.Replies.{AreReplies}
-use Rattle.text_line.specs.Values.{text_fault}
-use Rattle.text_line.specs.declared.text_fault.TextFault.{TextFault}
-use Rattle.batch_reader.specs.Blocks.{AreRead, reply_with, pages_after, replies_with}
+use Rattle.run_definitions.specs.BatchOutcomes.{IsLineReply, numbered_reply, AreNumberedReplies}
+use Rattle.text_line.specs.Values.{scheme_of}
+use Rattle.batch_reader.specs.declared.asked.Asked.{Asked}
+use Rattle.batch_reader.specs.declared.asked.Asked.TheVariants as asked
+use Rattle.batch_reader.specs.Replies.{IsReplyTo, AreRepliesTo}
+use Rattle.batch_reader.specs.Blocks.{AsksForReply, numbered_replies}
 use Rattle.batch_reader.specs.Serving.{WroteFront}
 
--- lines that are read so, those of them that are answered with these pages, have these replies
-pub replies_are_numbered : (lexicon : Lexicon) (scheme : Scheme) (count number : ℕ) (texts : List file.Line) (faults : List (Option TextFault)) (answered : List Line)
-    (pages : List (List ℕ)) → AreRead scheme texts faults answered → AreReplies lexicon count answered pages
-    → AreNumberedReplies lexicon scheme count number texts (replies_with number faults pages)
-replies_are_numbered lexicon scheme count number [] [] answered pages read are = refl
-replies_are_numbered lexicon scheme count number [] (fault ∷ faults) answered pages read are = absurd read
-replies_are_numbered lexicon scheme count number (text ∷ texts) [] answered pages read are = absurd read
-replies_are_numbered lexicon scheme count number (text ∷ texts) (Some fault ∷ faults) answered pages (e, read) are = (
-  reply_with (Some fault) pages,
-  replies_with (number + 1) faults pages,
-  OfFault (text_fault fault) e refl,
+-- the reply to a line of a text is the reply to what asks for it
+of_line : (lexicon : Lexicon) (scheme : Scheme) (count : ℕ) (line : file.Line) (one : Asked) (reply : List ℕ) → AsksForReply scheme line one
+    → IsReplyTo lexicon count one reply → IsLineReply lexicon scheme count line.bytes reply
+of_line lexicon scheme count line (asked.Line other) reply asks is = absurd asks
+of_line lexicon scheme count line (asked.Text text) reply (e, b) is =
+    subst (λ (s : Scheme). IsLineReply lexicon s count line.bytes reply) e
+    (subst (λ (bytes : List ℕ). IsLineReply lexicon (scheme_of text.scheme) count bytes reply) b is.is)
+
+-- what is replied to those who ask for the replies to these lines are the replies
+pub replies_are_numbered : (lexicon : Lexicon) (scheme : Scheme) (count number : ℕ) (lines : List file.Line) (block : List Asked) (replies : List (List ℕ))
+    → AllZip (AsksForReply scheme) lines block → AreRepliesTo lexicon count block replies
+    → AreNumberedReplies lexicon scheme count number lines (numbered_replies number replies)
+replies_are_numbered lexicon scheme count number [] [] [] asks are = refl
+replies_are_numbered lexicon scheme count number [] [] (reply ∷ replies) asks are = absurd are
+replies_are_numbered lexicon scheme count number [] (one ∷ block) replies asks are = absurd asks
+replies_are_numbered lexicon scheme count number (line ∷ lines) [] replies asks are = absurd asks
+replies_are_numbered lexicon scheme count number (line ∷ lines) (one ∷ block) [] asks are = absurd are
+replies_are_numbered lexicon scheme count number (line ∷ lines) (one ∷ block) (reply ∷ replies) asks are = (
+  reply,
+  numbered_replies (number + 1) replies,
+  of_line lexicon scheme count line one reply asks.0 are.0,
   refl,
-  replies_are_numbered lexicon scheme count (number + 1) texts faults answered pages read are,
-)
-replies_are_numbered lexicon scheme count number (text ∷ texts) (None ∷ faults) [] pages read are = absurd read
-replies_are_numbered lexicon scheme count number (text ∷ texts) (None ∷ faults) (one ∷ answered) [] read are = absurd are
-replies_are_numbered lexicon scheme count number (text ∷ texts) (None ∷ faults) (one ∷ answered) (page ∷ pages) (e, read) (is, are) = (
-  page,
-  replies_with (number + 1) faults pages,
-  OfPage one is.answers is.more e is.page is.printed,
-  refl,
-  replies_are_numbered lexicon scheme count (number + 1) texts faults answered pages read are,
+  replies_are_numbered lexicon scheme count (number + 1) lines block replies asks.1 are.1,
 )
 
 -- of all these bytes some were written, the piece has the next of them, and the rest is to come
@@ -75,23 +77,21 @@ module _ (old : Option (List ℕ)) (all : List ℕ) where
   }
 
   -- the reply to the next line is put into the piece, and the first bytes of this may be written
-  pub reply_put : (now new : Option (List ℕ)) (piece more left : List ℕ) (number index : ℕ) (faults : List (Option TextFault)) (pages others : List (List ℕ))
-      (fault none : Option TextFault) → index < length faults → fault ≡ get_or faults index none
-      → HasWrittenSoFar old now all piece (replies_with number (drop index faults) pages)
-      → more ≡ piece ++ numbered_reply number (reply_with fault pages) → others ≡ pages_after fault pages → WroteFront now new more left
-      → HasWrittenSoFar old new all left (replies_with (number + 1) (drop (index + 1) faults) others)
-  reply_put now new piece more left number index faults pages others fault none low is p more_is others_are front =
+  pub reply_put : (now new : Option (List ℕ)) (piece more left : List ℕ) (number index : ℕ) (replies : List (Vec ℕ Global)) (reply : Vec ℕ Global)
+      → index < length replies → reply ≡ get_or replies index reply
+      → HasWrittenSoFar old now all piece (numbered_replies number (map (λ one. one.items) (drop index replies)))
+      → more ≡ piece ++ numbered_reply number reply.items → WroteFront now new more left
+      → HasWrittenSoFar old new all left (numbered_replies (number + 1) (map (λ one. one.items) (drop (index + 1) replies)))
+  reply_put now new piece more left number index replies reply low is p more_is front =
       front_written now new more left _
-      (put_in_piece now piece (numbered_reply number (reply_with fault pages)) more _ (subst (HasWrittenSoFar old now all piece) rest_is p) more_is) front
+      (put_in_piece now piece (numbered_reply number reply.items) more _ (subst (HasWrittenSoFar old now all piece) rest_is p) more_is) front
     where
-      cut : drop index faults ≡ fault ∷ drop (index + 1) faults
-      cut = rw add-one (drop-cons faults index none low ∙ ap (λ (x : Option TextFault). x ∷ drop (suc index) faults) (sym is))
+      cut : drop index replies ≡ reply ∷ drop (index + 1) replies
+      cut = rw add-one (drop-cons replies index reply low ∙ ap (λ (x : Vec ℕ Global). x ∷ drop (suc index) replies) (sym is))
 
-      rest_is : replies_with number (drop index faults) pages
-          ≡ numbered_reply number (reply_with fault pages) ++ replies_with (number + 1) (drop (index + 1) faults) others
-      rest_is =
-          ap (λ (fs : List (Option TextFault)). replies_with number fs pages) cut
-          ∙ ap (λ (ps : List (List ℕ)). numbered_reply number (reply_with fault pages) ++ replies_with (number + 1) (drop (index + 1) faults) ps) (sym others_are)
+      rest_is : numbered_replies number (map (λ (one : Vec ℕ Global). one.items) (drop index replies))
+          ≡ numbered_reply number reply.items ++ numbered_replies (number + 1) (map (λ (one : Vec ℕ Global). one.items) (drop (index + 1) replies))
+      rest_is = ap (λ (rs : List (Vec ℕ Global)). numbered_replies number (map (λ (one : Vec ℕ Global). one.items) rs)) cut
 
   -- it stops before more is written
   pub stopped_between : (now : Option (List ℕ)) (piece rest : List ℕ) → HasWrittenSoFar old now all piece rest → GrowsByPrefix old now all
@@ -106,13 +106,12 @@ module _ (old : Option (List ℕ)) (all : List ℕ) where
       (GrowsByPrefix-more old new (p.written ++ piece) rest (GrowsByPrefix-after old now new p.written piece p.wrote grown))
 
   -- it stops while the piece with the reply to the next line is written
-  pub stopped_in_reply : (now new : Option (List ℕ)) (piece more : List ℕ) (number index : ℕ) (faults : List (Option TextFault)) (pages others : List (List ℕ))
-      (fault none : Option TextFault) → index < length faults → fault ≡ get_or faults index none
-      → HasWrittenSoFar old now all piece (replies_with number (drop index faults) pages)
-      → more ≡ piece ++ numbered_reply number (reply_with fault pages) → others ≡ pages_after fault pages → GrowsByPrefix now new more
-      → GrowsByPrefix old new all
-  stopped_in_reply now new piece more number index faults pages others fault none low is p more_is others_are grown =
-      stopped_in_piece now new more _ (reply_put now now piece more more number index faults pages others fault none low is p more_is others_are nothing) grown
+  pub stopped_in_reply : (now new : Option (List ℕ)) (piece more : List ℕ) (number index : ℕ) (replies : List (Vec ℕ Global)) (reply : Vec ℕ Global)
+      → index < length replies → reply ≡ get_or replies index reply
+      → HasWrittenSoFar old now all piece (numbered_replies number (map (λ one. one.items) (drop index replies)))
+      → more ≡ piece ++ numbered_reply number reply.items → GrowsByPrefix now new more → GrowsByPrefix old new all
+  stopped_in_reply now new piece more number index replies reply low is p more_is grown =
+      stopped_in_piece now new more _ (reply_put now now piece more more number index replies reply low is p more_is nothing) grown
     where
       same : (told : Option (List ℕ)) → told ≡ bytes_after told []
       same None = refl

@@ -1,5 +1,6 @@
 -- The replies to the lines of one block come after those to the lines before it, by induction on these.
 use Rattle.std.proofs.Common.{◌≡◌, ℕ, ◌+◌, ◌≤◌, List, [], ◌∷◌, ◌++◌, length, Option, Some, None, refl, sym, ◌∙◌, ap, subst, arith, append_assoc, append-nil, length-append}
+use Rattle.std.specs.List.{AllZip}
 use Rattle.outside.specs.Told.{bytes_after, GrowsByPrefix}
 use Rattle.outside.proofs.ToldLemmas.{bytes_after-bytes_after, GrowsByPrefix-after, GrowsByPrefix-all}
 use Rattle.text_definitions.specs.Schemes.{Scheme}
@@ -7,10 +8,10 @@ use Rattle.lexicon_definitions.specs.Lexicons.{Lexicon}
 use Rattle.lexicon_text_definitions.specs.FileLines as file
 use Rattle.lexicon_text_definitions.specs.FileLines.{lines_of_bytes}
 use Rattle.run_definitions.specs.BatchOutcomes.{numbered_reply, AreNumberedReplies}
-use Rattle.batch_reader.specs.declared.block.Block.{Block}
-use Rattle.batch_reader.specs.Blocks.{AreRead, HasReadBlock}
+use Rattle.batch_reader.specs.declared.asked.Asked.{Asked}
+use Rattle.batch_reader.specs.Blocks.{AsksForReply, HasCutBlock}
 use Rattle.batch_reader.specs.Serving.{WroteReplies, WroteFirstReplies}
-use Rattle.batch_reader.proofs.ReadLines.{as_many}
+use Rattle.batch_reader.proofs.FoundReplies.{zip_length}
 
 -- the replies to some lines, and then those to others
 joined : (lexicon : Lexicon) (scheme : Scheme) (count number : ℕ) (lines others : List file.Line) (front back : List ℕ)
@@ -73,34 +74,34 @@ module _ (lexicon : Lexicon) (scheme : Scheme) (count : ℕ) (text : List ℕ) (
     grown = GrowsByPrefix-all old now p.output p.wrote;
   }
 
-  module _ (number : ℕ) (rest : List ℕ) (now : Option (List ℕ)) (p : HasServedSoFar lexicon scheme count number text rest old now) (block : Block)
-      (following replies : List ℕ) (read : HasReadBlock scheme rest block following)
-      (are : (texts : List file.Line) → AreRead scheme texts block.faults.items block.lines.items → AreNumberedReplies lexicon scheme count number texts replies) where
-    both : AreNumberedReplies lexicon scheme count 1 (p.lines ++ read.lines) (p.output ++ replies)
-    both = joined lexicon scheme count 1 p.lines read.lines p.output replies p.replies
-        (subst (λ n. AreNumberedReplies lexicon scheme count n read.lines replies) p.next (are read.lines read.read))
+  module _ (number : ℕ) (rest : List ℕ) (now : Option (List ℕ)) (p : HasServedSoFar lexicon scheme count number text rest old now) (block : List Asked)
+      (following replies : List ℕ) (cut : HasCutBlock scheme rest block following)
+      (are : (lines : List file.Line) → AllZip (AsksForReply scheme) lines block → AreNumberedReplies lexicon scheme count number lines replies) where
+    both : AreNumberedReplies lexicon scheme count 1 (p.lines ++ cut.lines) (p.output ++ replies)
+    both = joined lexicon scheme count 1 p.lines cut.lines p.output replies p.replies
+        (subst (λ n. AreNumberedReplies lexicon scheme count n cut.lines replies) p.next (are cut.lines cut.asked))
 
-    both_cut : lines_of_bytes text ≡ (p.lines ++ read.lines) ++ lines_of_bytes following
-    both_cut = p.cut ∙ ap (λ (ls : List file.Line). p.lines ++ ls) read.cut ∙ sym (append_assoc p.lines read.lines (lines_of_bytes following))
+    both_cut : lines_of_bytes text ≡ (p.lines ++ cut.lines) ++ lines_of_bytes following
+    both_cut = p.cut ∙ ap (λ (ls : List file.Line). p.lines ++ ls) cut.cut ∙ sym (append_assoc p.lines cut.lines (lines_of_bytes following))
 
     -- the block is written
     pub served_more : (new : Option (List ℕ)) → new ≡ bytes_after now replies
-        → HasServedSoFar lexicon scheme count (number + length block.faults.items) text following old new
+        → HasServedSoFar lexicon scheme count (number + length block) text following old new
     served_more new wrote =
-        let many = as_many scheme read.lines block.faults.items block.lines.items read.read in record {
-          lines = p.lines ++ read.lines;
+        let many = zip_length (AsksForReply scheme) cut.lines block cut.asked in record {
+          lines = p.lines ++ cut.lines;
           cut = both_cut;
           output = p.output ++ replies;
           replies = both;
           wrote = wrote ∙ ap (λ (x : Option (List ℕ)). bytes_after x replies) p.wrote ∙ bytes_after-bytes_after old p.output replies;
-          next = omega (arith, p.next, many, length-append p.lines read.lines);
-          fit = omega (arith, p.fit, read.fit, many, length-append p.lines read.lines);
+          next = omega (arith, p.next, many, length-append p.lines cut.lines);
+          fit = omega (arith, p.fit, cut.fit, many, length-append p.lines cut.lines);
         }
 
     -- it stops while the block is written
     pub stopped_within : (new : Option (List ℕ)) → GrowsByPrefix now new replies → WroteFirstReplies lexicon scheme count text old new
     stopped_within new grown = record {
       output = p.output ++ replies;
-      replies = record { lines = p.lines ++ read.lines; others = lines_of_bytes following; first = both_cut; replies = both };
+      replies = record { lines = p.lines ++ cut.lines; others = lines_of_bytes following; first = both_cut; replies = both };
       grown = GrowsByPrefix-after old now new p.output replies p.wrote grown;
     }

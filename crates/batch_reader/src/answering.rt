@@ -1,9 +1,11 @@
 ghost use Rattle.std.specs.Prelude.{◌≡◌, ◌<◌, ◌^◌, ℕ, List, length, map, IfOk};
+ghost use Rattle.std.specs.List.{AllZip};
 ghost use denote.Param.Send.{IsSync};
-ghost use Rattle.text_definitions.specs.Lines.{Line as LineValue};
 ghost use Rattle.lexicon_definitions.specs.Lexicons.{Lexicon as LexiconValue};
-ghost use Rattle.batch_reader.specs.Replies.{IsReply, AreFound, AreReplies};
+ghost use Rattle.batch_reader.specs.declared.asked.Asked.{Asked as AskedValue};
+ghost use Rattle.batch_reader.specs.Replies.{AsksForPage, IsReplyTo, AreReplies, AreRepliesTo, AreFound};
 
+use super::asked::Asked;
 use super::replier::{Desk, Replier};
 use annotated_trie::Lexicon;
 use answer_printing::RuleTexts;
@@ -29,11 +31,11 @@ fn count_of_workers(rt: &impl Threads) -> usize {
 
 /// A place for the reply to each line, with no reply in it yet.
 #[tactic(auto, using(crate::proofs::FoundReplies::none_more))]
-fn no_replies(alloc: Global, lines: &[Line]) -> Result<Vec<Option<Vec<u8>>>, Memory>
-    ensures { IfOk result (λ found. (lexicon : LexiconValue) (count : ℕ) → AreFound lexicon count lines.now found.items) }
+fn no_replies(alloc: Global, asked: &[Asked<'_>]) -> Result<Vec<Option<Vec<u8>>>, Memory>
+    ensures { IfOk result (λ found. (lexicon : LexiconValue) (count : ℕ) → AreFound lexicon count asked.now found.items) }
 {
-    let mut found = Vec::with_capacity(alloc, lines.len())?;
-    for _line in lines {
+    let mut found = Vec::with_capacity(alloc, asked.len())?;
+    for _one in asked {
         found.push(None)?;
     }
     Ok(found)
@@ -45,19 +47,19 @@ fn no_replies(alloc: Global, lines: &[Line]) -> Result<Vec<Option<Vec<u8>>>, Mem
 fn find_replies<G: Gate>(
     alloc: Global,
     replier: &Replier<'_, G>,
-    lines: &[Line],
+    asked: &[Asked<'_>],
     next: &AtomicUsize,
 ) -> Result<Vec<Option<Vec<u8>>>, Memory>
-    ensures ok { IfOk result (λ found. AreFound replier.now.lexicon.now.lexicon replier.now.count lines.now found.items) }
+    ensures ok { IfOk result (λ found. AreFound replier.now.lexicon.now.lexicon replier.now.count asked.now found.items) }
 {
-    let mut found = no_replies(alloc, lines)?;
+    let mut found = no_replies(alloc, asked)?;
     let mut desk = Desk::new(alloc, replier.lexicon)?;
-    for _ in 0..lines.len() {
+    for _ in 0..asked.len() {
         let place = next.fetch_add(1, Ordering::SeqCst);
-        if place >= lines.len() {
+        if place >= asked.len() {
             break;
         }
-        let (reply, kept) = replier.reply(alloc, &lines[place], place as u64, desk)?;
+        let (reply, kept) = replier.reply(alloc, &asked[place], place as u64, desk)?;
         found[place] = Some(reply);
         desk = kept;
     }
@@ -68,7 +70,7 @@ fn find_replies<G: Gate>(
 #[tactic(auto, using(crate::proofs::FoundReplies::either_found, crate::proofs::FoundReplies::taken_out))]
 fn put_together(found: &mut Vec<Option<Vec<u8>>>, others: &mut Vec<Option<Vec<u8>>>)
     requires { length others.old.items ≡ length found.old.items }
-    ensures { (lexicon : LexiconValue) (count : ℕ) (lines : List LineValue) → AreFound lexicon count lines found.old.items → AreFound lexicon count lines others.old.items → AreFound lexicon count lines found.new.items }
+    ensures { (lexicon : LexiconValue) (count : ℕ) (lines : List AskedValue) → AreFound lexicon count lines found.old.items → AreFound lexicon count lines others.old.items → AreFound lexicon count lines found.new.items }
 {
     for place in 0..found.len() {
         let own = found[place].take();
@@ -84,23 +86,23 @@ fn find_by_workers<R: Threads + Sync, G: Gate + Sync>(
     rt: &R,
     alloc: Global,
     replier: &Replier<'_, G>,
-    lines: &[Line],
+    asked: &[Asked<'_>],
     next: &AtomicUsize,
     workers: usize,
 ) -> Result<Vec<Option<Vec<u8>>>, Memory>
-    ensures ok { IfOk result (λ found. AreFound replier.now.lexicon.now.lexicon replier.now.count lines.now found.items) }
+    ensures ok { IfOk result (λ found. AreFound replier.now.lexicon.now.lexicon replier.now.count asked.now found.items) }
 {
     if workers < 2 {
-        return find_replies(alloc, replier, lines, next);
+        return find_replies(alloc, replier, asked, next);
     }
     let fewer = workers - 1;
     let find_first = || -> Result<Vec<Option<Vec<u8>>>, Memory>
-        ensures { IfOk result (λ found. AreFound replier.entry.now.lexicon.now.lexicon replier.entry.now.count lines.entry.now found.items) }
-    { find_replies(alloc, replier, lines, next) };
+        ensures { IfOk result (λ found. AreFound replier.entry.now.lexicon.now.lexicon replier.entry.now.count asked.entry.now found.items) }
+    { find_replies(alloc, replier, asked, next) };
     let find_others = || -> Result<Vec<Option<Vec<u8>>>, Memory>
         requires { IsSync R.row × IsSync G.row }
-        ensures { IfOk result (λ found. AreFound replier.entry.now.lexicon.now.lexicon replier.entry.now.count lines.entry.now found.items) }
-    { find_by_workers(rt, alloc, replier, lines, next, fewer) };
+        ensures { IfOk result (λ found. AreFound replier.entry.now.lexicon.now.lexicon replier.entry.now.count asked.entry.now found.items) }
+    { find_by_workers(rt, alloc, replier, asked, next, fewer) };
     let (first, later) = join(rt, find_first, find_others);
     let mut found = first?;
     let mut others = later?;
@@ -112,59 +114,72 @@ fn find_by_workers<R: Threads + Sync, G: Gate + Sync>(
 fn reply_late<G: Gate>(
     alloc: Global,
     replier: &Replier<'_, G>,
-    line: &Line,
+    asked: &Asked<'_>,
     place: u64,
 ) -> Result<Vec<u8>, Memory>
-    ensures ok { IfOk result (λ text. IsReply replier.now.lexicon.now.lexicon replier.now.count line.now text.items) }
+    ensures ok { IfOk result (λ text. IsReplyTo replier.now.lexicon.now.lexicon replier.now.count asked.now text.items) }
 {
     let desk = Desk::new(alloc, replier.lexicon)?;
-    let (reply, _desk) = replier.reply(alloc, line, place, desk)?;
+    let (reply, _desk) = replier.reply(alloc, asked, place, desk)?;
     Ok(reply)
 }
 
 /// The replies to all lines, of which these were found. A line that no worker has answered is answered here. That the count of the lines
 /// that were taken leaves no line out is not proved, and nothing rests on it.
-#[tactic(auto, using(crate::proofs::RepliesInOrder::replies_with_next, crate::proofs::FoundReplies::reply_found, crate::proofs::FoundReplies::taken_out, crate::proofs::FoundReplies::zip_length))]
+#[tactic(auto, using(crate::proofs::FoundReplies::zip_length))]
 fn complete<G: Gate>(
     alloc: Global,
     replier: &Replier<'_, G>,
-    lines: &[Line],
+    asked: &[Asked<'_>],
     found: &mut Vec<Option<Vec<u8>>>,
 ) -> Result<Vec<Vec<u8>>, Memory>
-    requires found { AreFound replier.now.lexicon.now.lexicon replier.now.count lines.now found.old.items }
-    ensures ok { IfOk result (λ replies. AreReplies replier.now.lexicon.now.lexicon replier.now.count lines.now (map (λ reply. reply.items) replies.items)) }
+    requires found { AreFound replier.now.lexicon.now.lexicon replier.now.count asked.now found.old.items }
+    ensures ok { IfOk result (λ replies. AreRepliesTo replier.now.lexicon.now.lexicon replier.now.count asked.now (map (λ reply. reply.items) replies.items)) }
 {
-    let mut replies = Vec::with_capacity(alloc, lines.len())?;
-    for (place, line) in lines.iter().enumerate() {
+    let mut replies = Vec::with_capacity(alloc, asked.len())?;
+    for (place, one) in asked.iter().enumerate() {
         let reply = match found[place].take() {
             Some(reply) => reply,
-            None => reply_late(alloc, replier, line, place as u64)?,
+            None => reply_late(alloc, replier, one, place as u64)?,
         };
         replies.push(reply)?;
     }
     Ok(replies)
 }
 
-/// The printed page of each line, as the replier gives it: reply `i` is that of line `i`. Workers, one for each processor and at least
-/// 2, answer the lines side by side by the runtime's join; each takes the next line that no worker has taken, until all are taken.
-/// Just before a worker begins line `i`, counted from 0, it passes the gate with `i`. Refused only for want of memory.
-pub(crate) fn read_all_with<R: Threads + Sync, G: Gate + Sync>(
+/// The reply to all that is asked, as the replier gives it: reply `i` is that to what stands at `i`. Workers, one for each processor and at
+/// least 2, answer side by side by the runtime's join; each takes the next that no worker has taken, until all are taken. Just before a worker
+/// begins line `i`, counted from 0, it passes the gate with `i`. Refused only for want of memory.
+pub(crate) fn answer_all<R: Threads + Sync, G: Gate + Sync>(
     rt: &R,
     alloc: Global,
     replier: &Replier<'_, G>,
-    lines: &[Line],
+    asked: &[Asked<'_>],
 ) -> Result<Vec<Vec<u8>>, Memory>
-    ensures ok { IfOk result (λ replies. AreReplies replier.now.lexicon.now.lexicon replier.now.count lines.now (map (λ reply. reply.items) replies.items)) }
+    ensures ok { IfOk result (λ replies. AreRepliesTo replier.now.lexicon.now.lexicon replier.now.count asked.now (map (λ reply. reply.items) replies.items)) }
 {
     let next = AtomicUsize::new(0);
-    let workers = count_of_workers(rt).min(lines.len());
-    let mut found = find_by_workers(rt, alloc, replier, lines, &next, workers)?;
-    complete(alloc, replier, lines, &mut found)
+    let workers = count_of_workers(rt).min(asked.len());
+    let mut found = find_by_workers(rt, alloc, replier, asked, &next, workers)?;
+    complete(alloc, replier, asked, &mut found)
+}
+
+/// The lines, each of which is asked for its page.
+#[tactic(auto, using(crate::proofs::RepliesInOrder::page_asked))]
+fn ask_for_pages(alloc: Global, lines: &[Line]) -> Result<Vec<Asked<'_>>, Memory>
+    ensures { IfOk result (λ asked. AllZip AsksForPage lines.now asked.items) }
+{
+    let mut asked = Vec::with_capacity(alloc, lines.len())?;
+    for line in lines {
+        asked.push(Asked::Line(line))?;
+    }
+    Ok(asked)
 }
 
 /// The printed page of each line, at most `count` answers a page: reply `i` is that of line `i`. The lines are answered as
-/// `read_all_with` answers them, with the texts of the lexicon's rules, which are made first; whoever has many lists of lines takes
+/// `answer_all` answers them, with the texts of the lexicon's rules, which are made first; whoever has many lists of lines takes
 /// a `Batch`. Refused only for want of memory.
+#[tactic(auto, using(crate::proofs::RepliesInOrder::pages_replied))]
 pub fn read_all<R: Threads + Sync, G: Gate + Sync>(
     rt: &R,
     alloc: Global,
@@ -182,5 +197,6 @@ pub fn read_all<R: Threads + Sync, G: Gate + Sync>(
         count,
         gate,
     };
-    read_all_with(rt, alloc, &replier, lines)
+    let asked = ask_for_pages(alloc, lines)?;
+    answer_all(rt, alloc, &replier, asked.as_slice())
 }

@@ -2,11 +2,12 @@ ghost use Rattle.std.specs.Prelude.{◌≡◌, ◌^◌, ◌<◌, length, map, If
 ghost use Rattle.outside.specs.Answers.{OnFailedWrite};
 ghost use Rattle.outside.specs.Counts.{Rose};
 ghost use Rattle.text_line.specs.Values.{scheme_of};
-ghost use Rattle.batch_reader.specs.Replies.{AreReplies};
+ghost use Rattle.batch_reader.specs.Replies.{AreRepliesTo};
 ghost use Rattle.batch_reader.specs.Serving.{WroteReplies, WroteFirstReplies};
 
-use super::answering::read_all_with;
-use super::block::{Block, read_block};
+use super::answering::answer_all;
+use super::asked::Asked;
+use super::block::cut_block;
 use super::printing::write_replies;
 use super::replier::Replier;
 use annotated_trie::Lexicon;
@@ -28,16 +29,16 @@ pub struct Batch<'a, G: Gate> {
 }
 
 impl<'a, G: Gate + Sync> Batch<'a, G> {
-    /// The pages of the lines of a block that are answered.
+    /// The replies to the lines of a block.
     fn answer_block<R: Threads + Sync>(
         &self,
         rt: &R,
         alloc: Global,
         rule_texts: &RuleTexts<'_>,
-        block: &Block,
+        block: &[Asked<'_>],
     ) -> Result<Vec<Vec<u8>>, Memory>
         requires { rule_texts.now ≡ self.now.lexicon.now.lexicon.rules }
-        ensures { IfOk result (λ pages. AreReplies self.now.lexicon.now.lexicon self.now.count block.now.lines.items (map (λ page. page.items) pages.items)) }
+        ensures { IfOk result (λ replies. AreRepliesTo self.now.lexicon.now.lexicon self.now.count block.now (map (λ reply. reply.items) replies.items)) }
     {
         let replier = Replier {
             lexicon: self.lexicon,
@@ -45,8 +46,7 @@ impl<'a, G: Gate + Sync> Batch<'a, G> {
             count: self.count,
             gate: self.gate,
         };
-        let lines = block.lines.as_slice();
-        read_all_with(rt, alloc, &replier, lines)
+        answer_all(rt, alloc, &replier, block)
     }
 
     /// Writes the reply to each line of the text after its number, counted from 1: the page of its first answers, or `?` and why it
@@ -71,11 +71,10 @@ impl<'a, G: Gate + Sync> Batch<'a, G> {
         let mut rest = text;
         let mut number = 1;
         while !rest.is_empty() {
-            let (block, following) = read_block(alloc, self.scheme, rest)?;
-            let pages = self.answer_block(rt, alloc, &rule_texts, &block)?;
-            let faults = block.faults.as_slice();
-            write_replies(alloc, sink, number, faults, pages.as_slice(), &mut piece)?;
-            number += block.faults.len() as u64;
+            let (block, following) = cut_block(alloc, self.scheme, rest)?;
+            let replies = self.answer_block(rt, alloc, &rule_texts, block.as_slice())?;
+            write_replies(alloc, sink, number, replies.as_slice(), &mut piece)?;
+            number += replies.len() as u64;
             rest = following;
         }
         Ok(())

@@ -1,5 +1,6 @@
 //! The lines of a text answered, each by its printed page: a block of lines at a time is answered at once, and its replies are written
-//! before the next block is begun. A worker for each processor, begun by the runtime's join, takes the next line that no other has taken.
+//! before the next block is begun. A worker for each processor, begun by the runtime's join, takes the next line that no other has taken, and
+//! reads and answers it.
 //!
 //! Proved of `Batch::serve`, over any sink: where it succeeds, the replies to all lines of the text were written, each after its
 //! number, in the order of the lines (`ok`), however many threads there were; wherever it stops, a prefix of the replies to some first
@@ -16,6 +17,7 @@
 #![tactic(auto)]
 
 mod answering;
+mod asked;
 mod batch;
 mod block;
 mod bounded_moves;

@@ -3,11 +3,16 @@ ghost use Rattle.search_frames.specs.Guided.{IsGuideOf};
 ghost use Rattle.search_frames.specs.Stacks.{IsStack};
 ghost use Rattle.summary_chart.specs.Charts.{CoversPlace, says_of};
 ghost use Rattle.summary_chart.specs.PlaceWays.{IsChartOf};
+ghost use Rattle.run_definitions.specs.BatchOutcomes.{IsLineReply};
+ghost use Rattle.text_line.specs.Values.{scheme_of};
 ghost use Rattle.batch_reader.specs.Desks.{IsDesk};
-ghost use Rattle.batch_reader.specs.Replies.{IsReply};
+ghost use Rattle.batch_reader.specs.Replies.{IsReadIn, IsReply, IsReplyTo};
 
+use super::asked::{Asked, TextLine};
 use annotated_trie::Lexicon;
-use answer_printing::{AnswerPrinter, NextAnswers, PrintedFront, RuleTexts, push_page};
+use answer_printing::{
+    AnswerPrinter, NextAnswers, PrintedFront, RuleTexts, push_page, push_text_refusal,
+};
 use outside::{Gate, NoGate, Steps};
 use phoneme::{Line, Memory};
 use reader_choices::Choices;
@@ -15,6 +20,7 @@ use search_frames::{Resumption, new_stack};
 use segmenter::Search;
 use std::alloc::Global;
 use summary_chart::Chart;
+use text_line::{TextFault, read_line};
 
 /// What all lines are answered by: the lexicon with the texts of its rules, which are made once, the most answers of a page, and
 /// the gate that each worker passes.
@@ -57,6 +63,17 @@ impl Desk {
             chart: Chart::new(alloc),
             room,
         })
+    }
+}
+
+/// The line that is read in the text, or the text's fault.
+#[tactic(auto, using(text_line::proofs::FaultsTold::fault_told))]
+fn read_text(alloc: Global, text: &TextLine<'_>) -> Result<Result<Line, TextFault>, Memory>
+    ensures { IfOk result (IsReadIn (scheme_of text.now.scheme) text.now.bytes.now) }
+{
+    match read_line(alloc, text.scheme, text.bytes) {
+        Ok(line) => Ok(Ok(line)),
+        Err(error) => Ok(Err(error.fault()?)),
     }
 }
 
@@ -110,9 +127,9 @@ impl<'a, G: Gate> Replier<'a, G> {
         Ok(Desk { chart, room })
     }
 
-    /// The reply to the line with this number, by a worker that passes the gate before it begins, and the worker's desk, which is kept
-    /// from line to line. The reply takes no more memory than it has bytes.
-    pub fn reply(
+    /// The page of the line with this number, by a worker that passes the gate before it begins, and the worker's desk. The page takes
+    /// no more memory than it has bytes.
+    fn answer_line(
         &self,
         alloc: Global,
         line: &Line,
@@ -125,8 +142,48 @@ impl<'a, G: Gate> Replier<'a, G> {
     {
         self.gate.pass(number);
         let desk = self.print_page(alloc, line, desk)?;
-        let reply = Vec::from_slice(alloc, desk.room.page.as_slice())?;
-        Ok((reply, desk))
+        let page = Vec::from_slice(alloc, desk.room.page.as_slice())?;
+        Ok((page, desk))
+    }
+
+    /// The same of a line of a text, which the worker reads first: where it is no line, the reply is why, and no gate is passed.
+    fn answer_text(
+        &self,
+        alloc: Global,
+        text: &TextLine<'_>,
+        number: u64,
+        desk: Desk,
+    ) -> Result<(Vec<u8>, Desk), Memory>
+        requires { IsDesk desk }
+        ensures ok { IfOk result (λ given. IsLineReply self.now.lexicon.now.lexicon (scheme_of text.now.scheme) self.now.count text.now.bytes.now given.0.items) }
+        ensures desk { IfOk result (λ given. IsDesk given.1) }
+    {
+        match read_text(alloc, text)? {
+            Ok(line) => self.answer_line(alloc, &line, number, desk),
+            Err(fault) => {
+                let mut refusal = Vec::new(alloc);
+                push_text_refusal(alloc, &mut refusal, fault)?;
+                Ok((refusal, desk))
+            }
+        }
+    }
+
+    /// The reply to what is asked under this number, and the worker's desk, which is kept from line to line.
+    pub fn reply(
+        &self,
+        alloc: Global,
+        asked: &Asked<'_>,
+        number: u64,
+        desk: Desk,
+    ) -> Result<(Vec<u8>, Desk), Memory>
+        requires { IsDesk desk }
+        ensures ok { IfOk result (λ given. IsReplyTo self.now.lexicon.now.lexicon self.now.count asked.now given.0.items) }
+        ensures desk { IfOk result (λ given. IsDesk given.1) }
+    {
+        match asked {
+            Asked::Line(line) => self.answer_line(alloc, line, number, desk),
+            Asked::Text(text) => self.answer_text(alloc, text, number, desk),
+        }
     }
 }
 

@@ -42,8 +42,8 @@ pub(crate) fn read_some_word_over(word: Word, text: &[u8]) -> Result<Word, TakeE
     Ok(word)
 }
 
-/// Reads the word of some letters with which the text begins in SLP1, before a blank, in the memory of a word and as that word, and gives
-/// what comes after the blank. `None` where the text does not begin so, and then nothing is known of the word.
+/// Reads into the word, in its memory, the letters with which the text begins in SLP1, and gives what comes after the blank that ends them.
+/// `None` where the text begins with no letter, or no blank comes after its letters; then nothing is known of the word.
 pub(crate) fn read_word_before_blank<'a>(
     alloc: Global,
     word: &mut Word,
@@ -53,9 +53,8 @@ pub(crate) fn read_word_before_blank<'a>(
 {
     let room = mem::replace(word, Word::new(alloc));
     let (front, count) = read_slp1_front_over(room, text)?;
-    let is_empty = front.is_empty();
     *word = front;
-    if is_empty || count >= text.len() || text[count] != b' ' {
+    if word.is_empty() || count >= text.len() || text[count] != b' ' {
         return Ok(None);
     }
     Ok(Some(&text[count + 1..]))

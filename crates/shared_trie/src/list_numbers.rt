@@ -6,8 +6,8 @@ use phoneme::Memory;
 use std::alloc::Global;
 use std::marker::Model;
 
-/// The numbers of lists of deltas that were made before, each by the numbers of its deltas in the order in which they came. More than half
-/// of the forms have one delta alone, whose list is found at once.
+/// The numbers of lists of deltas that were made before, each by the numbers of its deltas in the order in which they came. A list of one
+/// delta alone is found at once; of the lists that are sought for the starter lexicon more than half are such.
 #[derive(Drop)]
 pub(crate) struct ListNumbers {
     known: KnownLists,

@@ -31,6 +31,14 @@ either_has left right number = (
   ])),
 )
 
+-- the states of both sets
+pub both_have : (left right number : ℕ) → IsBitSet (bit_and left right) number ↔ (IsBitSet left number × IsBitSet right number)
+both_have left right number = (
+  λ h. let both = (and_has left right number).0 ((bit_is (bit_and left right) number).0 h) in
+      ((bit_is left number).1 both.0, (bit_is right number).1 both.1),
+  λ h. (bit_is (bit_and left right) number).1 ((and_has left right number).1 ((bit_is left number).0 h.0, (bit_is right number).0 h.1)),
+)
+
 by_bits : (bits : ℕ) (r : Bool) → MatchBool r ((number : ℕ) → bit_at bits number ≡ 1 → ⊥) ((number : ℕ) × (bit_at bits number ≡ 1))
     → MatchBool r ((number : ℕ) → IsBitSet bits number → ⊥) ((number : ℕ) × IsBitSet bits number)
 by_bits bits true none = λ number h. none number ((bit_is bits number).0 h)

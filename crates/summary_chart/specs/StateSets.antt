@@ -1,8 +1,9 @@
 -- Sets of numbered states of the grammar's machine, and what becomes of them by one phase more (own).
-use Rattle.std.specs.Prelude.{◌≡◌, ℕ, ◌<◌, ◌↔◌, ◌⊎◌, IsTrue, Some, length}
+use Rattle.std.specs.Prelude.{◌≡◌, ℕ, ◌<◌, ◌↔◌, ◌⊎◌, IsTrue, Some, length, get_or}
 use Rattle.std.specs.Int.{IsBitSet}
 use Rattle.phase_automaton.specs.Automata.{StateMachine, next_state, is_accepting}
 use Rattle.summary_chart.specs.declared.state_set.StateSet.{StateSet}
+use Rattle.summary_chart.specs.declared.leading_states.LeadingStates.{LeadingStates}
 
 -- the state with this number is in the set
 abbrev pub HasState : StateSet → ℕ → Type 0
@@ -32,3 +33,12 @@ IsAcceptedBy machine set phase number =
 abbrev pub LeadsInto : StateMachine → StateSet → ℕ → StateSet → ℕ → Type 0
 LeadsInto machine set phase targets number =
     IsStateOf machine set number × ((to : ℕ) × (next_state machine (Some number) phase ≡ Some to) × IsStateOf machine targets to)
+
+-- the state leads by the phase to another
+abbrev pub LeadsOn : StateMachine → ℕ → ℕ → Type 0
+LeadsOn machine phase number = (number < length machine.states) × ((to : ℕ) × (next_state machine (Some number) phase ≡ Some to))
+
+-- for each phase these are the states that lead by it to another
+abbrev pub AreLeading : StateMachine → LeadingStates → Type 0
+AreLeading machine leading = (phase number : ℕ) → phase < machine.phases
+    → HasState (get_or leading.by_phase phase (record { bits = 0 })) number ↔ LeadsOn machine phase number

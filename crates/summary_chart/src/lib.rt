@@ -24,6 +24,7 @@ mod gathering;
 mod guiding;
 mod items;
 mod laws;
+mod leading_states;
 mod listing;
 mod memo;
 mod passes;

@@ -12,12 +12,13 @@ ghost use Rattle.search_frames.specs.LetterTests.{IsLetterTestOf};
 ghost use Rattle.summary_chart.specs.Fronts.{IsFrontAt};
 ghost use Rattle.summary_chart.specs.PlaceWays.{AppendsWays, AppendsFalling};
 ghost use Rattle.summary_chart.specs.Sites.{IsSite, IsSiteAhead};
+ghost use Rattle.summary_chart.specs.StateSets.{AreLeading};
 ghost use Rattle.summary_chart.specs.Spreading.{IsLedByPhase, OnlyKey, IsByRule, IsAtFront, IsInPhase};
 ghost use Rattle.summary_chart.specs.Summaries.{steps_of_front, steps_of_fronts, steps_of_items};
 
+use super::leading_states::LeadingStates;
 use super::site::{Front, Site, SiteAhead};
 use super::state_set::StateSet;
-use super::state_steps::states_after;
 use super::walking::{first_front, longer_front};
 use derivation::Key;
 use outside::Steps;
@@ -241,10 +242,12 @@ fn reverse_from(ways: &mut Vec<Way>, first: usize)
 pub(crate) fn push_ways<L>(
     site: Site<'_>,
     states: StateSet,
+    leading: &LeadingStates,
     ways: &mut Vec<Way>,
     steps: &mut Steps<L>,
 ) -> Result<bool, Memory>
     requires site { IsSite site }
+    requires leading { AreLeading site.lexicon.now.machine leading.now }
     ensures kept { OnOk result (take (length ways.old.items) ways.new.items ≡ ways.old.items) }
     ensures appends { let here = site.entry in IfOk result (λ all. OnTrue all (AppendsWays here.lexicon.now here.line.now here.choices.now (numbered_of here.lexicon.now here.place.now) (IsLedByPhase here.lexicon.now.machine states) ways.old.items ways.new.items)) }
     ensures few { IfOk result (λ all. OnTrue all (length ways.new.items ≤ length ways.old.items + MOST_WAYS)) }
@@ -259,9 +262,7 @@ pub(crate) fn push_ways<L>(
     let phases = rules.phases().len();
     for phase in (0..phases as u32).rev() {
         steps.tick();
-        if states_after(lexicon.automaton(), states, phase).is_empty()
-            || !may_begin(rules, site.place, phase)
-        {
+        if !leading.lead(states, phase) || !may_begin(rules, site.place, phase) {
             continue;
         }
         if !push_phase(here, phase, first, ways, steps)? {

@@ -8,6 +8,7 @@ ghost use Rattle.summary_chart.specs.declared.memo.Done.{Done as DoneValue};
 ghost use Rattle.summary_chart.specs.Effects.{AreEffects};
 ghost use Rattle.summary_chart.specs.Memos.{AreLiving, AreSpread, EndFrom, IsKnown};
 ghost use Rattle.summary_chart.specs.Tables.{HaveBits, IsTable, IsIndexed, set_of};
+ghost use Rattle.summary_chart.specs.StateSets.{AreLeading};
 ghost use Rattle.summary_chart.specs.Spreading.{AreGoingFurther, EveryKey, leads_in};
 ghost use Rattle.summary_chart.specs.Charts.{HasReached, IsChartTable, IsOpenTable, IsReachedBefore};
 ghost use Rattle.summary_chart.specs.PlaceWays.{AreFew, AreFrom, AreStops, HasKeptFew, HasNoPlaceBetween, HaveAllWays, HaveLivingWays, HaveStops, HaveStopsBefore, HaveWaysBefore, IsStopAt, indices_of};
@@ -15,6 +16,7 @@ ghost use Rattle.summary_chart.specs.Sites.{IsSite};
 ghost use Rattle.summary_chart.specs.Summaries.{steps_of_items, steps_of_summary};
 
 use super::gathering::{gather, gather_ways};
+use super::leading_states::LeadingStates;
 use super::listing::push_ways;
 use super::place_ways::{PlaceWays, Stop};
 use super::room::Room;
@@ -46,11 +48,13 @@ fn most_kept(lexicon: &Lexicon, line: &Line, table: &Table) -> usize
 fn keep_ways<L>(
     site: Site<'_>,
     index: usize,
+    leading: &LeadingStates,
     table: &Table,
     kept: &mut PlaceWays,
     steps: &mut Steps<L>,
 ) -> Result<Option<Stop>, Memory>
     requires site { IsSite site }
+    requires leading { AreLeading site.lexicon.now.machine leading.now }
     requires there { index < length table.now.sets.items }
     requires table { IsTable (leads_in site.lexicon.now) (length site.line.now.letters) table.now }
     ensures kept { IfOk result (λ stop. HasKeptFew site.entry.lexicon.now site.entry.line.now site.entry.choices.now (numbered_of site.entry.lexicon.now site.entry.place.now) table.now index kept.old kept.new stop) }
@@ -62,7 +66,7 @@ fn keep_ways<L>(
     }
     let states = table.sets[index];
     let first = kept.ways.len();
-    let all = push_ways(site, states, &mut kept.ways, steps)?;
+    let all = push_ways(site, states, leading, &mut kept.ways, steps)?;
     if !all || !kept.has_room(most) {
         kept.ways.truncate(first);
         return Ok(None);
@@ -82,12 +86,14 @@ fn keep_ways<L>(
 fn reach_from<L>(
     site: Site<'_>,
     index: usize,
+    leading: &LeadingStates,
     table: &mut Table,
     kept: &mut PlaceWays,
     room: &mut Room,
     steps: &mut Steps<L>,
 ) -> Result<bool, Memory>
     requires site { IsSite site }
+    requires leading { AreLeading site.lexicon.now.machine leading.now }
     requires there { index < length table.old.sets.items }
     requires indexed { IsIndexed (leads_in site.lexicon.now) (length site.line.now.letters) index site.place.now.at site.place.now.entrance }
     requires before { IsReachedBefore site.lexicon.now site.line.now site.choices.now index table.old }
@@ -102,7 +108,7 @@ fn reach_from<L>(
     ensures steps { (most : ℕ) → HasAtMostRules site.entry.lexicon.now.tries most → steps.new ≤ steps.old + 2 * steps_of_items site.entry.lexicon.now most }
 {
     let states = table.sets[index];
-    let Some(stop) = keep_ways(site, index, table, kept, steps)? else {
+    let Some(stop) = keep_ways(site, index, leading, table, kept, steps)? else {
         spread(site, states, table, room, steps)?;
         return Ok(false);
     };
@@ -135,6 +141,7 @@ pub(crate) fn reach<L>(
     ensures steps { (most : ℕ) → HasAtMostRules passage.entry.lexicon.now.tries most → steps.new ≤ steps.old + 2 * steps_of_summary passage.entry.lexicon.now passage.entry.line.now most }
 {
     let state = passage.lexicon.automaton().start();
+    let leading = LeadingStates::of(passage.lexicon.automaton());
     let mut each_has_stop = true;
     let mut index = table.next_filled(0);
     while index < table.sets.len() {
@@ -150,7 +157,7 @@ pub(crate) fn reach<L>(
             choices: passage.choices,
             place: &place,
         };
-        each_has_stop &= reach_from(site, index, table, kept, room, steps)?;
+        each_has_stop &= reach_from(site, index, &leading, table, kept, room, steps)?;
         index = table.next_filled(index + 1);
     }
     Ok(each_has_stop)

@@ -44,6 +44,15 @@ impl StateSet {
         }
     }
 
+    /// The states of both.
+    pub(crate) fn intersection(self, other: StateSet) -> StateSet
+        ensures { (number : ℕ) → HasState result number ↔ (HasState self number × HasState other number) }
+    {
+        StateSet {
+            bits: self.bits & other.bits,
+        }
+    }
+
     pub(crate) fn is_empty(self) -> bool
         ensures { MatchBool result ((number : ℕ) → HasState self number → ⊥) ((number : ℕ) × HasState self number) }
     {

@@ -5,6 +5,6 @@ use Rattle.batch_reader.proofs.answering.find_replies.Given as goal
 
 abbrev pub invariant-loop : goal.invariant-loop
 invariant-loop g l = record {
-  found : AreFound l.replier.lexicon.now.lexicon l.replier.count l.lines l.found.items;
+  found : AreFound l.replier.lexicon.now.lexicon l.replier.count l.asked l.found.items;
   desk : IsDesk l.desk;
 }

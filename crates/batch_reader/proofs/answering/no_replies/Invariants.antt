@@ -4,5 +4,5 @@ use Rattle.lexicon_definitions.specs.Lexicons.{Lexicon}
 use Rattle.batch_reader.specs.Replies.{AreFound}
 use Rattle.batch_reader.proofs.answering.no_replies.Given as goal
 
-abbrev pub invariant-loop-line : goal.invariant-loop-line
-invariant-loop-line l = (lexicon : Lexicon) (count : ℕ) → AreFound lexicon count (take l._line-index l.lines) l.found.items
+abbrev pub invariant-loop-one : goal.invariant-loop-one
+invariant-loop-one l = (lexicon : Lexicon) (count : ℕ) → AreFound lexicon count (take l._one-index l.asked) l.found.items

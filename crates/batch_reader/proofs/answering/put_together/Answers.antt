@@ -1,9 +1,9 @@
 -- What is found at the place in either list is put there, and nothing is left of it in the other list.
-use Rattle.std.proofs.Common.{◌≡◌, ◌<◌, ℕ, Option, Vec, Global, None, [], length, get_or, slice_set, sym, subst, ◌∙◌, arith}
+use Rattle.std.proofs.Common.{◌≡◌, ◌<◌, ℕ, Option, Vec, Global, None, length, get_or, slice_set, sym, subst, ◌∙◌, arith}
 use Rattle.std.specs.Option.{option_or}
 use Rattle.std.proofs.lemmas.List.{length-set, get_or_read_under}
 use Rattle.batch_reader.specs.Replies.{IsFound, AreFound}
-use Rattle.batch_reader.proofs.FoundReplies.{zip_length, taken_out, either_found}
+use Rattle.batch_reader.proofs.FoundReplies.{zip_length, first_one, taken_out, either_found}
 use Rattle.batch_reader.proofs.answering.put_together.Goals as goal
 
 pub loop-place-preserved : goal.loop-place-preserved
@@ -29,6 +29,6 @@ loop-place-preserved c =
                 (subst (λ (o : Option (Vec ℕ Global)). AreFound lexicon count lines (slice_set (slice_set found place None) place o)) (sym or_is)
                 (either_found lexicon count lines found others place before.0 before.1 low)),
             subst (λ (o : Option (Vec ℕ Global)). AreFound lexicon count lines (slice_set others place o)) (sym c.take-other.ensures.after)
-                (taken_out lexicon count lines others place (record { letters = []; blanks = [] }) before.1 low),
+                (taken_out lexicon count lines others place (first_one lines place low) before.1 low),
           );
     }

@@ -1,8 +1,8 @@
 -- One phase more, which comes before those so far; one to which no state leads has no key that is asked for, and no key of one that may not
 -- begin does anything. At the end all are turned round.
-use Rattle.std.proofs.Common.{◌≡◌, ℕ, ◌+◌, ◌-◌, ◌*◌, ◌≤◌, ◌++◌, length, take, drop, reverse, sym, ap, ◌∙◌, subst, arith}
+use Rattle.std.proofs.Common.{◌≡◌, ℕ, ◌+◌, ◌-◌, ◌*◌, ◌<◌, ◌≤◌, ◌++◌, length, take, drop, reverse, sym, ap, ◌∙◌, subst, arith}
 use Rattle.std.specs.Prelude.{string_bytes}
-use Rattle.std.proofs.lemmas.Bool.{OnTrue_at}
+use Rattle.std.proofs.lemmas.Bool.{OnTrue_at, MatchBool-at_true, MatchBool-at_false}
 use Rattle.std.proofs.lemmas.List.{length-map}
 use Rattle.lexicon_definitions.specs.Lexicons.{RuleSet}
 use Rattle.lexicon_definitions.specs.Leads.{leads_of}
@@ -18,7 +18,7 @@ use Rattle.summary_chart.specs.Summaries.{steps_of_fronts}
 use Rattle.summary_chart.proofs.AppendedWays.{still_begins, append_reversed}
 use Rattle.summary_chart.proofs.OrderedKeys.{IsLedFrom, append_no_phase, append_phase, append_dead_phase, append_unbegun_phase, append_all_phases}
 use Rattle.summary_chart.proofs.listing.push_ways.Goals as goal
-use Rattle.summary_chart.proofs.listing.push_ways.Goals.{then-is_empty-via-then-is_empty, then-is_empty-via-else-is_empty+then-not-may_begin}
+use Rattle.summary_chart.proofs.listing.push_ways.Goals.{then-not-lead-via-then-not-lead, then-not-lead-via-else-not-lead+then-not-may_begin}
 
 -- one phase less is left
 one_less : (left each now then all : ℕ) → now + (left + 1) * each ≤ all → then ≤ now + each → then + left * each ≤ all
@@ -48,8 +48,8 @@ push_phase-requires-clause-here g c =
           c.rules-rules.ensures.value c.of-ahead.ensures;
     }
 
-pub loop-phase-preserved-then-is_empty : goal.loop-phase-preserved-then-is_empty
-loop-phase-preserved-then-is_empty g c =
+pub loop-phase-preserved-then-not-lead : goal.loop-phase-preserved-then-not-lead
+loop-phase-preserved-then-not-lead g c =
     let inv = c.loop-phase.invariant in
     let searched = c.args.site.lexicon.now in
     let here = numbered_of searched c.args.site.place.now in
@@ -57,15 +57,15 @@ loop-phase-preserved-then-is_empty g c =
     let one : c.loop-phase.phase ≡ phase + 1 = omega (arith, c.loop-phase-test.true) in
     let so_far = subst (λ (n : ℕ). AppendsFalling searched c.args.site.line.now c.args.site.choices.now here (IsLedFrom searched.machine c.args.states n)
     c.args.ways.now.items c.loop-phase.ways.items) one inv.appends in
+    let low : phase < searched.machine.phases = omega (arith, one, inv.low, c.requires.site.searched.phases) in
     record {
       low = omega (arith, inv.low);
-      appends = elim c.then-is_empty.branch [
-        | then-is_empty-via-then-is_empty w ↦
+      appends = elim c.then-not-lead.branch [
+        | then-not-lead-via-then-not-lead w ↦
             append_dead_phase searched c.args.site.line.now c.args.site.choices.now here c.args.states phase
-            (λ number led. w.if-is_empty.ensures number ((c.states_after.ensures number).1
-            (subst (λ (machine : StateMachine). IsLedTo machine c.args.states phase number) (sym c.automaton.ensures.value) led)))
+            (MatchBool-at_false _ _ w.if-not-lead.true (c.lead.ensures searched.machine c.requires.leading low))
             c.args.ways.now.items c.loop-phase.ways.items so_far
-        | then-is_empty-via-else-is_empty+then-not-may_begin w ↦
+        | then-not-lead-via-else-not-lead+then-not-may_begin w ↦
             append_unbegun_phase searched c.args.site.line.now c.args.site.choices.now here c.args.states phase
             (λ begins.
             let yes = w.may_begin.ensures.1 (subst (λ (r : RuleSet). MayBegin (entrance_of (leads_of r.rules) c.args.site.place.now.entrance) phase)
@@ -90,9 +90,9 @@ loop-phase-preserved g c =
     let one : c.loop-phase.phase ≡ phase + 1 = omega (arith, c.loop-phase-test.true) in
     let so_far = subst (λ (n : ℕ). AppendsFalling searched c.args.site.line.now c.args.site.choices.now here (IsLedFrom searched.machine c.args.states n)
     c.args.ways.now.items c.loop-phase.ways.items) one inv.appends in
-    let some = c.if-is_empty.ensures in
-    let led = subst (λ (machine : StateMachine). IsLedTo machine c.args.states phase some.0) c.automaton.ensures.value
-    ((c.states_after.ensures some.0).0 some.1) in
+    let low : phase < searched.machine.phases = omega (arith, one, inv.low, c.requires.site.searched.phases) in
+    let some = MatchBool-at_true _ _ c.if-not-lead.false (c.lead.ensures searched.machine c.requires.leading low) in
+    let led = some.1 in
     record {
       low = omega (arith, inv.low);
       appends = append_phase searched c.args.site.line.now c.args.site.choices.now here c.args.states phase some.0 led
