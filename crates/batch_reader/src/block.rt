@@ -11,7 +11,8 @@ use text_line::Scheme;
 /// A block has at least this many lines of the text, where the text has so many left.
 const FEWEST_LINES: usize = 64;
 
-/// The lines of a block that has more have at most this many letters together. A line without letters counts as one letter.
+/// The lines of a block that has more have at most this many letters together, as many as their bytes can spell. A line without bytes
+/// counts as one letter.
 const MOST_LETTERS: usize = 65_536;
 
 /// The most letters that so many bytes spell: one for each byte, or in Devanagari two for the three bytes of a consonant.
