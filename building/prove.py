@@ -6,9 +6,9 @@
 Each word is a crate with what it uses, as crates.txt has it, and stands after those of the crates that it uses; the last is
 the program's. A crate is begun once all that it uses is built, and first the one with the longest chain of others above it,
 counted in lines. There run as many as there are processors, and 3 GB of free memory for each. A crate beside which fewer
-wait than there are processors gets the processors that are left, at most four. The crate on which all others wait in the
-end, since none that is not built has a longer chain, gets as many as let that chain end with the rest: so the program is not
-waited for while processors stand idle. For those it does not wait either, and the next crates are begun once as many are free.
+wait than there are processors gets the processors that are left, at most four. The crate with the longest chain above it,
+of all that are not built, gets as many as would let that chain end with the rest, by lines, also where fewer are free. Then up
+to three jobs more run than processors are there, until others have ended; no crate is begun meanwhile.
 
 Each crate is checked whole, and from nothing, by `rattle build`, over the statements of the crates below it; the check takes
 nothing that earlier checks kept. Its last line must say that the crate is proved, and have no word of trust but those that the
