@@ -16,6 +16,15 @@ module _ {A B : Type 0} (R : A → B → Type 0) where
   zip_together (x ∷ front) back [] later holds rest = absurd holds
   zip_together (x ∷ front) back (y ∷ earlier) later holds rest = (holds.0, zip_together front back earlier later holds.1 rest)
 
+  -- one element more of each
+  pub zip_next : (xs : List A) (place : ℕ) (x : A) (ys : List B) (y : B) → place < length xs → x ≡ get_or xs place x → AllZip R (take place xs) ys
+      → R x y → AllZip R (take (place + 1) xs) (ys ++ (y ∷ []))
+  zip_next xs place x ys y low same holds here =
+      subst (λ whole. AllZip R whole (ys ++ (y ∷ []))) front (zip_together (take place xs) (x ∷ []) ys (y ∷ []) holds (here, tt))
+    where
+      front : take place xs ++ (x ∷ []) ≡ take (place + 1) xs
+      front = ap (λ (last : A). take place xs ++ (last ∷ [])) same ∙ sym (take-suc xs place x low) ∙ ap (λ (n : ℕ). take n xs) (sym (add-one place))
+
   zip_set : (xs : List A) (ys : List B) (place : ℕ) (x : A) (y : B) → AllZip R xs ys → place < length xs → R (get_or xs place x) y → AllZip R xs (slice_set ys place y)
   zip_set [] ys place x y holds low here = absurd (omega (arith, low))
   zip_set (first ∷ xs) [] place x y holds low here = absurd holds
@@ -35,47 +44,44 @@ module _ {A B : Type 0} (R : A → B → Type 0) where
   zip_length (x ∷ xs) (y ∷ ys) holds = ap suc (zip_length xs ys holds.1)
 
 -- there is a first one where there is one at a place
-pub first_one : (lines : List Asked) (place : ℕ) → place < length lines → Asked
+pub first_one : (asked : List Asked) (place : ℕ) → place < length asked → Asked
 first_one [] place low = absurd (omega (arith, low))
-first_one (first ∷ lines) place low = first
+first_one (first ∷ asked) place low = first
 
-module _ (lexicon : Lexicon) (count : ℕ) (lines : List Asked) where
+module _ (lexicon : Lexicon) (count : ℕ) (asked : List Asked) where
   -- one place more, where nothing was found
-  pub none_more : (place : ℕ) (line : Asked) (before : List (Option (Vec ℕ Global))) → place < length lines → line ≡ get_or lines place line
-      → AreFound lexicon count (take place lines) before → AreFound lexicon count (take (place + 1) lines) (before ++ (None ∷ []))
-  none_more place line before within same found =
-      let shorter = take-suc lines place line within in
-      let front = ap (λ (last : Asked). take place lines ++ (last ∷ [])) same ∙ sym shorter ∙ ap (λ (n : ℕ). take n lines) (sym (add-one place)) in
-      subst (λ whole. AreFound lexicon count whole (before ++ (None ∷ []))) front
-      (zip_together (IsFound lexicon count) (take place lines) (line ∷ []) before (None ∷ []) found ((λ text none. absurd (cc (none))), tt))
+  pub none_more : (place : ℕ) (one : Asked) (before : List (Option (Vec ℕ Global))) → place < length asked → one ≡ get_or asked place one
+      → AreFound lexicon count (take place asked) before → AreFound lexicon count (take (place + 1) asked) (before ++ (None ∷ []))
+  none_more place one before low same found =
+      zip_next (IsFound lexicon count) asked place one before None low same found (λ text none. absurd (cc (none)))
 
-  -- the reply to a line is found
-  pub one_found : (found : List (Option (Vec ℕ Global))) (place : ℕ) (line : Asked) (text : Vec ℕ Global) → AreFound lexicon count lines found
-      → place < length lines → IsReplyTo lexicon count (get_or lines place line) text.items → AreFound lexicon count lines (slice_set found place (Some text))
-  one_found found place line text are low reply =
-      zip_set (IsFound lexicon count) lines found place line (Some text) are low
-      (λ other same. subst (λ (t : Vec ℕ Global). IsReplyTo lexicon count (get_or lines place line) t.items) (same_Some text other same) reply)
+  -- a reply is found
+  pub one_found : (found : List (Option (Vec ℕ Global))) (place : ℕ) (one : Asked) (text : Vec ℕ Global) → AreFound lexicon count asked found
+      → place < length asked → IsReplyTo lexicon count (get_or asked place one) text.items → AreFound lexicon count asked (slice_set found place (Some text))
+  one_found found place one text are low reply =
+      zip_set (IsFound lexicon count) asked found place one (Some text) are low
+      (λ other same. subst (λ (t : Vec ℕ Global). IsReplyTo lexicon count (get_or asked place one) t.items) (same_Some text other same) reply)
 
   -- nothing is left at a place
-  pub taken_out : (found : List (Option (Vec ℕ Global))) (place : ℕ) (line : Asked) → AreFound lexicon count lines found → place < length lines
-      → AreFound lexicon count lines (slice_set found place None)
-  taken_out found place line are low = zip_set (IsFound lexicon count) lines found place line None are low (λ text none. absurd (cc (none)))
+  pub taken_out : (found : List (Option (Vec ℕ Global))) (place : ℕ) (one : Asked) → AreFound lexicon count asked found → place < length asked
+      → AreFound lexicon count asked (slice_set found place None)
+  taken_out found place one are low = zip_set (IsFound lexicon count) asked found place one None are low (λ text none. absurd (cc (none)))
 
-  either : (line : Asked) (own other : Option (Vec ℕ Global)) → IsFound lexicon count line own → IsFound lexicon count line other → IsFound lexicon count line (option_or own other)
-  either line None other own_is other_is = other_is
-  either line (Some text) other own_is other_is = own_is
+  either : (one : Asked) (own other : Option (Vec ℕ Global)) → IsFound lexicon count one own → IsFound lexicon count one other → IsFound lexicon count one (option_or own other)
+  either one None other own_is other_is = other_is
+  either one (Some text) other own_is other_is = own_is
 
   -- what was found at a place in one of two lists, where it was taken out
-  pub either_found : (found others : List (Option (Vec ℕ Global))) (place : ℕ) → AreFound lexicon count lines found → AreFound lexicon count lines others
-      → place < length lines → AreFound lexicon count lines (slice_set (slice_set found place None) place (option_or (get_or found place None) (get_or others place None)))
+  pub either_found : (found others : List (Option (Vec ℕ Global))) (place : ℕ) → AreFound lexicon count asked found → AreFound lexicon count asked others
+      → place < length asked → AreFound lexicon count asked (slice_set (slice_set found place None) place (option_or (get_or found place None) (get_or others place None)))
   either_found found others place are other low =
-      let line = first_one lines place low in
-      zip_set (IsFound lexicon count) lines (slice_set found place None) place line (option_or (get_or found place None) (get_or others place None))
-      (taken_out found place line are low) low
-      (either (get_or lines place line) (get_or found place None) (get_or others place None)
-      (zip_at (IsFound lexicon count) lines found place line None are low) (zip_at (IsFound lexicon count) lines others place line None other low))
+      let one = first_one asked place low in
+      zip_set (IsFound lexicon count) asked (slice_set found place None) place one (option_or (get_or found place None) (get_or others place None))
+      (taken_out found place one are low) low
+      (either (get_or asked place one) (get_or found place None) (get_or others place None)
+      (zip_at (IsFound lexicon count) asked found place one None are low) (zip_at (IsFound lexicon count) asked others place one None other low))
 
   -- what was found at a place is the reply
-  pub reply_found : (found : List (Option (Vec ℕ Global))) (place : ℕ) (line : Asked) (text : Vec ℕ Global) → AreFound lexicon count lines found
-      → place < length lines → get_or found place None ≡ Some text → IsReplyTo lexicon count (get_or lines place line) text.items
-  reply_found found place line text are low is = zip_at (IsFound lexicon count) lines found place line None are low text is
+  pub reply_found : (found : List (Option (Vec ℕ Global))) (place : ℕ) (one : Asked) (text : Vec ℕ Global) → AreFound lexicon count asked found
+      → place < length asked → get_or found place None ≡ Some text → IsReplyTo lexicon count (get_or asked place one) text.items
+  reply_found found place one text are low is = zip_at (IsFound lexicon count) asked found place one None are low text is

@@ -4,4 +4,5 @@ mod FoundReplies
 pub mod CutLines
 mod RepliedTexts
 pub mod RepliedLines
+pub mod WrittenPieces
 pub mod ServedLines

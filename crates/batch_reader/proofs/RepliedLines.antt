@@ -1,131 +1,130 @@
--- The replies to the lines of a block, and what is written of them piece by piece.
-use Rattle.std.proofs.Common.{◌≡◌, ℕ, ◌+◌, ◌<◌, List, [], ◌∷◌, ◌++◌, length, drop, map, get_or, Option, Some, None, Vec, Global, refl, sym, ◌∙◌, ap, subst, append_assoc, append-nil, drop-cons, suc, add-one}
-use Rattle.std.specs.List.{AllZip}
-use Rattle.outside.specs.Told.{bytes_after, GrowsByPrefix}
-use Rattle.outside.proofs.ToldLemmas.{bytes_after-bytes_after, GrowsByPrefix-after, GrowsByPrefix-all, GrowsByPrefix-more}
+-- The replies to the lines of a block, portion by portion.
+use Rattle.std.proofs.Common.{◌≡◌, ℕ, ◌+◌, ◌<◌, ◌≤◌, ◌-◌, List, [], ◌∷◌, ◌++◌, length, take, drop, get_or, refl, sym, ◌∙◌, ap, subst, arith, append_assoc, append-nil, length-append, length-take-le, length-drop, take_all, take-append-drop, add-one, codes}
+use Rattle.std.specs.Fmt.{decimal}
+use Rattle.std.specs.List.{AllZip, concat}
+use Rattle.std.proofs.Math.Seq.{take-suc}
 use Rattle.text_definitions.specs.Schemes.{Scheme}
 use Rattle.lexicon_definitions.specs.Lexicons.{Lexicon}
 use Rattle.lexicon_text_definitions.specs.FileLines as file
+use Rattle.segmentation_definitions.specs.PrintedAnswers.{output_line}
 use Rattle.run_definitions.specs.BatchOutcomes.{IsLineReply, numbered_reply, AreNumberedReplies}
 use Rattle.text_line.specs.Values.{scheme_of}
+use Rattle.batch_reader.specs.declared.asked.TextLine.{TextLine}
+use Rattle.batch_reader.specs.declared.asked.Portion.{Portion}
 use Rattle.batch_reader.specs.declared.asked.Asked.{Asked}
 use Rattle.batch_reader.specs.declared.asked.Asked.TheVariants as asked
-use Rattle.batch_reader.specs.Replies.{IsReplyTo, AreRepliesTo}
-use Rattle.batch_reader.specs.Blocks.{AsksForReply, numbered_replies}
-use Rattle.batch_reader.specs.Serving.{WroteFront}
+use Rattle.batch_reader.specs.Replies.{HasLineReply, ArePortionReplies, AreRepliesTo}
+use Rattle.batch_reader.specs.Blocks.{IsLineOfText, AskForReplies}
 
--- the reply to a line of a text is the reply to what asks for it
-of_line : (lexicon : Lexicon) (scheme : Scheme) (count : ℕ) (line : file.Line) (one : Asked) (reply : List ℕ) → AsksForReply scheme line one
-    → IsReplyTo lexicon count one reply → IsLineReply lexicon scheme count line.bytes reply
-of_line lexicon scheme count line (asked.Line other) reply asks is = absurd asks
-of_line lexicon scheme count line (asked.Text text) reply (e, b) is =
-    subst (λ (s : Scheme). IsLineReply lexicon s count line.bytes reply) e
-    (subst (λ (bytes : List ℕ). IsLineReply lexicon (scheme_of text.scheme) count bytes reply) b is.is)
-
--- what is replied to those who ask for the replies to these lines are the replies
-pub replies_are_numbered : (lexicon : Lexicon) (scheme : Scheme) (count number : ℕ) (lines : List file.Line) (block : List Asked) (replies : List (List ℕ))
-    → AllZip (AsksForReply scheme) lines block → AreRepliesTo lexicon count block replies
-    → AreNumberedReplies lexicon scheme count number lines (numbered_replies number replies)
-replies_are_numbered lexicon scheme count number [] [] [] asks are = refl
-replies_are_numbered lexicon scheme count number [] [] (reply ∷ replies) asks are = absurd are
-replies_are_numbered lexicon scheme count number [] (one ∷ block) replies asks are = absurd asks
-replies_are_numbered lexicon scheme count number (line ∷ lines) [] replies asks are = absurd asks
-replies_are_numbered lexicon scheme count number (line ∷ lines) (one ∷ block) [] asks are = absurd are
-replies_are_numbered lexicon scheme count number (line ∷ lines) (one ∷ block) (reply ∷ replies) asks are = (
+-- the replies to some lines, and then those to others
+pub joined : (lexicon : Lexicon) (count number : ℕ) (lines others : List TextLine) (front back : List ℕ)
+    → ArePortionReplies lexicon count number lines front → ArePortionReplies lexicon count (number + length lines) others back
+    → ArePortionReplies lexicon count number (lines ++ others) (front ++ back)
+joined lexicon count number [] others front back p q =
+    subst (λ (f : List ℕ). ArePortionReplies lexicon count number others (f ++ back)) (sym p)
+    (subst (λ n. ArePortionReplies lexicon count n others back) (omega arith) q)
+joined lexicon count number (line ∷ lines) others front back (reply, rest, is, e, p) q = (
   reply,
-  numbered_replies (number + 1) replies,
-  of_line lexicon scheme count line one reply asks.0 are.0,
-  refl,
-  replies_are_numbered lexicon scheme count (number + 1) lines block replies asks.1 are.1,
+  rest ++ back,
+  is,
+  ap (λ (f : List ℕ). f ++ back) e ∙ append_assoc (numbered_reply number reply) rest back,
+  joined lexicon count (number + 1) lines others rest back p
+      (subst (λ n. ArePortionReplies lexicon count n others back) (omega arith) q),
 )
 
--- of all these bytes some were written, the piece has the next of them, and the rest is to come
-pub record HasWrittenSoFar (old now : Option (List ℕ)) (all piece rest : List ℕ) : Type 0 where
-  pub written : List ℕ
-  pub wrote : now ≡ bytes_after old written
-  pub whole : all ≡ written ++ (piece ++ rest)
+-- one line more of the portion is replied to, after its number
+pub line_replied : (lexicon : Lexicon) (count number next place : ℕ) (lines : List TextLine) (line : TextLine) (old with_number new : List ℕ)
+    → place < length lines → line ≡ get_or lines place line → next ≡ number + place
+    → ArePortionReplies lexicon count number (take place lines) old → with_number ≡ old ++ output_line (codes "line " ++ decimal next)
+    → HasLineReply lexicon count line with_number new → ArePortionReplies lexicon count number (take (place + 1) lines) new
+line_replied lexicon count number next place lines line old with_number new low same next_is before numbered p =
+    subst (λ ls. ArePortionReplies lexicon count number ls new) front
+    (subst (ArePortionReplies lexicon count number (take place lines ++ (line ∷ []))) (sym new_is)
+    (joined lexicon count number (take place lines) (line ∷ []) old (numbered_reply next p.reply) before
+    (p.reply, [], p.is, ap (λ n. numbered_reply n p.reply) (omega (arith, next_is, length-take-le place lines, low)) ∙ sym (append-nil _), refl)))
+  where
+    front : take place lines ++ (line ∷ []) ≡ take (place + 1) lines
+    front = ap (λ (last : TextLine). take place lines ++ (last ∷ [])) same ∙ sym (take-suc lines place line low) ∙ ap (λ (n : ℕ). take n lines) (sym (add-one place))
 
-module _ (old : Option (List ℕ)) (all : List ℕ) where
-  -- nothing was
-  pub none_written : HasWrittenSoFar old old all [] all
-  none_written = record { written = []; wrote = nothing_more old; whole = refl }
-    where
-      nothing_more : (told : Option (List ℕ)) → told ≡ bytes_after told []
-      nothing_more None = refl
-      nothing_more (Some told) = ap Some (sym (append-nil told))
+    new_is : new ≡ old ++ numbered_reply next p.reply
+    new_is = p.put ∙ ap (λ (b : List ℕ). b ++ p.reply) numbered ∙ append_assoc old (output_line (codes "line " ++ decimal next)) p.reply
 
-  -- the next bytes are put into the piece
-  put_in_piece : (now : Option (List ℕ)) (piece next more rest : List ℕ) → HasWrittenSoFar old now all piece (next ++ rest) → more ≡ piece ++ next
-      → HasWrittenSoFar old now all more rest
-  put_in_piece now piece next more rest p is = record {
-    written = p.written;
-    wrote = p.wrote;
-    whole = p.whole ∙ ap (λ (b : List ℕ). p.written ++ b) (sym (append_assoc piece next rest) ∙ ap (λ (b : List ℕ). b ++ rest) (sym is));
+-- the pieces that are replied to those who ask for the replies to these lines are the replies
+pub portions_replied : (lexicon : Lexicon) (count number : ℕ) (lines : List TextLine) (block : List Asked) (pieces : List (List ℕ))
+    → AskForReplies number lines block → AreRepliesTo lexicon count block pieces → ArePortionReplies lexicon count number lines (concat pieces)
+portions_replied lexicon count number lines [] [] asks are = subst (λ ls. ArePortionReplies lexicon count number ls []) (sym asks) refl
+portions_replied lexicon count number lines [] (piece ∷ pieces) asks are = absurd are
+portions_replied lexicon count number lines (asked.Line other ∷ block) pieces asks are = absurd asks
+portions_replied lexicon count number lines (asked.Portion portion ∷ block) [] asks are = absurd are
+portions_replied lexicon count number lines (asked.Portion portion ∷ block) (piece ∷ pieces) (others, same, cut, asks) are =
+    subst (λ ls. ArePortionReplies lexicon count number ls (piece ++ concat pieces)) (sym cut)
+    (joined lexicon count number portion.lines.now others piece (concat pieces)
+    (subst (λ n. ArePortionReplies lexicon count n portion.lines.now piece) same are.0.is)
+    (portions_replied lexicon count (number + length portion.lines.now) others block pieces asks are.1))
+
+-- one portion more is asked for
+portion_asked : (number : ℕ) (lines : List TextLine) (block : List Asked) (portion : Portion) → AskForReplies number lines block
+    → portion.number ≡ number + length lines → AskForReplies number (lines ++ portion.lines.now) (block ++ asked.Portion portion ∷ [])
+portion_asked number lines [] portion asks next = (
+  [],
+  next ∙ ap (λ (ls : List TextLine). number + length ls) asks ∙ omega arith,
+  ap (λ (ls : List TextLine). ls ++ portion.lines.now) asks ∙ sym (append-nil portion.lines.now),
+  refl,
+)
+portion_asked number lines (asked.Line other ∷ block) portion asks next = absurd asks
+portion_asked number lines (asked.Portion first ∷ block) portion (others, is, cut, asks) next = (
+  others ++ portion.lines.now,
+  is,
+  ap (λ (ls : List TextLine). ls ++ portion.lines.now) cut ∙ append_assoc first.lines.now others portion.lines.now,
+  portion_asked (number + length first.lines.now) others block portion asks
+      (omega (arith, next, ap length cut, length-append first.lines.now others)),
+)
+
+-- workers are asked about the lines before those that are left, and the next has this number
+pub record HasCutPortions (number : ℕ) (lines : List TextLine) (block : List Asked) (next : ℕ) (left : List TextLine) : Type 0 where
+  pub front : List TextLine
+  pub whole : lines ≡ front ++ left
+  pub asks : AskForReplies number front block
+  pub next_is : next ≡ number + length front
+
+module _ (number : ℕ) (lines : List TextLine) where
+  -- at first no line is
+  pub none_cut : HasCutPortions number lines [] number lines
+  none_cut = record { front = []; whole = refl; asks = refl; next_is = omega arith }
+
+  -- one portion more is cut off
+  pub portion_cut : (block : List Asked) (next count : ℕ) (left : List TextLine) (portion : Portion) → HasCutPortions number lines block next left
+      → count ≤ length left → portion.number ≡ next → portion.lines.now ≡ take count left
+      → HasCutPortions number lines (block ++ asked.Portion portion ∷ []) (next + count) (take (length left - count) (drop count left))
+  portion_cut block next count left portion p low is same = record {
+    front = p.front ++ portion.lines.now;
+    whole = p.whole
+        ∙ ap (λ (ls : List TextLine). p.front ++ ls) (sym (take-append-drop count left) ∙ (λ i. sym same i ++ sym all i))
+        ∙ sym (append_assoc p.front portion.lines.now (take (length left - count) (drop count left)));
+    asks = portion_asked number p.front block portion p.asks (is ∙ p.next_is);
+    next_is = omega (arith, p.next_is, length-append p.front portion.lines.now, ap length same, length-take-le count left low);
   }
-
-  -- the first bytes of the piece are written
-  front_written : (now new : Option (List ℕ)) (piece left rest : List ℕ) → HasWrittenSoFar old now all piece rest → WroteFront now new piece left
-      → HasWrittenSoFar old new all left rest
-  front_written now new piece left rest p front = record {
-    written = p.written ++ front.written;
-    wrote =
-        front.wrote ∙ ap (λ (told : Option (List ℕ)). bytes_after told front.written) p.wrote ∙ bytes_after-bytes_after old p.written front.written;
-    whole =
-        p.whole
-        ∙ ap (λ (b : List ℕ). p.written ++ b) (ap (λ (b : List ℕ). b ++ rest) front.whole ∙ append_assoc front.written left rest)
-        ∙ sym (append_assoc p.written front.written (left ++ rest));
-  }
-
-  -- the reply to the next line is put into the piece, and the first bytes of this may be written
-  pub reply_put : (now new : Option (List ℕ)) (piece more left : List ℕ) (number index : ℕ) (replies : List (Vec ℕ Global)) (reply : Vec ℕ Global)
-      → index < length replies → reply ≡ get_or replies index reply
-      → HasWrittenSoFar old now all piece (numbered_replies number (map (λ one. one.items) (drop index replies)))
-      → more ≡ piece ++ numbered_reply number reply.items → WroteFront now new more left
-      → HasWrittenSoFar old new all left (numbered_replies (number + 1) (map (λ one. one.items) (drop (index + 1) replies)))
-  reply_put now new piece more left number index replies reply low is p more_is front =
-      front_written now new more left _
-      (put_in_piece now piece (numbered_reply number reply.items) more _ (subst (HasWrittenSoFar old now all piece) rest_is p) more_is) front
     where
-      cut : drop index replies ≡ reply ∷ drop (index + 1) replies
-      cut = rw add-one (drop-cons replies index reply low ∙ ap (λ (x : Vec ℕ Global). x ∷ drop (suc index) replies) (sym is))
+      all : take (length left - count) (drop count left) ≡ drop count left
+      all = take_all (length left - count) (drop count left) (omega (arith, length-drop count left))
 
-      rest_is : numbered_replies number (map (λ (one : Vec ℕ Global). one.items) (drop index replies))
-          ≡ numbered_reply number reply.items ++ numbered_replies (number + 1) (map (λ (one : Vec ℕ Global). one.items) (drop (index + 1) replies))
-      rest_is = ap (λ (rs : List (Vec ℕ Global)). numbered_replies number (map (λ (one : Vec ℕ Global). one.items) rs)) cut
+  -- no line is left
+  pub all_cut : (block : List Asked) (next : ℕ) (left : List TextLine) → HasCutPortions number lines block next left → left ≡ []
+      → AskForReplies number lines block
+  all_cut block next left p none =
+      subst (λ ls. AskForReplies number ls block) (sym (p.whole ∙ ap (λ (ls : List TextLine). p.front ++ ls) none ∙ append-nil p.front)) p.asks
 
-  -- it stops before more is written
-  pub stopped_between : (now : Option (List ℕ)) (piece rest : List ℕ) → HasWrittenSoFar old now all piece rest → GrowsByPrefix old now all
-  stopped_between now piece rest p =
-      subst (GrowsByPrefix old now) (sym p.whole) (GrowsByPrefix-more old now p.written (piece ++ rest) (GrowsByPrefix-all old now p.written p.wrote))
-
-  -- it stops while the piece is written
-  pub stopped_in_piece : (now new : Option (List ℕ)) (piece rest : List ℕ) → HasWrittenSoFar old now all piece rest → GrowsByPrefix now new piece
-      → GrowsByPrefix old new all
-  stopped_in_piece now new piece rest p grown =
-      subst (GrowsByPrefix old new) (append_assoc p.written piece rest ∙ sym p.whole)
-      (GrowsByPrefix-more old new (p.written ++ piece) rest (GrowsByPrefix-after old now new p.written piece p.wrote grown))
-
-  -- it stops while the piece with the reply to the next line is written
-  pub stopped_in_reply : (now new : Option (List ℕ)) (piece more : List ℕ) (number index : ℕ) (replies : List (Vec ℕ Global)) (reply : Vec ℕ Global)
-      → index < length replies → reply ≡ get_or replies index reply
-      → HasWrittenSoFar old now all piece (numbered_replies number (map (λ one. one.items) (drop index replies)))
-      → more ≡ piece ++ numbered_reply number reply.items → GrowsByPrefix now new more → GrowsByPrefix old new all
-  stopped_in_reply now new piece more number index replies reply low is p more_is grown =
-      stopped_in_piece now new more _ (reply_put now now piece more more number index replies reply low is p more_is nothing) grown
-    where
-      same : (told : Option (List ℕ)) → told ≡ bytes_after told []
-      same None = refl
-      same (Some told) = ap Some (sym (append-nil told))
-
-      nothing : WroteFront now now more more
-      nothing = record { written = []; whole = refl; wrote = same now }
-
-  -- the last piece is written
-  pub all_written : (now new : Option (List ℕ)) (piece rest : List ℕ) → HasWrittenSoFar old now all piece rest → rest ≡ [] → new ≡ bytes_after now piece
-      → new ≡ bytes_after old all
-  all_written now new piece rest p none wrote =
-      wrote
-      ∙ ap (λ (told : Option (List ℕ)). bytes_after told piece) p.wrote
-      ∙ bytes_after-bytes_after old p.written piece
-      ∙ ap (bytes_after old)
-      (sym (p.whole ∙ ap (λ (b : List ℕ). p.written ++ b) (ap (λ (b : List ℕ). piece ++ b) none ∙ append-nil piece)))
+-- the replies to the lines of a text, as it has them
+pub text_replied : (lexicon : Lexicon) (scheme : Scheme) (count number : ℕ) (lines : List file.Line) (texts : List TextLine) (output : List ℕ)
+    → AllZip (IsLineOfText scheme) lines texts → ArePortionReplies lexicon count number texts output → AreNumberedReplies lexicon scheme count number lines output
+text_replied lexicon scheme count number [] [] output are p = p
+text_replied lexicon scheme count number [] (text ∷ texts) output are p = absurd are
+text_replied lexicon scheme count number (line ∷ lines) [] output are p = absurd are
+text_replied lexicon scheme count number (line ∷ lines) (text ∷ texts) output are (reply, rest, is, e, p) = (
+  reply,
+  rest,
+  subst (λ (s : Scheme). IsLineReply lexicon s count line.bytes reply) are.0.0
+      (subst (λ (bytes : List ℕ). IsLineReply lexicon (scheme_of text.scheme) count bytes reply) are.0.1 is),
+  e,
+  text_replied lexicon scheme count (number + 1) lines texts rest are.1 p,
+)

@@ -29,7 +29,7 @@ fn count_of_workers(rt: &impl Threads) -> usize {
     }
 }
 
-/// A place for the reply to each line, with no reply in it yet.
+/// A place for each reply, with none in it yet.
 #[tactic(auto, using(crate::proofs::FoundReplies::none_more))]
 fn no_replies(alloc: Global, asked: &[Asked<'_>]) -> Result<Vec<Option<Vec<u8>>>, Memory>
     ensures { IfOk result (λ found. (lexicon : LexiconValue) (count : ℕ) → AreFound lexicon count asked.now found.items) }
@@ -41,8 +41,8 @@ fn no_replies(alloc: Global, asked: &[Asked<'_>]) -> Result<Vec<Option<Vec<u8>>>
     Ok(found)
 }
 
-/// The replies that one worker finds: it takes the next line that no worker has taken, and goes on until no line is left. `next` counts
-/// the lines that were taken. Each reply stands at the place of its line, whatever `next` tells.
+/// The replies that one worker finds: it takes the next that is asked and that no worker has taken, and goes on until nothing is left. `next`
+/// counts what was taken. Each reply stands at the place of what asks for it, whatever `next` tells.
 #[tactic(auto, using(crate::proofs::FoundReplies::one_found, crate::proofs::FoundReplies::zip_length))]
 fn find_replies<G: Gate>(
     alloc: Global,
@@ -70,7 +70,7 @@ fn find_replies<G: Gate>(
 #[tactic(auto, using(crate::proofs::FoundReplies::either_found, crate::proofs::FoundReplies::taken_out))]
 fn put_together(found: &mut Vec<Option<Vec<u8>>>, others: &mut Vec<Option<Vec<u8>>>)
     requires { length others.old.items ≡ length found.old.items }
-    ensures { (lexicon : LexiconValue) (count : ℕ) (lines : List AskedValue) → AreFound lexicon count lines found.old.items → AreFound lexicon count lines others.old.items → AreFound lexicon count lines found.new.items }
+    ensures { (lexicon : LexiconValue) (count : ℕ) (asked : List AskedValue) → AreFound lexicon count asked found.old.items → AreFound lexicon count asked others.old.items → AreFound lexicon count asked found.new.items }
 {
     for place in 0..found.len() {
         let own = found[place].take();
@@ -110,7 +110,7 @@ fn find_by_workers<R: Threads + Sync, G: Gate + Sync>(
     Ok(found)
 }
 
-/// The reply to a line that no worker has answered.
+/// The reply to what no worker has answered.
 fn reply_late<G: Gate>(
     alloc: Global,
     replier: &Replier<'_, G>,
@@ -124,8 +124,8 @@ fn reply_late<G: Gate>(
     Ok(reply)
 }
 
-/// The replies to all lines, of which these were found. A line that no worker has answered is answered here. That the count of the lines
-/// that were taken leaves no line out is not proved, and nothing rests on it.
+/// The replies to all that is asked, of which these were found. What no worker has answered is answered here. That the count of what was
+/// taken leaves nothing out is not proved, and nothing rests on it.
 #[tactic(auto, using(crate::proofs::FoundReplies::zip_length))]
 fn complete<G: Gate>(
     alloc: Global,
@@ -149,7 +149,7 @@ fn complete<G: Gate>(
 
 /// The reply to all that is asked, as the replier gives it: reply `i` is that to what stands at `i`. Workers, one for each processor and at
 /// least 2, answer side by side by the runtime's join; each takes the next that no worker has taken, until all are taken. Just before a worker
-/// begins line `i`, counted from 0, it passes the gate with `i`. Refused only for want of memory.
+/// begins what stands at `i`, counted from 0, it passes the gate with `i`. Refused only for want of memory.
 pub(crate) fn answer_all<R: Threads + Sync, G: Gate + Sync>(
     rt: &R,
     alloc: Global,

@@ -1,13 +1,14 @@
-ghost use Rattle.std.specs.Prelude.{◌≡◌, ◌^◌, ◌<◌, length, map, IfOk, OnOk, OnErr};
+ghost use Rattle.std.specs.Prelude.{◌≡◌, ◌+◌, ◌^◌, ◌<◌, length, map, IfOk, OnOk, OnErr};
+ghost use Rattle.std.specs.List.{concat};
 ghost use Rattle.outside.specs.Answers.{OnFailedWrite};
 ghost use Rattle.outside.specs.Counts.{Rose};
 ghost use Rattle.text_line.specs.Values.{scheme_of};
-ghost use Rattle.batch_reader.specs.Replies.{AreRepliesTo};
+ghost use Rattle.batch_reader.specs.Replies.{ArePortionReplies};
 ghost use Rattle.batch_reader.specs.Serving.{WroteReplies, WroteFirstReplies};
 
 use super::answering::answer_all;
-use super::asked::Asked;
-use super::block::cut_block;
+use super::asked::TextLine;
+use super::block::{cut_block, cut_portions};
 use super::printing::write_replies;
 use super::replier::Replier;
 use annotated_trie::Lexicon;
@@ -18,8 +19,8 @@ use std::alloc::Global;
 use std::thread::Threads;
 use text_line::Scheme;
 
-/// How the lines of a text are answered: over this lexicon, in this scheme, by pages of at most `count` answers. Each worker passes
-/// the gate before it answers a line.
+/// How the lines of a text are answered: over this lexicon, in this scheme, by pages of at most `count` answers. A worker passes
+/// the gate before it answers some lines that come one after another, a line alone where there are few.
 #[derive(Drop)]
 pub struct Batch<'a, G: Gate> {
     pub lexicon: &'a Lexicon,
@@ -29,16 +30,19 @@ pub struct Batch<'a, G: Gate> {
 }
 
 impl<'a, G: Gate + Sync> Batch<'a, G> {
-    /// The replies to the lines of a block.
+    /// The replies to the lines of a block, the first of which has this number: each after its number, in one or more pieces.
     fn answer_block<R: Threads + Sync>(
         &self,
         rt: &R,
         alloc: Global,
         rule_texts: &RuleTexts<'_>,
-        block: &[Asked<'_>],
+        number: u64,
+        lines: &[TextLine<'_>],
     ) -> Result<Vec<Vec<u8>>, Memory>
-        requires { rule_texts.now ≡ self.now.lexicon.now.lexicon.rules }
-        ensures { IfOk result (λ replies. AreRepliesTo self.now.lexicon.now.lexicon self.now.count block.now (map (λ reply. reply.items) replies.items)) }
+        requires texts { rule_texts.now ≡ self.now.lexicon.now.lexicon.rules }
+        requires number { number + length lines.now < 2 ^ 64 }
+        ensures { IfOk result (λ pieces. ArePortionReplies self.now.lexicon.now.lexicon self.now.count number lines.now
+            (concat (map (λ piece. piece.items) pieces.items))) }
     {
         let replier = Replier {
             lexicon: self.lexicon,
@@ -46,7 +50,8 @@ impl<'a, G: Gate + Sync> Batch<'a, G> {
             count: self.count,
             gate: self.gate,
         };
-        answer_all(rt, alloc, &replier, block)
+        let portions = cut_portions(alloc, number, lines)?;
+        answer_all(rt, alloc, &replier, portions.as_slice())
     }
 
     /// Writes the reply to each line of the text after its number, counted from 1: the page of its first answers, or `?` and why it
@@ -67,14 +72,13 @@ impl<'a, G: Gate + Sync> Batch<'a, G> {
         ensures fault { OnFailedWrite result (Rose (O.faults sink.old) (O.faults sink.new)) }
     {
         let rule_texts = RuleTexts::new(alloc, self.lexicon.rules())?;
-        let mut piece = Vec::new(alloc);
         let mut rest = text;
         let mut number = 1;
         while !rest.is_empty() {
-            let (block, following) = cut_block(alloc, self.scheme, rest)?;
-            let replies = self.answer_block(rt, alloc, &rule_texts, block.as_slice())?;
-            write_replies(alloc, sink, number, replies.as_slice(), &mut piece)?;
-            number += replies.len() as u64;
+            let (lines, following) = cut_block(alloc, self.scheme, rest)?;
+            let pieces = self.answer_block(rt, alloc, &rule_texts, number, lines.as_slice())?;
+            write_replies(sink, pieces.as_slice())?;
+            number += lines.len() as u64;
             rest = following;
         }
         Ok(())

@@ -1,6 +1,6 @@
 //! The lines of a text answered, each by its printed page: a block of lines at a time is answered at once, and its replies are written
-//! before the next block is begun. A worker for each processor, begun by the runtime's join, takes the next line that no other has taken, and
-//! reads and answers it.
+//! before the next block is begun. A worker for each processor, begun by the runtime's join, takes the next portion of the block that no other has
+//! taken, and reads and answers its lines.
 //!
 //! Proved of `Batch::serve`, over any sink: where it succeeds, the replies to all lines of the text were written, each after its
 //! number, in the order of the lines (`ok`), however many threads there were; wherever it stops, a prefix of the replies to some first
@@ -13,7 +13,7 @@
 //!
 //! That two lines are answered at once is only tested, in `sandhi_program`, by a gate at which the worker of the first line waits for that
 //! of the second.
-//! No clause speaks of the gate, of the workers, of the order in which they take lines, or of time.
+//! No clause speaks of the gate, of the workers, of the order in which they take portions, or of time.
 #![tactic(auto)]
 
 mod answering;

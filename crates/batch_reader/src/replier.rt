@@ -1,14 +1,14 @@
-ghost use Rattle.std.specs.Prelude.{◌≡◌, [], IfOk};
+ghost use Rattle.std.specs.Prelude.{◌≡◌, [], IfOk, OnOk};
 ghost use Rattle.search_frames.specs.Guided.{IsGuideOf};
 ghost use Rattle.search_frames.specs.Stacks.{IsStack};
 ghost use Rattle.summary_chart.specs.Charts.{CoversPlace, says_of};
 ghost use Rattle.summary_chart.specs.PlaceWays.{IsChartOf};
-ghost use Rattle.run_definitions.specs.BatchOutcomes.{IsLineReply};
 ghost use Rattle.text_line.specs.Values.{scheme_of};
 ghost use Rattle.batch_reader.specs.Desks.{IsDesk};
-ghost use Rattle.batch_reader.specs.Replies.{IsReadIn, IsReply, IsReplyTo};
+ghost use Rattle.batch_reader.specs.Replies.{IsReadIn, IsReply, IsReplyTo, ArePortionReplies, HasReply, HasLineReply};
 
-use super::asked::{Asked, TextLine};
+use super::asked::{Asked, Portion, TextLine};
+use super::printing::push_number;
 use annotated_trie::Lexicon;
 use answer_printing::{
     AnswerPrinter, NextAnswers, PrintedFront, RuleTexts, push_page, push_text_refusal,
@@ -33,20 +33,19 @@ pub(crate) struct Replier<'a, G: Gate> {
     pub ghost same_rules: { texts.now ≡ lexicon.now.lexicon.rules },
 }
 
-/// Room for the page of a line, whose memory serves again from line to line: the stack of the search, what was printed of the last answer,
-/// and the page.
+/// Room for a search and its printing, whose memory serves again from line to line: the stack of the search, and what was printed of the last
+/// answer.
 #[derive(Drop)]
-pub(crate) struct PageRoom {
+pub(crate) struct SearchRoom {
     stack: Resumption,
     front: PrintedFront,
-    page: Vec<u8>,
 }
 
-/// What a worker keeps from line to line: its chart, whose memory serves again, and room for a page.
+/// What a worker keeps from line to line: its chart, whose memory serves again, and room for a search.
 #[derive(Drop)]
 pub(crate) struct Desk {
     chart: Chart,
-    room: PageRoom,
+    room: SearchRoom,
 }
 
 impl Desk {
@@ -54,10 +53,9 @@ impl Desk {
     pub fn new(alloc: Global, lexicon: &Lexicon) -> Result<Desk, Memory>
         ensures { IfOk result IsDesk }
     {
-        let room = PageRoom {
+        let room = SearchRoom {
             stack: new_stack(alloc, lexicon, 0)?,
             front: PrintedFront::new(alloc),
-            page: Vec::new(alloc),
         };
         Ok(Desk {
             chart: Chart::new(alloc),
@@ -78,21 +76,22 @@ fn read_text(alloc: Global, text: &TextLine<'_>) -> Result<Result<Line, TextFaul
 }
 
 impl<'a, G: Gate> Replier<'a, G> {
-    /// The room, once the page of the line's first answers stands in it, found under the chart and numbered from 1.
-    fn print_under(
+    /// Appends the page of the line's first answers, found under the chart and numbered from 1, and gives the room back.
+    fn push_under(
         &self,
         alloc: Global,
+        output: &mut Vec<u8>,
         line: &Line,
         choices: &Choices,
         chart: &Chart,
-        room: PageRoom,
-    ) -> Result<PageRoom, Memory>
+        room: SearchRoom,
+    ) -> Result<SearchRoom, Memory>
         requires none { choices.now ≡ [] }
         requires guide { IsGuideOf self.now.lexicon.now line.now choices.now (CoversPlace chart.now.table) (says_of chart.now.table) }
         requires chart { IsChartOf self.now.lexicon.now line.now choices.now chart.now }
         requires stack { IsStack room.stack }
         ensures stack { IfOk result (λ room. IsStack room.stack) }
-        ensures ok { IfOk result (λ room. IsReply self.now.lexicon.now.lexicon self.now.count line.now room.page.items) }
+        ensures ok { OnOk result (HasReply self.now.lexicon.now.lexicon self.now.count line.now output.old.items output.new.items) }
     {
         let mut search = Search::over(self.lexicon, line, choices, chart, room.stack)?;
         let mut printer = AnswerPrinter::over(alloc, self.texts, line, room.front)?;
@@ -100,75 +99,82 @@ impl<'a, G: Gate> Replier<'a, G> {
             number: 1,
             count: self.count,
         };
-        let mut page = room.page;
-        page.clear();
         let mut steps = Steps::<()>::new();
-        push_page(&mut page, &mut printer, &mut search, asked, &mut steps)?;
+        push_page(output, &mut printer, &mut search, asked, &mut steps)?;
         let stack = search.into_resumption();
-        Ok(PageRoom {
+        Ok(SearchRoom {
             stack,
             front: printer.into_front(),
-            page,
         })
     }
 
-    /// The desk, once the page of the line's first answers is printed on it, found under its chart and numbered from 1.
-    fn print_page(&self, alloc: Global, line: &Line, desk: Desk) -> Result<Desk, Memory>
+    /// Appends the page of the line's first answers, found under the desk's chart and numbered from 1, and gives the desk back.
+    fn push_page_of(
+        &self,
+        alloc: Global,
+        output: &mut Vec<u8>,
+        line: &Line,
+        desk: Desk,
+    ) -> Result<Desk, Memory>
         requires { IsDesk desk }
         ensures desk { IfOk result IsDesk }
-        ensures ok { IfOk result (λ desk. IsReply self.now.lexicon.now.lexicon self.now.count line.now desk.room.page.items) }
+        ensures ok { OnOk result (HasReply self.now.lexicon.now.lexicon self.now.count line.now output.old.items output.new.items) }
     {
         let choices = Choices::new(alloc);
         let mut steps = Steps::<()>::new();
         let chart = desk
             .chart
             .rebuilt(alloc, self.lexicon, line, &choices, &mut steps)?;
-        let room = self.print_under(alloc, line, &choices, &chart, desk.room)?;
+        let room = self.push_under(alloc, output, line, &choices, &chart, desk.room)?;
         Ok(Desk { chart, room })
     }
 
-    /// The page of the line with this number, by a worker that passes the gate before it begins, and the worker's desk. The page takes
-    /// no more memory than it has bytes.
-    fn answer_line(
+    /// Appends the reply to a line of a text, which is read first: its page, or why it is no line.
+    fn push_reply(
         &self,
         alloc: Global,
-        line: &Line,
-        number: u64,
-        desk: Desk,
-    ) -> Result<(Vec<u8>, Desk), Memory>
-        requires { IsDesk desk }
-        ensures ok { IfOk result (λ given. IsReply self.now.lexicon.now.lexicon self.now.count line.now given.0.items) }
-        ensures desk { IfOk result (λ given. IsDesk given.1) }
-    {
-        self.gate.pass(number);
-        let desk = self.print_page(alloc, line, desk)?;
-        let page = Vec::from_slice(alloc, desk.room.page.as_slice())?;
-        Ok((page, desk))
-    }
-
-    /// The same of a line of a text, which the worker reads first: where it is no line, the reply is why, and no gate is passed.
-    fn answer_text(
-        &self,
-        alloc: Global,
+        output: &mut Vec<u8>,
         text: &TextLine<'_>,
-        number: u64,
         desk: Desk,
-    ) -> Result<(Vec<u8>, Desk), Memory>
+    ) -> Result<Desk, Memory>
         requires { IsDesk desk }
-        ensures ok { IfOk result (λ given. IsLineReply self.now.lexicon.now.lexicon (scheme_of text.now.scheme) self.now.count text.now.bytes.now given.0.items) }
-        ensures desk { IfOk result (λ given. IsDesk given.1) }
+        ensures desk { IfOk result IsDesk }
+        ensures ok { OnOk result (HasLineReply self.now.lexicon.now.lexicon self.now.count text.now output.old.items output.new.items) }
     {
         match read_text(alloc, text)? {
-            Ok(line) => self.answer_line(alloc, &line, number, desk),
+            Ok(line) => self.push_page_of(alloc, output, &line, desk),
             Err(fault) => {
-                let mut refusal = Vec::new(alloc);
-                push_text_refusal(alloc, &mut refusal, fault)?;
-                Ok((refusal, desk))
+                push_text_refusal(alloc, output, fault)?;
+                Ok(desk)
             }
         }
     }
 
-    /// The reply to what is asked under this number, and the worker's desk, which is kept from line to line.
+    /// Appends the reply to each line of the portion after its number.
+    fn push_replies(
+        &self,
+        alloc: Global,
+        output: &mut Vec<u8>,
+        portion: &Portion<'_>,
+        desk: Desk,
+    ) -> Result<Desk, Memory>
+        requires none { output.old.items ≡ [] }
+        requires desk { IsDesk desk }
+        ensures desk { IfOk result IsDesk }
+        ensures ok { OnOk result (ArePortionReplies self.now.lexicon.now.lexicon self.now.count portion.now.number portion.now.lines.now output.new.items) }
+    {
+        let mut desk = desk;
+        let mut number = portion.number;
+        for line in portion.lines {
+            push_number(alloc, output, number)?;
+            desk = self.push_reply(alloc, output, line, desk)?;
+            number += 1;
+        }
+        Ok(desk)
+    }
+
+    /// The reply to what is asked, by a worker that passes the gate with this number before it begins, and the worker's desk, which is kept from
+    /// line to line.
     pub fn reply(
         &self,
         alloc: Global,
@@ -180,10 +186,13 @@ impl<'a, G: Gate> Replier<'a, G> {
         ensures ok { IfOk result (λ given. IsReplyTo self.now.lexicon.now.lexicon self.now.count asked.now given.0.items) }
         ensures desk { IfOk result (λ given. IsDesk given.1) }
     {
-        match asked {
-            Asked::Line(line) => self.answer_line(alloc, line, number, desk),
-            Asked::Text(text) => self.answer_text(alloc, text, number, desk),
-        }
+        self.gate.pass(number);
+        let mut output = Vec::new(alloc);
+        let kept = match asked {
+            Asked::Line(line) => self.push_page_of(alloc, &mut output, line, desk)?,
+            Asked::Portion(portion) => self.push_replies(alloc, &mut output, portion, desk)?,
+        };
+        Ok((output, kept))
     }
 }
 
@@ -205,7 +214,7 @@ pub fn first_page(
         gate: &NoGate,
     };
     let desk = Desk::new(alloc, lexicon)?;
-    let answered = replier.print_page(alloc, line, desk)?;
-    let room = answered.room;
-    Ok(room.page)
+    let mut page = Vec::new(alloc);
+    replier.push_page_of(alloc, &mut page, line, desk)?;
+    Ok(page)
 }

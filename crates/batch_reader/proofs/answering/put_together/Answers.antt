@@ -21,14 +21,14 @@ loop-place-preserved c =
     record {
       count = length-set (slice_set found place c.take-own.new.self) place c.or.result ∙ length-set found place c.take-own.new.self ∙ inv.count;
       others = length-set others place c.take-other.new.self ∙ inv.others;
-      found = λ lexicon count lines are others_are.
-          let before = inv.found lexicon count lines are others_are in
-          let lines_are = zip_length (IsFound lexicon count) lines found before.0 in
-          let low : place < length lines = omega (arith, c.loop-place-test.true, c.len-place-end.ensures, inv.count, lines_are) in (
-            subst (λ (o : Option (Vec ℕ Global)). AreFound lexicon count lines (slice_set (slice_set found place o) place c.or.result)) (sym c.take-own.ensures.after)
-                (subst (λ (o : Option (Vec ℕ Global)). AreFound lexicon count lines (slice_set (slice_set found place None) place o)) (sym or_is)
-                (either_found lexicon count lines found others place before.0 before.1 low)),
-            subst (λ (o : Option (Vec ℕ Global)). AreFound lexicon count lines (slice_set others place o)) (sym c.take-other.ensures.after)
-                (taken_out lexicon count lines others place (first_one lines place low) before.1 low),
+      found = λ lexicon count asked are others_are.
+          let before = inv.found lexicon count asked are others_are in
+          let asked_are = zip_length (IsFound lexicon count) asked found before.0 in
+          let low : place < length asked = omega (arith, c.loop-place-test.true, c.len-place-end.ensures, inv.count, asked_are) in (
+            subst (λ (o : Option (Vec ℕ Global)). AreFound lexicon count asked (slice_set (slice_set found place o) place c.or.result)) (sym c.take-own.ensures.after)
+                (subst (λ (o : Option (Vec ℕ Global)). AreFound lexicon count asked (slice_set (slice_set found place None) place o)) (sym or_is)
+                (either_found lexicon count asked found others place before.0 before.1 low)),
+            subst (λ (o : Option (Vec ℕ Global)). AreFound lexicon count asked (slice_set others place o)) (sym c.take-other.ensures.after)
+                (taken_out lexicon count asked others place (first_one asked place low) before.1 low),
           );
     }

@@ -9,6 +9,6 @@ abbrev pub invariant-loop-place : goal.invariant-loop-place
 invariant-loop-place l = record {
   count : length l.found.items ≡ length l.fn.found.items;
   others : length l.others.items ≡ length l.fn.found.items;
-  found : (lexicon : Lexicon) (count : ℕ) (lines : List Asked) → AreFound lexicon count lines l.fn.found.items → AreFound lexicon count lines l.fn.others.items
-      → AreFound lexicon count lines l.found.items × AreFound lexicon count lines l.others.items;
+  found : (lexicon : Lexicon) (count : ℕ) (asked : List Asked) → AreFound lexicon count asked l.fn.found.items → AreFound lexicon count asked l.fn.others.items
+      → AreFound lexicon count asked l.found.items × AreFound lexicon count asked l.others.items;
 }
