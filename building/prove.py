@@ -5,10 +5,10 @@
 
 Each word is a crate with what it uses, as crates.txt has it, and stands after those of the crates that it uses; the last is
 the program's. A crate is begun once all that it uses is built, and first the one with the longest chain of others above it,
-counted in lines. There run as many as there are processors, and 3 GB of free memory for each. A crate beside which fewer
-wait than there are processors gets the processors that are left, at most four. The crate with the longest chain above it,
-of all that are not built, gets as many as would let that chain end with the rest, by lines, also where fewer are free. Then up
-to three jobs more run than processors are there, until others have ended; no crate is begun meanwhile.
+counted in the seconds that `crate_seconds` has for them. The crate of all that are not built with the longest chain above it gets
+four jobs, and on one processor one; another gets one, or where fewer wait than there are processors those that are left, at most four. A check with more
+jobs keeps fewer processors busy than it has jobs, since a part of it is the work of one: crates are begun as long as half a
+processor is left, and there are no more of them at once than 3 GB of free memory are there for each.
 
 Each crate is checked whole, and from nothing, by `rattle build`, over the statements of the crates below it; the check takes
 nothing that earlier checks kept. Its last line must say that the crate is proved, and have no word of trust but those that the
@@ -36,6 +36,7 @@ HERE = Path(__file__).resolve().parent
 CRATES = HERE.parent / "crates"
 MEMORY = 3_000_000_000
 MOST_JOBS = 4
+SECONDS_OF_OTHERS = 100
 # What is said of a crate as its check goes, which nobody wants where it is refused.
 PROGRESS = re.compile(r": proved$|modules loaded|^checked |^so far")
 
@@ -44,13 +45,20 @@ def say(text):
     print(f"sandhi: {text}", file=sys.stderr, flush=True)
 
 
-def lines_of(crate):
-    files = [it for part in ("src", "specs", "proofs") for it in (CRATES / crate / part).rglob("*") if it.is_file()]
-    return sum(it.read_bytes().count(b"\n") for it in files)
+def seconds_of(crates):
+    """For each crate, how long its check takes with one job, as far as it is known: only the order of the checks rests on it."""
+    words = [it.split() for it in (HERE / "crate_seconds").read_text().splitlines() if it and not it.startswith("#")]
+    known = {name: int(seconds) for name, seconds in words}
+    return {it: known.get(it, SECONDS_OF_OTHERS) for it in crates}
+
+
+def processors_of(jobs):
+    """How many processors a check with so many jobs keeps busy on the average, where three tenths of it are the work of one."""
+    return 1 / (0.3 + 0.7 / jobs)
 
 
 def work_from(uses, own):
-    """For each crate, the lines of it and of those above it on the longest way to the program."""
+    """For each crate, the seconds of it and of those above it on the longest way to the program."""
     above = dict(own)
     for crate in reversed(uses):
         for below in uses[crate]:
@@ -195,17 +203,16 @@ def stop_at_signal(*_):
 
 def prove(uses, builder):
     """Builds all crates, and returns whether each is. Where one is refused or this is broken off, the others are ended."""
-    own, lanes = {crate: lines_of(crate) for crate in uses}, count_lanes()
-    above = work_from(uses, own)
+    lanes = count_lanes()
+    most_jobs = MOST_JOBS if lanes > 1 else 1
+    above = work_from(uses, seconds_of(uses))
     left, running, built, busy = sorted(uses, key=lambda it: -above[it]), {}, set(), 0
 
     def jobs_for(crate, waiting):
-        """The processors for a crate that is begun while so many wait, with it, for those that are free."""
-        share = max(1, (lanes - busy) // waiting)
-        unbuilt = [it for it in uses if it not in built]
-        if above[crate] == max(above[it] for it in unbuilt):
-            share = max(share, -(-lanes * above[crate] // sum(own[it] for it in unbuilt)))
-        return min(MOST_JOBS, share)
+        """The jobs of a crate that is begun while so many wait, with it, for the processors that are free."""
+        if above[crate] == max(above[it] for it in uses if it not in built):
+            return most_jobs
+        return min(most_jobs, max(1, int(lanes - busy) // waiting))
 
     def one(crate, jobs, log):
         began = time.monotonic()
@@ -218,18 +225,18 @@ def prove(uses, builder):
             while left or running:
                 ready = [it for it in left if built.issuperset(uses[it])]
                 for at, crate in enumerate(ready):
-                    if busy >= lanes:
+                    if busy > lanes - 0.5:
                         break
                     jobs = jobs_for(crate, len(ready) - at)
                     left.remove(crate)
-                    busy += jobs
+                    busy += processors_of(jobs)
                     say(f"crate {len(uses) - len(left)} of {len(uses)}, {crate}")
                     log = tempfile.TemporaryFile("w+", errors="replace")
                     running[pool.submit(one, crate, jobs, log)] = crate, jobs, log
                 for ended in wait(running, return_when=FIRST_COMPLETED).done:
                     crate, jobs, log = running.pop(ended)
                     is_built, seconds = ended.result()
-                    busy -= jobs
+                    busy -= processors_of(jobs)
                     if not is_built:
                         log.seek(0)
                         sys.stderr.writelines(it for it in log if not PROGRESS.search(it))
