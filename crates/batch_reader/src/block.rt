@@ -1,4 +1,4 @@
-ghost use Rattle.std.specs.Prelude.{◌≡◌, ◌+◌, ◌^◌, ◌<◌, length, IfOk};
+ghost use Rattle.std.specs.Prelude.{◌+◌, ◌^◌, ◌<◌, length, IfOk};
 ghost use Rattle.text_line.specs.Values.{scheme_of};
 ghost use Rattle.batch_reader.specs.Blocks.{AskForReplies, HasCutBlock};
 

@@ -173,20 +173,20 @@ impl<'a, G: Gate> Replier<'a, G> {
         Ok(desk)
     }
 
-    /// The reply to what is asked, by a worker that passes the gate with this number before it begins, and the worker's desk, which is kept from
-    /// line to line.
+    /// The reply to what is asked, by a worker that passes the gate with its place before it begins, and the worker's desk, which is kept from line
+    /// to line. Places are counted from 0.
     pub fn reply(
         &self,
         alloc: Global,
         asked: &Asked<'_>,
-        number: u64,
+        place: u64,
         desk: Desk,
     ) -> Result<(Vec<u8>, Desk), Memory>
         requires { IsDesk desk }
         ensures ok { IfOk result (λ given. IsReplyTo self.now.lexicon.now.lexicon self.now.count asked.now given.0.items) }
         ensures desk { IfOk result (λ given. IsDesk given.1) }
     {
-        self.gate.pass(number);
+        self.gate.pass(place);
         let mut output = Vec::new(alloc);
         let kept = match asked {
             Asked::Line(line) => self.push_page_of(alloc, &mut output, line, desk)?,
