@@ -92,6 +92,17 @@ def family_leads_phases():
     return family_leads(16)
 
 
+def family_refused():
+    """From each place two ways lead on; after each of its fronts in 16 phases stand rules by the thousand whose w begins as the line does and
+    goes on in another way."""
+    leads, ends = words("ab", 5), words("de", 5)
+    rules = [(end, leads[(2 * k + more) % len(leads)], "a" * (1 + more)) for k, end in enumerate(ends) for more in (0, 1)]
+    rules += [(u, v, "a" * n + "b" * m) for u in ("c", "cc") for v in leads for n in UPTO8 for m in UPTO8 if n + m <= 8]
+    forms = {(name, v + "a" * n + u) for name in phases_of(16) for v in leads for n in range(58) for u in ("c", "cc")}
+    forms |= {("p0", v + "a" + end) for v, end in zip(leads, ends)} | {("p0", "a" + end) for end in ends}
+    return lexicon(16, rules, forms), "a" * 1000
+
+
 def family_nodes():
     """250 leads, each with nodes of its own: after how many a's forms end is another matter for each."""
     leads = words("abcd", 4)[:250]
@@ -106,6 +117,7 @@ FAMILIES = {
     "phases: first answers of 1,000 letters": (family_phases, "segment"),
     "leads: 62 leads, one phase": (family_leads, "segment"),
     "leads: 62 leads, 16 phases": (family_leads_phases, "segment"),
+    "refused: rules that fail, 16 phases": (family_refused, "segment"),
     "nodes: 250 leads with nodes of their own": (family_nodes, "segment"),
     "dead: 41 letters without an answer": (family_dead, "segment"),
     "dead: 1,000 letters without an answer": (family_dead_long, "segment"),

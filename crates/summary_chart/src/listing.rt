@@ -25,6 +25,9 @@ use outside::Steps;
 use phoneme::Memory;
 use search_frames::{Ahead, LetterTest, MOST_WAYS, Way, is_written, may_begin, rule_test};
 
+/// So many rules are looked at from one place at most, for its ways to be kept.
+const MOST_LOOKED: usize = 1_024;
+
 /// Appends the way, whose key is possible at the place and whose test is what the key does there, if it leads on or ends the line; a step
 /// is counted where it does. The place's own state is not looked at. Refused only for want of memory.
 fn push_tested<L>(
@@ -165,18 +168,21 @@ fn push_unchanged<L>(
     push_key(here, key, ways, steps)
 }
 
-/// Appends those of the keys with this front, in the falling order of their keys. Refused only for want of memory.
+/// Appends those of the keys with this front, in the falling order of their keys. False, and nothing is appended, where its rules that begin
+/// with the next letter are more than may still be looked at, of which they are taken. Refused only for want of memory.
 fn push_front<L>(
     here: SiteAhead<'_>,
     front: &Front,
+    left: &mut usize,
     ways: &mut Vec<Way>,
     steps: &mut Steps<L>,
-) -> Result<(), Memory>
+) -> Result<bool, Memory>
     requires here { IsSiteAhead here }
     requires limit { here.site.place.now.at + front.now.taken ≤ here.ahead.limit }
     requires begins { MayBegin (numbered_of here.site.lexicon.now here.site.place.now).entrance front.now.phase }
     requires front { IsFrontAt here.site.lexicon.now here.site.line.now (numbered_of here.site.lexicon.now here.site.place.now) front.now.phase front.now.taken front.now.node }
-    ensures appends { let site = here.entry.site in OnOk result (AppendsFalling site.lexicon.now site.line.now site.choices.now (numbered_of site.lexicon.now site.place.now) (IsAtFront front.now.phase front.now.taken) ways.old.items ways.new.items) }
+    ensures appends { let site = here.entry.site in IfOk result (λ all. OnTrue all (AppendsFalling site.lexicon.now site.line.now site.choices.now (numbered_of site.lexicon.now site.place.now) (IsAtFront front.now.phase front.now.taken) ways.old.items ways.new.items)) }
+    ensures stays { IfOk result (λ all. OnFalse all (ways.new.items ≡ ways.old.items)) }
     ensures steps { (most : ℕ) → HasAtMostRules here.entry.site.lexicon.now.tries most → steps.new ≤ steps.old + steps_of_front most }
 {
     let Site {
@@ -188,20 +194,27 @@ fn push_front<L>(
     steps.tick();
     let end = place.at as usize + front.taken as usize;
     let Some(letter) = line.letters.as_slice().get(end) else {
-        return push_unchanged(here, front, ways, steps);
+        push_unchanged(here, front, ways, steps)?;
+        return Ok(true);
     };
     let rules = lexicon.tries().choices_with(front.node, *letter, steps);
+    if rules.len() > *left {
+        return Ok(false);
+    }
+    *left -= rules.len();
     push_rules(here, front, rules, ways, steps)?;
-    push_unchanged(here, front, ways, steps)
+    push_unchanged(here, front, ways, steps)?;
+    Ok(true)
 }
 
 /// Appends those of the keys of the phase, in the falling order of their keys: the shortest front first, and each is looked at as it is
-/// reached. False where these are not all of them, since more are appended than are kept from one place, of which the ways begin at `first`.
-/// Refused only for want of memory.
+/// reached. False where these are not all of them, since more are appended than are kept from one place, of which the ways begin at `first`,
+/// or more rules would be looked at than may be. Refused only for want of memory.
 fn push_phase<L>(
     here: SiteAhead<'_>,
     phase: u32,
     first: usize,
+    left: &mut usize,
     ways: &mut Vec<Way>,
     steps: &mut Steps<L>,
 ) -> Result<bool, Memory>
@@ -213,13 +226,14 @@ fn push_phase<L>(
     ensures kept { OnOk result (take (length ways.old.items) ways.new.items ≡ ways.old.items) }
     ensures appends { let site = here.entry.site in IfOk result (λ all. OnTrue all (AppendsFalling site.lexicon.now site.line.now site.choices.now (numbered_of site.lexicon.now site.place.now) (IsInPhase phase) ways.old.items ways.new.items)) }
     ensures few { IfOk result (λ all. OnTrue all (length ways.new.items ≤ first + MOST_WAYS)) }
-    ensures many { IfOk result (λ all. OnFalse all (first + MOST_WAYS < length ways.new.items)) }
     ensures steps { (most : ℕ) → HasAtMostRules here.entry.site.lexicon.now.tries most → steps.new ≤ steps.old + steps_of_fronts most }
 {
     let limit = here.ahead.limit;
     let mut next = first_front(here.site, phase, steps);
     while let Some(front) = next {
-        push_front(here, &front, ways, steps)?;
+        if !push_front(here, &front, left, ways, steps)? {
+            return Ok(false);
+        }
         if ways.len() - first > MOST_WAYS {
             return Ok(false);
         }
@@ -237,8 +251,8 @@ fn reverse_from(ways: &mut Vec<Way>, first: usize)
 }
 
 /// Appends the ways from the place by phases to which some state of the set leads, in the order of their keys. False where these are not
-/// all of them, since more are appended than are kept from one place. The place's own state is not looked at. Refused only for want of
-/// memory. The trie is walked from short fronts to long ones, so that ways are found in the falling order, and turned round at the end.
+/// all of them, since more are appended than are kept from one place, or more rules would be looked at than are for that. The place's own
+/// state is not looked at. Refused only for want of memory. The trie is walked from short fronts to long ones, so that ways are found in the falling order, and turned round at the end.
 pub(crate) fn push_ways<L>(
     site: Site<'_>,
     states: StateSet,
@@ -251,7 +265,6 @@ pub(crate) fn push_ways<L>(
     ensures kept { OnOk result (take (length ways.old.items) ways.new.items ≡ ways.old.items) }
     ensures appends { let here = site.entry in IfOk result (λ all. OnTrue all (AppendsWays here.lexicon.now here.line.now here.choices.now (numbered_of here.lexicon.now here.place.now) (IsLedByPhase here.lexicon.now.machine states) ways.old.items ways.new.items)) }
     ensures few { IfOk result (λ all. OnTrue all (length ways.new.items ≤ length ways.old.items + MOST_WAYS)) }
-    ensures many { IfOk result (λ all. OnFalse all (length ways.old.items + MOST_WAYS < length ways.new.items)) }
     ensures steps { (most : ℕ) → HasAtMostRules site.entry.lexicon.now.tries most → steps.new ≤ steps.old + steps_of_items site.entry.lexicon.now most }
 {
     let first = ways.len();
@@ -260,12 +273,13 @@ pub(crate) fn push_ways<L>(
     let ahead = Ahead::of(rules, site.line, site.place);
     let here = SiteAhead { site, ahead };
     let phases = rules.phases().len();
+    let mut left = MOST_LOOKED;
     for phase in (0..phases as u32).rev() {
         steps.tick();
         if !leading.lead(states, phase) || !may_begin(rules, site.place, phase) {
             continue;
         }
-        if !push_phase(here, phase, first, ways, steps)? {
+        if !push_phase(here, phase, first, &mut left, ways, steps)? {
             return Ok(false);
         }
     }

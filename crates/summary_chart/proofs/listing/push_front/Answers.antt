@@ -2,7 +2,6 @@
 use Rattle.std.proofs.Common.{◌≡◌, ℕ, ◌+◌, ◌<◌, List, length, All, get_or, sym, ap, subst, ◌∙◌, arith}
 use Rattle.std.specs.Ordering.{nat_cmp}
 use Rattle.std.specs.List.Sorted.{IsStrictlySortedBy}
-use Rattle.std.proofs.lemmas.Result.{on_ok_weaker}
 use Rattle.list_laws.proofs.Sorted.{All-from_Contains}
 use Rattle.phoneme.specs.declared.line.Line.{Line}
 use Rattle.annotated_trie.specs.Choices.{AnnotatedTrie, choices_with}
@@ -26,10 +25,8 @@ returns-in_default-clause-appends g c =
     let whole : c.as_slice.result.now ≡ line.letters = c.as_slice.ensures.value ∙ ap (λ (l : Line). l.letters) c.line.view_is in
     let past = c.in_default.ensures.lookup.3 in
     let long = ap length whole in
-    on_ok_weaker c.push_unchanged.result
-    (λ appends. append_without_letter searched line site.choices.now (numbered_of searched site.place.now) c.requires.here.site.searched front.phase front.taken front.node c.requires.front
-    c.args.ways.now.items c.push_unchanged.new.ways.items (omega (arith, past, long)) appends)
-    c.push_unchanged.ensures.appends
+    append_without_letter searched line site.choices.now (numbered_of searched site.place.now) c.requires.here.site.searched front.phase front.taken front.node c.requires.front
+    c.args.ways.now.items c.push_unchanged.new.ways.items (omega (arith, past, long)) c.in_ok-push_unchanged.ensures.appends
 
 pub choices_with-rules-requires : goal.choices_with-rules-requires
 choices_with-rules-requires g c =
@@ -90,13 +87,11 @@ returns-clause-appends g c =
     let whole : c.as_slice.result.now ≡ line.letters = c.as_slice.ensures.value ∙ ap (λ (l : Line). l.letters) c.line.view_is in
     let next : letter ≡ get_or line.letters (place.at + front.taken) letter =
     c.in-Some.ensures.lookup.1 ∙ ap (λ (letters : List ℕ). get_or letters (place.at + front.taken) letter) whole in
-    on_ok_weaker c.push_unchanged-2.result
-    (λ unchanged. append_with_letter searched line site.choices.now here c.requires.here.site.searched front.phase front.taken front.node c.requires.front letter next
+    append_with_letter searched line site.choices.now here c.requires.here.site.searched front.phase front.taken front.node c.requires.front letter next
     c.args.ways.now.items mid c.push_unchanged-2.new.ways.items
     (subst (λ (some : List ℕ). AppendsFalling searched line site.choices.now here (IsByRule front.phase front.taken some) c.args.ways.now.items mid) rules
     c.in_ok-push_rules.ensures.appends)
-    unchanged)
-    c.push_unchanged-2.ensures.appends
+    c.in_ok-push_unchanged-2.ensures.appends
 
 pub returns-clause-steps : goal.returns-clause-steps
 returns-clause-steps g c most few =
@@ -123,3 +118,16 @@ returns-in_err-push_rules-clause-steps g c most few =
     let short = few_written searched.tries front.node letter in
     let all = few front.node (front_node searched c.requires.here.site.searched site.line.now (numbered_of searched site.place.now) front.phase front.taken front.node c.requires.front) in
     omega (arith, c.tick.ensures, c.choices_with-rules.ensures.steps, c.push_rules.ensures.steps, count, short, all)
+
+pub returns-in_err-push_unchanged-2-clause-steps : goal.returns-in_err-push_unchanged-2-clause-steps
+returns-in_err-push_unchanged-2-clause-steps g c most few =
+    let site = c.args.here.site in
+    let searched = site.lexicon.now in
+    let front = c.args.front.now in
+    let letter = c.in-Some.letter.now in
+    let rules : c.choices_with-rules.result.now ≡ choices_with searched.tries front.node letter =
+    c.choices_with-rules.ensures.value ∙ ap (λ (t : AnnotatedTrie). choices_with t front.node letter) c.tries.ensures.value in
+    let count = ap length rules in
+    let short = few_written searched.tries front.node letter in
+    let all = few front.node (front_node searched c.requires.here.site.searched site.line.now (numbered_of searched site.place.now) front.phase front.taken front.node c.requires.front) in
+    omega (arith, c.tick.ensures, c.push_unchanged-2.ensures.steps, c.choices_with-rules.ensures.steps, c.push_rules.ensures.steps, count, short, all)

@@ -1,6 +1,8 @@
 -- One front more, which is longer than those before; where there is no next one, no possible key of the phase takes more letters.
-use Rattle.std.proofs.Common.{ℕ, ◌+◌, ◌<◌, Option, sym, ap, subst, arith}
+use Rattle.std.proofs.lemmas.Bool.{OnTrue_at, OnFalse_at}
+use Rattle.std.proofs.Common.{ℕ, ◌+◌, ◌<◌, Option, sym, ap, subst, arith, List, length, take, ◌≡◌}
 use Rattle.lexicon_definitions.specs.declared.limits.TheConstants.{MOST_RULE_LETTERS}
+use Rattle.search_frames.specs.declared.way.Way.{Way}
 use Rattle.search_frames.specs.Ahead.{MayBegin}
 use Rattle.search_frames.specs.Frames.{numbered_of}
 use Rattle.summary_chart.specs.declared.site.Front.{Front}
@@ -82,7 +84,7 @@ loop-next-preserved g c =
     let mid = c.loop-next.ways.items in
     let new = c.push_front.new.ways.items in
     let listed = subst (λ (next : Option Front). HasListed searched line site.choices.now here c.args.phase ahead.limit next old mid) c.in-Some.is inv.listed in
-    let one = subst (λ (p : ℕ). AppendsFalling searched line site.choices.now here (IsAtFront p front.taken) mid new) listed.0.phase_is c.in_ok-push_front.ensures.appends in
+    let one = subst (λ (p : ℕ). AppendsFalling searched line site.choices.now here (IsAtFront p front.taken) mid new) listed.0.phase_is (OnTrue_at {P = AppendsFalling searched line site.choices.now here (IsAtFront front.phase front.taken) mid new} c.if-not-branch.false c.in_ok-push_front.ensures.appends) in
     let next = subst (λ (p : ℕ). IsNextFront searched line here p ahead.limit (front.taken + 1) c.longer_front-next.result) listed.0.phase_is c.longer_front-next.ensures.front in
     let longer = append_longer searched line site.choices.now here (IsAtFront c.args.phase front.taken) mid new one in
     let short = front_short searched c.requires.here.site.searched line here c.args.phase ahead.limit front.taken front.node listed.0.is in
@@ -144,14 +146,42 @@ returns-then-len-first-gt-MOST_WAYS-clause-steps g c most few =
     spent_within most c.args.steps.now c.push_front.new.steps (front.taken + 1) (omega (arith, short))
     (one_more_within (c.args.steps.now + MOST_RULE_LETTERS) front.taken (1 + steps_of_front most) c.loop-next.steps c.push_front.new.steps so_far (omega (arith, more)))
 
+pub returns-then-not-branch-clause-steps : goal.returns-then-not-branch-clause-steps
+returns-then-not-branch-clause-steps g c most few =
+    let site = c.args.here.site in
+    let searched = site.lexicon.now in
+    let here = numbered_of searched site.place.now in
+    let front = c.in-Some.front in
+    let inv = c.loop-next.invariant in
+    let listed = subst (λ (next : Option Front). HasListed searched site.line.now site.choices.now here c.args.phase c.args.here.ahead.limit next
+    c.args.ways.now.items c.loop-next.ways.items) c.in-Some.is inv.listed in
+    let short = front_short searched c.requires.here.site.searched site.line.now here c.args.phase c.args.here.ahead.limit front.taken front.node listed.0.is in
+    let so_far = subst (λ (n : Option Front). HasSpent most c.args.steps.now n c.loop-next.steps) c.in-Some.is (inv.spent most few) in
+    let more = c.push_front.ensures.steps most few in
+    spent_within most c.args.steps.now c.push_front.new.steps (front.taken + 1) (omega (arith, short))
+    (one_more_within (c.args.steps.now + MOST_RULE_LETTERS) front.taken (1 + steps_of_front most) c.loop-next.steps c.push_front.new.steps so_far (omega (arith, more)))
+
+pub returns-then-not-branch-clause-appends : goal.returns-then-not-branch-clause-appends
+returns-then-not-branch-clause-appends g c = tt
+
+pub returns-then-not-branch-clause-few : goal.returns-then-not-branch-clause-few
+returns-then-not-branch-clause-few g c = tt
+
+pub returns-then-not-branch-clause-kept : goal.returns-then-not-branch-clause-kept
+returns-then-not-branch-clause-kept g c =
+    let site = c.args.here.site in
+    let old = c.args.ways.now.items in
+    let mid = c.loop-next.ways.items in
+    let listed = subst (λ (next : Option Front). HasListed site.lexicon.now site.line.now site.choices.now (numbered_of site.lexicon.now site.place.now) c.args.phase
+    c.args.here.ahead.limit next old mid) c.in-Some.is c.loop-next.invariant.listed in
+    let so_far = listed.1 in
+    subst (λ (items : List Way). take (length old) items ≡ old) (sym (OnFalse_at c.if-not-branch.true c.in_ok-push_front.ensures.stays)) (begins_so old mid so_far.ways so_far.appended)
+
 pub returns-then-len-first-gt-MOST_WAYS-clause-appends : goal.returns-then-len-first-gt-MOST_WAYS-clause-appends
 returns-then-len-first-gt-MOST_WAYS-clause-appends g c = tt
 
 pub returns-then-len-first-gt-MOST_WAYS-clause-few : goal.returns-then-len-first-gt-MOST_WAYS-clause-few
 returns-then-len-first-gt-MOST_WAYS-clause-few g c = tt
-
-pub returns-then-len-first-gt-MOST_WAYS-clause-many : goal.returns-then-len-first-gt-MOST_WAYS-clause-many
-returns-then-len-first-gt-MOST_WAYS-clause-many g c = omega (arith, c.if-len-first-gt-MOST_WAYS.true, c.len.ensures, c.push_front.new.ways.ok)
 
 pub returns-then-len-first-gt-MOST_WAYS-clause-kept : goal.returns-then-len-first-gt-MOST_WAYS-clause-kept
 returns-then-len-first-gt-MOST_WAYS-clause-kept g c =
@@ -162,7 +192,7 @@ returns-then-len-first-gt-MOST_WAYS-clause-kept g c =
     let listed = subst (λ (next : Option Front). HasListed site.lexicon.now site.line.now site.choices.now (numbered_of site.lexicon.now site.place.now) c.args.phase
     c.args.here.ahead.limit next old mid) c.in-Some.is c.loop-next.invariant.listed in
     let so_far = listed.1 in
-    let one = c.in_ok-push_front.ensures.appends in
+    let one = OnTrue_at {P = AppendsFalling site.lexicon.now site.line.now site.choices.now (numbered_of site.lexicon.now site.place.now) (IsAtFront c.in-Some.front.phase c.in-Some.front.taken) mid new} c.if-not-branch.false c.in_ok-push_front.ensures.appends in
     still_begins old mid new so_far.ways so_far.appended (begins_so mid new one.ways one.appended)
 
 pub returns-clause-kept : goal.returns-clause-kept
@@ -186,6 +216,3 @@ returns-clause-steps g c most few = subst (λ (n : Option Front). HasSpent most 
 
 pub returns-clause-few : goal.returns-clause-few
 returns-clause-few g c = c.loop-next.invariant.few
-
-pub returns-clause-many : goal.returns-clause-many
-returns-clause-many g c = tt
