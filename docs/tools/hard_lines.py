@@ -4,10 +4,10 @@
 usage: hard_lines.py PROGRAM [FAMILY ..]
 
 Makes the lexicons and lines in a folder of its own, runs the program on them, and prints for each family wall seconds, seconds of
-the processors, and the peak of memory. A run is ended after a minute of a processor, and at 12 GB. A peak below that of this script, some 20 MiB, is not
+the processors, and the peak of memory. A run is ended after a minute of a processor, and at 12 GB. A peak below that of this script, some 12 MiB, is not
 told. All lexicons are within the limits; the letters of a line are all `a`.
 """
-import os, resource, subprocess, sys, tempfile, time
+import multiprocessing, os, resource, subprocess, sys, tempfile, time
 
 MOST_SECONDS = 60
 MOST_BYTES = 12 << 30
@@ -140,22 +140,30 @@ def run(program, words, stdin):
     return time.perf_counter() - began, usage.ru_utime + usage.ru_stime, usage.ru_maxrss, ended, size
 
 
+def write_family(make, folder):
+    """Writes a family's lexicon, its line, and a session that asks for the line's summary."""
+    text, line = make()
+    for name, content in (("lexicon", text), ("line", line), ("session", "text slp1 %s\nsummary\n" % line)):
+        with open(os.path.join(folder, name), "w") as file:
+            file.write(content)
+
+
 def main():
     program = os.path.abspath(sys.argv[1])
     wanted = sys.argv[2:]
     with tempfile.TemporaryDirectory() as folder:
+        lexicon, line, session = (os.path.join(folder, name) for name in ("lexicon", "line", "session"))
         for name, (make, task) in FAMILIES.items():
             if wanted and not any(word in name for word in wanted):
                 continue
-            text, line = make()
-            path = os.path.join(folder, "lexicon")
-            open(path, "w").write(text)
+            # In a process of its own, since the peak of a run is no less than what this script has when it begins it.
+            writer = multiprocessing.Process(target=write_family, args=(make, folder))
+            writer.start()
+            writer.join()
             if task == "summary":
-                session = os.path.join(folder, "session")
-                open(session, "w").write("text slp1 %s\nsummary\n" % line)
-                result = run(program, ["read", path], session)
+                result = run(program, ["read", lexicon], session)
             else:
-                result = run(program, ["segment", path, line], None)
+                result = run(program, ["segment", lexicon, open(line).read()], None)
             wall, used, peak, ended, size = result
             print("%-42s %7.2f s  %7.2f s of the processors  %9.1f MiB  exit %s, %d bytes" % (name, wall, used, peak / 1024, ended, size), flush=True)
 
