@@ -27,6 +27,11 @@ mod AlikeRules
 mod Walks
 mod FrontKeys
 mod LivingKeys
+mod Changes
+mod WalkedFronts
+mod SpreadWalks
+mod LivingWalks
+mod LivingRooms
 mod AppendedWays
 mod OrderedKeys
 mod WayKeys

@@ -16,13 +16,13 @@ use super::room::Room;
 use super::site::Passage;
 use super::state_set::StateSet;
 use super::table::Table;
+use super::walk_memo::WalkMemo;
 use annotated_trie::Lexicon;
 use derivation::{Entrance, Guide};
 use outside::Steps;
 use phase_automaton::State;
 use phoneme::{Line, Memory};
 use reader_choices::Choices;
-use shared_trie::Node;
 use std::alloc::Global;
 use std::marker::Model;
 
@@ -33,7 +33,6 @@ use std::marker::Model;
 pub struct Chart {
     pub(crate) table: Table,
     pub(crate) kept: PlaceWays,
-    nodes: Vec<Node>,
 }
 
 impl Model for Chart {
@@ -66,7 +65,6 @@ impl Chart {
         Chart {
             table: Table::new(alloc),
             kept: PlaceWays::new(alloc),
-            nodes: Vec::new(alloc),
         }
     }
 
@@ -118,8 +116,8 @@ impl Chart {
         let mut kept = self.kept;
         kept.clear();
         let mut room = Room {
-            nodes: self.nodes,
             memo: Memo::new(alloc),
+            walks: WalkMemo::new(alloc),
         };
         let passage = Passage {
             lexicon,
@@ -128,6 +126,7 @@ impl Chart {
         };
         let each_has_stop = reach(passage, &mut table, &mut kept, &mut room, steps)?;
         room.memo.clear();
+        room.walks.clear();
         keep_living(
             passage,
             each_has_stop,
@@ -136,8 +135,7 @@ impl Chart {
             &mut room,
             steps,
         )?;
-        let Room { nodes, .. } = room;
-        Ok(Chart { table, kept, nodes })
+        Ok(Chart { table, kept })
     }
 }
 

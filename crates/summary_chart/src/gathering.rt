@@ -3,7 +3,7 @@ ghost use Rattle.text_definitions.specs.Lines.{IsLine};
 ghost use Rattle.derivation.specs.Steps.{key_meant};
 ghost use Rattle.annotated_trie.specs.Searched.{IsSearchedLexicon};
 ghost use Rattle.annotated_trie.specs.Choices.{choices_of};
-ghost use Rattle.search_frames.specs.Ahead.{MayBegin};
+ghost use Rattle.search_frames.specs.Ahead.{FitsPlace, MayBegin};
 ghost use Rattle.search_frames.specs.Frames.{numbered_of};
 ghost use Rattle.search_frames.specs.Configurations.{IsPossible};
 ghost use Rattle.search_frames.specs.Costs.{HasAtMostRules};
@@ -17,6 +17,7 @@ ghost use Rattle.summary_chart.specs.StateSets.{HasState};
 ghost use Rattle.summary_chart.specs.Tables.{IsTable};
 ghost use Rattle.summary_chart.specs.Spreading.{AreGoingFurther, EveryKey, GoesFurtherBy, OnlyKey, IsByRule, IsAtFront, IsInPhase, leads_in};
 ghost use Rattle.summary_chart.specs.Summaries.{steps_of_front, steps_of_fronts, steps_of_items};
+ghost use Rattle.summary_chart.specs.Walked.{FitWithLetter, IsFromFront, IsLater, IsLivingRoom, LivesByKeys, steps_from_front};
 
 use super::memo::{Memo, Work};
 use super::room::Room;
@@ -25,7 +26,8 @@ use super::site::{Front, Site, SiteAhead};
 use super::state_set::StateSet;
 use super::state_steps::{accepted_states, accepting_states, states_after, states_into};
 use super::table::Table;
-use super::walking::walk_fronts;
+use super::walk_memo::Walk;
+use super::walking::{first_front, longer_front};
 use annotated_trie::Lexicon;
 use derivation::Key;
 use outside::Steps;
@@ -244,7 +246,222 @@ fn gather_front<L>(
     Ok(unchanged.union(changed))
 }
 
-/// The same for the keys of the phase. Refused only for want of memory.
+/// The same for the keys of the phase with this front and with longer ones. Refused only for want of memory.
+fn gather_fronts<L>(
+    here: SiteAhead<'_>,
+    states: StateSet,
+    front: &Front,
+    table: &Table,
+    memo: &mut Memo,
+    steps: &mut Steps<L>,
+) -> Result<StateSet, Memory>
+    requires here { IsSiteAhead here }
+    requires limit { here.site.place.now.at + front.now.taken ≤ here.ahead.limit }
+    requires begins { MayBegin (numbered_of here.site.lexicon.now here.site.place.now).entrance front.now.phase }
+    requires front { IsFrontAt here.site.lexicon.now here.site.line.now (numbered_of here.site.lexicon.now here.site.place.now) front.now.phase front.now.taken front.now.node }
+    requires table { IsTable (leads_in here.site.lexicon.now) (length here.site.line.now.letters) table.now }
+    requires memo { AreLiving here.site.lexicon.now here.site.line.now table.now memo.old }
+    ensures memo { OnOk result (AreLiving here.entry.site.lexicon.now here.entry.site.line.now table.now memo.new) }
+    ensures ends { OnOk result (EndFrom here.entry.site.place.now.at memo.old → EndFrom here.entry.site.place.now.at memo.new) }
+    ensures gathers { IfOk result (λ gathered. AreGoingFurther here.entry.site.lexicon.now here.entry.site.line.now here.entry.site.choices.now table.now here.entry.site.place.now.at here.entry.site.place.now.entrance states (IsFromFront front.now.phase front.now.taken) gathered) }
+    ensures steps { (most : ℕ) → HasAtMostRules here.entry.site.lexicon.now.tries most → steps.new ≤ steps.old + steps_from_front most front.now.taken }
+{
+    let at_front = gather_front(here, states, front, table, memo, steps)?;
+    let Some(longer) = longer_front(here.site, front, here.ahead.limit, steps) else {
+        return Ok(at_front);
+    };
+    let further = gather_fronts(here, states, &longer, table, memo, steps)?;
+    Ok(at_front.union(further))
+}
+
+/// The states after the phase from which the key, which takes a letter and fits the place, ends the line or leads on to a place of the table,
+/// wherever its form begins.
+fn living_by_key(here: SiteAhead<'_>, key: Key, table: &Table) -> StateSet
+    requires here { IsSiteAhead here }
+    requires some { 0 < key.taken }
+    requires limit { here.site.place.now.at + key.taken ≤ here.ahead.limit }
+    requires begins { MayBegin (numbered_of here.site.lexicon.now here.site.place.now).entrance key.phase }
+    requires possible { IsPossible here.site.lexicon.now here.site.line.now (numbered_of here.site.lexicon.now here.site.place.now) (key_meant key) }
+    requires fits { FitsPlace here.site.lexicon.now here.site.line.now here.site.choices.now (numbered_of here.site.lexicon.now here.site.place.now) (key_meant key) }
+    requires table { IsTable (leads_in here.site.lexicon.now) (length here.site.line.now.letters) table.now }
+    ensures { (number : ℕ) → HasState result number ↔ LivesByKeys here.entry table.now (OnlyKey (key_meant key)) number }
+{
+    let site = here.site;
+    match here
+        .ahead
+        .test(site.lexicon, site.line, site.choices, site.place, key)
+    {
+        LetterTest::Refused => StateSet::empty(),
+        LetterTest::Ends => accepting_states(site.lexicon.automaton()),
+        LetterTest::LeadsOn { at, entrance } => table.get(at, entrance),
+    }
+}
+
+/// The same for the key with this front that has no change, if a form ends at its node.
+fn living_unchanged(here: SiteAhead<'_>, front: &Front, table: &Table) -> StateSet
+    requires here { IsSiteAhead here }
+    requires some { 0 < front.now.taken }
+    requires limit { here.site.place.now.at + front.now.taken ≤ here.ahead.limit }
+    requires begins { MayBegin (numbered_of here.site.lexicon.now here.site.place.now).entrance front.now.phase }
+    requires front { IsFrontAt here.site.lexicon.now here.site.line.now (numbered_of here.site.lexicon.now here.site.place.now) front.now.phase front.now.taken front.now.node }
+    requires fits { FitWithLetter here }
+    requires table { IsTable (leads_in here.site.lexicon.now) (length here.site.line.now.letters) table.now }
+    ensures { (number : ℕ) → HasState result number ↔ LivesByKeys here.entry table.now (OnlyKey (record { phase = front.now.phase; taken = front.now.taken; rule = 0 })) number }
+{
+    if !here.site.lexicon.tries().store().accepts(front.node) {
+        return StateSet::empty();
+    }
+    let key = Key {
+        phase: front.phase,
+        taken: front.taken,
+        rule: 0,
+    };
+    living_by_key(here, key, table)
+}
+
+/// The same for the keys with this front. Refused only for want of memory.
+fn living_front<L>(
+    here: SiteAhead<'_>,
+    front: &Front,
+    table: &Table,
+    memo: &mut Memo,
+    steps: &mut Steps<L>,
+) -> Result<StateSet, Memory>
+    requires here { IsSiteAhead here }
+    requires some { 0 < front.now.taken }
+    requires limit { here.site.place.now.at + front.now.taken ≤ here.ahead.limit }
+    requires begins { MayBegin (numbered_of here.site.lexicon.now here.site.place.now).entrance front.now.phase }
+    requires front { IsFrontAt here.site.lexicon.now here.site.line.now (numbered_of here.site.lexicon.now here.site.place.now) front.now.phase front.now.taken front.now.node }
+    requires fits { FitWithLetter here }
+    requires table { IsTable (leads_in here.site.lexicon.now) (length here.site.line.now.letters) table.now }
+    requires memo { AreLiving here.site.lexicon.now here.site.line.now table.now memo.old }
+    ensures memo { OnOk result (AreLiving here.entry.site.lexicon.now here.entry.site.line.now table.now memo.new) }
+    ensures ends { OnOk result (EndFrom here.entry.site.place.now.at memo.old → EndFrom here.entry.site.place.now.at memo.new) }
+    ensures living { IfOk result (λ living. (number : ℕ) → HasState living number ↔ LivesByKeys here.entry table.now (IsAtFront front.now.phase front.now.taken) number) }
+    ensures steps { (most : ℕ) → HasAtMostRules here.entry.site.lexicon.now.tries most → steps.new ≤ steps.old + steps_of_front most }
+{
+    steps.tick();
+    let unchanged = living_unchanged(here, front, table);
+    let site = here.site;
+    let end = site.place.at + front.taken;
+    let line = site.line;
+    let Some(letter) = line.letters.as_slice().get(end as usize) else {
+        return Ok(unchanged);
+    };
+    let work = Work {
+        node: front.node,
+        end,
+        may_end: here.ahead.may_end,
+        phase: front.phase,
+    };
+    let changed = living_after(site, &work, *letter, table, memo, steps)?;
+    Ok(unchanged.union(changed))
+}
+
+/// The same for the keys of the phase with this front and with longer ones. Refused only for want of memory.
+fn living_fronts<L>(
+    here: SiteAhead<'_>,
+    front: &Front,
+    table: &Table,
+    memo: &mut Memo,
+    steps: &mut Steps<L>,
+) -> Result<StateSet, Memory>
+    requires here { IsSiteAhead here }
+    requires some { 0 < front.now.taken }
+    requires limit { here.site.place.now.at + front.now.taken ≤ here.ahead.limit }
+    requires begins { MayBegin (numbered_of here.site.lexicon.now here.site.place.now).entrance front.now.phase }
+    requires front { IsFrontAt here.site.lexicon.now here.site.line.now (numbered_of here.site.lexicon.now here.site.place.now) front.now.phase front.now.taken front.now.node }
+    requires fits { FitWithLetter here }
+    requires table { IsTable (leads_in here.site.lexicon.now) (length here.site.line.now.letters) table.now }
+    requires memo { AreLiving here.site.lexicon.now here.site.line.now table.now memo.old }
+    ensures memo { OnOk result (AreLiving here.entry.site.lexicon.now here.entry.site.line.now table.now memo.new) }
+    ensures ends { OnOk result (EndFrom here.entry.site.place.now.at memo.old → EndFrom here.entry.site.place.now.at memo.new) }
+    ensures living { IfOk result (λ living. (number : ℕ) → HasState living number ↔ LivesByKeys here.entry table.now (IsFromFront front.now.phase front.now.taken) number) }
+    ensures steps { (most : ℕ) → HasAtMostRules here.entry.site.lexicon.now.tries most → steps.new ≤ steps.old + steps_from_front most front.now.taken }
+{
+    let at_front = living_front(here, front, table, memo, steps)?;
+    let Some(longer) = longer_front(here.site, front, here.ahead.limit, steps) else {
+        return Ok(at_front);
+    };
+    let further = living_fronts(here, &longer, table, memo, steps)?;
+    Ok(at_front.union(further))
+}
+
+/// The same as `living_fronts`. It is looked for in the memo of walks first, and put there. Refused only for want of memory.
+fn living_walk<L>(
+    here: SiteAhead<'_>,
+    front: &Front,
+    table: &Table,
+    room: &mut Room,
+    steps: &mut Steps<L>,
+) -> Result<StateSet, Memory>
+    requires here { IsSiteAhead here }
+    requires some { 0 < front.now.taken }
+    requires limit { here.site.place.now.at + front.now.taken ≤ here.ahead.limit }
+    requires begins { MayBegin (numbered_of here.site.lexicon.now here.site.place.now).entrance front.now.phase }
+    requires front { IsFrontAt here.site.lexicon.now here.site.line.now (numbered_of here.site.lexicon.now here.site.place.now) front.now.phase front.now.taken front.now.node }
+    requires fits { FitWithLetter here }
+    requires table { IsTable (leads_in here.site.lexicon.now) (length here.site.line.now.letters) table.now }
+    requires room { IsLivingRoom here.site.lexicon.now here.site.line.now table.now room.old }
+    ensures room { OnOk result (IsLivingRoom here.entry.site.lexicon.now here.entry.site.line.now table.now room.new) }
+    ensures later { OnOk result (IsLater here.entry.site.place.now.at room.old → IsLater here.entry.site.place.now.at room.new) }
+    ensures living { IfOk result (λ living. (number : ℕ) → HasState living number ↔ LivesByKeys here.entry table.now (IsFromFront front.now.phase front.now.taken) number) }
+    ensures steps { (most : ℕ) → HasAtMostRules here.entry.site.lexicon.now.tries most → steps.new ≤ steps.old + steps_from_front most front.now.taken }
+{
+    let walk = Walk::from(here, front);
+    if let Some(states) = room.walks.get(&walk) {
+        return Ok(states);
+    }
+    let living = living_fronts(here, front, table, &mut room.memo, steps)?;
+    room.walks.keep(&walk, living)?;
+    Ok(living)
+}
+
+/// The same as `gather_fronts`, where the front takes a letter. What the memo of walks has already is not looked for once more. Refused
+/// only for want of memory.
+fn gather_walk<L>(
+    here: SiteAhead<'_>,
+    states: StateSet,
+    front: &Front,
+    table: &Table,
+    room: &mut Room,
+    steps: &mut Steps<L>,
+) -> Result<StateSet, Memory>
+    requires here { IsSiteAhead here }
+    requires some { 0 < front.now.taken }
+    requires limit { here.site.place.now.at + front.now.taken ≤ here.ahead.limit }
+    requires begins { MayBegin (numbered_of here.site.lexicon.now here.site.place.now).entrance front.now.phase }
+    requires front { IsFrontAt here.site.lexicon.now here.site.line.now (numbered_of here.site.lexicon.now here.site.place.now) front.now.phase front.now.taken front.now.node }
+    requires table { IsTable (leads_in here.site.lexicon.now) (length here.site.line.now.letters) table.now }
+    requires room { IsLivingRoom here.site.lexicon.now here.site.line.now table.now room.old }
+    ensures room { OnOk result (IsLivingRoom here.entry.site.lexicon.now here.entry.site.line.now table.now room.new) }
+    ensures later { OnOk result (IsLater here.entry.site.place.now.at room.old → IsLater here.entry.site.place.now.at room.new) }
+    ensures gathers { IfOk result (λ gathered. AreGoingFurther here.entry.site.lexicon.now here.entry.site.line.now here.entry.site.choices.now table.now here.entry.site.place.now.at here.entry.site.place.now.entrance states (IsFromFront front.now.phase front.now.taken) gathered) }
+    ensures steps { (most : ℕ) → HasAtMostRules here.entry.site.lexicon.now.tries most → steps.new ≤ steps.old + steps_from_front most front.now.taken }
+{
+    let Site {
+        lexicon,
+        line,
+        choices,
+        place,
+    } = here.site;
+    if !here
+        .ahead
+        .fits_with_letter(lexicon, line, choices, place)
+    {
+        return gather_fronts(here, states, front, table, &mut room.memo, steps);
+    }
+    let living = living_walk(here, front, table, room, steps)?;
+    Ok(states_into(
+        lexicon.automaton(),
+        states,
+        front.phase,
+        living,
+    ))
+}
+
+/// The states of the set from which some key of the phase ends the line or leads on to a place of the table. Refused only for want of
+/// memory.
 fn gather_phase<L>(
     here: SiteAhead<'_>,
     states: StateSet,
@@ -257,24 +474,21 @@ fn gather_phase<L>(
     requires begins { MayBegin (numbered_of here.site.lexicon.now here.site.place.now).entrance phase }
     requires phase { phase < length here.site.lexicon.now.lexicon.rules.names }
     requires table { IsTable (leads_in here.site.lexicon.now) (length here.site.line.now.letters) table.now }
-    requires memo { AreLiving here.site.lexicon.now here.site.line.now table.now room.old.memo }
-    ensures memo { OnOk result (AreLiving here.entry.site.lexicon.now here.entry.site.line.now table.now room.new.memo) }
-    ensures ends { OnOk result (EndFrom here.entry.site.place.now.at room.old.memo → EndFrom here.entry.site.place.now.at room.new.memo) }
+    requires room { IsLivingRoom here.site.lexicon.now here.site.line.now table.now room.old }
+    ensures room { OnOk result (IsLivingRoom here.entry.site.lexicon.now here.entry.site.line.now table.now room.new) }
+    ensures later { OnOk result (IsLater here.entry.site.place.now.at room.old → IsLater here.entry.site.place.now.at room.new) }
     ensures gathers { IfOk result (λ gathered. AreGoingFurther here.entry.site.lexicon.now here.entry.site.line.now here.entry.site.choices.now table.now here.entry.site.place.now.at here.entry.site.place.now.entrance states (IsInPhase phase) gathered) }
     ensures steps { (most : ℕ) → HasAtMostRules here.entry.site.lexicon.now.tries most → steps.new ≤ steps.old + steps_of_fronts most }
 {
-    walk_fronts(here.site, phase, here.ahead.limit, &mut room.nodes, steps)?;
-    let mut gathered = StateSet::empty();
-    for taken in 0..room.nodes.len() {
-        let front = Front {
-            phase,
-            taken: taken as u32,
-            node: room.nodes[taken],
-        };
-        let found = gather_front(here, states, &front, table, &mut room.memo, steps)?;
-        gathered = gathered.union(found);
-    }
-    Ok(gathered)
+    let Some(front) = first_front(here.site, phase, steps) else {
+        return Ok(StateSet::empty());
+    };
+    let at_front = gather_front(here, states, &front, table, &mut room.memo, steps)?;
+    let Some(longer) = longer_front(here.site, &front, here.ahead.limit, steps) else {
+        return Ok(at_front);
+    };
+    let further = gather_walk(here, states, &longer, table, room, steps)?;
+    Ok(at_front.union(further))
 }
 
 /// The states of the set from which some key ends the line, or leads on from the place to a place of the table. Phases to which no state
@@ -288,9 +502,9 @@ pub(crate) fn gather<L>(
 ) -> Result<StateSet, Memory>
     requires site { IsSite site }
     requires table { IsTable (leads_in site.lexicon.now) (length site.line.now.letters) table.now }
-    requires memo { AreLiving site.lexicon.now site.line.now table.now room.old.memo }
-    ensures memo { OnOk result (AreLiving site.entry.lexicon.now site.entry.line.now table.now room.new.memo) }
-    ensures ends { OnOk result (EndFrom site.entry.place.now.at room.old.memo → EndFrom site.entry.place.now.at room.new.memo) }
+    requires room { IsLivingRoom site.lexicon.now site.line.now table.now room.old }
+    ensures room { OnOk result (IsLivingRoom site.entry.lexicon.now site.entry.line.now table.now room.new) }
+    ensures later { OnOk result (IsLater site.entry.place.now.at room.old → IsLater site.entry.place.now.at room.new) }
     ensures gathers { IfOk result (λ gathered. AreGoingFurther site.entry.lexicon.now site.entry.line.now site.entry.choices.now table.now site.entry.place.now.at site.entry.place.now.entrance states EveryKey gathered) }
     ensures steps { (most : ℕ) → HasAtMostRules site.entry.lexicon.now.tries most → steps.new ≤ steps.old + steps_of_items site.entry.lexicon.now most }
 {

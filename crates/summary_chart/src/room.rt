@@ -1,9 +1,9 @@
 use super::memo::Memo;
-use shared_trie::Node;
+use super::walk_memo::WalkMemo;
 
-/// What a pass uses again at each place: room for the nodes of a walk, and what is known of the work that was done.
+/// What a pass uses again at each place: what is known of the work that was done at single nodes, and of the walks on from them.
 #[derive(Drop)]
 pub(crate) struct Room {
-    pub nodes: Vec<Node>,
     pub memo: Memo,
+    pub walks: WalkMemo,
 }

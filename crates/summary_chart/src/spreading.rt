@@ -17,6 +17,7 @@ ghost use Rattle.summary_chart.specs.Sites.{IsSite};
 ghost use Rattle.summary_chart.specs.Tables.{IsTable};
 ghost use Rattle.summary_chart.specs.Spreading.{Spreads, EveryKey, OnlyKey, IsByRule, IsAtFront, IsInPhase, leads_in};
 ghost use Rattle.summary_chart.specs.Summaries.{steps_of_front, steps_of_fronts, steps_of_items};
+ghost use Rattle.summary_chart.specs.Walked.{IsFromFront, IsKeptWith, IsSpreadRoom, steps_from_front};
 
 use super::memo::{Memo, Work};
 use super::room::Room;
@@ -25,7 +26,8 @@ use super::site::{Front, Site, SiteAhead};
 use super::state_set::StateSet;
 use super::state_steps::states_after;
 use super::table::Table;
-use super::walking::walk_fronts;
+use super::walk_memo::{Walk, WalkMemo};
+use super::walking::{first_front, longer_front};
 use annotated_trie::Annotated;
 use derivation::Key;
 use outside::Steps;
@@ -244,6 +246,87 @@ fn spread_front<L>(
     spread_changed(onward, front, *letter, table, memo, steps)
 }
 
+/// Puts into the table where the keys of the phase with this front and with longer ones lead on to. Refused only for want of memory.
+fn spread_fronts<L>(
+    onward: Onward<'_>,
+    front: &Front,
+    table: &mut Table,
+    memo: &mut Memo,
+    steps: &mut Steps<L>,
+) -> Result<(), Memory>
+    requires onward { IsOnward onward front.now.phase }
+    requires limit { onward.here.site.place.now.at + front.now.taken ≤ onward.here.ahead.limit }
+    requires front { IsFrontAt onward.here.site.lexicon.now onward.here.site.line.now (numbered_of onward.here.site.lexicon.now onward.here.site.place.now) front.now.phase front.now.taken front.now.node }
+    requires table { IsTable (leads_in onward.here.site.lexicon.now) (length onward.here.site.line.now.letters) table.old }
+    requires memo { AreSpread onward.here.site.lexicon.now onward.here.site.line.now table.old memo.old }
+    ensures memo { OnOk result (AreSpread onward.entry.here.site.lexicon.now onward.entry.here.site.line.now table.new memo.new) }
+    ensures table { OnOk result (IsTable (leads_in onward.entry.here.site.lexicon.now) (length onward.entry.here.site.line.now.letters) table.new) }
+    ensures spreads { OnOk result (SpreadsOnward onward.entry front.now.phase (IsFromFront front.now.phase front.now.taken) table.old table.new) }
+    ensures steps { (most : ℕ) → HasAtMostRules onward.entry.here.site.lexicon.now.tries most → steps.new ≤ steps.old + steps_from_front most front.now.taken }
+{
+    spread_front(onward, front, table, memo, steps)?;
+    let Some(longer) = longer_front(onward.here.site, front, onward.here.ahead.limit, steps) else {
+        return Ok(());
+    };
+    spread_fronts(onward, &longer, table, memo, steps)
+}
+
+/// The states that the walk gave, if the memo keeps this and it serves here; else none.
+fn known_of_walk(walks: &WalkMemo, walk: &Walk, serves: bool) -> StateSet
+    ensures { (number : ℕ) → HasState result number → IsKeptWith walks.now walk.now number }
+{
+    if !serves {
+        return StateSet::empty();
+    }
+    match walks.get(walk) {
+        Some(states) => states,
+        None => StateSet::empty(),
+    }
+}
+
+/// The same as `spread_fronts`, where the front takes a letter. What the memo of walks has already is not put there once more. Refused
+/// only for want of memory.
+fn spread_walk<L>(
+    onward: Onward<'_>,
+    front: &Front,
+    table: &mut Table,
+    room: &mut Room,
+    steps: &mut Steps<L>,
+) -> Result<(), Memory>
+    requires onward { IsOnward onward front.now.phase }
+    requires some { 0 < front.now.taken }
+    requires limit { onward.here.site.place.now.at + front.now.taken ≤ onward.here.ahead.limit }
+    requires front { IsFrontAt onward.here.site.lexicon.now onward.here.site.line.now (numbered_of onward.here.site.lexicon.now onward.here.site.place.now) front.now.phase front.now.taken front.now.node }
+    requires table { IsTable (leads_in onward.here.site.lexicon.now) (length onward.here.site.line.now.letters) table.old }
+    requires room { IsSpreadRoom onward.here.site.lexicon.now onward.here.site.line.now table.old room.old }
+    ensures room { OnOk result (IsSpreadRoom onward.entry.here.site.lexicon.now onward.entry.here.site.line.now table.new room.new) }
+    ensures table { OnOk result (IsTable (leads_in onward.entry.here.site.lexicon.now) (length onward.entry.here.site.line.now.letters) table.new) }
+    ensures spreads { OnOk result (SpreadsOnward onward.entry front.now.phase (IsFromFront front.now.phase front.now.taken) table.old table.new) }
+    ensures steps { (most : ℕ) → HasAtMostRules onward.entry.here.site.lexicon.now.tries most → steps.new ≤ steps.old + steps_from_front most front.now.taken }
+{
+    let here = onward.here;
+    let Site {
+        lexicon,
+        line,
+        choices,
+        place,
+    } = here.site;
+    let walk = Walk::from(here, front);
+    let shares = here
+        .ahead
+        .fits_with_letter(lexicon, line, choices, place);
+    let known = known_of_walk(&room.walks, &walk, shares);
+    let all = known.union(onward.after);
+    if all == known {
+        return Ok(());
+    }
+    spread_fronts(onward, front, table, &mut room.memo, steps)?;
+    if shares {
+        room.walks.keep(&walk, all)?;
+    }
+    Ok(())
+}
+
 /// Puts into the table where the keys of the phase lead on to. Refused only for want of memory.
 fn spread_phase<L>(
     onward: Onward<'_>,
@@ -255,23 +338,21 @@ fn spread_phase<L>(
     requires onward { IsOnward onward phase }
     requires phase { phase < length onward.here.site.lexicon.now.lexicon.rules.names }
     requires table { IsTable (leads_in onward.here.site.lexicon.now) (length onward.here.site.line.now.letters) table.old }
-    requires memo { AreSpread onward.here.site.lexicon.now onward.here.site.line.now table.old room.old.memo }
-    ensures memo { OnOk result (AreSpread onward.entry.here.site.lexicon.now onward.entry.here.site.line.now table.new room.new.memo) }
+    requires room { IsSpreadRoom onward.here.site.lexicon.now onward.here.site.line.now table.old room.old }
+    ensures room { OnOk result (IsSpreadRoom onward.entry.here.site.lexicon.now onward.entry.here.site.line.now table.new room.new) }
     ensures table { OnOk result (IsTable (leads_in onward.entry.here.site.lexicon.now) (length onward.entry.here.site.line.now.letters) table.new) }
     ensures spreads { OnOk result (SpreadsOnward onward.entry phase (IsInPhase phase) table.old table.new) }
     ensures steps { (most : ℕ) → HasAtMostRules onward.entry.here.site.lexicon.now.tries most → steps.new ≤ steps.old + steps_of_fronts most }
 {
-    let here = onward.here;
-    walk_fronts(here.site, phase, here.ahead.limit, &mut room.nodes, steps)?;
-    for taken in 0..room.nodes.len() {
-        let front = Front {
-            phase,
-            taken: taken as u32,
-            node: room.nodes[taken],
-        };
-        spread_front(onward, &front, table, &mut room.memo, steps)?;
-    }
-    Ok(())
+    let site = onward.here.site;
+    let Some(front) = first_front(site, phase, steps) else {
+        return Ok(());
+    };
+    spread_front(onward, &front, table, &mut room.memo, steps)?;
+    let Some(longer) = longer_front(site, &front, onward.here.ahead.limit, steps) else {
+        return Ok(());
+    };
+    spread_walk(onward, &longer, table, room, steps)
 }
 
 /// Puts into the table where any key leads on to from the place with the states of the set. Phases to which no state of the set leads are
@@ -285,8 +366,8 @@ pub(crate) fn spread<L>(
 ) -> Result<(), Memory>
     requires site { IsSite site }
     requires table { IsTable (leads_in site.lexicon.now) (length site.line.now.letters) table.old }
-    requires memo { AreSpread site.lexicon.now site.line.now table.old room.old.memo }
-    ensures memo { OnOk result (AreSpread site.entry.lexicon.now site.entry.line.now table.new room.new.memo) }
+    requires room { IsSpreadRoom site.lexicon.now site.line.now table.old room.old }
+    ensures room { OnOk result (IsSpreadRoom site.entry.lexicon.now site.entry.line.now table.new room.new) }
     ensures table { OnOk result (IsTable (leads_in site.entry.lexicon.now) (length site.entry.line.now.letters) table.new) }
     ensures spreads { OnOk result (Spreads site.entry.lexicon.now site.entry.line.now site.entry.choices.now site.entry.place.now.at site.entry.place.now.entrance states EveryKey table.old table.new) }
     ensures steps { (most : ℕ) → HasAtMostRules site.entry.lexicon.now.tries most → steps.new ≤ steps.old + steps_of_items site.entry.lexicon.now most }

@@ -25,8 +25,8 @@ loop-phase-init g c =
       low = omega arith;
       gathers = none_further c.args.site.lexicon.now c.args.site.line.now c.args.site.choices.now c.args.site.place.now c.args.states c.args.table.now (IsEarlier 0)
           c.empty-gathered.result (λ key told. omega (arith, told)) none;
-      memo = c.requires.memo;
-      ends = λ ends. ends;
+      room = c.requires.room;
+      later = λ later. later;
       spent = λ most few. omega arith;
     }
 
@@ -42,8 +42,8 @@ loop-phase-preserved-then-not-may_begin g c =
           (sym c.rules-rules.ensures.value) begins) in
           let no = c.if-not-may_begin.true in cc (yes, no)))
           empty c.loop-phase.gathered (inv.gathers empty nothing);
-      memo = inv.memo;
-      ends = inv.ends;
+      room = inv.room;
+      later = inv.later;
       spent = λ most few. one_more_within c.args.steps.now c.loop-phase.phase (1 + steps_of_fronts most) c.loop-phase.steps c.tick.new.self
           (inv.spent most few) (omega (arith, c.tick.ensures));
     }
@@ -60,8 +60,8 @@ loop-phase-preserved-then-is_empty g c =
           (λ number led. (c.states_after.ensures number).1
           (subst (λ (machine : StateMachine). IsLedTo machine c.args.states c.loop-phase.phase number) (sym c.automaton.ensures.value) led))
           empty c.loop-phase.gathered (inv.gathers empty nothing);
-      memo = inv.memo;
-      ends = inv.ends;
+      room = inv.room;
+      later = inv.later;
       spent = λ most few. one_more_within c.args.steps.now c.loop-phase.phase (1 + steps_of_fronts most) c.loop-phase.steps c.tick.new.self
           (inv.spent most few) (omega (arith, c.tick.ensures));
     }
@@ -77,8 +77,8 @@ loop-phase-preserved g c =
           empty c.loop-phase.gathered c.union-gathered.result (inv.gathers empty nothing)
           (gathers_found c.args.site.lexicon.now c.args.site.line.now c.args.site.choices.now c.args.site.place.now c.args.states c.args.table.now (IsInPhase c.loop-phase.phase)
           c.loop-phase.gathered c.in_ok-found.found c.union-gathered.result c.in_ok-found.ensures.gathers c.union-gathered.ensures);
-      memo = c.in_ok-found.ensures.memo;
-      ends = λ ends. c.in_ok-found.ensures.ends (inv.ends ends);
+      room = c.in_ok-found.ensures.room;
+      later = λ later. c.in_ok-found.ensures.later (inv.later later);
       spent = λ most few. one_more_within c.args.steps.now c.loop-phase.phase (1 + steps_of_fronts most) c.loop-phase.steps c.gather_phase.new.steps
           (inv.spent most few) (let spent = c.gather_phase.ensures.steps most few in omega (arith, spent, c.tick.ensures));
     }

@@ -3,10 +3,10 @@ use Rattle.std.proofs.Common.{◌≡◌, ◌+◌, ◌*◌, ◌≤◌, ℕ, lengt
 use Rattle.search_frames.specs.Costs.{HasAtMostRules}
 use Rattle.search_frames.specs.Configurations.{rules_in}
 use Rattle.summary_chart.specs.declared.state_set.StateSet.{StateSet}
-use Rattle.summary_chart.specs.Memos.{AreLiving, EndFrom}
 use Rattle.summary_chart.specs.StateSets.{HasState}
 use Rattle.summary_chart.specs.Spreading.{GathersMore}
 use Rattle.summary_chart.specs.Summaries.{steps_of_fronts}
+use Rattle.summary_chart.specs.Walked.{IsLater, IsLivingRoom}
 use Rattle.summary_chart.proofs.VisitedKeys.{IsEarlier}
 use Rattle.summary_chart.proofs.gathering.gather.Given as goal
 
@@ -16,7 +16,7 @@ invariant-loop-phase g l = record {
   low : l.phase ≤ length (rules_in l.site.lexicon.now).names;
   gathers : (empty : StateSet) → ((number : ℕ) → HasState empty number → ⊥)
       → GathersMore l.site.lexicon.now l.site.line.now l.site.choices.now l.table l.site.place.now.at l.site.place.now.entrance l.states (IsEarlier l.phase) empty l.gathered;
-  memo : AreLiving l.site.lexicon.now l.site.line.now l.table l.room.memo;
-  ends : EndFrom l.site.place.now.at l.fn.room.memo → EndFrom l.site.place.now.at l.room.memo;
+  room : IsLivingRoom l.site.lexicon.now l.site.line.now l.table l.room;
+  later : IsLater l.site.place.now.at l.fn.room → IsLater l.site.place.now.at l.room;
   spent : (most : ℕ) → HasAtMostRules l.site.lexicon.now.tries most → l.steps ≤ l.fn.steps + l.phase * (1 + steps_of_fronts most);
 }

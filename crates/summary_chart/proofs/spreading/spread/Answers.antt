@@ -22,7 +22,7 @@ loop-phase-init g c = record {
   end = sym (length-map c.phases-phases.result.now string_bytes) ∙ ap length c.phases-phases.ensures ∙ ap (λ (r : RuleSet). length r.names) c.rules-rules.ensures.value;
   low = omega arith;
   lawful = c.requires.table;
-  memo = c.requires.memo;
+  room = c.requires.room;
   spreads = visit_no_phase c.args.site.lexicon.now c.args.site.line.now c.args.site.choices.now c.args.site.place.now c.args.states Table
       (spread_visit c.args.site.lexicon.now c.args.site.line.now c.args.site.choices.now c.args.site.place.now c.args.states) c.args.table.now;
   spent = λ most few. omega arith;
@@ -34,8 +34,8 @@ spread_phase-requires-clause-phase g c = omega (arith, c.loop-phase-test.true, c
 pub spread_phase-requires-clause-table : goal.spread_phase-requires-clause-table
 spread_phase-requires-clause-table g c = c.loop-phase.invariant.lawful
 
-pub spread_phase-requires-clause-memo : goal.spread_phase-requires-clause-memo
-spread_phase-requires-clause-memo g c = c.loop-phase.invariant.memo
+pub spread_phase-requires-clause-room : goal.spread_phase-requires-clause-room
+spread_phase-requires-clause-room g c = c.loop-phase.invariant.room
 
 pub spread_phase-requires-clause-onward : goal.spread_phase-requires-clause-onward
 spread_phase-requires-clause-onward g c =
@@ -63,7 +63,7 @@ loop-phase-preserved-then-not-may_begin g c =
       end = inv.end;
       low = omega (arith, c.loop-phase-test.true, inv.end);
       lawful = inv.lawful;
-      memo = inv.memo;
+      room = inv.room;
       spreads = visit_unbegun_phase c.args.site.lexicon.now c.args.site.line.now c.args.site.choices.now c.args.site.place.now c.args.states Table
           (spread_visit c.args.site.lexicon.now c.args.site.line.now c.args.site.choices.now c.args.site.place.now c.args.states) c.loop-phase.phase
           (λ begins. (let yes = c.may_begin.ensures.1 (subst (λ (r : RuleSet). MayBegin (entrance_of (leads_of r.rules) c.args.site.place.now.entrance) c.loop-phase.phase) (sym c.rules-rules.ensures.value) begins) in
@@ -80,7 +80,7 @@ loop-phase-preserved-then-is_empty g c =
       end = inv.end;
       low = omega (arith, c.loop-phase-test.true, inv.end);
       lawful = inv.lawful;
-      memo = inv.memo;
+      room = inv.room;
       spreads = visit_dead_phase c.args.site.lexicon.now c.args.site.line.now c.args.site.choices.now c.args.site.place.now c.args.states Table
           (spread_visit c.args.site.lexicon.now c.args.site.line.now c.args.site.choices.now c.args.site.place.now c.args.states) c.loop-phase.phase c.states_after-after.result
           c.if-is_empty.ensures
@@ -98,7 +98,7 @@ loop-phase-preserved g c =
       end = inv.end;
       low = omega (arith, c.loop-phase-test.true, inv.end);
       lawful = c.in_ok-spread_phase.ensures.table;
-      memo = c.in_ok-spread_phase.ensures.memo;
+      room = c.in_ok-spread_phase.ensures.room;
       spreads = visit_phase c.args.site.lexicon.now c.args.site.line.now c.args.site.choices.now c.args.site.place.now c.args.states Table
           (spread_visit c.args.site.lexicon.now c.args.site.line.now c.args.site.choices.now c.args.site.place.now c.args.states) c.loop-phase.phase
           c.args.table.now c.loop-phase.table c.spread_phase.new.table inv.spreads
@@ -134,5 +134,5 @@ returns-clause-steps g c most few =
 pub returns-clause-table : goal.returns-clause-table
 returns-clause-table g c = c.loop-phase.invariant.lawful
 
-pub returns-clause-memo : goal.returns-clause-memo
-returns-clause-memo g c = c.loop-phase.invariant.memo
+pub returns-clause-room : goal.returns-clause-room
+returns-clause-room g c = c.loop-phase.invariant.room
