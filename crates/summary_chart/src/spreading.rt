@@ -378,6 +378,9 @@ pub(crate) fn spread<L>(
         ahead: Ahead::of(rules, site.line, site.place),
     };
     let phases = rules.phases().len();
+    let mut count = 0usize;
+    let mut fronts = [Front { phase: 0, taken: 0, node: site.lexicon.tries().store().root(0) }; 16];
+    let mut afters = [StateSet::empty(); 16];
     for phase in 0..phases as u32 {
         steps.tick();
         if !may_begin(rules, site.place, phase) {
@@ -387,7 +390,32 @@ pub(crate) fn spread<L>(
         if after.is_empty() {
             continue;
         }
-        spread_phase(Onward { here, after }, phase, table, room, steps)?;
+        let Some(front) = first_front(site, phase, steps) else {
+            continue;
+        };
+        spread_front(Onward { here, after }, &front, table, &mut room.memo, steps)?;
+        let Some(longer) = longer_front(site, &front, here.ahead.limit, steps) else {
+            continue;
+        };
+        let class = site.lexicon.alike_phase(phase);
+        let mut found = false;
+        for n in 0..count {
+            if fronts[n].node == longer.node && site.lexicon.alike_phase(fronts[n].phase) == class {
+                afters[n] = afters[n].union(after);
+                found = true;
+                break;
+            }
+        }
+        if !found && count < 16 {
+            fronts[count] = longer;
+            afters[count] = after;
+            count += 1;
+        }
+    }
+    for n in 0..count {
+        let after = afters[n];
+        let front = fronts[n];
+        spread_walk(Onward { here, after }, &front, table, room, steps)?;
     }
     Ok(())
 }
