@@ -1,5 +1,5 @@
 -- A form that takes a letter may be entered, no blank stands before the limit, and where no choice is made each is allowed.
-use Rattle.std.proofs.Common.{IsTrue, Bool, true, false, refl}
+use Rattle.std.proofs.Common.{IsTrue, Bool, true, false, refl, rules}
 use Rattle.std.specs.Bool.{OnTrue}
 use Rattle.lexicon_definitions.specs.Lexicons.{RuleSet}
 use Rattle.search_frames.specs.Configurations.{rules_in}
