@@ -152,18 +152,19 @@ def main():
     program = os.path.abspath(sys.argv[1])
     wanted = sys.argv[2:]
     with tempfile.TemporaryDirectory() as folder:
-        lexicon, line, session = (os.path.join(folder, name) for name in ("lexicon", "line", "session"))
+        lexicon_path, line_path, session_path = (os.path.join(folder, name) for name in ("lexicon", "line", "session"))
         for name, (make, task) in FAMILIES.items():
             if wanted and not any(word in name for word in wanted):
                 continue
-            # In a process of its own, since the peak of a run is no less than what this script has when it begins it.
+            # In a process of its own, since no run's peak is told that is below this script's memory as the run begins.
             writer = multiprocessing.Process(target=write_family, args=(make, folder))
             writer.start()
             writer.join()
             if task == "summary":
-                result = run(program, ["read", lexicon], session)
+                result = run(program, ["read", lexicon_path], session_path)
             else:
-                result = run(program, ["segment", lexicon, open(line).read()], None)
+                with open(line_path) as file:
+                    result = run(program, ["segment", lexicon_path, file.read()], None)
             wall, used, peak, ended, size = result
             print("%-42s %7.2f s  %7.2f s of the processors  %9.1f MiB  exit %s, %d bytes" % (name, wall, used, peak / 1024, ended, size), flush=True)
 
