@@ -5,7 +5,7 @@ usage: hard_lines.py PROGRAM [FAMILY ..]
 
 Makes the lexicons and lines in a folder of its own, runs the program on them, and prints for each family wall seconds, seconds of
 the processors, and the peak of memory. A run is ended after a minute of a processor, and at 12 GB. A peak below that of this script, some 12 MiB, is not
-told. All lexicons are within the limits; the letters of a line are all `a`.
+told. All lexicons are within the limits; the letters of a line are all `a`. The status is 1 where a run was ended, or ended with another status than 0.
 """
 import multiprocessing, os, resource, subprocess, sys, tempfile, time
 
@@ -151,6 +151,7 @@ def write_family(make, folder):
 def main():
     program = os.path.abspath(sys.argv[1])
     wanted = sys.argv[2:]
+    all_ended_well = True
     with tempfile.TemporaryDirectory() as folder:
         lexicon_path, line_path, session_path = (os.path.join(folder, name) for name in ("lexicon", "line", "session"))
         for name, (make, task) in FAMILIES.items():
@@ -166,8 +167,10 @@ def main():
                 with open(line_path) as file:
                     result = run(program, ["segment", lexicon_path, file.read()], None)
             wall, used, peak, ended, size = result
+            all_ended_well &= ended == 0
             print("%-42s %7.2f s  %7.2f s of the processors  %9.1f MiB  exit %s, %d bytes" % (name, wall, used, peak / 1024, ended, size), flush=True)
+    return 0 if all_ended_well else 1
 
 
 if __name__ == "__main__":
-    main()
+    sys.exit(main())
