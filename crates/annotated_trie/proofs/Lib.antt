@@ -1,3 +1,4 @@
+pub mod AlikeLaws
 pub mod ListPlaces
 pub mod SuffixLaws
 pub mod SuffixPlaces

@@ -1,3 +1,4 @@
+pub mod AlikePhases
 pub mod Choices
 pub mod RuleGroups
 pub mod Searched

@@ -4,8 +4,10 @@ ghost use Rattle.lexicon_definitions.specs.Limits.{IsWithinLimits};
 ghost use Rattle.lexicon_definitions.specs.Tries.{IsTrieOf};
 ghost use Rattle.trie_text_definitions.specs.TrieForms.{phases_of};
 ghost use Rattle.phase_automaton.specs.Automata.{Recognizes};
+ghost use Rattle.annotated_trie.specs.AlikePhases.{IsAlike};
 ghost use Rattle.annotated_trie.specs.Searched.{IsSearchedLexicon};
 
+use super::alike_phases::alike_phases;
 use super::{Annotated, annotate};
 use phase_automaton::Automaton;
 use phoneme::Memory;
@@ -21,17 +23,19 @@ pub struct Lexicon {
     rules: RuleSet,
     automaton: Automaton,
     tries: Annotated,
+    alike: Vec<u32>,
 }
 
 impl Model for Lexicon {
     ghost use Rattle.trie_text_definitions.specs.TrieForms.{phases_of};
+    ghost use Rattle.annotated_trie.specs.AlikePhases.{AreAlike};
     ghost use Rattle.annotated_trie.specs.Searched.{SearchedLexicon, IsSearchedLexicon};
 
     ghost Value = { SearchedLexicon };
 
     ghost view = { λ l. record { lexicon = record { rules = l.rules; phases = phases_of l.tries.trie }; machine = l.automaton; tries = l.tries } };
 
-    ghost invariant = { λ l. IsSearchedLexicon (record { lexicon = record { rules = l.rules; phases = phases_of l.tries.trie }; machine = l.automaton; tries = l.tries }) };
+    ghost invariant = { λ l. IsSearchedLexicon (record { lexicon = record { rules = l.rules; phases = phases_of l.tries.trie }; machine = l.automaton; tries = l.tries }) × AreAlike l.rules l.alike.items };
 }
 
 impl Lexicon {
@@ -50,10 +54,12 @@ impl Lexicon {
         ensures ok { IfOk result (λ searched. (searched.lexicon ≡ record { rules = rules; phases = phases_of store }) × (searched.machine ≡ automaton)) }
     {
         let tries = annotate(alloc, store, &rules)?;
+        let alike = alike_phases(alloc, &rules)?;
         Ok(Lexicon {
             rules,
             automaton,
             tries,
+            alike,
         })
     }
 
@@ -77,5 +83,15 @@ impl Lexicon {
         ensures value { result.now ≡ self.now.tries }
     {
         &self.tries
+    }
+
+    /// The first phase, counted from 0 as this one is, that no rule tells from it: each rule may follow forms of both, or of neither.
+    pub fn alike_phase(&self, phase: u32) -> u32
+        ensures { IsAlike self.now.lexicon.rules result phase }
+    {
+        match self.alike.get(phase as usize) {
+            Some(first) => *first,
+            None => phase,
+        }
     }
 }

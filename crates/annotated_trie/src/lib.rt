@@ -5,9 +5,10 @@
 //! are its choices, rising (`ok`); `choice_count`, `choice` and `most_choices` read them, and `choices_with` those whose `w` begins
 //! with a letter (`value`). `choice` and `choices_with` take one step (`steps`). Nodes with the same `list_number` have the same choices
 //! (`same`). A `Lexicon` is always that of its rules, forms and automaton, which is its invariant (`searched` of `rules`); threads may
-//! share it (`lexicons_are_shared`).
+//! share it (`lexicons_are_shared`). Of phases that no rule tells apart, it tells the first (`alike_phase`).
 #![tactic(auto)]
 
+mod alike_phases;
 mod annotated;
 mod annotating;
 mod groups;

@@ -13,14 +13,16 @@ use Rattle.annotated_trie.proofs.lexicon.Lexicon.build.Goals as goal
 pub invariant_of-result : goal.invariant_of-result
 invariant_of-result c =
     let IsShort : Form → Type 0 = λ form. length form.letters ≤ MOST_FORM_LETTERS in
-    let tries = c.in_ok-tries.ensures.ok in
-    subst (λ (trie : Trie). IsSearchedLexicon (record { lexicon = record { rules = c.args.rules; phases = phases_of trie }; machine = c.args.automaton; tries = c.in_ok-tries.tries })) (sym tries.0)
-    (record {
-      lexicon = c.requires.lexicon;
-      limits = c.requires.limits.rule_set;
-      short = All-weaker (All IsShortForm) (All IsShort) (λ forms is. All-weaker IsShortForm IsShort (λ form short. short.letters) forms is) (phases_of c.args.store) c.requires.limits.short_forms;
-      recognizes = c.requires.machine;
-      phases = c.requires.phases;
-      tries = tries.1;
-      forms = subst (λ (trie : Trie). IsTrieOf trie (phases_of c.args.store)) (sym tries.0) c.requires.trie;
-    })
+    let tries = c.in_ok-tries.ensures.ok in (
+      subst (λ (trie : Trie). IsSearchedLexicon (record { lexicon = record { rules = c.args.rules; phases = phases_of trie }; machine = c.args.automaton; tries = c.in_ok-tries.tries })) (sym tries.0)
+          (record {
+            lexicon = c.requires.lexicon;
+            limits = c.requires.limits.rule_set;
+            short = All-weaker (All IsShortForm) (All IsShort) (λ forms is. All-weaker IsShortForm IsShort (λ form short. short.letters) forms is) (phases_of c.args.store) c.requires.limits.short_forms;
+            recognizes = c.requires.machine;
+            phases = c.requires.phases;
+            tries = tries.1;
+            forms = subst (λ (trie : Trie). IsTrieOf trie (phases_of c.args.store)) (sym tries.0) c.requires.trie;
+          }),
+      c.in_ok-alike.ensures,
+    )
