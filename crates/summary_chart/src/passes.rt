@@ -43,7 +43,7 @@ fn most_kept(lexicon: &Lexicon, line: &Line, table: &Table) -> usize
 }
 
 /// Keeps the ways from the place with the states at its index of the table, and tells their stop: if they are few, and ways and stops are
-/// then no more than there is room for beside the table. Otherwise all stays as it was. The place's own state is not looked at. Refused
+/// then no more than there is room for beside the table, and looking for them is worth it. Otherwise all ways and stops stay as they were. The place's own state is not looked at. Refused
 /// only for want of memory.
 fn keep_ways<L>(
     site: Site<'_>,
@@ -61,14 +61,14 @@ fn keep_ways<L>(
     ensures steps { (most : ℕ) → HasAtMostRules site.entry.lexicon.now.tries most → steps.new ≤ steps.old + steps_of_items site.entry.lexicon.now most }
 {
     let most = most_kept(site.lexicon, site.line, table);
-    if !kept.has_room(most) {
+    if !kept.is_worth_looking() || !kept.has_room(most) {
         return Ok(None);
     }
     let states = table.sets[index];
     let first = kept.ways.len();
     let all = push_ways(site, states, leading, &mut kept.ways, steps)?;
     if !all || !kept.has_room(most) {
-        kept.ways.truncate(first);
+        kept.drop_from(first);
         return Ok(None);
     }
     let stop = Stop {

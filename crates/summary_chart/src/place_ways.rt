@@ -1,9 +1,12 @@
-ghost use Rattle.std.specs.Prelude.{◌≡◌, ◌+◌, ◌-◌, ◌<◌, ◌≤◌, ◌↔◌, ◌++◌, ◌∷◌, [], length, slice_set, IsTrue, IfSome, MatchOption, OnOk};
+ghost use Rattle.std.specs.Prelude.{◌≡◌, ◌+◌, ◌-◌, ◌<◌, ◌≤◌, ◌↔◌, ◌++◌, ◌∷◌, [], length, slice_set, take, IsTrue, IfSome, MatchOption, OnOk};
 ghost use Rattle.summary_chart.specs.PlaceWays.{AreStops, AreWaysAt, HasStopAt, IsStopAt, IsStopWithin, narrowed, stop_at, ways_of};
 
 use phoneme::Memory;
 use search_frames::Way;
 use std::alloc::Global;
+
+/// From so many more places than those with ways that are kept, ways are looked for in vain.
+const MOST_MISSES: usize = 256;
 
 /// Where the ways stand that lead from the places at an index of a table: from `first` to before `end` among all ways. After the pass
 /// back these are the ways without the dead ones before the first living way and after the last.
@@ -23,6 +26,8 @@ pub(crate) struct PlaceWays {
     /// How many stops stand before the places after each number of letters, as far as there are stops. It tells where to look first, and
     /// no contract speaks of it.
     starts: Vec<usize>,
+    /// From how many places the ways were looked for and not kept. No contract speaks of it.
+    misses: usize,
 }
 
 impl PlaceWays {
@@ -32,6 +37,7 @@ impl PlaceWays {
             stops: Vec::new(alloc),
             ways: Vec::new(alloc),
             starts: Vec::new(alloc),
+            misses: 0,
         }
     }
 
@@ -43,6 +49,23 @@ impl PlaceWays {
         self.stops.clear();
         self.ways.clear();
         self.starts.clear();
+        self.misses = 0;
+    }
+
+    /// Whether ways are looked for from one place more: not where they were looked for in vain by far more often than they were kept. No
+    /// contract speaks of it.
+    pub fn is_worth_looking(&self) -> bool {
+        self.misses.saturating_sub(self.stops.len()) < MOST_MISSES
+    }
+
+    /// Drops the ways from this number on, since those from one place are not kept.
+    pub fn drop_from(&mut self, first: usize)
+        requires first { first ≤ length self.old.ways.items }
+        ensures stops { self.new.stops.items ≡ self.old.stops.items }
+        ensures ways { self.new.ways.items ≡ take first self.old.ways.items }
+    {
+        self.ways.truncate(first);
+        self.misses = self.misses.saturating_add(1);
     }
 
     /// Whether there are fewer stops and ways together than this.
