@@ -169,11 +169,12 @@ fn push_unchanged<L>(
 }
 
 /// Appends those of the keys with this front, in the falling order of their keys. False, and nothing is appended, where its rules that begin
-/// with the next letter are more than may still be looked at, of which they are taken. Refused only for want of memory.
+/// with the next letter are more than `rules_left`, which tells how many may still be looked at; else they are taken from these. Refused only
+/// for want of memory.
 fn push_front<L>(
     here: SiteAhead<'_>,
     front: &Front,
-    left: &mut usize,
+    rules_left: &mut usize,
     ways: &mut Vec<Way>,
     steps: &mut Steps<L>,
 ) -> Result<bool, Memory>
@@ -198,10 +199,10 @@ fn push_front<L>(
         return Ok(true);
     };
     let rules = lexicon.tries().choices_with(front.node, *letter, steps);
-    if rules.len() > *left {
+    if rules.len() > *rules_left {
         return Ok(false);
     }
-    *left -= rules.len();
+    *rules_left -= rules.len();
     push_rules(here, front, rules, ways, steps)?;
     push_unchanged(here, front, ways, steps)?;
     Ok(true)
@@ -214,7 +215,7 @@ fn push_phase<L>(
     here: SiteAhead<'_>,
     phase: u32,
     first: usize,
-    left: &mut usize,
+    rules_left: &mut usize,
     ways: &mut Vec<Way>,
     steps: &mut Steps<L>,
 ) -> Result<bool, Memory>
@@ -231,7 +232,7 @@ fn push_phase<L>(
     let limit = here.ahead.limit;
     let mut next = first_front(here.site, phase, steps);
     while let Some(front) = next {
-        if !push_front(here, &front, left, ways, steps)? {
+        if !push_front(here, &front, rules_left, ways, steps)? {
             return Ok(false);
         }
         if ways.len() - first > MOST_WAYS {
@@ -252,7 +253,8 @@ fn reverse_from(ways: &mut Vec<Way>, first: usize)
 
 /// Appends the ways from the place by phases to which some state of the set leads, in the order of their keys. False where these are not
 /// all of them, since more are appended than are kept from one place, or more rules would be looked at than are for that. The place's own
-/// state is not looked at. Refused only for want of memory. The trie is walked from short fronts to long ones, so that ways are found in the falling order, and turned round at the end.
+/// state is not looked at. Refused only for want of memory. The trie is walked from short fronts to long ones, so that ways are found in the
+/// falling order, and turned round at the end.
 pub(crate) fn push_ways<L>(
     site: Site<'_>,
     states: StateSet,
@@ -273,13 +275,13 @@ pub(crate) fn push_ways<L>(
     let ahead = Ahead::of(rules, site.line, site.place);
     let here = SiteAhead { site, ahead };
     let phases = rules.phases().len();
-    let mut left = MOST_LOOKED;
+    let mut rules_left = MOST_LOOKED;
     for phase in (0..phases as u32).rev() {
         steps.tick();
         if !leading.lead(states, phase) || !may_begin(rules, site.place, phase) {
             continue;
         }
-        if !push_phase(here, phase, first, &mut left, ways, steps)? {
+        if !push_phase(here, phase, first, &mut rules_left, ways, steps)? {
             return Ok(false);
         }
     }
