@@ -1,6 +1,6 @@
 -- Rules that do the same lead on to the same and end the line at the same places, so a rule is passed over where one that does the same was
 -- looked at.
-use Rattle.std.proofs.Common.{◌≡◌, inl, inr, ℕ, ◌+◌, ◌<◌, ◌≤◌, ◌↔◌, Bool, IsTrue, Some, List, [], ◌∷◌, ◌++◌, length, take, drop, get_or, All, Contains, refl, sym, ap, subst, ◌∙◌}
+use Rattle.std.proofs.Common.{◌≡◌, inl, inr, ℕ, ◌+◌, ◌<◌, ◌≤◌, ◌↔◌, Bool, IsTrue, List, [], ◌∷◌, ◌++◌, length, take, drop, get_or, All, Contains, refl, sym, ap, subst, ◌∙◌}
 use Rattle.std.proofs.lemmas.List.{take_more}
 use Rattle.std.proofs.lemmas.List.Elements.{All-contains, All-take, Contains-append_left, Contains-push_cases}
 use Rattle.text_definitions.specs.Lines.{Line}
@@ -9,7 +9,6 @@ use Rattle.lexicon_definitions.specs.Rules.{HasPhase}
 use Rattle.segmentation_definitions.specs.Items.{Choice}
 use Rattle.segmentation_definitions.specs.Listings.{Key}
 use Rattle.segmentation_definitions.specs.Configurations.{Lead}
-use Rattle.phase_automaton.specs.Automata.{next_state}
 use Rattle.derivation.specs.declared.entrance.Entrance.{Entrance}
 use Rattle.annotated_trie.specs.Searched.{SearchedLexicon}
 use Rattle.search_frames.specs.declared.configuration.Configuration.{Configuration}
@@ -24,11 +23,11 @@ use Rattle.summary_chart.specs.declared.state_set.StateSet.{StateSet}
 use Rattle.summary_chart.specs.declared.table.Table.{Table}
 use Rattle.summary_chart.specs.Effects.{DoSame}
 use Rattle.summary_chart.specs.Memos.{LivesBy}
-use Rattle.summary_chart.specs.Spreading.{IsByRule, IsLedOnTo, Spreads}
+use Rattle.summary_chart.specs.Onward.{Puts, PutsAt}
+use Rattle.summary_chart.specs.Spreading.{IsByRule}
 use Rattle.summary_chart.specs.StateSets.{HasState}
 use Rattle.summary_chart.specs.Summaries.{key_with}
-use Rattle.summary_chart.proofs.SpreadKeys.{leads_to_place}
-use Rattle.summary_chart.proofs.SpreadMemos.{leads_by_rule, leads_to_state}
+use Rattle.summary_chart.proofs.SpreadMemos.{leads_by_rule}
 
 -- ---- what two rules do that do the same
 
@@ -97,47 +96,45 @@ module _ (rules : List ℕ) (count rule : ℕ) (low : count < length rules) (is 
   )
 
   -- at a place that all keys with the front fit
-  module _ (searched : SearchedLexicon) (line : Line) (choices : List Choice) (place : Configuration) (set : StateSet) (phase taken : ℕ) (may_end : Bool)
+  module _ (searched : SearchedLexicon) (line : Line) (choices : List Choice) (place : Configuration) (after : StateSet) (phase taken : ℕ) (may_end : Bool)
       (says : IsTrue may_end ↔ All (λ blank. blank ≤ place.at) line.blanks) (begins : MayBegin (numbered_of searched place).entrance phase)
       (fits : (key : Key) → key.taken ≡ taken → IsPossible searched line (numbered_of searched place) key
       → MayBegin (numbered_of searched place).entrance key.phase → FitsPlace searched line choices (numbered_of searched place) key)
       (some : All (λ r. 0 < r) rules)
       (possible : All (λ r. IsPossible searched line (numbered_of searched place) (key_with phase taken r)) rules) where
-    led_alike : DoSame (rules_in searched) one rule → 0 < rule → (next : Configuration)
-        → IsLedOnTo searched line choices place.at place.entrance set (key_with phase taken rule) next
-        → IsLedOnTo searched line choices place.at place.entrance set (key_with phase taken one) next
-    led_alike same above next (number, state, leads) =
+    put_alike : DoSame (rules_in searched) one rule → 0 < rule → (next : Configuration)
+        → PutsAt searched line choices (numbered_of searched place) after (key_with phase taken rule) next
+        → PutsAt searched line choices (numbered_of searched place) after (key_with phase taken one) next
+    put_alike same above next put =
         let here = numbered_of searched place in
         let key = key_with phase taken one in
         let some_one : 0 < one = All-contains (λ (r : ℕ). 0 < r) (take count rules) one (All-take (λ (r : ℕ). 0 < r) count rules some) among in
         let Possible = λ (r : ℕ). IsPossible searched line here (key_with phase taken r) in
         let possible_one = All-contains Possible (take count rules) one (All-take Possible count rules possible) among in
-        let (to, goes, is_to) = leads_to_state searched line choices place set (key_with phase taken rule) next number leads
-        (next_state searched.machine (Some number) phase) refl in
         let led = leads_alike (rules_in searched) line (place.at + taken) phase one rule same next.at next.entrance
-        (leads_by_rule searched line choices place set (key_with phase taken rule) next number above leads) in
+        (leads_by_rule searched line choices place (key_with phase taken rule) next.at next.entrance above put.leads) in
         let may : MayLeadTo searched line choices here key next.at next.entrance =
         rule_does searched line choices here key may_end says (test.LeadsOn next.at next.entrance) some_one (fits key refl possible_one begins) led in
-        (number, state, leads_to_place searched line choices place set key next.at next.entrance may number to next leads.within refl refl is_to goes)
+        record { leads = may; number = put.number; has = put.has; is = put.is }
 
     pub spread_passed : DoSame (rules_in searched) one rule → 0 < rule → (old new : Table)
-        → Spreads searched line choices place.at place.entrance set (IsByRule phase taken (take count rules)) old new
-        → Spreads searched line choices place.at place.entrance set (IsByRule phase taken (take (count + 1) rules)) old new
-    spread_passed same above old new spreads = record {
-      keeps = spreads.keeps;
-      adds = λ key next told led. elim (Contains-push_cases (take count rules) rule key.rule (subst (λ (r : List ℕ). Contains r key.rule) more told.2)) [
-        | inl earlier ↦ spreads.adds key next (told.0, told.1, earlier) led
+        → Puts searched line choices (numbered_of searched place) after (IsByRule phase taken (take count rules)) old new
+        → Puts searched line choices (numbered_of searched place) after (IsByRule phase taken (take (count + 1) rules)) old new
+    spread_passed same above old new puts = record {
+      keeps = puts.keeps;
+      adds = λ key next told put. elim (Contains-push_cases (take count rules) rule key.rule (subst (λ (r : List ℕ). Contains r key.rule) more told.2)) [
+        | inl earlier ↦ puts.adds key next (told.0, told.1, earlier) put
         | inr now ↦
             let is_key : key ≡ key_with phase taken rule = λ i. record { phase = told.0 i; taken = told.1 i; rule = sym now i } in
-            spreads.adds (key_with phase taken one) next (refl, refl, among)
-            (led_alike same above next (subst (λ (k : Key). IsLedOnTo searched line choices place.at place.entrance set k next) is_key led))
+            puts.adds (key_with phase taken one) next (refl, refl, among)
+            (put_alike same above next (subst (λ (k : Key). PutsAt searched line choices (numbered_of searched place) after k next) is_key put))
       ];
-      only = λ other within there. elim (spreads.only other within there) [
+      only = λ other within there. elim (puts.only other within there) [
         | inl had ↦ inl had
-        | inr (key, told, led) ↦ inr (
+        | inr (key, told, put) ↦ inr (
           key,
           (told.0, told.1, subst (λ (r : List ℕ). Contains r key.rule) (sym more) (Contains-append_left (take count rules) (rule ∷ []) key.rule told.2)),
-          led,
+          put,
         )
       ];
     }

@@ -1,6 +1,6 @@
 -- Which states go further by one key, by some and by others, and by all that are possible: a key that ends the line or leads on
 -- is possible, and no key does both.
-use Rattle.std.proofs.Common.{◌≡◌, ◌⊎◌, inl, inr, ℕ, ◌↔◌, Some, List, refl, sym, ◌∙◌, subst}
+use Rattle.std.proofs.Common.{◌≡◌, inl, inr, ℕ, ◌↔◌, Some, List, refl, sym, ◌∙◌, subst}
 use Rattle.std.proofs.lemmas.Option.{same_Some}
 use Rattle.text_definitions.specs.Lines.{Line}
 use Rattle.segmentation_definitions.specs.Items.{Choice}
@@ -31,34 +31,6 @@ module _ (searched : SearchedLexicon) (line : Line) (choices : List Choice) (tab
   further_nothing IsTold result empty none number = (
     λ has. absurd (empty number has),
     λ goes. absurd (none goes.1.0 number goes.1.1 goes.1.2),
-  )
-
-  -- those that go further by some keys and those that do by others are those that do by all of them
-  pub further_both : (IsFirst IsSecond : Key → Type 0) (first second both : StateSet)
-      → AreGoingFurther searched line choices table place.at place.entrance set IsFirst first
-      → AreGoingFurther searched line choices table place.at place.entrance set IsSecond second
-      → ((number : ℕ) → HasState both number ↔ (HasState first number ⊎ HasState second number))
-      → AreGoingFurther searched line choices table place.at place.entrance set (λ key. IsFirst key ⊎ IsSecond key) both
-  further_both IsFirst IsSecond first second both are_first are_second union number = (
-    λ has. elim ((union number).0 has) [
-      | inl one ↦ let goes = (are_first number).0 one in (goes.0, (goes.1.0, inl goes.1.1, goes.1.2))
-      | inr other ↦ let goes = (are_second number).0 other in (goes.0, (goes.1.0, inr goes.1.1, goes.1.2))
-    ],
-    λ goes. (union number).1 (elim goes.1.1 [
-      | inl told ↦ inl ((are_first number).1 (goes.0, (goes.1.0, told, goes.1.2)))
-      | inr told ↦ inr ((are_second number).1 (goes.0, (goes.1.0, told, goes.1.2)))
-    ]),
-  )
-
-  -- keys that are told in two ways
-  pub further_same : (IsFirst IsSecond : Key → Type 0) (result : StateSet)
-      → ((key : Key) (number : ℕ) → IsSecond key → GoesFurtherBy searched line choices table (standing_with searched place.at place.entrance number) key → IsFirst key)
-      → ((key : Key) → IsFirst key → IsSecond key)
-      → AreGoingFurther searched line choices table place.at place.entrance set IsFirst result
-      → AreGoingFurther searched line choices table place.at place.entrance set IsSecond result
-  further_same IsFirst IsSecond result back forth are number = (
-    λ has. let goes = (are number).0 has in (goes.0, (goes.1.0, forth goes.1.0 goes.1.1, goes.1.2)),
-    λ goes. (are number).1 (goes.0, (goes.1.0, back goes.1.0 number goes.1.1 goes.1.2, goes.1.2)),
   )
 
   -- a key by which a state goes further is possible at the place, whatever its state

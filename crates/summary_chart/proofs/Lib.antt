@@ -19,6 +19,7 @@ mod ChartAnswers
 mod ChartGuides
 mod VisitedKeys
 mod Visits
+mod PutKeys
 mod SpreadMemos
 mod RisingItems
 mod SameU
@@ -26,7 +27,11 @@ mod SameEffects
 mod AlikeRules
 mod Walks
 mod FrontKeys
+mod AlikeKeys
+mod AlikeLists
+mod AlikeSpreads
 mod LivingKeys
+mod LivingVisits
 mod AppendedWays
 mod OrderedKeys
 mod WayKeys

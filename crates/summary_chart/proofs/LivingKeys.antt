@@ -1,6 +1,6 @@
 -- Which states live after a phase by rules, wherever the form before them begins: by one rule, as its test tells, by some, and by those
--- that begin with the next letter. And which states of a set go further by these, since a key that fits its place does what its rule does.
-use Rattle.std.proofs.Common.{◌≡◌, ◌⊎◌, inl, inr, ℕ, zero, suc, ◌+◌, ◌-◌, ◌<◌, ◌≤◌, ◌↔◌, ◌==◌, IsTrue, Bool, false, Option, Some, None, List, [], ◌∷◌, ◌++◌, length, map, take, drop, get_or, Contains, refl, sym, ap, subst, ◌∙◌, arith}
+-- that begin with the next letter.
+use Rattle.std.proofs.Common.{◌≡◌, ◌⊎◌, inl, inr, ℕ, zero, suc, ◌+◌, ◌-◌, ◌<◌, ◌≤◌, ◌↔◌, ◌==◌, IsTrue, Bool, false, Some, List, [], ◌∷◌, ◌++◌, length, map, take, drop, get_or, Contains, refl, sym, ap, subst, ◌∙◌, arith}
 use Rattle.std.proofs.lemmas.Bool.{cases_lt, eq-eqb}
 use Rattle.std.proofs.lemmas.List.{take_more, take_all, get_or-take, get_or-drop, get_or-map, get_or_default, get_or_past}
 use Rattle.std.proofs.lemmas.List.Elements.{Contains-append_left, Contains-push, Contains-push_cases}
@@ -10,41 +10,25 @@ use Rattle.lexicon_definitions.specs.Rules.{no_change}
 use Rattle.lexicon_definitions.specs.Leads.{leads_of}
 use Rattle.lexicon_definitions.specs.Lexicons.{rule_of}
 use Rattle.lexicon_definitions.proofs.LeadLaws.{leads_rise}
-use Rattle.segmentation_definitions.specs.Items.{Choice}
-use Rattle.segmentation_definitions.specs.Listings.{Key}
 use Rattle.segmentation_definitions.proofs.Coverings.{some_letters, rule_at_number}
-use Rattle.phase_automaton.specs.Automata.{NumberedState, StateMachine, IsStateIn, is_accepting, next_state}
+use Rattle.phase_automaton.specs.Automata.{NumberedState, StateMachine, is_accepting}
 use Rattle.derivation.specs.declared.entrance.Entrance.{Entrance}
 use Rattle.annotated_trie.specs.Choices.{choices_of, choices_with, first_letter}
 use Rattle.annotated_trie.specs.Searched.{SearchedLexicon, IsSearchedLexicon}
-use Rattle.answer_paths.specs.Following.{step_at}
-use Rattle.search_frames.specs.declared.ahead.Ahead.{Ahead}
-use Rattle.search_frames.specs.declared.configuration.Configuration.{Configuration}
-use Rattle.search_frames.specs.declared.letter_testing.LetterTest.TheVariants as test
-use Rattle.search_frames.specs.Ahead.{IsAhead, FitsPlace, MayBegin, RuleStands, RuleLeadsTo, RuleEnds}
-use Rattle.search_frames.specs.Configurations.{NumberedConfiguration, IsPossible, rules_in}
-use Rattle.search_frames.specs.Frames.{IsConfigurationIn, numbered_of}
-use Rattle.search_frames.specs.LetterTests.{MayEndLine, MayLeadTo}
-use Rattle.search_frames.specs.Tests.{LeadsTo}
-use Rattle.search_frames.proofs.AheadTests.{entrance_changed, rule_does}
+use Rattle.search_frames.specs.Ahead.{RuleStands, RuleLeadsTo, RuleEnds}
+use Rattle.search_frames.specs.Configurations.{rules_in}
 use Rattle.summary_chart.specs.declared.memo.Done.{Done}
 use Rattle.summary_chart.specs.declared.memo.Memo.{Memo}
 use Rattle.summary_chart.specs.declared.memo.Work.{Work}
 use Rattle.summary_chart.specs.declared.state_set.StateSet.{StateSet}
 use Rattle.summary_chart.specs.declared.table.Table.{Table}
-use Rattle.summary_chart.specs.Fronts.{IsFrontAt}
 use Rattle.summary_chart.specs.Effects.{AreEffects}
 use Rattle.summary_chart.specs.Memos.{AreLiving, EndFrom, IsLiving, IsSameWork, KeepsKnown, LivesBy}
-use Rattle.summary_chart.specs.StateSets.{HasState, IsStateOf, LeadsInto}
-use Rattle.summary_chart.specs.Spreading.{AreGoingFurther, GathersMore, GoesFurther, GoesFurtherBy, IsAtFront, IsByRule, OnlyKey, place_with, standing_with}
-use Rattle.summary_chart.specs.Summaries.{key_with}
-use Rattle.summary_chart.specs.Tables.{HasThisState, IsEntrance, IsIn, set_at}
-use Rattle.summary_chart.proofs.FrontKeys.{choice_possible, choice_if_possible, filter_keeps, front_node}
-use Rattle.summary_chart.proofs.FurtherKeys.{may_end, may_lead}
-use Rattle.summary_chart.proofs.SpreadKeys.{leads_to_place}
+use Rattle.summary_chart.specs.StateSets.{HasState}
+use Rattle.summary_chart.specs.Tables.{IsEntrance, set_at}
+use Rattle.summary_chart.proofs.FrontKeys.{filter_keeps}
 use Rattle.summary_chart.proofs.SpreadMemos.{choice_if_written}
 use Rattle.summary_chart.proofs.TablePlaces.{same_entrance}
-use Rattle.summary_chart.proofs.Visits.{gather_visit}
 
 -- ---- rules
 
@@ -222,168 +206,3 @@ ends_kept at work states old new low ends keeps done known = elim (keeps done kn
   | inl was ↦ ends done was
   | inr same ↦ subst (λ (d : Done). at ≤ d.work.end) (sym same) low
 ]
-
--- ---- which states of a set go further by them
-
-module _ (searched : SearchedLexicon) (line : Line) (choices : List Choice) (place : Configuration) (set : StateSet) (table : Table)
-    (is : IsSearchedLexicon searched) (phase taken node : ℕ) (front : IsFrontAt searched line (numbered_of searched place) phase taken node) where
-  -- no change, and then the choices of the node
-  pub front_shared : (old mid into new : StateSet)
-      → GathersMore searched line choices table place.at place.entrance set (OnlyKey (key_with phase taken 0)) old mid
-      → AreGoingFurther searched line choices table place.at place.entrance set (IsByRule phase taken (choices_of searched.tries node)) into
-      → ((number : ℕ) → HasState new number ↔ (HasState mid number ⊎ HasState into number))
-      → GathersMore searched line choices table place.at place.entrance set (IsAtFront phase taken) old new
-  front_shared old mid into new unchanged further union =
-      let here = numbered_of searched place in
-      let visit = gather_visit searched line choices place set table in
-      let IsFirst = OnlyKey (key_with phase taken 0) in
-      let IsSecond = IsByRule phase taken (choices_of searched.tries node) in
-      let changed : GathersMore searched line choices table place.at place.entrance set IsSecond mid new = λ number. (
-        λ has. elim ((union number).0 has) [
-          | inl had ↦ inl had
-          | inr more ↦ inr ((further number).0 more)
-        ],
-        λ either. (union number).1 (elim either [
-          | inl had ↦ inl had
-          | inr goes ↦ inr ((further number).1 goes)
-        ]),
-      ) in
-      visit.same (λ key. IsFirst key ⊎ IsSecond key) (IsAtFront phase taken) old new
-      (λ key does at.
-      let same : key ≡ key_with phase taken key.rule = λ i. record { phase = at.0 i; taken = at.1 i; rule = key.rule } in
-      elim (cases_lt 0 key.rule) [
-        | inl above ↦ inr (
-          at.0,
-          at.1,
-          choice_if_possible searched is line here phase taken node front key.rule above
-              (subst (IsPossible searched line here) same (visit.possible key does)),
-        )
-        | inr least ↦
-            let nothing : key.rule ≡ 0 = omega (arith, least) in
-            inl (same ∙ ap (key_with phase taken) nothing)
-      ])
-      (λ key told. elim told [
-        | inl only ↦ subst (IsAtFront phase taken) (sym only) (refl, refl)
-        | inr by ↦ (by.0, by.1)
-      ])
-      (visit.both IsFirst IsSecond old mid new unchanged changed)
-
-  module _ (ahead : Ahead) (is_ahead : IsAhead (rules_in searched) line place.at (numbered_of searched place).entrance ahead)
-      (living : StateSet)
-      (lives : (number : ℕ) → HasState living number ↔ LivesBy searched line table (record { node = node; end = place.at + taken; may_end = ahead.may_end; phase = phase })
-      (Contains (choices_of searched.tries node)) number) where
-    -- from a state that lives after the phase, a state before it goes further
-    goes_by : (fits : (key : Key) → key.taken ≡ taken → IsPossible searched line (numbered_of searched place) key
-        → MayBegin (numbered_of searched place).entrance key.phase → FitsPlace searched line choices (numbered_of searched place) key)
-        → MayBegin (numbered_of searched place).entrance phase → (number to : ℕ) → next_state searched.machine (Some number) phase ≡ Some to
-        → to < length searched.machine.states → HasState living to
-        → GoesFurther searched line choices table (standing_with searched place.at place.entrance number) (IsByRule phase taken (choices_of searched.tries node))
-    goes_by fits begins number to leads low has =
-        let here = numbered_of searched place in
-        let by = (lives to).0 has in
-        let rule = by.0 in
-        let key = key_with phase taken rule in
-        let some = (choice_number searched node rule is (front_node searched is line here phase taken node front) by.1).0 in
-        let fit = fits key refl (choice_possible searched is line here phase taken node front rule by.1) begins in (
-          key,
-          (refl, refl, by.1),
-          elim by.2 [
-            | inl led ↦
-                let may : MayLeadTo searched line choices here key led.0 led.1 =
-                rule_does searched line choices here key ahead.may_end is_ahead.ending (test.LeadsOn led.0 led.1) some fit led.2 in
-                let next = place_with led.0 led.1 to in
-                let within : IsConfigurationIn searched line next = record { letters = may.within; over = may.over; state_in = low } in
-                inr (next, leads_to_place searched line choices place set key led.0 led.1 may number to next within refl refl refl leads, led.3)
-            | inr ended ↦
-                let may : MayEndLine searched line choices here key =
-                rule_does searched line choices here key ahead.may_end is_ahead.ending test.Ends some fit ended.0 in
-                inl (record {
-                  stands = may.stands;
-                  final_rule = may.final_rule;
-                  all = may.all;
-                  blanks_before = may.blanks_before;
-                  accepted = subst (λ (s : Option ℕ). IsTrue (is_accepting searched.machine s)) (sym leads) ended.1;
-                })
-          ],
-        )
-
-    -- the other way, a state that goes further leads to one that lives
-    ended_to : (number rule : ℕ) → Contains (choices_of searched.tries node) rule
-        → RuleEnds (rules_in searched) line (place.at + taken) ahead.may_end phase rule
-        → IsTrue (is_accepting searched.machine (next_state searched.machine (Some number) phase))
-        → (known : Option ℕ) → next_state searched.machine (Some number) phase ≡ known
-        → (to : ℕ) × (next_state searched.machine (Some number) phase ≡ Some to) × IsStateOf searched.machine living to
-    ended_to number rule among ends accepted None same =
-        let none : IsTrue (is_accepting searched.machine None) = subst (λ (s : Option ℕ). IsTrue (is_accepting searched.machine s)) same accepted in
-        absurd (cc none)
-    ended_to number rule among ends accepted (Some to) same =
-        let accepts : IsTrue (is_accepting searched.machine (Some to)) = subst (λ (s : Option ℕ). IsTrue (is_accepting searched.machine s)) same accepted in
-        (to, same, (accepting_within searched.machine to accepts, (lives to).1 (rule, among, inr (ends, accepts))))
-
-    led_to : (number rule : ℕ) (next : Configuration) → Contains (choices_of searched.tries node) rule
-        → LeadsTo searched line choices (standing_with searched place.at place.entrance number) (key_with phase taken rule) next
-        → RuleLeadsTo (rules_in searched) line (place.at + taken) phase rule next.at next.entrance → IsIn table next
-        → (known : Option ℕ) → next_state searched.machine (Some number) phase ≡ known
-        → (to : ℕ) × (next_state searched.machine (Some number) phase ≡ Some to) × IsStateOf searched.machine living to
-    led_to number rule next among leads led there known same =
-        let state : next.state ≡ known = ap (λ (s : NumberedConfiguration). s.state) leads.is ∙ same in
-        by_state known same (subst (IsStateIn searched.machine) state leads.within.state_in)
-        (subst (HasThisState (set_at table next.at next.entrance)) state there.state)
-      where
-        by_state : (known : Option ℕ) → next_state searched.machine (Some number) phase ≡ known → IsStateIn searched.machine known
-            → HasThisState (set_at table next.at next.entrance) known
-            → (to : ℕ) × (next_state searched.machine (Some number) phase ≡ Some to) × IsStateOf searched.machine living to
-        by_state None same low has = absurd has
-        by_state (Some to) same low has =
-            (to, same, (low, (lives to).1 (rule, among, inl (next.at, next.entrance, led, record { entrance = there.entrance; state = has }))))
-
-    back_by : (number rule : ℕ) → Contains (choices_of searched.tries node) rule
-        → GoesFurtherBy searched line choices table (standing_with searched place.at place.entrance number) (key_with phase taken rule)
-        → (to : ℕ) × (next_state searched.machine (Some number) phase ≡ Some to) × IsStateOf searched.machine living to
-    back_by number rule among (inl ends) =
-        let key = key_with phase taken rule in
-        let some = (choice_number searched node rule is (front_node searched is line (numbered_of searched place) phase taken node front) among).0 in
-        let may = may_end searched line choices table place set key number ends in
-        let ended : RuleEnds (rules_in searched) line (place.at + taken) ahead.may_end phase rule = record {
-          stands = record { follows = may.stands.follows some; written = may.stands.written };
-          final_rule = may.final_rule some;
-          all = may.all;
-          may = is_ahead.ending.1 may.blanks_before;
-        } in
-        ended_to number rule among ended ends.accepted (next_state searched.machine (Some number) phase) refl
-    back_by number rule among (inr (next, leads, there)) =
-        let key = key_with phase taken rule in
-        let here = standing_with searched place.at place.entrance number in
-        let some = (choice_number searched node rule is (front_node searched is line (numbered_of searched place) phase taken node front) among).0 in
-        let may = may_lead searched line choices table place set key number next leads in
-        let led : RuleLeadsTo (rules_in searched) line (place.at + taken) phase rule next.at next.entrance = record {
-          stands = record { follows = may.stands.follows some; written = may.stands.written };
-          inner = may.inner some;
-          at_is = ap (λ (s : NumberedConfiguration). s.at) leads.is;
-          entrance_is = ap (λ (s : NumberedConfiguration). s.entrance) leads.is
-              ∙ entrance_changed (rules_in searched) (step_at (rules_in searched) line here.at here.entrance key) some;
-          over = leads.within.over;
-        } in
-        led_to number rule next among leads led there (next_state searched.machine (Some number) phase) refl
-
-    -- so those of the set that lead into the living states are those that go further by a choice
-    pub further_shared : (fits : (key : Key) → key.taken ≡ taken → IsPossible searched line (numbered_of searched place) key
-        → MayBegin (numbered_of searched place).entrance key.phase → FitsPlace searched line choices (numbered_of searched place) key)
-        → MayBegin (numbered_of searched place).entrance phase → (into : StateSet)
-        → ((number : ℕ) → HasState into number ↔ LeadsInto searched.machine set phase living number)
-        → AreGoingFurther searched line choices table place.at place.entrance set (IsByRule phase taken (choices_of searched.tries node)) into
-    further_shared fits begins into led number = (
-      λ has.
-          let leads = (led number).0 has in
-          let to = leads.1 in
-          (leads.0, goes_by fits begins number to.0 to.1 to.2.0 to.2.1),
-      λ goes.
-          let key = goes.1.0 in
-          let told = goes.1.1 in
-          let same : key ≡ key_with phase taken key.rule = λ i. record { phase = told.0 i; taken = told.1 i; rule = key.rule } in
-          (led number).1 (
-            goes.0,
-            back_by number key.rule told.2
-                (subst (GoesFurtherBy searched line choices table (standing_with searched place.at place.entrance number)) same goes.1.2),
-          ),
-    )

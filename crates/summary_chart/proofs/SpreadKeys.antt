@@ -14,10 +14,8 @@ use Rattle.search_frames.specs.declared.configuration.Configuration.{Configurati
 use Rattle.search_frames.specs.Configurations.{NumberedConfiguration, rules_in, IsPossible}
 use Rattle.search_frames.specs.Frames.{IsConfigurationIn, numbered_of}
 use Rattle.search_frames.specs.Tests.{LeadsTo}
-use Rattle.search_frames.specs.declared.letter_testing.LetterTest.{LetterTest}
-use Rattle.search_frames.specs.declared.letter_testing.LetterTest.TheVariants as test
-use Rattle.search_frames.specs.LetterTests.{IsLetterTestOf, MayLeadOn, MayLeadTo}
-use Rattle.search_frames.proofs.ConfigurationRanks.{possible_if_leads, may_if_leads, not_both_ways}
+use Rattle.search_frames.specs.LetterTests.{MayLeadOn, MayLeadTo}
+use Rattle.search_frames.proofs.ConfigurationRanks.{possible_if_leads, may_if_leads}
 use Rattle.summary_chart.specs.declared.state_set.StateSet.{StateSet}
 use Rattle.summary_chart.specs.declared.table.Table.{Table}
 use Rattle.summary_chart.specs.StateSets.{HasState, IsLedTo}
@@ -76,22 +74,6 @@ module _ (searched : SearchedLexicon) (line : Line) (choices : List Choice) (pla
   may_if_led key next (number, has, leads) =
       let may = may_if_leads searched line choices (standing_with searched place.at place.entrance number) key leads.leads_on in
       record { stands = may.stands; inner = may.inner; left = may.left }
-
-  -- a key that does not lead on as the letters tell spreads nothing
-  pub spreads_nothing : (key : Key) (does : LetterTest) → IsLetterTestOf searched line choices (numbered_of searched place) key does
-      → ((at : ℕ) (entrance : Entrance) → does ≡ test.LeadsOn at entrance → ⊥) → (table : Table)
-      → Spreads searched line choices place.at place.entrance set (OnlyKey key) table table
-  spreads_nothing key does is not table = record {
-    keeps = λ other there. there;
-    adds = λ other next told led. absurd (stays does is not (may_if_led key next (subst (λ (k : Key). IsLedOnTo searched line choices place.at place.entrance set k next) told led)));
-    only = λ other within there. inl there;
-  }
-    where
-      stays : (does : LetterTest) → IsLetterTestOf searched line choices (numbered_of searched place) key does
-          → ((at : ℕ) (entrance : Entrance) → does ≡ test.LeadsOn at entrance → ⊥) → MayLeadOn searched line choices (numbered_of searched place) key → ⊥
-      stays test.Refused is not leads = is.leads_on leads
-      stays test.Ends is not leads = not_both_ways searched line choices (numbered_of searched place) key is leads
-      stays (test.LeadsOn at entrance) is not leads = not at entrance refl
 
   -- where a key leads on to as the letters tell
   module _ (key : Key) (at : ℕ) (entrance : Entrance) (may : MayLeadTo searched line choices (numbered_of searched place) key at entrance) where

@@ -2,13 +2,15 @@
 use Rattle.std.proofs.Common.{◌≡◌, ℕ, ◌+◌, ◌*◌, ◌≤◌, length, ap, sym, subst, arith}
 use Rattle.std.proofs.Math.Nat.{mul-le-mul_left, mul-le-mul_right}
 use Rattle.text_definitions.specs.Lines.{Line}
+use Rattle.lexicon_definitions.specs.declared.limits.TheConstants.{MOST_PHASES, MOST_RULE_LETTERS}
 use Rattle.segmentation_definitions.specs.StepBounds.{chart_bound, configuration_count}
 use Rattle.annotated_trie.specs.Searched.{SearchedLexicon, IsSearchedLexicon}
+use Rattle.search_frames.specs.declared.frame.TheConstants.{NODES_OF_FRAME}
 use Rattle.search_frames.specs.declared.way.TheConstants.{MOST_WAYS}
 use Rattle.search_frames.specs.Configurations.{rules_in}
 use Rattle.summary_chart.specs.Spreading.{leads_in}
 use Rattle.summary_chart.specs.Charts.{set_count}
-use Rattle.summary_chart.specs.Summaries.{steps_of_items, steps_of_summary}
+use Rattle.summary_chart.specs.Summaries.{steps_after_first, steps_of_front, steps_of_fronts, steps_of_items, steps_of_summary}
 use Rattle.summary_chart.proofs.PassCosts.{frame_and_skip, one_frame_more}
 
 -- four times what a place takes is at most 96 steps for each look
@@ -32,9 +34,24 @@ all_within sets place looks few =
 pub one_more_within : (start count each now then : ℕ) → now ≤ start + count * each → then ≤ now + each → then ≤ start + (count + 1) * each
 one_more_within start count each now then spent more = one_frame_more start count each now then spent more
 
+-- to find the fronts of all phases, and to walk on from each, takes no more than there is for the phases
+pub alike_within : (names most : ℕ) → names ≤ MOST_PHASES
+    → names * (1 + MOST_RULE_LETTERS + names) + names * steps_after_first most ≤ names * (1 + steps_of_fronts most)
+alike_within names most few =
+    let each : 1 + 8 + names + (65 + 65 * (3 + most)) ≤ 1 + (8 + 65 + 65 * (3 * most + 4)) = omega (arith, few) in
+    let all = mul-le-mul_left names each in
+    omega (arith, all)
+
 -- fewer fronts, or phases, than there are take no more
 pub fewer_within : (count all each : ℕ) → count ≤ all → count * each ≤ all * each
 fewer_within count all each few = mul-le-mul_right each few
+
+-- the fronts of earlier phases are few, so to look at them and to go over those of one phase takes no more than a walk and fronts
+pub phase_within : (searched : SearchedLexicon) (most fronts : ℕ) → IsSearchedLexicon searched → fronts ≤ length (rules_in searched).names
+    → fronts + steps_after_first most ≤ NODES_OF_FRAME + NODES_OF_FRAME * steps_of_front most
+phase_within searched most fronts is few =
+    let names : length (rules_in searched).names ≤ MOST_PHASES = is.limits.phases in
+    omega (arith, few, names)
 
 -- a place takes more than three steps for each of as many ways as are kept from one, since there is a phase
 pub ways_within : (searched : SearchedLexicon) (most count : ℕ) → IsSearchedLexicon searched → count ≤ MOST_WAYS → 3 * count ≤ steps_of_items searched most

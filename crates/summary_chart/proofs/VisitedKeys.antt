@@ -13,21 +13,19 @@ use Rattle.annotated_trie.specs.Choices.{choices_with}
 use Rattle.annotated_trie.specs.Searched.{SearchedLexicon, IsSearchedLexicon}
 use Rattle.search_frames.specs.declared.ahead.Ahead.{Ahead}
 use Rattle.search_frames.specs.declared.configuration.Configuration.{Configuration}
-use Rattle.search_frames.specs.Ahead.{IsAhead, MayBegin}
+use Rattle.search_frames.specs.Ahead.{IsAhead}
 use Rattle.search_frames.specs.Configurations.{IsPossible, rules_in}
 use Rattle.search_frames.specs.Frames.{numbered_of}
 use Rattle.search_frames.proofs.PossibleKeys.{possible_phase}
-use Rattle.search_frames.proofs.AheadTests.{near_if_stands, begins_if_stands}
+use Rattle.search_frames.proofs.AheadTests.{near_if_stands}
 use Rattle.list_laws.proofs.Sorted.{not_Contains-nil}
-use Rattle.summary_chart.specs.declared.state_set.StateSet.{StateSet}
-use Rattle.summary_chart.specs.StateSets.{HasState, IsLedTo}
 use Rattle.summary_chart.specs.Fronts.{IsFrontAt, AreFronts}
 use Rattle.summary_chart.specs.Summaries.{key_with}
 use Rattle.summary_chart.specs.Spreading.{OnlyKey, EveryKey, IsByRule, IsAtFront, IsInPhase}
 use Rattle.summary_chart.proofs.FrontKeys.{ends_if_unchanged, among_written, letters_left}
 
 -- what keys of the place do to a value, and which keys do something
-pub record Visit (searched : SearchedLexicon) (line : Line) (choices : List Choice) (place : Configuration) (set : StateSet) (S : Type 0) : Type 1 where
+pub record Visit (searched : SearchedLexicon) (line : Line) (choices : List Choice) (place : Configuration) (S : Type 0) : Type 1 where
   pub Adds : (Key → Type 0) → S → S → Type 0
   pub Does : Key → Type 0
   pub none : (IsTold : Key → Type 0) (s : S) → ((key : Key) → Does key → IsTold key → ⊥) → Adds IsTold s s
@@ -36,7 +34,6 @@ pub record Visit (searched : SearchedLexicon) (line : Line) (choices : List Choi
       → Adds IsFirst s t → Adds IsSecond s t
   pub possible : (key : Key) → Does key → IsPossible searched line (numbered_of searched place) key
   pub stands : (key : Key) → Does key → MayStand searched.lexicon line choices place.at (numbered_of searched place).entrance key
-  pub leads : (key : Key) → Does key → (to : ℕ) × IsLedTo searched.machine set key.phase to
 
 -- keys of the phase that take fewer letters, and keys of earlier phases
 abbrev pub IsBelow : ℕ → ℕ → Key → Type 0
@@ -46,14 +43,14 @@ abbrev pub IsEarlier : ℕ → Key → Type 0
 IsEarlier phase key = key.phase < phase
 
 -- what is below the next number is below this one or is this one
-below_or_at : (n low : ℕ) → n < low + 1 → (n < low) ⊎ (n ≡ low)
+pub below_or_at : (n low : ℕ) → n < low + 1 → (n < low) ⊎ (n ≡ low)
 below_or_at n low less = elim (cases_lt n low) [
   | inl below ↦ inl below
   | inr from ↦ inr (omega (arith, less, from))
 ]
 
-module _ (searched : SearchedLexicon) (line : Line) (choices : List Choice) (place : Configuration) (set : StateSet) (S : Type 0)
-    (visit : Visit searched line choices place set S) where
+module _ (searched : SearchedLexicon) (line : Line) (choices : List Choice) (place : Configuration) (S : Type 0)
+    (visit : Visit searched line choices place S) where
   -- some keys and then others, told in another way
   in_two : (IsFirst IsSecond IsTold : Key → Type 0) (s t u : S) → ((key : Key) → visit.Does key → IsTold key → IsFirst key ⊎ IsSecond key)
       → ((key : Key) → IsFirst key → IsTold key) → ((key : Key) → IsSecond key → IsTold key) → visit.Adds IsFirst s t → visit.Adds IsSecond t u → visit.Adds IsTold s u
@@ -185,9 +182,6 @@ module _ (searched : SearchedLexicon) (line : Line) (choices : List Choice) (pla
 
   -- ---- one phase after another
 
-  pub visit_no_phase : (s : S) → visit.Adds (IsEarlier 0) s s
-  visit_no_phase s = visit.none (IsEarlier 0) s (λ key does told. omega (arith, told))
-
   pub visit_phase : (phase : ℕ) (s t u : S) → visit.Adds (IsEarlier phase) s t → visit.Adds (IsInPhase phase) t u → visit.Adds (IsEarlier (phase + 1)) s u
   visit_phase phase s t u so_far one =
       in_two (IsEarlier phase) (IsInPhase phase) (IsEarlier (phase + 1)) s t u
@@ -200,23 +194,6 @@ module _ (searched : SearchedLexicon) (line : Line) (choices : List Choice) (pla
   pub visit_empty_phase : (phase : ℕ) → ((key : Key) → visit.Does key → IsInPhase phase key → ⊥) → (s t : S)
       → visit.Adds (IsEarlier phase) s t → visit.Adds (IsEarlier (phase + 1)) s t
   visit_empty_phase phase nothing s t so_far = visit_phase phase s t t so_far (visit.none (IsInPhase phase) t nothing)
-
-  -- a phase to which no state leads
-  pub visit_dead_phase : (phase : ℕ) (after : StateSet) → ((number : ℕ) → HasState after number → ⊥)
-      → ((number : ℕ) → IsLedTo searched.machine set phase number → HasState after number) → (s t : S)
-      → visit.Adds (IsEarlier phase) s t → visit.Adds (IsEarlier (phase + 1)) s t
-  visit_dead_phase phase after nothing led =
-      visit_empty_phase phase (λ key does told.
-      let somewhere = visit.leads key does in
-      nothing somewhere.0 (led somewhere.0 (subst (λ (p : ℕ). IsLedTo searched.machine set p somewhere.0) told somewhere.1)))
-
-  -- a phase that may not begin
-  pub visit_unbegun_phase : (phase : ℕ) → (MayBegin (numbered_of searched place).entrance phase → ⊥) → (s t : S)
-      → visit.Adds (IsEarlier phase) s t → visit.Adds (IsEarlier (phase + 1)) s t
-  visit_unbegun_phase phase unbegun =
-      visit_empty_phase phase (λ key does told.
-      unbegun (subst (MayBegin (numbered_of searched place).entrance) told
-      (begins_if_stands searched line choices (numbered_of searched place) key (visit.stands key does))))
 
   pub visit_all_phases : (count : ℕ) → IsSearchedLexicon searched → length (rules_in searched).names ≤ count → (s t : S)
       → visit.Adds (IsEarlier count) s t → visit.Adds EveryKey s t

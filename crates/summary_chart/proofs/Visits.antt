@@ -33,7 +33,7 @@ ended_somewhere searched set phase number (Some to) same state accepted = (to, (
 
 module _ (searched : SearchedLexicon) (line : Line) (choices : List Choice) (place : Configuration) (set : StateSet) where
   -- where keys lead on to
-  abbrev pub spread_visit : Visit searched line choices place set Table
+  abbrev pub spread_visit : Visit searched line choices place Table
   spread_visit = record {
     Adds = Spreads searched line choices place.at place.entrance set;
     Does = λ key. (next : Configuration) × IsLedOnTo searched line choices place.at place.entrance set key next;
@@ -47,8 +47,6 @@ module _ (searched : SearchedLexicon) (line : Line) (choices : List Choice) (pla
         spreads_same searched line choices place set IsFirst IsSecond old new (λ key next second led. back key (next, led) second) forth;
     possible = λ key does. possible_if_led searched line choices place set key does.0 does.1;
     stands = λ key does. does.1.2.leads_on.stands;
-    leads = λ key does.
-        live_somewhere searched set key.phase does.1.0 (next_state searched.machine (Some does.1.0) key.phase) refl does.1.1 does.1.2.leads_on.live;
   }
 
   module _ (table : Table) where
@@ -86,7 +84,7 @@ module _ (searched : SearchedLexicon) (line : Line) (choices : List Choice) (pla
     )
 
     -- which states go further by keys
-    abbrev pub gather_visit : Visit searched line choices place set StateSet
+    abbrev pub gather_visit : Visit searched line choices place StateSet
     gather_visit = record {
       Adds = GathersMore searched line choices table place.at place.entrance set;
       Does = λ key. (number : ℕ) × IsStateOf searched.machine set number
@@ -111,7 +109,6 @@ module _ (searched : SearchedLexicon) (line : Line) (choices : List Choice) (pla
       );
       possible = λ key does. possible_if_further searched line choices table place set key does.0 does.2;
       stands = λ key does. further_stands key does.0 does.2;
-      leads = λ key does. further_leads key does.0 does.1 does.2;
     }
 
     -- those that were put to no state are all that go further by the keys
@@ -126,17 +123,6 @@ module _ (searched : SearchedLexicon) (line : Line) (choices : List Choice) (pla
       λ goes. (gathers number).1 (inr goes),
     )
 
-    -- no key is told, so none goes further
-    pub none_further : (IsTold : Key → Type 0) (first : StateSet) → ((key : Key) → IsTold key → ⊥) → ((number : ℕ) → HasState first number → ⊥)
-        → (empty : StateSet) → ((number : ℕ) → HasState empty number → ⊥) → GathersMore searched line choices table place.at place.entrance set IsTold empty first
-    none_further IsTold first untold none empty nothing number = (
-      λ has. absurd (none number has),
-      λ either. elim either [
-        | inl had ↦ absurd (nothing number had)
-        | inr goes ↦ absurd (untold goes.1.0 goes.1.1)
-      ],
-    )
-
     -- those that were found are put to others
     pub gathers_found : (IsTold : Key → Type 0) (before found later : StateSet) → AreGoingFurther searched line choices table place.at place.entrance set IsTold found
         → ((number : ℕ) → HasState later number ↔ (HasState before number ⊎ HasState found number)) → GathersMore searched line choices table place.at place.entrance set IsTold before later
@@ -149,28 +135,4 @@ module _ (searched : SearchedLexicon) (line : Line) (choices : List Choice) (pla
         | inl had ↦ inl had
         | inr goes ↦ inr ((are number).1 goes)
       ]),
-    )
-
-    -- those that were found are put to themselves
-    pub gathers_same : (IsTold : Key → Type 0) (found : StateSet) → AreGoingFurther searched line choices table place.at place.entrance set IsTold found → GathersMore searched line choices table place.at place.entrance set IsTold found found
-    gathers_same IsTold found are number = (
-      λ has. inl has,
-      λ either. elim either [
-        | inl has ↦ has
-        | inr goes ↦ (are number).1 goes
-      ],
-    )
-
-    -- those that go further by more keys were put to those that do by some of them
-    pub further_by_more : (IsTold IsMore : Key → Type 0) (found gathered : StateSet) → ((key : Key) → IsTold key → IsMore key)
-        → AreGoingFurther searched line choices table place.at place.entrance set IsTold found → GathersMore searched line choices table place.at place.entrance set IsMore found gathered
-        → AreGoingFurther searched line choices table place.at place.entrance set IsMore gathered
-    further_by_more IsTold IsMore found gathered more are gathers number = (
-      λ has. elim ((gathers number).0 has) [
-        | inl had ↦
-            let goes = (are number).0 had in
-            (goes.0, (goes.1.0, more goes.1.0 goes.1.1, goes.1.2))
-        | inr goes ↦ goes
-      ],
-      λ goes. (gathers number).1 (inr goes),
     )

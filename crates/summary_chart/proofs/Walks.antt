@@ -11,7 +11,8 @@ use Rattle.lexicon_definitions.proofs.TrieWalks.{walk-two}
 use Rattle.answer_paths.specs.Fronts.{supplied}
 use Rattle.annotated_trie.specs.Searched.{SearchedLexicon, IsSearchedLexicon}
 use Rattle.search_frames.specs.declared.frame.TheConstants.{NODES_OF_FRAME}
-use Rattle.search_frames.specs.Configurations.{NumberedConfiguration, rules_in}
+use Rattle.segmentation_definitions.specs.Listings.{Key}
+use Rattle.search_frames.specs.Configurations.{IsPossible, NumberedConfiguration, rules_in}
 use Rattle.search_frames.proofs.PossibleKeys.{root_in, possible_walks, short_walks}
 use Rattle.search_frames.proofs.WalkLemmas.{nowhere_after, walk_next, walked_below}
 use Rattle.summary_chart.specs.declared.site.Front.{Front}
@@ -75,23 +76,29 @@ module _ (searched : SearchedLexicon) (is : IsSearchedLexicon searched) (line : 
             from.all key.taken (omega (arith, long, few)) (ap is_some rest);
       }
 
-  -- where the lead leads nowhere, there is no front
-  pub no_fronts : (nodes : List ℕ) → nodes ≡ [] → walk searched.tries.trie.rows (root_in searched phase) (supplied here.entrance) ≡ None
+  -- where no possible key goes no further than the limit, there is no front
+  pub no_fronts_before : (nodes : List ℕ) → nodes ≡ []
+      → ((key : Key) → IsPossible searched line here key → key.phase ≡ phase → here.at + key.taken ≤ limit → key.taken < 0)
       → AreFronts searched line here phase limit nodes
-  no_fronts nodes none nowhere = subst (AreFronts searched line here phase limit) (sym none) (record {
+  no_fronts_before nodes empty none = subst (AreFronts searched line here phase limit) (sym empty) (record {
     few = omega arith;
     each = λ taken low. absurd (omega (arith, low));
     near = λ taken low. absurd (omega (arith, low));
-    all = λ key possible same near.
-        let (node, reached) = possible_walks searched is line here key possible in
-        let there : walk searched.tries.trie.rows (root_in searched phase) (front_after line here key.taken) ≡ Some node =
-        subst (λ (p : ℕ). walk searched.tries.trie.rows (root_in searched p) (front_after line here key.taken) ≡ Some node) same reached in
-        absurd (nowhere_after searched.tries.trie.rows (supplied here.entrance) (take key.taken (drop here.at line.letters)) (root_in searched phase) nowhere (ap is_some there));
+    all = none;
   })
 
-  -- so no possible key takes even no letter
+  -- a front that takes no letter is where the lead leads
+  pub first_entered : (node : ℕ) → IsFrontAt searched line here phase 0 node
+      → walk searched.tries.trie.rows (root_in searched phase) (supplied here.entrance) ≡ Some node
+  first_entered node front = ap (walk searched.tries.trie.rows (root_in searched phase)) (sym (append-nil (supplied here.entrance))) ∙ front.walked
+
+  -- where the lead leads nowhere, no possible key takes even no letter
   pub no_first : walk searched.tries.trie.rows (root_in searched phase) (supplied here.entrance) ≡ None → IsNextFront searched line here phase limit 0 None
-  no_first nowhere key possible same near = (no_fronts [] refl nowhere).all key possible same near
+  no_first nowhere key possible same near =
+      let (node, reached) = possible_walks searched is line here key possible in
+      let there : walk searched.tries.trie.rows (root_in searched phase) (front_after line here key.taken) ≡ Some node =
+      subst (λ (p : ℕ). walk searched.tries.trie.rows (root_in searched p) (front_after line here key.taken) ≡ Some node) same reached in
+      absurd (nowhere_after searched.tries.trie.rows (supplied here.entrance) (take key.taken (drop here.at line.letters)) (root_in searched phase) nowhere (ap is_some there))
 
   -- the front that takes no letter
   pub first_near : (front : Front) → front.phase ≡ phase → front.taken ≡ 0 → phase < length (rules_in searched).names

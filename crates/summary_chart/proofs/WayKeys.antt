@@ -65,8 +65,8 @@ pub among_all : (ways : List Way) (count : ℕ) → length ways ≤ count → (k
 among_all ways count enough key among = subst (λ all. Contains (map key_of_way all) key) (sym (take_all count ways enough)) among
 
 -- what the ways do to a table by which they lead on, and to the states that go further by them
-module _ (searched : SearchedLexicon) (line : Line) (choices : List Choice) (place : Configuration) (set : StateSet) (S : Type 0)
-    (visit : Visit searched line choices place set S) (ways : List Way) where
+module _ (searched : SearchedLexicon) (line : Line) (choices : List Choice) (place : Configuration) (S : Type 0)
+    (visit : Visit searched line choices place S) (ways : List Way) where
   pub visit_no_way : (s : S) → visit.Adds (IsAmongFirst 0 ways) s s
   visit_no_way s = visit.none (IsAmongFirst 0 ways) s (λ key does among. none_at_first ways key among)
 

@@ -9,3 +9,4 @@ pub mod Effects
 pub mod Memos
 pub mod Sites
 pub mod Onward
+pub mod AlikeFronts

@@ -120,6 +120,7 @@ impl Chart {
         let mut room = Room {
             nodes: self.nodes,
             memo: Memo::new(alloc),
+            fronts: Vec::new(alloc),
         };
         let passage = Passage {
             lexicon,

@@ -10,14 +10,17 @@ ghost use Rattle.search_frames.specs.Costs.{HasAtMostRules};
 ghost use Rattle.search_frames.specs.WaysFrom.{IsWayFrom, key_of_way};
 ghost use Rattle.summary_chart.specs.Fronts.{IsFrontAt};
 ghost use Rattle.summary_chart.specs.PlaceWays.{HasEachKey, IsLivingKey, IsLivingPart};
+ghost use Rattle.summary_chart.specs.AlikeFronts.{IsFirst, IsLivingFront};
+ghost use Rattle.summary_chart.specs.Onward.{AreLivingBy};
 ghost use Rattle.summary_chart.specs.Effects.{AreEffects};
 ghost use Rattle.summary_chart.specs.Memos.{AreLiving, EndFrom, LivesBy};
 ghost use Rattle.summary_chart.specs.Sites.{IsSite, IsSiteAhead};
 ghost use Rattle.summary_chart.specs.StateSets.{HasState};
 ghost use Rattle.summary_chart.specs.Tables.{IsTable};
 ghost use Rattle.summary_chart.specs.Spreading.{AreGoingFurther, EveryKey, GoesFurtherBy, OnlyKey, IsByRule, IsAtFront, IsInPhase, leads_in};
-ghost use Rattle.summary_chart.specs.Summaries.{steps_of_front, steps_of_fronts, steps_of_items};
+ghost use Rattle.summary_chart.specs.Summaries.{steps_after_first, steps_of_items};
 
+use super::alike::{AlikeFront, alike_at, begun_front};
 use super::memo::{Memo, Work};
 use super::room::Room;
 use super::same_effect::Effects;
@@ -25,12 +28,13 @@ use super::site::{Front, Site, SiteAhead};
 use super::state_set::StateSet;
 use super::state_steps::{accepted_states, accepting_states, states_after, states_into};
 use super::table::Table;
-use super::walking::walk_fronts;
+use super::walking::walk_on;
 use annotated_trie::Lexicon;
 use derivation::Key;
 use outside::Steps;
 use phoneme::{Letter, Line, Memory};
-use search_frames::{Ahead, LetterTest, Way, may_begin, rule_test};
+use search_frames::{Ahead, LetterTest, Way, rule_test};
+use shared_trie::Node;
 
 /// The states of the set from which the key, which is possible at the place, ends the line or leads on to a place of the table. The
 /// place's own state is not looked at.
@@ -61,10 +65,30 @@ pub(crate) fn states_by_key(
     }
 }
 
+/// The states after the phase of the key, which is possible at the place, from which it ends the line or leads on to a place of the table.
+/// The place's own state is not looked at.
+fn living_by_key(here: SiteAhead<'_>, key: Key, table: &Table) -> StateSet
+    requires here { IsSiteAhead here }
+    requires limit { here.site.place.now.at + key.taken ≤ here.ahead.limit }
+    requires begins { MayBegin (numbered_of here.site.lexicon.now here.site.place.now).entrance key.phase }
+    requires possible { IsPossible here.site.lexicon.now here.site.line.now (numbered_of here.site.lexicon.now here.site.place.now) (key_meant key) }
+    requires table { IsTable (leads_in here.site.lexicon.now) (length here.site.line.now.letters) table.now }
+    ensures { let site = here.entry.site in AreLivingBy site.lexicon.now site.line.now site.choices.now (numbered_of site.lexicon.now site.place.now) table.now (OnlyKey (key_meant key)) result }
+{
+    let site = here.site;
+    match here
+        .ahead
+        .test(site.lexicon, site.line, site.choices, site.place, key)
+    {
+        LetterTest::Refused => StateSet::empty(),
+        LetterTest::Ends => accepting_states(site.lexicon.automaton()),
+        LetterTest::LeadsOn { at, entrance } => table.get(at, entrance),
+    }
+}
+
 /// The same for the keys with these rules, each of which is possible after this front.
-fn gather_rules<L>(
+fn living_by_all<L>(
     here: SiteAhead<'_>,
-    states: StateSet,
     front: &Front,
     rules: &[u32],
     table: &Table,
@@ -75,10 +99,10 @@ fn gather_rules<L>(
     requires begins { MayBegin (numbered_of here.site.lexicon.now here.site.place.now).entrance front.now.phase }
     requires possible { All (λ rule. IsPossible here.site.lexicon.now here.site.line.now (numbered_of here.site.lexicon.now here.site.place.now) (record { phase = front.now.phase; taken = front.now.taken; rule = rule })) rules.now }
     requires table { IsTable (leads_in here.site.lexicon.now) (length here.site.line.now.letters) table.now }
-    ensures gathers { AreGoingFurther here.entry.site.lexicon.now here.entry.site.line.now here.entry.site.choices.now table.now here.entry.site.place.now.at here.entry.site.place.now.entrance states (IsByRule front.now.phase front.now.taken rules.now) result }
+    ensures living { let site = here.entry.site in AreLivingBy site.lexicon.now site.line.now site.choices.now (numbered_of site.lexicon.now site.place.now) table.now (IsByRule front.now.phase front.now.taken rules.now) result }
     ensures steps { steps.new ≡ steps.old + length rules.now }
 {
-    let mut gathered = StateSet::empty();
+    let mut living = StateSet::empty();
     for rule in rules {
         steps.tick();
         let key = Key {
@@ -86,19 +110,19 @@ fn gather_rules<L>(
             taken: front.taken,
             rule: *rule,
         };
-        gathered = gathered.union(states_by_key(here, states, key, table));
+        living = living.union(living_by_key(here, key, table));
     }
-    gathered
+    living
 }
 
 /// The same for the key with this front that has no change, if a form ends at its node.
-fn gather_unchanged(here: SiteAhead<'_>, states: StateSet, front: &Front, table: &Table) -> StateSet
+fn living_unchanged(here: SiteAhead<'_>, front: &Front, table: &Table) -> StateSet
     requires here { IsSiteAhead here }
     requires limit { here.site.place.now.at + front.now.taken ≤ here.ahead.limit }
     requires begins { MayBegin (numbered_of here.site.lexicon.now here.site.place.now).entrance front.now.phase }
     requires front { IsFrontAt here.site.lexicon.now here.site.line.now (numbered_of here.site.lexicon.now here.site.place.now) front.now.phase front.now.taken front.now.node }
     requires table { IsTable (leads_in here.site.lexicon.now) (length here.site.line.now.letters) table.now }
-    ensures { AreGoingFurther here.entry.site.lexicon.now here.entry.site.line.now here.entry.site.choices.now table.now here.entry.site.place.now.at here.entry.site.place.now.entrance states (OnlyKey (record { phase = front.now.phase; taken = front.now.taken; rule = 0 })) result }
+    ensures { let site = here.entry.site in AreLivingBy site.lexicon.now site.line.now site.choices.now (numbered_of site.lexicon.now site.place.now) table.now (OnlyKey (record { phase = front.now.phase; taken = front.now.taken; rule = 0 })) result }
 {
     if !here.site.lexicon.tries().store().accepts(front.node) {
         return StateSet::empty();
@@ -108,7 +132,7 @@ fn gather_unchanged(here: SiteAhead<'_>, states: StateSet, front: &Front, table:
         taken: front.taken,
         rule: 0,
     };
-    states_by_key(here, states, key, table)
+    living_by_key(here, key, table)
 }
 
 /// The states after the phase from which the rule ends the line or leads on to a place of the table, after a form that ends as the work
@@ -195,11 +219,10 @@ fn living_after<L>(
     Ok(living)
 }
 
-/// The states of the set from which some key with this front ends the line or leads on to a place of the table. Refused only for want of
-/// memory.
-fn gather_front<L>(
+/// The states after the phase of this front from which some key with it ends the line or leads on to a place of the table. Refused only for
+/// want of memory.
+fn living_at_front<L>(
     here: SiteAhead<'_>,
-    states: StateSet,
     front: &Front,
     table: &Table,
     memo: &mut Memo,
@@ -213,8 +236,8 @@ fn gather_front<L>(
     requires memo { AreLiving here.site.lexicon.now here.site.line.now table.now memo.old }
     ensures memo { OnOk result (AreLiving here.entry.site.lexicon.now here.entry.site.line.now table.now memo.new) }
     ensures ends { OnOk result (EndFrom here.entry.site.place.now.at memo.old → EndFrom here.entry.site.place.now.at memo.new) }
-    ensures gathers { IfOk result (λ gathered. AreGoingFurther here.entry.site.lexicon.now here.entry.site.line.now here.entry.site.choices.now table.now here.entry.site.place.now.at here.entry.site.place.now.entrance states (IsAtFront front.now.phase front.now.taken) gathered) }
-    ensures steps { (most : ℕ) → HasAtMostRules here.entry.site.lexicon.now.tries most → steps.new ≤ steps.old + steps_of_front most }
+    ensures living { let site = here.entry.site in IfOk result (λ living. AreLivingBy site.lexicon.now site.line.now site.choices.now (numbered_of site.lexicon.now site.place.now) table.now (IsAtFront front.now.phase front.now.taken) living) }
+    ensures steps { (most : ℕ) → HasAtMostRules here.entry.site.lexicon.now.tries most → steps.new ≤ steps.old + (3 + most) }
 {
     steps.tick();
     let Site {
@@ -224,14 +247,14 @@ fn gather_front<L>(
         place,
     } = here.site;
     let ahead = here.ahead;
-    let unchanged = gather_unchanged(here, states, front, table);
+    let unchanged = living_unchanged(here, front, table);
     let end = place.at + front.taken;
     let Some(letter) = line.letters.as_slice().get(end as usize) else {
         return Ok(unchanged);
     };
     if !ahead.fits_all(lexicon, line, choices, place, front.taken) {
         let rules = lexicon.tries().choices_with(front.node, *letter, steps);
-        return Ok(unchanged.union(gather_rules(here, states, front, rules, table, steps)));
+        return Ok(unchanged.union(living_by_all(here, front, rules, table, steps)));
     }
     let work = Work {
         node: front.node,
@@ -239,42 +262,72 @@ fn gather_front<L>(
         may_end: ahead.may_end,
         phase: front.phase,
     };
-    let living = living_after(here.site, &work, *letter, table, memo, steps)?;
-    let changed = states_into(lexicon.automaton(), states, front.phase, living);
+    let changed = living_after(here.site, &work, *letter, table, memo, steps)?;
     Ok(unchanged.union(changed))
 }
 
-/// The same for the keys of the phase. Refused only for want of memory.
-fn gather_phase<L>(
+/// The same for the keys of the phase of the front, which takes no letter. Refused only for want of memory.
+fn living_in_phase<L>(
     here: SiteAhead<'_>,
-    states: StateSet,
-    phase: u32,
+    first: &Front,
+    table: &Table,
+    nodes: &mut Vec<Node>,
+    memo: &mut Memo,
+    steps: &mut Steps<L>,
+) -> Result<StateSet, Memory>
+    requires here { IsSiteAhead here }
+    requires first { IsFirst here.site.lexicon.now here.site.line.now here.site.choices.now (numbered_of here.site.lexicon.now here.site.place.now) first.now }
+    requires table { IsTable (leads_in here.site.lexicon.now) (length here.site.line.now.letters) table.now }
+    requires memo { AreLiving here.site.lexicon.now here.site.line.now table.now memo.old }
+    ensures memo { OnOk result (AreLiving here.entry.site.lexicon.now here.entry.site.line.now table.now memo.new) }
+    ensures ends { OnOk result (EndFrom here.entry.site.place.now.at memo.old → EndFrom here.entry.site.place.now.at memo.new) }
+    ensures living { let site = here.entry.site in IfOk result (λ living. AreLivingBy site.lexicon.now site.line.now site.choices.now (numbered_of site.lexicon.now site.place.now) table.now (IsInPhase first.now.phase) living) }
+    ensures steps { (most : ℕ) → HasAtMostRules here.entry.site.lexicon.now.tries most → steps.new ≤ steps.old + steps_after_first most }
+{
+    walk_on(here.site, first, here.ahead.limit, nodes, steps)?;
+    let mut living = StateSet::empty();
+    for taken in 0..nodes.len() {
+        let front = Front {
+            phase: first.phase,
+            taken: taken as u32,
+            node: nodes[taken],
+        };
+        let found = living_at_front(here, &front, table, memo, steps)?;
+        living = living.union(found);
+    }
+    Ok(living)
+}
+
+/// The same, where it is looked for first among the fronts of other phases with what was found for them, and put there. Refused only for want
+/// of memory.
+fn living_from_first<L>(
+    here: SiteAhead<'_>,
+    first: &Front,
     table: &Table,
     room: &mut Room,
     steps: &mut Steps<L>,
 ) -> Result<StateSet, Memory>
     requires here { IsSiteAhead here }
-    requires begins { MayBegin (numbered_of here.site.lexicon.now here.site.place.now).entrance phase }
-    requires phase { phase < length here.site.lexicon.now.lexicon.rules.names }
+    requires first { IsFirst here.site.lexicon.now here.site.line.now here.site.choices.now (numbered_of here.site.lexicon.now here.site.place.now) first.now }
     requires table { IsTable (leads_in here.site.lexicon.now) (length here.site.line.now.letters) table.now }
     requires memo { AreLiving here.site.lexicon.now here.site.line.now table.now room.old.memo }
+    requires fronts { All (IsLivingFront here.site.lexicon.now here.site.line.now here.site.choices.now (numbered_of here.site.lexicon.now here.site.place.now) table.now) room.old.fronts.items }
     ensures memo { OnOk result (AreLiving here.entry.site.lexicon.now here.entry.site.line.now table.now room.new.memo) }
     ensures ends { OnOk result (EndFrom here.entry.site.place.now.at room.old.memo → EndFrom here.entry.site.place.now.at room.new.memo) }
-    ensures gathers { IfOk result (λ gathered. AreGoingFurther here.entry.site.lexicon.now here.entry.site.line.now here.entry.site.choices.now table.now here.entry.site.place.now.at here.entry.site.place.now.entrance states (IsInPhase phase) gathered) }
-    ensures steps { (most : ℕ) → HasAtMostRules here.entry.site.lexicon.now.tries most → steps.new ≤ steps.old + steps_of_fronts most }
+    ensures fronts { let site = here.entry.site in OnOk result (All (IsLivingFront site.lexicon.now site.line.now site.choices.now (numbered_of site.lexicon.now site.place.now) table.now) room.new.fronts.items) }
+    ensures few { OnOk result (length room.new.fronts.items ≤ length room.old.fronts.items + 1) }
+    ensures living { let site = here.entry.site in IfOk result (λ living. AreLivingBy site.lexicon.now site.line.now site.choices.now (numbered_of site.lexicon.now site.place.now) table.now (IsInPhase first.now.phase) living) }
+    ensures steps { (most : ℕ) → HasAtMostRules here.entry.site.lexicon.now.tries most → steps.new ≤ steps.old + (length room.old.fronts.items + steps_after_first most) }
 {
-    walk_fronts(here.site, phase, here.ahead.limit, &mut room.nodes, steps)?;
-    let mut gathered = StateSet::empty();
-    for taken in 0..room.nodes.len() {
-        let front = Front {
-            phase,
-            taken: taken as u32,
-            node: room.nodes[taken],
-        };
-        let found = gather_front(here, states, &front, table, &mut room.memo, steps)?;
-        gathered = gathered.union(found);
+    if let Some(number) = alike_at(here.site, first, room.fronts.as_slice(), steps) {
+        return Ok(room.fronts[number].states);
     }
-    Ok(gathered)
+    let living = living_in_phase(here, first, table, &mut room.nodes, &mut room.memo, steps)?;
+    room.fronts.push(AlikeFront {
+        front: *first,
+        states: living,
+    })?;
+    Ok(living)
 }
 
 /// The states of the set from which some key ends the line, or leads on from the place to a place of the table. Phases to which no state
@@ -299,17 +352,19 @@ pub(crate) fn gather<L>(
         site,
         ahead: Ahead::of(rules, site.line, site.place),
     };
+    room.fronts.clear();
     let phases = rules.phases().len();
     let mut gathered = StateSet::empty();
     for phase in 0..phases as u32 {
         steps.tick();
-        if !may_begin(rules, site.place, phase) {
-            continue;
-        }
         if states_after(site.lexicon.automaton(), states, phase).is_empty() {
             continue;
         }
-        let found = gather_phase(here, states, phase, table, room, steps)?;
+        let Some(first) = begun_front(site, phase, steps) else {
+            continue;
+        };
+        let living = living_from_first(here, &first, table, room, steps)?;
+        let found = states_into(site.lexicon.automaton(), states, phase, living);
         gathered = gathered.union(found);
     }
     Ok(gathered)

@@ -10,14 +10,16 @@ ghost use Rattle.summary_chart.specs.Fronts.{IsFrontAt};
 ghost use Rattle.summary_chart.specs.PlaceWays.{HasEachKey, LeadsOnOrEnds};
 ghost use Rattle.summary_chart.specs.StateSets.{HasState};
 ghost use Rattle.annotated_trie.specs.Choices.{choices_with};
+ghost use Rattle.summary_chart.specs.AlikeFronts.{IsFirst};
 ghost use Rattle.summary_chart.specs.Effects.{AreEffects};
 ghost use Rattle.summary_chart.specs.Memos.{AreSpread, HasNodes, IsKnownWith};
 ghost use Rattle.summary_chart.specs.Onward.{IsOnward, SpreadsOnward};
 ghost use Rattle.summary_chart.specs.Sites.{IsSite};
 ghost use Rattle.summary_chart.specs.Tables.{IsTable};
 ghost use Rattle.summary_chart.specs.Spreading.{Spreads, EveryKey, OnlyKey, IsByRule, IsAtFront, IsInPhase, leads_in};
-ghost use Rattle.summary_chart.specs.Summaries.{steps_of_front, steps_of_fronts, steps_of_items};
+ghost use Rattle.summary_chart.specs.Summaries.{steps_after_first, steps_of_items};
 
+use super::alike::find_onward;
 use super::memo::{Memo, Work};
 use super::room::Room;
 use super::same_effect::Effects;
@@ -25,29 +27,30 @@ use super::site::{Front, Site, SiteAhead};
 use super::state_set::StateSet;
 use super::state_steps::states_after;
 use super::table::Table;
-use super::walking::walk_fronts;
+use super::walking::walk_on;
 use annotated_trie::Annotated;
 use derivation::Key;
 use outside::Steps;
 use phoneme::{Letter, Memory};
-use search_frames::{Ahead, LetterTest, Way, may_begin};
+use search_frames::{Ahead, LetterTest, Way};
+use shared_trie::Node;
 
-/// A site with what the line tells there, and the states to which those at the place lead by the phase that is looked at.
+/// A site with what the line tells there, and the states that come after the forms that are looked at.
 #[derive(Clone, Copy)]
 pub(crate) struct Onward<'a> {
     pub here: SiteAhead<'a>,
     pub after: StateSet,
 }
 
-/// Puts into the table where the key, which is possible at the place, leads on to: its phase leads to the states after it. The place's own
-/// state is not looked at.
+/// Puts into the table where the key, which is possible at the place, leads on to, with the states that come after it. The place's own state is
+/// not looked at.
 fn spread_key(onward: Onward<'_>, key: Key, table: &mut Table)
     requires onward { IsOnward onward key.phase }
     requires limit { onward.here.site.place.now.at + key.taken ≤ onward.here.ahead.limit }
     requires possible { IsPossible onward.here.site.lexicon.now onward.here.site.line.now (numbered_of onward.here.site.lexicon.now onward.here.site.place.now) (key_meant key) }
     requires table { IsTable (leads_in onward.here.site.lexicon.now) (length onward.here.site.line.now.letters) table.old }
     ensures table { IsTable (leads_in onward.entry.here.site.lexicon.now) (length onward.entry.here.site.line.now.letters) table.new }
-    ensures spreads { SpreadsOnward onward.entry key.phase (OnlyKey (key_meant key)) table.old table.new }
+    ensures spreads { SpreadsOnward onward.entry (OnlyKey (key_meant key)) table.old table.new }
 {
     let Site {
         lexicon,
@@ -74,7 +77,7 @@ fn spread_rules<L>(
     requires possible { All (λ rule. IsPossible onward.here.site.lexicon.now onward.here.site.line.now (numbered_of onward.here.site.lexicon.now onward.here.site.place.now) (record { phase = front.now.phase; taken = front.now.taken; rule = rule })) rules.now }
     requires table { IsTable (leads_in onward.here.site.lexicon.now) (length onward.here.site.line.now.letters) table.old }
     ensures table { IsTable (leads_in onward.entry.here.site.lexicon.now) (length onward.entry.here.site.line.now.letters) table.new }
-    ensures spreads { SpreadsOnward onward.entry front.now.phase (IsByRule front.now.phase front.now.taken rules.now) table.old table.new }
+    ensures spreads { SpreadsOnward onward.entry (IsByRule front.now.phase front.now.taken rules.now) table.old table.new }
     ensures steps { steps.new ≡ steps.old + length rules.now }
 {
     for rule in rules {
@@ -106,7 +109,7 @@ fn spread_effects<L>(
     requires effects { AreEffects onward.here.site.lexicon.now.lexicon.rules effects.old }
     ensures effects { OnOk result (AreEffects onward.entry.here.site.lexicon.now.lexicon.rules effects.new) }
     ensures table { OnOk result (IsTable (leads_in onward.entry.here.site.lexicon.now) (length onward.entry.here.site.line.now.letters) table.new) }
-    ensures spreads { OnOk result (SpreadsOnward onward.entry front.now.phase (IsByRule front.now.phase front.now.taken rules.now) table.old table.new) }
+    ensures spreads { OnOk result (SpreadsOnward onward.entry (IsByRule front.now.phase front.now.taken rules.now) table.old table.new) }
     ensures steps { steps.new ≤ steps.old + length rules.now }
     ensures counted { OnOk result (steps.old + length rules.now ≤ steps.new) }
 {
@@ -134,7 +137,7 @@ fn spread_unchanged(onward: Onward<'_>, front: &Front, table: &mut Table)
     requires front { IsFrontAt onward.here.site.lexicon.now onward.here.site.line.now (numbered_of onward.here.site.lexicon.now onward.here.site.place.now) front.now.phase front.now.taken front.now.node }
     requires table { IsTable (leads_in onward.here.site.lexicon.now) (length onward.here.site.line.now.letters) table.old }
     ensures table { IsTable (leads_in onward.entry.here.site.lexicon.now) (length onward.entry.here.site.line.now.letters) table.new }
-    ensures spreads { SpreadsOnward onward.entry front.now.phase (OnlyKey (record { phase = front.now.phase; taken = front.now.taken; rule = 0 })) table.old table.new }
+    ensures spreads { SpreadsOnward onward.entry (OnlyKey (record { phase = front.now.phase; taken = front.now.taken; rule = 0 })) table.old table.new }
 {
     if !onward.here.site.lexicon.tries().store().accepts(front.node) {
         return;
@@ -180,7 +183,7 @@ fn spread_changed<L>(
     requires memo { AreSpread onward.here.site.lexicon.now onward.here.site.line.now table.old memo.old }
     ensures memo { OnOk result (AreSpread onward.entry.here.site.lexicon.now onward.entry.here.site.line.now table.new memo.new) }
     ensures table { OnOk result (IsTable (leads_in onward.entry.here.site.lexicon.now) (length onward.entry.here.site.line.now.letters) table.new) }
-    ensures spreads { OnOk result (SpreadsOnward onward.entry front.now.phase (IsByRule front.now.phase front.now.taken (choices_with onward.entry.here.site.lexicon.now.tries front.now.node letter)) table.old table.new) }
+    ensures spreads { OnOk result (SpreadsOnward onward.entry (IsByRule front.now.phase front.now.taken (choices_with onward.entry.here.site.lexicon.now.tries front.now.node letter)) table.old table.new) }
     ensures steps { (most : ℕ) → HasAtMostRules onward.entry.here.site.lexicon.now.tries most → steps.new ≤ steps.old + (2 + most) }
 {
     steps.tick();
@@ -230,8 +233,8 @@ fn spread_front<L>(
     requires memo { AreSpread onward.here.site.lexicon.now onward.here.site.line.now table.old memo.old }
     ensures memo { OnOk result (AreSpread onward.entry.here.site.lexicon.now onward.entry.here.site.line.now table.new memo.new) }
     ensures table { OnOk result (IsTable (leads_in onward.entry.here.site.lexicon.now) (length onward.entry.here.site.line.now.letters) table.new) }
-    ensures spreads { OnOk result (SpreadsOnward onward.entry front.now.phase (IsAtFront front.now.phase front.now.taken) table.old table.new) }
-    ensures steps { (most : ℕ) → HasAtMostRules onward.entry.here.site.lexicon.now.tries most → steps.new ≤ steps.old + steps_of_front most }
+    ensures spreads { OnOk result (SpreadsOnward onward.entry (IsAtFront front.now.phase front.now.taken) table.old table.new) }
+    ensures steps { (most : ℕ) → HasAtMostRules onward.entry.here.site.lexicon.now.tries most → steps.new ≤ steps.old + (3 + most) }
 {
     steps.tick();
     spread_unchanged(onward, front, table);
@@ -244,38 +247,39 @@ fn spread_front<L>(
     spread_changed(onward, front, *letter, table, memo, steps)
 }
 
-/// Puts into the table where the keys of the phase lead on to. Refused only for want of memory.
+/// Puts into the table where the keys of the phase of the front, which takes no letter, lead on to. Refused only for want of memory.
 fn spread_phase<L>(
     onward: Onward<'_>,
-    phase: u32,
+    first: &Front,
     table: &mut Table,
-    room: &mut Room,
+    nodes: &mut Vec<Node>,
+    memo: &mut Memo,
     steps: &mut Steps<L>,
 ) -> Result<(), Memory>
-    requires onward { IsOnward onward phase }
-    requires phase { phase < length onward.here.site.lexicon.now.lexicon.rules.names }
+    requires onward { IsOnward onward first.now.phase }
+    requires first { let site = onward.here.site in IsFirst site.lexicon.now site.line.now site.choices.now (numbered_of site.lexicon.now site.place.now) first.now }
     requires table { IsTable (leads_in onward.here.site.lexicon.now) (length onward.here.site.line.now.letters) table.old }
-    requires memo { AreSpread onward.here.site.lexicon.now onward.here.site.line.now table.old room.old.memo }
-    ensures memo { OnOk result (AreSpread onward.entry.here.site.lexicon.now onward.entry.here.site.line.now table.new room.new.memo) }
+    requires memo { AreSpread onward.here.site.lexicon.now onward.here.site.line.now table.old memo.old }
+    ensures memo { OnOk result (AreSpread onward.entry.here.site.lexicon.now onward.entry.here.site.line.now table.new memo.new) }
     ensures table { OnOk result (IsTable (leads_in onward.entry.here.site.lexicon.now) (length onward.entry.here.site.line.now.letters) table.new) }
-    ensures spreads { OnOk result (SpreadsOnward onward.entry phase (IsInPhase phase) table.old table.new) }
-    ensures steps { (most : ℕ) → HasAtMostRules onward.entry.here.site.lexicon.now.tries most → steps.new ≤ steps.old + steps_of_fronts most }
+    ensures spreads { OnOk result (SpreadsOnward onward.entry (IsInPhase first.now.phase) table.old table.new) }
+    ensures steps { (most : ℕ) → HasAtMostRules onward.entry.here.site.lexicon.now.tries most → steps.new ≤ steps.old + steps_after_first most }
 {
     let here = onward.here;
-    walk_fronts(here.site, phase, here.ahead.limit, &mut room.nodes, steps)?;
-    for taken in 0..room.nodes.len() {
+    walk_on(here.site, first, here.ahead.limit, nodes, steps)?;
+    for taken in 0..nodes.len() {
         let front = Front {
-            phase,
+            phase: first.phase,
             taken: taken as u32,
-            node: room.nodes[taken],
+            node: nodes[taken],
         };
-        spread_front(onward, &front, table, &mut room.memo, steps)?;
+        spread_front(onward, &front, table, memo, steps)?;
     }
     Ok(())
 }
 
 /// Puts into the table where any key leads on to from the place with the states of the set. Phases to which no state of the set leads are
-/// passed over. The place's own state is not looked at. Refused only for want of memory.
+/// passed over, and of those that do the same one is looked at. The place's own state is not looked at. Refused only for want of memory.
 pub(crate) fn spread<L>(
     site: Site<'_>,
     states: StateSet,
@@ -291,22 +295,25 @@ pub(crate) fn spread<L>(
     ensures spreads { OnOk result (Spreads site.entry.lexicon.now site.entry.line.now site.entry.choices.now site.entry.place.now.at site.entry.place.now.entrance states EveryKey table.old table.new) }
     ensures steps { (most : ℕ) → HasAtMostRules site.entry.lexicon.now.tries most → steps.new ≤ steps.old + steps_of_items site.entry.lexicon.now most }
 {
-    let rules = site.lexicon.rules();
     let here = SiteAhead {
         site,
-        ahead: Ahead::of(rules, site.line, site.place),
+        ahead: Ahead::of(site.lexicon.rules(), site.line, site.place),
     };
-    let phases = rules.phases().len();
-    for phase in 0..phases as u32 {
-        steps.tick();
-        if !may_begin(rules, site.place, phase) {
-            continue;
-        }
-        let after = states_after(site.lexicon.automaton(), states, phase);
-        if after.is_empty() {
-            continue;
-        }
-        spread_phase(Onward { here, after }, phase, table, room, steps)?;
+    find_onward(site, states, &mut room.fronts, steps)?;
+    for number in 0..room.fronts.len() {
+        let one = room.fronts[number];
+        let onward = Onward {
+            here,
+            after: one.states,
+        };
+        spread_phase(
+            onward,
+            &one.front,
+            table,
+            &mut room.nodes,
+            &mut room.memo,
+            steps,
+        )?;
     }
     Ok(())
 }

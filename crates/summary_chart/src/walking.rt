@@ -53,36 +53,6 @@ fn walk_letters<L>(
     Ok(())
 }
 
-/// Walks from the root of the phase, counted from 0, along the letters that the rule before supplies at the place, and then along
-/// those of the line up to the limit as far as they lead: the list has then the node after each number of letters of the line, from none
-/// on.
-/// Refused only for want of memory.
-pub(crate) fn walk_fronts<L>(
-    site: Site<'_>,
-    phase: u32,
-    limit: u32,
-    nodes: &mut Vec<Node>,
-    steps: &mut Steps<L>,
-) -> Result<(), Memory>
-    requires site { IsSite site }
-    requires phase { phase < length site.lexicon.now.lexicon.rules.names }
-    requires low { site.place.now.at ≤ limit }
-    requires within { limit ≤ length site.line.now.letters }
-    ensures fronts { OnOk result (AreFronts site.entry.lexicon.now site.entry.line.now (numbered_of site.entry.lexicon.now site.entry.place.now) phase limit nodes.new.items) }
-    ensures steps { steps.new ≤ steps.old + MOST_RULE_LETTERS + NODES_OF_FRAME }
-{
-    nodes.clear();
-    let lexicon = site.lexicon;
-    let store = lexicon.tries().store();
-    let lead = supplied_letters(lexicon.rules(), site.place.entrance);
-    let Some(entered) = walk_word(store, store.root(phase), lead, steps) else {
-        return Ok(());
-    };
-    let line = site.line;
-    let letters = &line.letters.as_slice()[site.place.at as usize..limit as usize];
-    walk_letters(store, entered, letters, nodes, steps)
-}
-
 /// The front of the phase, counted from 0, that takes no letter of the line, if the letters that the rule before supplies at the place lead
 /// anywhere.
 pub(crate) fn first_front<L>(site: Site<'_>, phase: u32, steps: &mut Steps<L>) -> Option<Front>
@@ -102,6 +72,58 @@ pub(crate) fn first_front<L>(site: Site<'_>, phase: u32, steps: &mut Steps<L>) -
         taken: 0,
         node,
     })
+}
+
+/// Walks on from the front, which takes no letter, along the letters of the line up to the limit as far as they lead: the list has then the
+/// node after each number of letters of the line, from none on. Refused only for want of memory.
+pub(crate) fn walk_on<L>(
+    site: Site<'_>,
+    first: &Front,
+    limit: u32,
+    nodes: &mut Vec<Node>,
+    steps: &mut Steps<L>,
+) -> Result<(), Memory>
+    requires site { IsSite site }
+    requires first { IsFrontAt site.lexicon.now site.line.now (numbered_of site.lexicon.now site.place.now) first.now.phase 0 first.now.node }
+    requires low { site.place.now.at ≤ limit }
+    requires within { limit ≤ length site.line.now.letters }
+    ensures fronts { OnOk result (AreFronts site.entry.lexicon.now site.entry.line.now (numbered_of site.entry.lexicon.now site.entry.place.now) first.now.phase limit nodes.new.items) }
+    ensures steps { steps.new ≤ steps.old + NODES_OF_FRAME }
+{
+    nodes.clear();
+    let line = site.line;
+    let letters = &line.letters.as_slice()[site.place.at as usize..limit as usize];
+    walk_letters(
+        site.lexicon.tries().store(),
+        first.node,
+        letters,
+        nodes,
+        steps,
+    )
+}
+
+/// Walks from the root of the phase, counted from 0, along the letters that the rule before supplies at the place, and then along
+/// those of the line up to the limit as far as they lead: the list has then the node after each number of letters of the line, from none
+/// on. Refused only for want of memory.
+pub(crate) fn walk_fronts<L>(
+    site: Site<'_>,
+    phase: u32,
+    limit: u32,
+    nodes: &mut Vec<Node>,
+    steps: &mut Steps<L>,
+) -> Result<(), Memory>
+    requires site { IsSite site }
+    requires phase { phase < length site.lexicon.now.lexicon.rules.names }
+    requires low { site.place.now.at ≤ limit }
+    requires within { limit ≤ length site.line.now.letters }
+    ensures fronts { OnOk result (AreFronts site.entry.lexicon.now site.entry.line.now (numbered_of site.entry.lexicon.now site.entry.place.now) phase limit nodes.new.items) }
+    ensures steps { steps.new ≤ steps.old + MOST_RULE_LETTERS + NODES_OF_FRAME }
+{
+    let Some(first) = first_front(site, phase, steps) else {
+        nodes.clear();
+        return Ok(());
+    };
+    walk_on(site, &first, limit, nodes, steps)
 }
 
 /// The front with one letter of the line more, if it goes no further than the limit and leads anywhere.

@@ -1,8 +1,11 @@
--- The states that go further by the phases so far are gathered, and each phase took its steps.
-use Rattle.std.proofs.Common.{◌≡◌, ◌+◌, ◌*◌, ◌≤◌, ℕ, length}
+-- The states that go further by the phases so far are gathered, each front that was found has its living states, and each phase took its
+-- steps.
+use Rattle.std.proofs.Common.{◌≡◌, ◌+◌, ◌*◌, ◌≤◌, ℕ, length, All}
 use Rattle.search_frames.specs.Costs.{HasAtMostRules}
 use Rattle.search_frames.specs.Configurations.{rules_in}
+use Rattle.search_frames.specs.Frames.{numbered_of}
 use Rattle.summary_chart.specs.declared.state_set.StateSet.{StateSet}
+use Rattle.summary_chart.specs.AlikeFronts.{IsLivingFront}
 use Rattle.summary_chart.specs.Memos.{AreLiving, EndFrom}
 use Rattle.summary_chart.specs.StateSets.{HasState}
 use Rattle.summary_chart.specs.Spreading.{GathersMore}
@@ -16,6 +19,8 @@ invariant-loop-phase g l = record {
   low : l.phase ≤ length (rules_in l.site.lexicon.now).names;
   gathers : (empty : StateSet) → ((number : ℕ) → HasState empty number → ⊥)
       → GathersMore l.site.lexicon.now l.site.line.now l.site.choices.now l.table l.site.place.now.at l.site.place.now.entrance l.states (IsEarlier l.phase) empty l.gathered;
+  fronts : All (IsLivingFront l.site.lexicon.now l.site.line.now l.site.choices.now (numbered_of l.site.lexicon.now l.site.place.now) l.table) l.room.fronts.items;
+  few : length l.room.fronts.items ≤ l.phase;
   memo : AreLiving l.site.lexicon.now l.site.line.now l.table l.room.memo;
   ends : EndFrom l.site.place.now.at l.fn.room.memo → EndFrom l.site.place.now.at l.room.memo;
   spent : (most : ℕ) → HasAtMostRules l.site.lexicon.now.tries most → l.steps ≤ l.fn.steps + l.phase * (1 + steps_of_fronts most);

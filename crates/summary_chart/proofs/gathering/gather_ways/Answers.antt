@@ -42,7 +42,7 @@ loop-number-preserved-then-is_empty g c =
     let inv = c.loop-number.invariant in
     record {
       low = omega (arith, c.loop-number-test.true);
-      gathers = λ empty nothing. visit_way searched line choices place states StateSet (gather_visit searched line choices place states table) ways
+      gathers = λ empty nothing. visit_way searched line choices place StateSet (gather_visit searched line choices place states table) ways
           number way at empty living.states living.states (inv.gathers empty nothing)
           (gathers_found searched line choices place states table (OnlyKey key) living.states further living.states c.states_by_way-further.ensures
           (none_put living.states further c.if-is_empty.ensures));
@@ -71,7 +71,7 @@ loop-number-preserved g c =
     let inv = c.loop-number.invariant in
     let lives = living_if_some searched line choices table place.at place.entrance states further key c.states_by_way-further.ensures c.if-is_empty.ensures in
     let gathers = λ (empty : StateSet) (nothing : (n : ℕ) → HasState empty n → ⊥).
-    visit_way searched line choices place states StateSet (gather_visit searched line choices place states table) ways
+    visit_way searched line choices place StateSet (gather_visit searched line choices place states table) ways
     number way at empty old.states c.union-living.result (inv.gathers empty nothing)
     (gathers_found searched line choices place states table (OnlyKey key) old.states further c.union-living.result c.states_by_way-further.ensures
     c.union-living.ensures) in
@@ -106,7 +106,7 @@ returns-clause-gathers g c =
     let none = c.empty.ensures.none in
     let found = c.loop-number.living.states in
     all_further searched line choices place states table EveryKey c.empty.result found none
-    (visit_all_ways searched line choices place states StateSet (gather_visit searched line choices place states table) c.args.ways.now
+    (visit_all_ways searched line choices place StateSet (gather_visit searched line choices place states table) c.args.ways.now
     c.loop-number.number c.loop-number-test.false (λ key does. c.requires.all does.0 key does.1 does.2)
     c.empty.result found (c.loop-number.invariant.gathers c.empty.result none))
 

@@ -7,11 +7,9 @@ use Rattle.std.proofs.lemmas.List.{length-map}
 use Rattle.lexicon_definitions.specs.Lexicons.{RuleSet}
 use Rattle.lexicon_definitions.specs.Leads.{leads_of}
 use Rattle.derivation.specs.Guides.{entrance_of}
-use Rattle.phase_automaton.specs.Automata.{StateMachine}
 use Rattle.search_frames.specs.Ahead.{IsAhead, MayBegin}
 use Rattle.search_frames.specs.Configurations.{rules_in}
 use Rattle.search_frames.specs.Frames.{numbered_of}
-use Rattle.summary_chart.specs.StateSets.{IsLedTo}
 use Rattle.summary_chart.specs.PlaceWays.{AppendsFalling}
 use Rattle.summary_chart.specs.Spreading.{IsInPhase, IsLedByPhase}
 use Rattle.summary_chart.specs.Summaries.{steps_of_fronts}

@@ -8,7 +8,8 @@ use Rattle.summary_chart.specs.declared.memo.Work.{Work}
 use Rattle.summary_chart.specs.declared.state_set.StateSet.{StateSet}
 use Rattle.summary_chart.specs.Effects.{AreEffects}
 use Rattle.summary_chart.specs.Memos.{HasNodes, IsKnownWith}
-use Rattle.summary_chart.specs.Spreading.{Spreads, IsByRule}
+use Rattle.summary_chart.specs.Onward.{Puts}
+use Rattle.summary_chart.specs.Spreading.{IsByRule}
 use Rattle.summary_chart.specs.StateSets.{HasState}
 use Rattle.summary_chart.specs.Summaries.{key_with}
 use Rattle.summary_chart.proofs.FrontKeys.{front_node, choices_possible, few_written}
@@ -104,7 +105,7 @@ keep-requires g c =
     (front_node searched c.requires.onward.here.site.searched c.args.onward.here.site.line.now (numbered_of searched c.args.onward.here.site.place.now) work.phase c.args.front.now.taken work.node c.requires.front)
 
 pub returns-then-eq-clause-spreads : goal.returns-then-eq-clause-spreads
-returns-then-eq-clause-spreads g c states led =
+returns-then-eq-clause-spreads g c =
     let searched = c.args.onward.here.site.lexicon.now in
     let memo = c.args.memo.now in
     let work : Work = record {
@@ -116,13 +117,13 @@ returns-then-eq-clause-spreads g c states led =
     let has : (number : ℕ) → HasState c.known_states-known.result number → IsKnownWith searched.tries memo work number =
     λ number in_known. subst (λ (t : AnnotatedTrie). IsKnownWith t memo work number) c.tries-tries.ensures.value (c.known_states-known.ensures number in_known) in
     let same : c.union-all.result ≡ c.known_states-known.result = search rules in
-    nothing_new searched c.args.onward.here.site.line.now c.args.onward.here.site.choices.now c.args.onward.here.site.place.now states c.requires.onward.here.site.searched work c.args.front.now.taken c.args.letter refl
-    c.requires.front c.args.onward.after led c.args.table.now memo c.requires.memo
+    nothing_new searched c.args.onward.here.site.line.now c.args.onward.here.site.choices.now c.args.onward.here.site.place.now c.requires.onward.here.site.searched work c.args.front.now.taken c.args.letter refl
+    c.requires.front c.args.onward.after c.args.table.now memo c.requires.memo
     (λ number in_after. has number (subst (λ (set : StateSet). HasState set number) same ((c.union-all.ensures number).1 (inr in_after))))
 
 pub returns-then-not-shares-clause-memo : goal.returns-then-not-shares-clause-memo
 returns-then-not-shares-clause-memo g c =
-    all_grown c.args.onward.here.site.lexicon.now c.args.onward.here.site.line.now c.args.table.now c.spread_rules.new.table c.args.memo.now (c.spread_rules.ensures.spreads c.requires.onward.after.0 c.requires.onward.after.1).keeps c.requires.memo
+    all_grown c.args.onward.here.site.lexicon.now c.args.onward.here.site.line.now c.args.table.now c.spread_rules.new.table c.args.memo.now c.spread_rules.ensures.spreads.keeps c.requires.memo
 
 pub returns-clause-memo : goal.returns-clause-memo
 returns-clause-memo g c =
@@ -142,35 +143,35 @@ returns-clause-memo g c =
     λ number in_known. subst (λ (t : AnnotatedTrie). IsKnownWith t memo work number) c.tries-tries.ensures.value (c.known_states-known.ensures number in_known) in
     let rules : c.choices_with-rules.result.now ≡ choices_with searched.tries work.node c.args.letter =
     c.choices_with-rules.ensures.value ∙ ap (λ (t : AnnotatedTrie). choices_with t work.node c.args.letter) c.tries-tries.ensures.value in
-    let spreads = subst (λ (some : List ℕ). Spreads searched line c.args.onward.here.site.choices.now place.at place.entrance c.requires.onward.after.0 (IsByRule work.phase c.args.front.now.taken some) old new)
-    rules (c.in_ok-spread_effects.ensures.spreads c.requires.onward.after.0 c.requires.onward.after.1) in
+    let spreads = subst (λ (some : List ℕ). Puts searched line c.args.onward.here.site.choices.now (numbered_of searched place) c.args.onward.after (IsByRule work.phase c.args.front.now.taken some) old new)
+    rules (c.in_ok-spread_effects.ensures.spreads) in
     all_with searched line new work c.union-all.result memo c.keep.new.self c.in_ok-keep.ensures.keeps
     (front_node searched c.requires.onward.here.site.searched line (numbered_of searched place) work.phase c.args.front.now.taken work.node c.requires.front)
-    (newly_spread searched line c.args.onward.here.site.choices.now place c.requires.onward.after.0 c.requires.onward.here.site.searched work c.args.front.now.taken c.args.letter refl
-    c.requires.front c.args.onward.after c.requires.onward.after.1 old new memo c.known_states-known.result c.union-all.result c.args.onward.here.ahead.may_end c.requires.onward.here.ahead.ending
+    (newly_spread searched line c.args.onward.here.site.choices.now place c.requires.onward.here.site.searched work c.args.front.now.taken c.args.letter refl
+    c.requires.front c.args.onward.after old new memo c.known_states-known.result c.union-all.result c.args.onward.here.ahead.may_end c.requires.onward.here.ahead.ending
     c.requires.letter c.requires.onward.begins c.if-not-shares.ensures c.requires.memo has c.union-all.ensures spreads)
     (subst (AreEffects (rules_in searched)) (sym c.in_ok-keep.ensures.effects) c.in_ok-spread_effects.ensures.effects)
     (all_grown searched line old new memo spreads.keeps c.requires.memo)
 
 pub returns-then-not-shares-clause-spreads : goal.returns-then-not-shares-clause-spreads
-returns-then-not-shares-clause-spreads g c states led =
+returns-then-not-shares-clause-spreads g c =
     let searched = c.args.onward.here.site.lexicon.now in
     let place = c.args.onward.here.site.place.now in
     let front = c.args.front.now in
     let rules : c.choices_with-rules.result.now ≡ choices_with searched.tries front.node c.args.letter =
     c.choices_with-rules.ensures.value ∙ ap (λ (t : AnnotatedTrie). choices_with t front.node c.args.letter) c.tries-tries.ensures.value in
-    subst (λ (some : List ℕ). Spreads searched c.args.onward.here.site.line.now c.args.onward.here.site.choices.now place.at place.entrance states (IsByRule front.phase front.taken some)
-    c.args.table.now c.spread_rules.new.table) rules (c.spread_rules.ensures.spreads states led)
+    subst (λ (some : List ℕ). Puts searched c.args.onward.here.site.line.now c.args.onward.here.site.choices.now (numbered_of searched place) c.args.onward.after (IsByRule front.phase front.taken some)
+    c.args.table.now c.spread_rules.new.table) rules c.spread_rules.ensures.spreads
 
 pub returns-clause-spreads : goal.returns-clause-spreads
-returns-clause-spreads g c states led =
+returns-clause-spreads g c =
     let searched = c.args.onward.here.site.lexicon.now in
     let place = c.args.onward.here.site.place.now in
     let front = c.args.front.now in
     let rules : c.choices_with-rules.result.now ≡ choices_with searched.tries front.node c.args.letter =
     c.choices_with-rules.ensures.value ∙ ap (λ (t : AnnotatedTrie). choices_with t front.node c.args.letter) c.tries-tries.ensures.value in
-    subst (λ (some : List ℕ). Spreads searched c.args.onward.here.site.line.now c.args.onward.here.site.choices.now place.at place.entrance states (IsByRule front.phase front.taken some)
-    c.args.table.now c.spread_effects.new.table) rules (c.in_ok-spread_effects.ensures.spreads states led)
+    subst (λ (some : List ℕ). Puts searched c.args.onward.here.site.line.now c.args.onward.here.site.choices.now (numbered_of searched place) c.args.onward.after (IsByRule front.phase front.taken some)
+    c.args.table.now c.spread_effects.new.table) rules c.in_ok-spread_effects.ensures.spreads
 
 pub returns-then-not-shares-clause-steps : goal.returns-then-not-shares-clause-steps
 returns-then-not-shares-clause-steps g c most few =

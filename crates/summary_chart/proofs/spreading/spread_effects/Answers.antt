@@ -7,7 +7,7 @@ use Rattle.summary_chart.specs.declared.table.Table.{Table}
 use Rattle.summary_chart.specs.Effects.{AreEffects, DoSame, HaveLooked}
 use Rattle.summary_chart.proofs.AlikeRules.{spread_passed}
 use Rattle.summary_chart.proofs.VisitedKeys.{visit_no_rule, visit_rule, visit_all_rules}
-use Rattle.summary_chart.proofs.Visits.{spread_visit}
+use Rattle.summary_chart.proofs.PutKeys.{put_visit}
 use Rattle.summary_chart.proofs.spreading.spread_effects.Goals as goal
 
 pub loop-rule-init : goal.loop-rule-init
@@ -16,8 +16,8 @@ loop-rule-init g c = record {
   effects = subst (λ (rules : RuleSet). AreEffects rules c.begin.new.self) c.rules.ensures.value c.in_ok-begin.ensures.effects;
   looked = subst (λ (rules : RuleSet). HaveLooked rules [] c.begin.new.self) c.rules.ensures.value c.in_ok-begin.ensures.none;
   lawful = c.requires.table;
-  spreads = λ states led. visit_no_rule c.args.onward.here.site.lexicon.now c.args.onward.here.site.line.now c.args.onward.here.site.choices.now c.args.onward.here.site.place.now states Table
-      (spread_visit c.args.onward.here.site.lexicon.now c.args.onward.here.site.line.now c.args.onward.here.site.choices.now c.args.onward.here.site.place.now states) c.args.front.now.phase c.args.front.now.taken c.args.rules.now c.args.table.now;
+  spreads = visit_no_rule c.args.onward.here.site.lexicon.now c.args.onward.here.site.line.now c.args.onward.here.site.choices.now c.args.onward.here.site.place.now Table
+      (put_visit c.args.onward.here.site.lexicon.now c.args.onward.here.site.line.now c.args.onward.here.site.choices.now c.args.onward.here.site.place.now c.args.onward.after) c.args.front.now.phase c.args.front.now.taken c.args.rules.now c.args.table.now;
   spent = omega arith;
 }
 
@@ -45,9 +45,9 @@ loop-rule-preserved-then-repeats g c =
           (subst (λ (s : RuleSet). HaveLooked s (take c.loop-rule.rule-index rules ++ rule ∷ []) c.repeats.new.self) value
           (c.repeats.ensures.looked (take c.loop-rule.rule-index rules) have));
       lawful = inv.lawful;
-      spreads = λ states led. spread_passed rules c.loop-rule.rule-index rule c.loop-rule-test.true is one.0 one.1 c.args.onward.here.site.lexicon.now c.args.onward.here.site.line.now c.args.onward.here.site.choices.now
-          c.args.onward.here.site.place.now states c.args.front.now.phase c.args.front.now.taken c.args.onward.here.ahead.may_end c.requires.onward.here.ahead.ending c.requires.onward.begins c.requires.fits
-          c.requires.rules c.requires.possible (subst (λ (s : RuleSet). DoSame s one.0 rule) value one.2) above c.args.table.now c.loop-rule.table (inv.spreads states led);
+      spreads = spread_passed rules c.loop-rule.rule-index rule c.loop-rule-test.true is one.0 one.1 c.args.onward.here.site.lexicon.now c.args.onward.here.site.line.now c.args.onward.here.site.choices.now
+          c.args.onward.here.site.place.now c.args.onward.after c.args.front.now.phase c.args.front.now.taken c.args.onward.here.ahead.may_end c.requires.onward.here.ahead.ending c.requires.onward.begins c.requires.fits
+          c.requires.rules c.requires.possible (subst (λ (s : RuleSet). DoSame s one.0 rule) value one.2) above c.args.table.now c.loop-rule.table inv.spreads;
       spent = omega (arith, inv.spent, c.tick.ensures);
     }
 
@@ -68,14 +68,14 @@ loop-rule-preserved g c =
           (subst (λ (s : RuleSet). HaveLooked s (take c.loop-rule.rule-index rules ++ rule ∷ []) c.repeats.new.self) value
           (c.repeats.ensures.looked (take c.loop-rule.rule-index rules) have));
       lawful = c.spread_key.ensures.table;
-      spreads = λ states led. visit_rule c.args.onward.here.site.lexicon.now c.args.onward.here.site.line.now c.args.onward.here.site.choices.now c.args.onward.here.site.place.now states Table
-          (spread_visit c.args.onward.here.site.lexicon.now c.args.onward.here.site.line.now c.args.onward.here.site.choices.now c.args.onward.here.site.place.now states) c.args.front.now.phase c.args.front.now.taken rules
-          c.loop-rule.rule-index rule c.loop-rule-test.true is c.args.table.now c.loop-rule.table c.spread_key.new.table (inv.spreads states led) (c.spread_key.ensures.spreads states led);
+      spreads = visit_rule c.args.onward.here.site.lexicon.now c.args.onward.here.site.line.now c.args.onward.here.site.choices.now c.args.onward.here.site.place.now Table
+          (put_visit c.args.onward.here.site.lexicon.now c.args.onward.here.site.line.now c.args.onward.here.site.choices.now c.args.onward.here.site.place.now c.args.onward.after) c.args.front.now.phase c.args.front.now.taken rules
+          c.loop-rule.rule-index rule c.loop-rule-test.true is c.args.table.now c.loop-rule.table c.spread_key.new.table inv.spreads c.spread_key.ensures.spreads;
       spent = omega (arith, inv.spent, c.tick.ensures);
     }
 
 pub returns-clause-spreads : goal.returns-clause-spreads
-returns-clause-spreads g c states led =
-    visit_all_rules c.args.onward.here.site.lexicon.now c.args.onward.here.site.line.now c.args.onward.here.site.choices.now c.args.onward.here.site.place.now states Table
-    (spread_visit c.args.onward.here.site.lexicon.now c.args.onward.here.site.line.now c.args.onward.here.site.choices.now c.args.onward.here.site.place.now states) c.args.front.now.phase c.args.front.now.taken c.args.rules.now
-    c.loop-rule.rule-index c.loop-rule-test.false c.args.table.now c.loop-rule.table (c.loop-rule.invariant.spreads states led)
+returns-clause-spreads g c =
+    visit_all_rules c.args.onward.here.site.lexicon.now c.args.onward.here.site.line.now c.args.onward.here.site.choices.now c.args.onward.here.site.place.now Table
+    (put_visit c.args.onward.here.site.lexicon.now c.args.onward.here.site.line.now c.args.onward.here.site.choices.now c.args.onward.here.site.place.now c.args.onward.after) c.args.front.now.phase c.args.front.now.taken c.args.rules.now
+    c.loop-rule.rule-index c.loop-rule-test.false c.args.table.now c.loop-rule.table c.loop-rule.invariant.spreads

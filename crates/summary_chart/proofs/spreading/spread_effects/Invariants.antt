@@ -12,6 +12,6 @@ invariant-loop-rule g l = record {
   effects : AreEffects l.onward.here.site.lexicon.now.lexicon.rules l.effects;
   looked : HaveLooked l.onward.here.site.lexicon.now.lexicon.rules (take l.rule-index l.rules) l.effects;
   lawful : IsTable (leads_in l.onward.here.site.lexicon.now) (length l.onward.here.site.line.now.letters) l.table;
-  spreads : SpreadsOnward l.onward l.front.phase (IsByRule l.front.phase l.front.taken (take l.rule-index l.rules)) l.fn.table l.table;
+  spreads : SpreadsOnward l.onward (IsByRule l.front.phase l.front.taken (take l.rule-index l.rules)) l.fn.table l.table;
   spent : l.steps ≡ l.fn.steps + l.rule-index;
 }

@@ -8,7 +8,7 @@ use Rattle.summary_chart.proofs.spreading.spread_rules.Given as goal
 abbrev pub invariant-loop-rule : goal.invariant-loop-rule
 invariant-loop-rule g l = record {
   lawful : IsTable (leads_in l.onward.here.site.lexicon.now) (length l.onward.here.site.line.now.letters) l.table;
-  spreads : SpreadsOnward l.onward l.front.phase (IsByRule l.front.phase l.front.taken (take l.rule-index l.rules)) l.fn.table l.table;
+  spreads : SpreadsOnward l.onward (IsByRule l.front.phase l.front.taken (take l.rule-index l.rules)) l.fn.table l.table;
   low : l.rule-index ≤ length l.rules;
   spent : l.steps ≡ l.fn.steps + l.rule-index;
 }

@@ -8,7 +8,7 @@ use Rattle.summary_chart.proofs.spreading.spread_ways.Goals as goal
 pub loop-way-init : goal.loop-way-init
 loop-way-init g c = record {
   lawful = c.requires.table;
-  spreads = visit_no_way c.args.site.lexicon.now c.args.site.line.now c.args.site.choices.now c.args.site.place.now c.args.states Table
+  spreads = visit_no_way c.args.site.lexicon.now c.args.site.line.now c.args.site.choices.now c.args.site.place.now Table
       (spread_visit c.args.site.lexicon.now c.args.site.line.now c.args.site.choices.now c.args.site.place.now c.args.states) c.args.ways.now c.args.table.now;
   spent = omega arith;
 }
@@ -18,7 +18,7 @@ loop-way-preserved g c =
     let inv = c.loop-way.invariant in
     record {
       lawful = c.spread_way.ensures.table;
-      spreads = visit_way c.args.site.lexicon.now c.args.site.line.now c.args.site.choices.now c.args.site.place.now c.args.states Table
+      spreads = visit_way c.args.site.lexicon.now c.args.site.line.now c.args.site.choices.now c.args.site.place.now Table
           (spread_visit c.args.site.lexicon.now c.args.site.line.now c.args.site.choices.now c.args.site.place.now c.args.states) c.args.ways.now
           c.loop-way.way-index c.way-item.result (record { below = c.loop-way-test.true; is = c.way-item.is })
           c.args.table.now c.loop-way.table c.spread_way.new.table inv.spreads c.spread_way.ensures.spreads;
@@ -27,7 +27,7 @@ loop-way-preserved g c =
 
 pub returns-clause-spreads : goal.returns-clause-spreads
 returns-clause-spreads g c =
-    visit_all_ways c.args.site.lexicon.now c.args.site.line.now c.args.site.choices.now c.args.site.place.now c.args.states Table
+    visit_all_ways c.args.site.lexicon.now c.args.site.line.now c.args.site.choices.now c.args.site.place.now Table
     (spread_visit c.args.site.lexicon.now c.args.site.line.now c.args.site.choices.now c.args.site.place.now c.args.states) c.args.ways.now
     c.loop-way.way-index c.loop-way-test.false
     (has_if_led c.args.site.lexicon.now c.args.site.line.now c.args.site.choices.now c.args.site.place.now c.args.states c.args.ways.now c.requires.all)
