@@ -6,9 +6,10 @@
 Each word is a crate with what it uses, as crates.txt has it, and stands after those of the crates that it uses; the last is
 the program's. A crate is begun once all that it uses is built, and first the one with the longest chain of others above it,
 counted in the seconds that `crate_seconds` has for them. The crate of all that are not built with the longest chain above it gets
-four jobs, and on one processor one; another gets one, or where fewer wait than there are processors those that are left, at most four. A check with more
-jobs keeps fewer processors busy than it has jobs, since a part of it is the work of one: crates are begun as long as half a
-processor is left, and there are no more of them at once than 3 GB of free memory are there for each.
+four jobs, since this chain decides how long all takes; but on two processors and on one the sum decides, and jobs of one check do some
+work each for itself, so there it gets no more than another. Another gets one, or where fewer wait than there are processors those that
+are left, at most four. A check with more jobs keeps fewer processors busy than it has jobs, since a part of it is the work of one:
+crates are begun as long as half a processor is left, and there are no more of them at once than 3 GB of free memory are there for each.
 
 Each crate is checked whole, and from nothing, by `rattle build`, over the statements of the crates below it; the check takes
 nothing that earlier checks kept. Its last line must say that the crate is proved, and have no word of trust but those that the
@@ -204,15 +205,16 @@ def stop_at_signal(*_):
 def prove(uses, builder):
     """Builds all crates, and returns whether each is. Where one is refused or this is broken off, the others are ended."""
     lanes = count_lanes()
-    most_jobs = MOST_JOBS if lanes > 1 else 1
+    least_on_chain = MOST_JOBS if lanes > 2 else 1
     above = work_from(uses, seconds_of(uses))
     left, running, built, busy = sorted(uses, key=lambda it: -above[it]), {}, set(), 0
 
     def jobs_for(crate, waiting):
         """The jobs of a crate that is begun while so many wait, with it, for the processors that are free."""
+        jobs = min(MOST_JOBS, max(1, int(lanes - busy) // waiting))
         if above[crate] == max(above[it] for it in uses if it not in built):
-            return most_jobs
-        return min(most_jobs, max(1, int(lanes - busy) // waiting))
+            return max(jobs, least_on_chain)
+        return jobs
 
     def one(crate, jobs, log):
         began = time.monotonic()
