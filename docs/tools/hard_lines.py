@@ -4,12 +4,15 @@
 usage: hard_lines.py PROGRAM [FAMILY ..]
 
 Makes the lexicons and lines in a folder of its own, runs the program on them, and prints for each family wall seconds, seconds of
-the processors, and the peak of memory. A run is ended after a minute of a processor, and at 12 GB. A peak below that of this script, some 12 MiB, is not
-told. All lexicons are within the limits; the letters of a line are all `a`. The status is 1 where a run was ended, or ended with another status than 0.
+the processors, and the peak of memory. A run is ended after a minute of a processor, that of one family after six seconds, and at 12 GB. A peak below
+that of this script, some 12 MiB, is not told. All lexicons are within the limits; the letters of a line are all `a`. The status is 1 where a run
+was ended, or ended with another status than 0.
 """
 import multiprocessing, os, resource, subprocess, sys, tempfile, time
 
 MOST_SECONDS = 60
+# Where one walk serves all phases that do the same, this family takes about one second, and else a dozen and more.
+MOST_SECONDS_OF = {"leads: 62 leads, 16 phases": 6}
 MOST_BYTES = 12 << 30
 
 
@@ -80,16 +83,22 @@ def words(letters, most):
     return found
 
 
-def family_leads(count=1):
+def family_leads(count=1, more=()):
     """62 leads, each of which begins forms that go on in a's."""
     leads = words("ab", 5)
     rules = [("a" * u, v, "a" * w) for u in UPTO8 for v in leads for w in UPTO8]
     forms = {(name, v + "a" * n) for name in phases_of(count) for v in leads + [""] for n in range(60) if v + "a" * n}
-    return lexicon(count, rules, forms), "a" * 1000
+    return lexicon(count, rules, forms.union(more)), "a" * 1000
 
 
 def family_leads_phases():
     return family_leads(16)
+
+
+def family_leads_own_forms():
+    """The same, where each phase has forms of its own after each lead, which go on with another letter than the line."""
+    own = [(name, v + "c" * (k + 1)) for k, name in enumerate(phases_of(16)) for v in words("ab", 5) + [""]]
+    return family_leads(16, own)
 
 
 def family_refused():
@@ -117,6 +126,7 @@ FAMILIES = {
     "phases: first answers of 1,000 letters": (family_phases, "segment"),
     "leads: 62 leads, one phase": (family_leads, "segment"),
     "leads: 62 leads, 16 phases": (family_leads_phases, "segment"),
+    "own forms: 62 leads in 16 phases": (family_leads_own_forms, "segment"),
     "refused: rules that fail, 16 phases": (family_refused, "segment"),
     "nodes: 250 leads with nodes of their own": (family_nodes, "segment"),
     "dead: 41 letters without an answer": (family_dead, "segment"),
@@ -124,16 +134,16 @@ FAMILIES = {
 }
 
 
-def limit():
+def set_limits(seconds):
     resource.setrlimit(resource.RLIMIT_AS, (MOST_BYTES, MOST_BYTES))
-    resource.setrlimit(resource.RLIMIT_CPU, (MOST_SECONDS, MOST_SECONDS))
+    resource.setrlimit(resource.RLIMIT_CPU, (seconds, seconds))
 
 
-def run(program, words, stdin):
+def run(program, words, stdin, seconds):
     """Wall seconds, seconds of the processors, the peak in KiB, the exit status (of a run that was ended, less than 0), and how many bytes it wrote."""
     began = time.perf_counter()
     with open(stdin or os.devnull) as source, tempfile.TemporaryFile() as out:
-        child = subprocess.Popen([program, *words], stdin=source, stdout=out, stderr=subprocess.DEVNULL, preexec_fn=limit)
+        child = subprocess.Popen([program, *words], stdin=source, stdout=out, stderr=subprocess.DEVNULL, preexec_fn=lambda: set_limits(seconds))
         _, status, usage = os.wait4(child.pid, 0)
         ended = os.waitstatus_to_exitcode(status)
         size = out.seek(0, 2)
@@ -161,11 +171,12 @@ def main():
             writer = multiprocessing.Process(target=write_family, args=(make, folder))
             writer.start()
             writer.join()
+            seconds = MOST_SECONDS_OF.get(name, MOST_SECONDS)
             if task == "summary":
-                result = run(program, ["read", lexicon_path], session_path)
+                result = run(program, ["read", lexicon_path], session_path, seconds)
             else:
                 with open(line_path) as file:
-                    result = run(program, ["segment", lexicon_path, file.read()], None)
+                    result = run(program, ["segment", lexicon_path, file.read()], None, seconds)
             wall, used, peak, ended, size = result
             all_ended_well &= ended == 0
             print("%-42s %7.2f s  %7.2f s of the processors  %9.1f MiB  exit %s, %d bytes" % (name, wall, used, peak / 1024, ended, size), flush=True)
