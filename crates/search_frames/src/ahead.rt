@@ -276,6 +276,26 @@ impl Ahead {
         choices.list().is_empty() && self.lets_all_in(place, taken)
     }
 
+    /// Whether every key that takes a letter of the line and goes no further than the limit fits the place whichever its rule: no choice is
+    /// made, and a form that takes a letter may be entered there.
+    pub fn fits_with_letter(
+        self,
+        lexicon: &Lexicon,
+        line: &Line,
+        choices: &Choices,
+        place: &Configuration,
+    ) -> bool
+        requires place { IsConfigurationIn lexicon.now line.now place.now }
+        requires ahead { IsAhead lexicon.now.lexicon.rules line.now place.now.at (numbered_of lexicon.now place.now).entrance self }
+        ensures { OnTrue result ((key : KeyValue) → 0 < key.taken → place.now.at + key.taken ≤ self.limit → IsPossible lexicon.now line.now (numbered_of lexicon.now place.now) key → MayBegin (numbered_of lexicon.now place.now).entrance key.phase → FitsPlace lexicon.now line.now choices.now (numbered_of lexicon.now place.now) key) }
+    {
+        // The line, the lexicon and the place are those of which the contract speaks.
+        let _letters = &line.letters;
+        let _rules = lexicon.rules();
+        let _at = place.at;
+        choices.list().is_empty() && self.enters
+    }
+
     /// What the key does at the place as far as the letters of the line, the blanks and the choices tell. It has no rule, goes no further
     /// than the limit, and its phase may begin.
     fn test_unchanged(

@@ -1,4 +1,4 @@
-ghost use Rattle.std.specs.Prelude.{◌≡◌, ◌+◌, ◌*◌, ◌<◌, ◌≤◌, ◌↔◌, ℕ, length, slice_index_or, All, Contains, IfOk, OnOk};
+ghost use Rattle.std.specs.Prelude.{[], IfSome, IsTrue, ◌≡◌, ◌+◌, ◌*◌, ◌<◌, ◌≤◌, ◌↔◌, ℕ, length, slice_index_or, All, Contains, IfOk, OnOk};
 ghost use Rattle.text_definitions.specs.Lines.{IsLine};
 ghost use Rattle.derivation.specs.Steps.{key_meant};
 ghost use Rattle.annotated_trie.specs.Searched.{IsSearchedLexicon};
@@ -10,7 +10,11 @@ ghost use Rattle.search_frames.specs.Costs.{HasAtMostRules};
 ghost use Rattle.search_frames.specs.WaysFrom.{IsWayFrom, key_of_way};
 ghost use Rattle.summary_chart.specs.Fronts.{IsFrontAt};
 ghost use Rattle.summary_chart.specs.PlaceWays.{HasEachKey, IsLivingKey, IsLivingPart};
+ghost use Rattle.search_frames.specs.declared.frame.TheConstants.{NODES_OF_FRAME};
 ghost use Rattle.summary_chart.specs.AlikeFronts.{IsFirst, IsLivingFront};
+ghost use Rattle.summary_chart.specs.Walked.{AreWalkedFronts, AreWalksLiving, FitWithLetter, IsFromFront, IsKept, IsLater, IsLivingRoom, IsWalkFrom};
+ghost use Rattle.summary_chart.specs.declared.table.Table.{Table as TableValue};
+ghost use Rattle.summary_chart.specs.declared.walk_memo.Walk.{Walk as WalkValue};
 ghost use Rattle.summary_chart.specs.Onward.{AreLivingBy};
 ghost use Rattle.summary_chart.specs.Effects.{AreEffects};
 ghost use Rattle.summary_chart.specs.Memos.{AreLiving, EndFrom, LivesBy};
@@ -22,13 +26,14 @@ ghost use Rattle.summary_chart.specs.Summaries.{steps_after_first, steps_of_item
 
 use super::alike::{AlikeFront, alike_at, begun_front};
 use super::memo::{Memo, Work};
-use super::room::Room;
+use super::room::{Room, WalkRoom};
 use super::same_effect::Effects;
 use super::site::{Front, Site, SiteAhead};
 use super::state_set::StateSet;
 use super::state_steps::{accepted_states, accepting_states, states_after, states_into};
 use super::table::Table;
-use super::walking::walk_on;
+use super::walk_memo::{Walk, WalkMemo};
+use super::walking::longer_front;
 use annotated_trie::Lexicon;
 use derivation::Key;
 use outside::Steps;
@@ -266,34 +271,97 @@ fn living_at_front<L>(
     Ok(unchanged.union(changed))
 }
 
-/// The same for the keys of the phase of the front, which takes no letter. Refused only for want of memory.
+/// The states after the phase of this front from which some key with it or a longer front ends the line or leads on to a place of the table,
+/// if the memo keeps them. It is asked of a front that takes a letter. Takes a step.
+fn known_living<L>(
+    here: SiteAhead<'_>,
+    front: &Front,
+    walks: &WalkMemo,
+    steps: &mut Steps<L>,
+) -> Option<StateSet>
+    requires here { IsSiteAhead here }
+    requires limit { here.site.place.now.at + front.now.taken ≤ here.ahead.limit }
+    ensures known { IfSome result (λ living. (0 < front.now.taken) × ((from : WalkValue) × IsWalkFrom here.entry front.now from × IsKept walks.now (record { walk = from; states = living }))) }
+    ensures steps { steps.new ≡ steps.old + 1 }
+{
+    steps.tick();
+    if front.taken == 0 {
+        return None;
+    }
+    walks.get(&Walk::from(here, front))
+}
+
+/// Puts the nodes of the fronts of the phase of this one, which takes no letter, into the list, which is empty: as far as they lead, or until
+/// one of which the memo keeps what lives from there on, where `shares` says that it may be asked. Gives what it keeps, and else no state.
+/// Refused only for want of memory.
+fn walk_to_known<L>(
+    here: SiteAhead<'_>,
+    first: &Front,
+    shares: bool,
+    nodes: &mut Vec<Node>,
+    walks: &WalkMemo,
+    steps: &mut Steps<L>,
+) -> Result<StateSet, Memory>
+    requires here { IsSiteAhead here }
+    requires first { IsFirst here.site.lexicon.now here.site.line.now here.site.choices.now (numbered_of here.site.lexicon.now here.site.place.now) first.now }
+    requires shares { IsTrue shares → FitWithLetter here }
+    requires nodes { nodes.old.items ≡ [] }
+    ensures nodes { OnOk result (AreWalkedFronts here.entry first.now.phase nodes.new.items) }
+    ensures living { (table : TableValue) → let site = here.entry.site in AreWalksLiving site.lexicon.now site.line.now table walks.now → IfOk result (λ living. AreLivingBy site.lexicon.now site.line.now site.choices.now (numbered_of site.lexicon.now site.place.now) table (IsFromFront first.now.phase (length nodes.new.items)) living) }
+    ensures steps { steps.new ≤ steps.old + 2 * NODES_OF_FRAME + 1 }
+{
+    let mut next = Some(*first);
+    while let Some(front) = next {
+        if shares {
+            if let Some(living) = known_living(here, &front, walks, steps) {
+                return Ok(living);
+            }
+        }
+        nodes.push(front.node)?;
+        next = longer_front(here.site, &front, here.ahead.limit, steps);
+    }
+    Ok(StateSet::empty())
+}
+
+/// The states after the phase of this front, which takes no letter, from which some key of the phase ends the line or leads on to a place of
+/// the table. What the memo of walks has already is not found once more. Refused only for want of memory.
 fn living_in_phase<L>(
     here: SiteAhead<'_>,
     first: &Front,
     table: &Table,
-    nodes: &mut Vec<Node>,
-    memo: &mut Memo,
+    room: &mut WalkRoom,
     steps: &mut Steps<L>,
 ) -> Result<StateSet, Memory>
     requires here { IsSiteAhead here }
     requires first { IsFirst here.site.lexicon.now here.site.line.now here.site.choices.now (numbered_of here.site.lexicon.now here.site.place.now) first.now }
     requires table { IsTable (leads_in here.site.lexicon.now) (length here.site.line.now.letters) table.now }
-    requires memo { AreLiving here.site.lexicon.now here.site.line.now table.now memo.old }
-    ensures memo { OnOk result (AreLiving here.entry.site.lexicon.now here.entry.site.line.now table.now memo.new) }
-    ensures ends { OnOk result (EndFrom here.entry.site.place.now.at memo.old → EndFrom here.entry.site.place.now.at memo.new) }
+    requires room { IsLivingRoom here.site.lexicon.now here.site.line.now table.now room.old }
+    ensures room { OnOk result (IsLivingRoom here.entry.site.lexicon.now here.entry.site.line.now table.now room.new) }
+    ensures later { OnOk result (IsLater here.entry.site.place.now.at room.old → IsLater here.entry.site.place.now.at room.new) }
     ensures living { let site = here.entry.site in IfOk result (λ living. AreLivingBy site.lexicon.now site.line.now site.choices.now (numbered_of site.lexicon.now site.place.now) table.now (IsInPhase first.now.phase) living) }
     ensures steps { (most : ℕ) → HasAtMostRules here.entry.site.lexicon.now.tries most → steps.new ≤ steps.old + steps_after_first most }
 {
-    walk_on(here.site, first, here.ahead.limit, nodes, steps)?;
-    let mut living = StateSet::empty();
-    for taken in 0..nodes.len() {
+    let Site {
+        lexicon,
+        line,
+        choices,
+        place,
+    } = here.site;
+    let shares = here.ahead.fits_with_letter(lexicon, line, choices, place);
+    room.nodes.clear();
+    let mut living = walk_to_known(here, first, shares, &mut room.nodes, &room.walks, steps)?;
+    for taken in (0..room.nodes.len()).rev() {
         let front = Front {
             phase: first.phase,
             taken: taken as u32,
-            node: nodes[taken],
+            node: room.nodes[taken],
         };
-        let found = living_at_front(here, &front, table, memo, steps)?;
+        let found = living_at_front(here, &front, table, &mut room.memo, steps)?;
         living = living.union(found);
+        if shares && taken > 0 {
+            steps.tick();
+            room.walks.keep(&Walk::from(here, &front), living)?;
+        }
     }
     Ok(living)
 }
@@ -310,10 +378,10 @@ fn living_from_first<L>(
     requires here { IsSiteAhead here }
     requires first { IsFirst here.site.lexicon.now here.site.line.now here.site.choices.now (numbered_of here.site.lexicon.now here.site.place.now) first.now }
     requires table { IsTable (leads_in here.site.lexicon.now) (length here.site.line.now.letters) table.now }
-    requires memo { AreLiving here.site.lexicon.now here.site.line.now table.now room.old.memo }
+    requires room { IsLivingRoom here.site.lexicon.now here.site.line.now table.now room.old.walking }
     requires fronts { All (IsLivingFront here.site.lexicon.now here.site.line.now here.site.choices.now (numbered_of here.site.lexicon.now here.site.place.now) table.now) room.old.fronts.items }
-    ensures memo { OnOk result (AreLiving here.entry.site.lexicon.now here.entry.site.line.now table.now room.new.memo) }
-    ensures ends { OnOk result (EndFrom here.entry.site.place.now.at room.old.memo → EndFrom here.entry.site.place.now.at room.new.memo) }
+    ensures room { OnOk result (IsLivingRoom here.entry.site.lexicon.now here.entry.site.line.now table.now room.new.walking) }
+    ensures later { OnOk result (IsLater here.entry.site.place.now.at room.old.walking → IsLater here.entry.site.place.now.at room.new.walking) }
     ensures fronts { let site = here.entry.site in OnOk result (All (IsLivingFront site.lexicon.now site.line.now site.choices.now (numbered_of site.lexicon.now site.place.now) table.now) room.new.fronts.items) }
     ensures few { OnOk result (length room.new.fronts.items ≤ length room.old.fronts.items + 1) }
     ensures living { let site = here.entry.site in IfOk result (λ living. AreLivingBy site.lexicon.now site.line.now site.choices.now (numbered_of site.lexicon.now site.place.now) table.now (IsInPhase first.now.phase) living) }
@@ -322,7 +390,7 @@ fn living_from_first<L>(
     if let Some(number) = alike_at(here.site, first, room.fronts.as_slice(), steps) {
         return Ok(room.fronts[number].states);
     }
-    let living = living_in_phase(here, first, table, &mut room.nodes, &mut room.memo, steps)?;
+    let living = living_in_phase(here, first, table, &mut room.walking, steps)?;
     room.fronts.push(AlikeFront {
         front: *first,
         states: living,
@@ -341,9 +409,9 @@ pub(crate) fn gather<L>(
 ) -> Result<StateSet, Memory>
     requires site { IsSite site }
     requires table { IsTable (leads_in site.lexicon.now) (length site.line.now.letters) table.now }
-    requires memo { AreLiving site.lexicon.now site.line.now table.now room.old.memo }
-    ensures memo { OnOk result (AreLiving site.entry.lexicon.now site.entry.line.now table.now room.new.memo) }
-    ensures ends { OnOk result (EndFrom site.entry.place.now.at room.old.memo → EndFrom site.entry.place.now.at room.new.memo) }
+    requires room { IsLivingRoom site.lexicon.now site.line.now table.now room.old.walking }
+    ensures room { OnOk result (IsLivingRoom site.entry.lexicon.now site.entry.line.now table.now room.new.walking) }
+    ensures later { OnOk result (IsLater site.entry.place.now.at room.old.walking → IsLater site.entry.place.now.at room.new.walking) }
     ensures gathers { IfOk result (λ gathered. AreGoingFurther site.entry.lexicon.now site.entry.line.now site.entry.choices.now table.now site.entry.place.now.at site.entry.place.now.entrance states EveryKey gathered) }
     ensures steps { (most : ℕ) → HasAtMostRules site.entry.lexicon.now.tries most → steps.new ≤ steps.old + steps_of_items site.entry.lexicon.now most }
 {

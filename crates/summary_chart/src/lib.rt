@@ -41,6 +41,7 @@ mod state_set;
 mod state_steps;
 mod summary;
 mod table;
+mod walk_memo;
 mod walking;
 
 pub use chart::Chart;

@@ -1,4 +1,4 @@
-ghost use Rattle.std.specs.Prelude.{◌≡◌, ◌+◌, ◌*◌, ◌<◌, ◌≤◌, ℕ, length, slice_index_or, All, OnOk};
+ghost use Rattle.std.specs.Prelude.{[], ◌≡◌, ◌+◌, ◌*◌, ◌<◌, ◌≤◌, ℕ, length, slice_index_or, All, OnOk};
 ghost use Rattle.segmentation_definitions.specs.Listings.{Key as KeyValue};
 ghost use Rattle.derivation.specs.Steps.{key_meant};
 ghost use Rattle.search_frames.specs.Ahead.{FitsPlace, MayBegin};
@@ -10,24 +10,30 @@ ghost use Rattle.summary_chart.specs.Fronts.{IsFrontAt};
 ghost use Rattle.summary_chart.specs.PlaceWays.{HasEachKey, LeadsOnOrEnds};
 ghost use Rattle.summary_chart.specs.StateSets.{HasState};
 ghost use Rattle.annotated_trie.specs.Choices.{choices_with};
+ghost use Rattle.std.specs.Bool.{OnTrue};
+ghost use Rattle.search_frames.specs.declared.frame.TheConstants.{NODES_OF_FRAME};
 ghost use Rattle.summary_chart.specs.AlikeFronts.{IsFirst};
+ghost use Rattle.summary_chart.specs.Walked.{AreWalkedFronts, AreWalksSpread, IsKeptWith, IsKnownFrom, IsSpreadRoom, IsWalkOfSome, IsWalkSpread};
+ghost use Rattle.summary_chart.specs.declared.table.Table.{Table as TableValue};
+ghost use Rattle.summary_chart.specs.declared.walk_memo.Walk.{Walk as WalkValue};
 ghost use Rattle.summary_chart.specs.Effects.{AreEffects};
 ghost use Rattle.summary_chart.specs.Memos.{AreSpread, HasNodes, IsKnownWith};
 ghost use Rattle.summary_chart.specs.Onward.{IsOnward, SpreadsOnward};
-ghost use Rattle.summary_chart.specs.Sites.{IsSite};
+ghost use Rattle.summary_chart.specs.Sites.{IsSite, IsSiteAhead};
 ghost use Rattle.summary_chart.specs.Tables.{IsTable};
 ghost use Rattle.summary_chart.specs.Spreading.{Spreads, EveryKey, OnlyKey, IsByRule, IsAtFront, IsInPhase, leads_in};
 ghost use Rattle.summary_chart.specs.Summaries.{steps_after_first, steps_of_items};
 
 use super::alike::find_onward;
 use super::memo::{Memo, Work};
-use super::room::Room;
+use super::room::{Room, WalkRoom};
 use super::same_effect::Effects;
 use super::site::{Front, Site, SiteAhead};
 use super::state_set::StateSet;
 use super::state_steps::states_after;
 use super::table::Table;
-use super::walking::walk_on;
+use super::walk_memo::{Walk, WalkMemo};
+use super::walking::longer_front;
 use annotated_trie::Annotated;
 use derivation::Key;
 use outside::Steps;
@@ -247,33 +253,133 @@ fn spread_front<L>(
     spread_changed(onward, front, *letter, table, memo, steps)
 }
 
-/// Puts into the table where the keys of the phase of the front, which takes no letter, lead on to. Refused only for want of memory.
+/// The states that the walk gave, if the memo keeps this; else none.
+fn known_of_walk(walks: &WalkMemo, walk: &Walk) -> StateSet
+    ensures { (number : ℕ) → HasState result number → IsKeptWith walks.now walk.now number }
+{
+    match walks.get(walk) {
+        Some(states) => states,
+        None => StateSet::empty(),
+    }
+}
+
+/// Whether the memo keeps that all keys with this front and with longer ones were spread with the states that come after them. It is asked of
+/// a front that takes a letter. Takes a step.
+fn is_spread<L>(onward: Onward<'_>, front: &Front, walks: &WalkMemo, steps: &mut Steps<L>) -> bool
+    requires here { IsSiteAhead onward.here }
+    requires limit { onward.here.site.place.now.at + front.now.taken ≤ onward.here.ahead.limit }
+    ensures known { OnTrue result (IsKnownFrom onward.entry.here front.now onward.entry.after walks.now) }
+    ensures steps { steps.new ≡ steps.old + 1 }
+{
+    steps.tick();
+    if front.taken == 0 {
+        return false;
+    }
+    let known = known_of_walk(walks, &Walk::from(onward.here, front));
+    known.union(onward.after) == known
+}
+
+/// Puts into the table where the keys of the phase of the front, which takes no letter, lead on to, front by front until one from which this
+/// was done already, where `shares` says that the memo may be asked. The list, which is empty, has then the nodes of the fronts that were
+/// gone over. Refused only for want of memory.
+fn spread_fronts<L>(
+    onward: Onward<'_>,
+    first: &Front,
+    shares: bool,
+    table: &mut Table,
+    room: &mut WalkRoom,
+    steps: &mut Steps<L>,
+) -> Result<(), Memory>
+    requires onward { IsOnward onward first.now.phase }
+    requires first { let site = onward.here.site in IsFirst site.lexicon.now site.line.now site.choices.now (numbered_of site.lexicon.now site.place.now) first.now }
+    requires nodes { room.old.nodes.items ≡ [] }
+    requires table { IsTable (leads_in onward.here.site.lexicon.now) (length onward.here.site.line.now.letters) table.old }
+    requires room { IsSpreadRoom onward.here.site.lexicon.now onward.here.site.line.now table.old room.old }
+    ensures room { OnOk result (IsSpreadRoom onward.entry.here.site.lexicon.now onward.entry.here.site.line.now table.new room.new) }
+    ensures table { OnOk result (IsTable (leads_in onward.entry.here.site.lexicon.now) (length onward.entry.here.site.line.now.letters) table.new) }
+    ensures spreads { OnOk result (SpreadsOnward onward.entry (IsInPhase first.now.phase) table.old table.new) }
+    ensures nodes { OnOk result (AreWalkedFronts onward.entry.here first.now.phase room.new.nodes.items) }
+    ensures steps { (most : ℕ) → HasAtMostRules onward.entry.here.site.lexicon.now.tries most → steps.new ≤ steps.old + NODES_OF_FRAME * (5 + most) + 1 }
+{
+    let here = onward.here;
+    let mut next = Some(*first);
+    while let Some(front) = next {
+        if shares && is_spread(onward, &front, &room.walks, steps) {
+            return Ok(());
+        }
+        spread_front(onward, &front, table, &mut room.memo, steps)?;
+        room.nodes.push(front.node)?;
+        next = longer_front(here.site, &front, here.ahead.limit, steps);
+    }
+    Ok(())
+}
+
+/// Keeps of each of the fronts with these nodes but the first, which takes no letter, that its keys and those of longer fronts were spread with
+/// the states that come after them. Refused only for want of memory.
+fn keep_spread<L>(
+    onward: Onward<'_>,
+    phase: u32,
+    nodes: &[Node],
+    walks: &mut WalkMemo,
+    steps: &mut Steps<L>,
+) -> Result<(), Memory>
+    requires here { IsSiteAhead onward.here }
+    requires nodes { AreWalkedFronts onward.here phase nodes.now }
+    ensures walks { (table : TableValue) → let site = onward.entry.here.site in AreWalksSpread site.lexicon.now site.line.now table walks.old → ((from : WalkValue) → IsWalkOfSome onward.entry.here phase nodes.now from → IsWalkSpread site.lexicon.now site.line.now table (record { walk = from; states = onward.entry.after })) → OnOk result (AreWalksSpread site.lexicon.now site.line.now table walks.new) }
+    ensures steps { steps.new ≤ steps.old + length nodes.now }
+{
+    for taken in 1..nodes.len() {
+        steps.tick();
+        let front = Front {
+            phase,
+            taken: taken as u32,
+            node: nodes[taken],
+        };
+        let walk = Walk::from(onward.here, &front);
+        let known = known_of_walk(walks, &walk);
+        walks.keep(&walk, known.union(onward.after))?;
+    }
+    Ok(())
+}
+
+/// Puts into the table where the keys of the phase of the front, which takes no letter, lead on to. What the memo of walks has already is not
+/// put there once more. Refused only for want of memory.
 fn spread_phase<L>(
     onward: Onward<'_>,
     first: &Front,
     table: &mut Table,
-    nodes: &mut Vec<Node>,
-    memo: &mut Memo,
+    room: &mut WalkRoom,
     steps: &mut Steps<L>,
 ) -> Result<(), Memory>
     requires onward { IsOnward onward first.now.phase }
     requires first { let site = onward.here.site in IsFirst site.lexicon.now site.line.now site.choices.now (numbered_of site.lexicon.now site.place.now) first.now }
     requires table { IsTable (leads_in onward.here.site.lexicon.now) (length onward.here.site.line.now.letters) table.old }
-    requires memo { AreSpread onward.here.site.lexicon.now onward.here.site.line.now table.old memo.old }
-    ensures memo { OnOk result (AreSpread onward.entry.here.site.lexicon.now onward.entry.here.site.line.now table.new memo.new) }
+    requires room { IsSpreadRoom onward.here.site.lexicon.now onward.here.site.line.now table.old room.old }
+    ensures room { OnOk result (IsSpreadRoom onward.entry.here.site.lexicon.now onward.entry.here.site.line.now table.new room.new) }
     ensures table { OnOk result (IsTable (leads_in onward.entry.here.site.lexicon.now) (length onward.entry.here.site.line.now.letters) table.new) }
     ensures spreads { OnOk result (SpreadsOnward onward.entry (IsInPhase first.now.phase) table.old table.new) }
     ensures steps { (most : ℕ) → HasAtMostRules onward.entry.here.site.lexicon.now.tries most → steps.new ≤ steps.old + steps_after_first most }
 {
-    let here = onward.here;
-    walk_on(here.site, first, here.ahead.limit, nodes, steps)?;
-    for taken in 0..nodes.len() {
-        let front = Front {
-            phase: first.phase,
-            taken: taken as u32,
-            node: nodes[taken],
-        };
-        spread_front(onward, &front, table, memo, steps)?;
+    let Site {
+        lexicon,
+        line,
+        choices,
+        place,
+    } = onward.here.site;
+    let shares = onward
+        .here
+        .ahead
+        .fits_with_letter(lexicon, line, choices, place);
+    room.nodes.clear();
+    spread_fronts(onward, first, shares, table, room, steps)?;
+    if shares {
+        keep_spread(
+            onward,
+            first.phase,
+            room.nodes.as_slice(),
+            &mut room.walks,
+            steps,
+        )?;
     }
     Ok(())
 }
@@ -289,8 +395,8 @@ pub(crate) fn spread<L>(
 ) -> Result<(), Memory>
     requires site { IsSite site }
     requires table { IsTable (leads_in site.lexicon.now) (length site.line.now.letters) table.old }
-    requires memo { AreSpread site.lexicon.now site.line.now table.old room.old.memo }
-    ensures memo { OnOk result (AreSpread site.entry.lexicon.now site.entry.line.now table.new room.new.memo) }
+    requires room { IsSpreadRoom site.lexicon.now site.line.now table.old room.old.walking }
+    ensures room { OnOk result (IsSpreadRoom site.entry.lexicon.now site.entry.line.now table.new room.new.walking) }
     ensures table { OnOk result (IsTable (leads_in site.entry.lexicon.now) (length site.entry.line.now.letters) table.new) }
     ensures spreads { OnOk result (Spreads site.entry.lexicon.now site.entry.line.now site.entry.choices.now site.entry.place.now.at site.entry.place.now.entrance states EveryKey table.old table.new) }
     ensures steps { (most : ℕ) → HasAtMostRules site.entry.lexicon.now.tries most → steps.new ≤ steps.old + steps_of_items site.entry.lexicon.now most }
@@ -306,14 +412,7 @@ pub(crate) fn spread<L>(
             here,
             after: one.states,
         };
-        spread_phase(
-            onward,
-            &one.front,
-            table,
-            &mut room.nodes,
-            &mut room.memo,
-            steps,
-        )?;
+        spread_phase(onward, &one.front, table, &mut room.walking, steps)?;
     }
     Ok(())
 }
