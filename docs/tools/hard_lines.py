@@ -4,15 +4,15 @@
 usage: hard_lines.py PROGRAM [FAMILY ..]
 
 Makes the lexicons and lines in a folder of its own, runs the program on them, and prints for each family wall seconds, seconds of
-the processors, and the peak of memory. A run is ended after a minute of a processor, that of one family after six seconds, and at 12 GB. A peak below
+the processors, and the peak of memory. A run is ended after a minute of a processor, those of some families sooner, and at 12 GB. A peak below
 that of this script, some 12 MiB, is not told. All lexicons are within the limits; the letters of a line are all `a`. The status is 1 where a run
 was ended, or ended with another status than 0.
 """
 import multiprocessing, os, resource, subprocess, sys, tempfile, time
 
 MOST_SECONDS = 60
-# Where one walk serves all phases that do the same, this family takes about one second, and else a dozen and more.
-MOST_SECONDS_OF = {"leads: 62 leads, 16 phases": 6}
+# Where one walk serves all phases that do the same, this family takes about a second on a slow machine, and else 12 to 18.
+MOST_SECONDS_OF = {"leads: 62 leads, 16 phases": 4}
 MOST_BYTES = 12 << 30
 
 
