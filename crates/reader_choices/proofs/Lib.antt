@@ -1,2 +1,3 @@
 pub mod AllowedSteps
+pub mod FreeSteps
 pub mod StandingSteps

@@ -1,1 +1,2 @@
 pub mod Allowing
+pub mod Freedom

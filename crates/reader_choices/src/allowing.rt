@@ -9,7 +9,7 @@ use phoneme::{Letter, Line};
 use sandhi_rules::RuleSet;
 
 /// The rank of what stands before this letter of the line, counted from 0, with a lead of so many letters.
-fn rank(at: u64, lead: u32) -> u64
+pub(crate) fn rank(at: u64, lead: u32) -> u64
     requires { at < 2 ^ 40 }
     ensures { result ≡ 2 * at + after_lead lead }
 {

@@ -3,8 +3,10 @@ ghost use Rattle.segmentation_definitions.specs.Items.{Choice as ChoiceValue};
 ghost use Rattle.segmentation_definitions.specs.LocalTests.{Allows};
 ghost use Rattle.derivation.specs.Steps.{StandIn, placed_with};
 ghost use Rattle.reader_choices.specs.Allowing.{AllowsStep, lead_after, is_first_after};
+ghost use Rattle.reader_choices.specs.Freedom.{LeaveFree};
 
 use super::allowing::allows_each;
+use super::freedom::leave_free;
 use super::{Choice, ChoiceError};
 use derivation::{Item, Step};
 use phoneme::{Letter, Line};
@@ -115,6 +117,16 @@ impl Choices {
         ensures exact { IsTrue result ↔ Allows rules.now (length line.now.letters) self.now is_first (placed_with rules.now line.now.letters lead.now step.now) }
     {
         allows_each(rules, line, lead, is_first, step, self.list.as_slice())
+    }
+
+    /// Whether a step may be last, where the choices leave every step free that stands after so many letters of the line, is
+    /// entered with a lead of so many and takes so many, whichever its rule: just these steps are allowed, the last ones if
+    /// they may be last. `None` where that can't be told without the rule: an item stands at the rank of such steps, or a kept
+    /// one stands before the first step, or no further after them than the `w` of a rule may reach.
+    pub fn leave_free(&self, at: u32, lead: u32, is_first: bool, taken: u32) -> Option<bool>
+        ensures { IfSome result (LeaveFree at lead is_first taken self.now) }
+    {
+        leave_free(at, lead, is_first, taken, self.list.as_slice())
     }
 }
 
