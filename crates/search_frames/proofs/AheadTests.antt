@@ -1,23 +1,29 @@
 -- What a key does at a place, told by what the line tells of all forms that begin there and by what its rule does after its letters.
-use Rattle.std.proofs.Common.{◌≡◌, ℕ, ◌+◌, ◌<◌, ◌≤◌, ◌↔◌, inl, inr, IsTrue, Bool, List, [], ◌++◌, All, length, take, drop, get_or, refl, sym, ap, subst, ◌∙◌, add-zero, arith, length-drop, length-append}
+use Rattle.std.proofs.Common.{◌≡◌, ℕ, zero, suc, ◌+◌, ◌<◌, ◌≤◌, ◌↔◌, inl, inr, IsTrue, IfSome, Bool, Option, None, Some, List, [], ◌++◌, All, length, take, drop, get_or, refl, sym, ap, subst, ◌∙◌, add-zero, arith, length-drop, length-append}
 use Rattle.std.proofs.lemmas.Bool.{ne_eqb, cases_lt}
-use Rattle.std.proofs.lemmas.List.{get_or_append_left, get_or-take, get_or-drop, length-take-le}
+use Rattle.std.proofs.lemmas.List.{get_or_append_left, get_or-take, get_or-drop, get_or_past, length-take-le}
 use Rattle.std.proofs.lemmas.List.Elements.{All-contains}
 use Rattle.text_definitions.specs.Lines.{Line}
+use Rattle.lexicon_definitions.specs.declared.limits.TheConstants.{MOST_RULE_LETTERS}
+use Rattle.lexicon_definitions.specs.Rules.{Rule, rule_at, no_change}
 use Rattle.lexicon_definitions.specs.Lexicons.{RuleSet, rule_of, IsForm, IsPlain}
+use Rattle.lexicon_definitions.specs.Limits.{IsShortRule, IsRuleSetWithinLimits}
 use Rattle.segmentation_definitions.specs.Derivations.{Step, rule_after}
 use Rattle.segmentation_definitions.specs.Items.{Choice}
 use Rattle.segmentation_definitions.specs.Listings.{Key}
+use Rattle.segmentation_definitions.specs.LocalTests.{Allows, IsLast}
 use Rattle.segmentation_definitions.specs.Configurations.{Entrance, Start, Plain, Lead, entrance_after_step}
 use Rattle.segmentation_definitions.proofs.Coverings.{form_not_empty, unchanged_at_zero}
 use Rattle.annotated_trie.specs.Searched.{SearchedLexicon, IsSearchedLexicon}
-use Rattle.answer_paths.specs.Following.{MayEnter, MayStand, step_at}
+use Rattle.reader_choices.specs.Freedom.{LeaveFree}
+use Rattle.answer_paths.specs.Fronts.{supplied}
+use Rattle.answer_paths.specs.Following.{MayEnter, MayStand, is_start, step_at, placed_at}
 use Rattle.search_frames.specs.declared.ahead.Ahead.{Ahead}
 use Rattle.search_frames.specs.declared.letter_testing.LetterTest.{LetterTest}
 use Rattle.search_frames.specs.declared.letter_testing.LetterTest.TheVariants as test
-use Rattle.search_frames.specs.Ahead.{IsAhead, FitsPlace, LetsLetterIn, LetsRuleIn, MayBegin, RuleStands, RuleFails, IsRuleTest}
-use Rattle.search_frames.specs.Configurations.{NumberedConfiguration, rules_in}
-use Rattle.search_frames.specs.LetterTests.{MayNeither, IsLetterTestOf}
+use Rattle.search_frames.specs.Ahead.{AllowsWhicheverRule, IsAhead, FitsPlace, LetsLetterIn, LetsRuleIn, MayBegin, RuleStands, RuleFails, IsRuleTest}
+use Rattle.search_frames.specs.Configurations.{NumberedConfiguration, IsPossible, rules_in}
+use Rattle.search_frames.specs.LetterTests.{DoAsRules, MayNeither, IsLetterTestOf}
 use Rattle.list_laws.proofs.Elements.{written_within}
 
 -- a form has a letter
@@ -183,3 +189,70 @@ module _ (searched : SearchedLexicon) (line : Line) (choices : List Choice) (her
       within = omega (arith, is.at_is, written_within line.letters (rule_of (rules_in searched) key.rule).w (here.at + key.taken) fits.within is.stands.written);
       over = is.over;
     }
+
+  -- where the choices allow such a key just where it is not last, or may be last as the Bool says, the key does what its rule does
+  module _ (ahead : Ahead) (is_ahead : IsAhead (rules_in searched) line here.at here.entrance ahead) (near : here.at + key.taken ≤ ahead.limit)
+      (free both : Bool) (says_both : IsTrue both ↔ (IsTrue ahead.may_end × IsTrue free))
+      (allows : Allows (rules_in searched) (length line.letters) choices (is_start here.entrance) (placed_at (rules_in searched) line here.at here.entrance key)
+      ↔ (IsLast (rules_in searched) (length line.letters) (placed_at (rules_in searched) line here.at here.entrance key) → IsTrue free))
+      (some : 0 < key.rule) (possible : IsPossible searched line here key)
+      (enters : MayEnter (rules_in searched) here.entrance (step_at (rules_in searched) line here.at here.entrance key)) where
+    fits_if_free : (IsLast (rules_in searched) (length line.letters) (placed_at (rules_in searched) line here.at here.entrance key) → IsTrue free)
+        → FitsPlace searched line choices here key
+    fits_if_free may = record {
+      number = possible.number;
+      within = possible.within;
+      form = possible.form;
+      enters = enters;
+      blanks = no_blank_inside ahead is_ahead near;
+      allowed = allows.1 may;
+    }
+
+    pub free_rule_does : (does : LetterTest) → IsRuleTest (rules_in searched) line (here.at + key.taken) both key.phase key.rule does
+        → IsLetterTestOf searched line choices here key does
+    free_rule_does test.Refused is = record {
+      leads_on = λ may. is.leads (stands_rule some may.stands) (may.inner some);
+      ends = λ may.
+          let final = may.final_rule some in
+          let last = allows.0 may.stands.allowed (inl ((some, may.stands.number), final)) in
+          is.ends (record { stands = stands_rule some may.stands; final_rule = final; all = may.all; may = says_both.1 (is_ahead.ending.1 may.blanks_before, last) });
+    }
+    free_rule_does test.Ends is =
+        let may = says_both.0 is.may in
+        rule_does ahead.may_end is_ahead.ending test.Ends some (fits_if_free (λ last. may.1))
+        (record { stands = is.stands; final_rule = is.final_rule; all = is.all; may = may.0 })
+    free_rule_does (test.LeadsOn at entrance) is =
+        rule_does ahead.may_end is_ahead.ending (test.LeadsOn at entrance) some (fits_if_free (λ last. elim last [
+          | inl final ↦ absurd (is.inner final.1)
+          | inr unchanged ↦ absurd (omega (arith, unchanged.0, some))
+        ])) is
+
+-- so where such a key may be entered whichever its rule, it does what its rule does
+pub do_as_rules : (searched : SearchedLexicon) (line : Line) (choices : List Choice) (here : NumberedConfiguration) (taken : ℕ) (ahead : Ahead)
+    → IsAhead (rules_in searched) line here.at here.entrance ahead → here.at + taken ≤ ahead.limit
+    → ((key : Key) → key.taken ≡ taken → here.at + key.taken ≤ length line.letters → MayBegin here.entrance key.phase
+    → MayEnter (rules_in searched) here.entrance (step_at (rules_in searched) line here.at here.entrance key))
+    → (free both : Bool) → (IsTrue both ↔ (IsTrue ahead.may_end × IsTrue free))
+    → AllowsWhicheverRule (rules_in searched) choices here.at here.entrance taken free → DoAsRules searched line choices here taken both
+do_as_rules searched line choices here taken ahead is_ahead near enters free both says allows key does same some possible begins is =
+    free_rule_does searched line choices here key ahead is_ahead (omega (arith, near, same)) free both says (allows line key same) some possible
+    (enters key same possible.within begins) does
+    (subst (λ (t : ℕ). IsRuleTest (rules_in searched) line (here.at + t) both key.phase key.rule does) (sym same) is)
+
+-- the w of any rule is short
+short_w : (rules : List Rule) (number : ℕ) → All IsShortRule rules → length (rule_at rules number).w ≤ MOST_RULE_LETTERS
+short_w rules zero short = omega arith
+short_w rules (suc number) short = elim (cases_lt number (length rules)) [
+  | inl below ↦ (short number no_change below).w
+  | inr above ↦ subst (λ (rule : Rule). length rule.w ≤ MOST_RULE_LETTERS) (sym (get_or_past rules number no_change above)) (omega arith)
+]
+
+-- what the choices leave free at the rank of the place, they allow there
+pub allowed_if_free : (rules : RuleSet) (choices : List Choice) (at : ℕ) (entrance : Entrance) (lead taken : ℕ) (is_first : Bool) (free : Option Bool)
+    → IsRuleSetWithinLimits rules → lead ≡ length (supplied entrance) → is_first ≡ is_start entrance
+    → IfSome free (LeaveFree at lead is_first taken choices) → IfSome free (AllowsWhicheverRule rules choices at entrance taken)
+allowed_if_free rules choices at entrance lead taken is_first None limits is_lead first free = free
+allowed_if_free rules choices at entrance lead taken is_first (Some may_end) limits is_lead first free = λ line key same.
+    let told = subst (λ (b : Bool). LeaveFree at lead b taken choices may_end) first free in
+    told rules (length line.letters) (placed_at rules line at entrance key)
+    (record { at_is = refl; lead_is = sym is_lead; taken_is = same; short = short_w rules.rules key.rule limits.short_rules })

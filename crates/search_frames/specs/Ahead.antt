@@ -7,7 +7,7 @@ use Rattle.lexicon_definitions.specs.Rules.{IsInner, IsFinal, HasPhase}
 use Rattle.lexicon_definitions.specs.Lexicons.{RuleSet, rule_of, IsForm, IsPlain}
 use Rattle.segmentation_definitions.specs.Items.{Choice}
 use Rattle.segmentation_definitions.specs.Listings.{Key}
-use Rattle.segmentation_definitions.specs.LocalTests.{Allows, HasNoBlankInside}
+use Rattle.segmentation_definitions.specs.LocalTests.{Allows, HasNoBlankInside, IsLast}
 use Rattle.segmentation_definitions.specs.Configurations.{Entrance, Start, Plain, Lead}
 use Rattle.derivation.specs.declared.entrance.Entrance.{Entrance as ProgramEntrance}
 use Rattle.derivation.specs.Guides.{IsEntranceOver, entrance_of}
@@ -61,6 +61,14 @@ pub record FitsPlace (searched : SearchedLexicon) (line : Line) (choices : List 
   pub enters : MayEnter (rules_in searched) here.entrance (step_at (rules_in searched) line here.at here.entrance key)
   pub blanks : HasNoBlankInside line.blanks (placed_at (rules_in searched) line here.at here.entrance key)
   pub allowed : Allows (rules_in searched) (length line.letters) choices (is_start here.entrance) (placed_at (rules_in searched) line here.at here.entrance key)
+
+-- each key that takes so many letters at the place, entered so, is allowed by the choices just where it is not last, or may be
+-- last as the Bool says
+abbrev pub AllowsWhicheverRule : RuleSet → List Choice → ℕ → Entrance → ℕ → Bool → Type 0
+AllowsWhicheverRule rules choices at entrance taken may_end =
+    (line : Line) (key : Key) → key.taken ≡ taken
+    → Allows rules (length line.letters) choices (is_start entrance) (placed_at rules line at entrance key)
+    ↔ (IsLast rules (length line.letters) (placed_at rules line at entrance key) → IsTrue may_end)
 
 -- the rule may follow a form of the phase, and its w comes next after so many letters of the line
 pub record RuleStands (rules : RuleSet) (line : Line) (end phase rule : ℕ) : Type 0 where

@@ -1,6 +1,6 @@
 -- What a key does where a search stands as far as the letters of the line, the blanks and the choices tell, whatever the
 -- grammar says (own).
-use Rattle.std.specs.Prelude.{◌≡◌, ℕ, ◌+◌, ◌<◌, ◌≤◌, List, length, All}
+use Rattle.std.specs.Prelude.{◌≡◌, ℕ, ◌+◌, ◌<◌, ◌≤◌, Bool, List, length, All}
 use Rattle.text_definitions.specs.Lines.{Line}
 use Rattle.lexicon_definitions.specs.Rules.{IsInner, IsFinal}
 use Rattle.lexicon_definitions.specs.Lexicons.{rule_of}
@@ -13,7 +13,8 @@ use Rattle.annotated_trie.specs.Searched.{SearchedLexicon}
 use Rattle.answer_paths.specs.Following.{MayStand}
 use Rattle.search_frames.specs.declared.letter_testing.LetterTest.{LetterTest}
 use Rattle.search_frames.specs.declared.letter_testing.LetterTest.TheVariants as test
-use Rattle.search_frames.specs.Configurations.{NumberedConfiguration, rules_in, after}
+use Rattle.search_frames.specs.Ahead.{MayBegin, IsRuleTest}
+use Rattle.search_frames.specs.Configurations.{NumberedConfiguration, IsPossible, rules_in, after}
 
 -- the step may stand here, and another form can follow it
 pub record MayLeadOn (searched : SearchedLexicon) (line : Line) (choices : List Choice) (here : NumberedConfiguration) (key : Key) : Type 0 where
@@ -46,3 +47,10 @@ abbrev pub IsLetterTestOf : SearchedLexicon → Line → List Choice → Numbere
 IsLetterTestOf searched line choices here key test.Refused = MayNeither searched line choices here key
 IsLetterTestOf searched line choices here key test.Ends = MayEndLine searched line choices here key
 IsLetterTestOf searched line choices here key (test.LeadsOn at entrance) = MayLeadTo searched line choices here key at entrance
+
+-- whichever its rule, each key with one that takes so many letters does at the place just what its rule does after these letters, with
+-- this Bool to say whether the line may end there
+abbrev pub DoAsRules : SearchedLexicon → Line → List Choice → NumberedConfiguration → ℕ → Bool → Type 0
+DoAsRules searched line choices here taken may_end =
+    (key : Key) (test : LetterTest) → key.taken ≡ taken → 0 < key.rule → IsPossible searched line here key → MayBegin here.entrance key.phase
+    → IsRuleTest (rules_in searched) line (here.at + taken) may_end key.phase key.rule test → IsLetterTestOf searched line choices here key test

@@ -1,4 +1,4 @@
-ghost use Rattle.std.specs.Prelude.{◌≡◌, ℕ, List, true, ◌+◌, ◌<◌, ◌≤◌, ◌↔◌, ◌++◌, length, take, drop, All, IsTrue, MatchOption};
+ghost use Rattle.std.specs.Prelude.{◌≡◌, ℕ, List, true, ◌+◌, ◌<◌, ◌≤◌, ◌↔◌, ◌++◌, length, take, drop, All, IsTrue, IfSome, MatchOption};
 ghost use Rattle.std.specs.Bool.{OnTrue};
 ghost use Rattle.segmentation_definitions.specs.Listings.{Key as KeyValue};
 ghost use Rattle.text_definitions.specs.Lines.{Line as LineValue};
@@ -11,10 +11,10 @@ ghost use Rattle.derivation.specs.Guides.{IsEntranceOver, entrance_of};
 ghost use Rattle.derivation.specs.Steps.{key_meant};
 ghost use Rattle.answer_paths.specs.Fronts.{supplied};
 ghost use Rattle.answer_paths.specs.Following.{MayEnter, is_start, placed_at, step_at};
-ghost use Rattle.search_frames.specs.Ahead.{FitsPlace, IsAhead, IsNextBlank, IsRuleTest, LetsLetterIn, LetsRuleIn, MayBegin};
+ghost use Rattle.search_frames.specs.Ahead.{AllowsWhicheverRule, FitsPlace, IsAhead, IsNextBlank, IsRuleTest, LetsLetterIn, LetsRuleIn, MayBegin};
 ghost use Rattle.search_frames.specs.Configurations.{IsPossible};
 ghost use Rattle.search_frames.specs.Frames.{IsConfigurationIn, numbered_of};
-ghost use Rattle.search_frames.specs.LetterTests.{IsLetterTestOf};
+ghost use Rattle.search_frames.specs.LetterTests.{DoAsRules, IsLetterTestOf};
 
 use super::Configuration;
 use super::letter_testing::LetterTest;
@@ -164,6 +164,20 @@ fn is_allowed(
     choices.allows_entered(rules, line, lead, is_first(place.entrance), &step)
 }
 
+/// Whether the line may end with a form at the place that takes so many letters, where the choices allow each such form unless the line
+/// must not end with it; `None` where that can't be told without looking at rules.
+fn leave_free(rules: &RuleSet, choices: &Choices, place: &Configuration, taken: u32) -> Option<bool>
+    requires limits { IsRuleSetWithinLimits rules.now }
+    requires over { IsEntranceOver (leads_of rules.now.rules) place.now.entrance }
+    ensures { IfSome result (AllowsWhicheverRule rules.now choices.now place.now.at (entrance_of (leads_of rules.now.rules) place.now.entrance) taken) }
+{
+    if choices.list().is_empty() {
+        return Some(true);
+    }
+    let lead = supplied_letters(rules, place.entrance);
+    choices.leave_free(place.at, lead.len() as u32, is_first(place.entrance), taken)
+}
+
 /// The last letter of what is supplied to a form at the place with so many letters of the line.
 fn last_taken(rules: &RuleSet, line: &Line, place: &Configuration, taken: u32) -> Letter
     requires over { IsEntranceOver (leads_of rules.now.rules) place.now.entrance }
@@ -255,25 +269,29 @@ impl Ahead {
         }
     }
 
-    /// Whether every key that takes so many letters fits the place whichever its rule, as far as can be told without looking at rules: no
-    /// choice is made, and every form that takes so many letters may be entered there.
-    pub fn fits_all(
+    /// Whether the line may end with a form at the place that takes so many letters, where each key with such a form does there just what
+    /// its rule does after these letters; `None` where that can't be told without looking at rules: some such form may not be entered, or
+    /// the choices do not leave all of them free.
+    pub fn end_by_rules(
         self,
         lexicon: &Lexicon,
         line: &Line,
         choices: &Choices,
         place: &Configuration,
         taken: u32,
-    ) -> bool
+    ) -> Option<bool>
         requires place { IsConfigurationIn lexicon.now line.now place.now }
         requires ahead { IsAhead lexicon.now.lexicon.rules line.now place.now.at (numbered_of lexicon.now place.now).entrance self }
         requires limit { place.now.at + taken ≤ self.limit }
-        ensures { OnTrue result ((key : KeyValue) → key.taken ≡ taken → IsPossible lexicon.now line.now (numbered_of lexicon.now place.now) key → MayBegin (numbered_of lexicon.now place.now).entrance key.phase → FitsPlace lexicon.now line.now choices.now (numbered_of lexicon.now place.now) key) }
+        ensures { IfSome result (DoAsRules lexicon.now line.now choices.now (numbered_of lexicon.now place.now) taken) }
     {
-        // The line and the lexicon are those of which the contract speaks.
+        // The line is that of which the contract speaks.
         let _letters = &line.letters;
-        let _rules = lexicon.rules();
-        choices.list().is_empty() && self.lets_all_in(place, taken)
+        if !self.lets_all_in(place, taken) {
+            return None;
+        }
+        let may_end = leave_free(lexicon.rules(), choices, place, taken)?;
+        Some(self.may_end && may_end)
     }
 
     /// What the key does at the place as far as the letters of the line, the blanks and the choices tell. It has no rule, goes no further
