@@ -1,6 +1,6 @@
 -- Rules that do the same lead on to the same and end the line at the same places, so a rule is passed over where one that does the same was
 -- looked at.
-use Rattle.std.proofs.Common.{◌≡◌, inl, inr, ℕ, ◌+◌, ◌<◌, ◌≤◌, ◌↔◌, Bool, IsTrue, List, [], ◌∷◌, ◌++◌, length, take, drop, get_or, All, Contains, refl, sym, ap, subst, ◌∙◌}
+use Rattle.std.proofs.Common.{◌≡◌, inl, inr, ℕ, ◌+◌, ◌<◌, ◌↔◌, Bool, List, [], ◌∷◌, ◌++◌, length, take, drop, get_or, All, Contains, refl, sym, ap, subst, ◌∙◌}
 use Rattle.std.proofs.lemmas.List.{take_more}
 use Rattle.std.proofs.lemmas.List.Elements.{All-contains, All-take, Contains-append_left, Contains-push_cases}
 use Rattle.text_definitions.specs.Lines.{Line}
@@ -13,11 +13,10 @@ use Rattle.derivation.specs.declared.entrance.Entrance.{Entrance}
 use Rattle.annotated_trie.specs.Searched.{SearchedLexicon}
 use Rattle.search_frames.specs.declared.configuration.Configuration.{Configuration}
 use Rattle.search_frames.specs.declared.letter_testing.LetterTest.TheVariants as test
-use Rattle.search_frames.specs.Ahead.{FitsPlace, MayBegin, RuleEnds, RuleLeadsTo, RuleStands}
+use Rattle.search_frames.specs.Ahead.{MayBegin, RuleEnds, RuleLeadsTo, RuleStands}
 use Rattle.search_frames.specs.Configurations.{IsPossible, rules_in}
 use Rattle.search_frames.specs.Frames.{numbered_of}
-use Rattle.search_frames.specs.LetterTests.{MayLeadTo}
-use Rattle.search_frames.proofs.AheadTests.{rule_does}
+use Rattle.search_frames.specs.LetterTests.{DoAsRules, MayLeadTo}
 use Rattle.summary_chart.specs.declared.memo.Work.{Work}
 use Rattle.summary_chart.specs.declared.state_set.StateSet.{StateSet}
 use Rattle.summary_chart.specs.declared.table.Table.{Table}
@@ -95,11 +94,9 @@ module _ (rules : List ℕ) (count rule : ℕ) (low : count < length rules) (is 
     ]),
   )
 
-  -- at a place that all keys with the front fit
+  -- at a place where all keys with the front do what their rules do
   module _ (searched : SearchedLexicon) (line : Line) (choices : List Choice) (place : Configuration) (after : StateSet) (phase taken : ℕ) (may_end : Bool)
-      (says : IsTrue may_end ↔ All (λ blank. blank ≤ place.at) line.blanks) (begins : MayBegin (numbered_of searched place).entrance phase)
-      (fits : (key : Key) → key.taken ≡ taken → IsPossible searched line (numbered_of searched place) key
-      → MayBegin (numbered_of searched place).entrance key.phase → FitsPlace searched line choices (numbered_of searched place) key)
+      (begins : MayBegin (numbered_of searched place).entrance phase) (does : DoAsRules searched line choices (numbered_of searched place) taken may_end)
       (some : All (λ r. 0 < r) rules)
       (possible : All (λ r. IsPossible searched line (numbered_of searched place) (key_with phase taken r)) rules) where
     put_alike : DoSame (rules_in searched) one rule → 0 < rule → (next : Configuration)
@@ -114,7 +111,7 @@ module _ (rules : List ℕ) (count rule : ℕ) (low : count < length rules) (is 
         let led = leads_alike (rules_in searched) line (place.at + taken) phase one rule same next.at next.entrance
         (leads_by_rule searched line choices place (key_with phase taken rule) next.at next.entrance above put.leads) in
         let may : MayLeadTo searched line choices here key next.at next.entrance =
-        rule_does searched line choices here key may_end says (test.LeadsOn next.at next.entrance) some_one (fits key refl possible_one begins) led in
+        does key (test.LeadsOn next.at next.entrance) refl some_one possible_one begins led in
         record { leads = may; number = put.number; has = put.has; is = put.is }
 
     pub spread_passed : DoSame (rules_in searched) one rule → 0 < rule → (old new : Table)

@@ -1,6 +1,6 @@
 -- After which states the line goes on by keys of a place, whatever state comes before (`VisitedKeys`): by one key as its test tells, and by those
--- with a front where each key fits the place. From these the states before a phase are told that go further by it.
-use Rattle.std.proofs.Common.{◌≡◌, ◌⊎◌, inl, inr, ℕ, ◌+◌, ◌<◌, ◌↔◌, IsTrue, Option, Some, None, List, length, Contains, refl, sym, ap, subst, ◌∙◌, arith}
+-- with a front where each key does what its rule does. From these the states before a phase are told that go further by it.
+use Rattle.std.proofs.Common.{◌≡◌, ◌⊎◌, inl, inr, ℕ, ◌+◌, ◌<◌, ◌↔◌, Bool, true, false, IsTrue, Option, Some, None, List, length, Contains, refl, sym, ap, subst, ◌∙◌, arith}
 use Rattle.std.proofs.lemmas.Bool.{cases_lt}
 use Rattle.text_definitions.specs.Lines.{Line}
 use Rattle.lexicon_definitions.specs.Leads.{leads_of}
@@ -12,14 +12,13 @@ use Rattle.derivation.specs.declared.entrance.Entrance.{Entrance}
 use Rattle.answer_paths.specs.Following.{MayStand, step_at}
 use Rattle.annotated_trie.specs.Choices.{choices_of}
 use Rattle.annotated_trie.specs.Searched.{SearchedLexicon, IsSearchedLexicon}
-use Rattle.search_frames.specs.declared.ahead.Ahead.{Ahead}
 use Rattle.search_frames.specs.declared.configuration.Configuration.{Configuration}
 use Rattle.search_frames.specs.declared.letter_testing.LetterTest.TheVariants as test
-use Rattle.search_frames.specs.Ahead.{IsAhead, FitsPlace, MayBegin, RuleLeadsTo, RuleEnds}
+use Rattle.search_frames.specs.Ahead.{MayBegin, RuleFails, RuleLeadsTo, RuleEnds}
 use Rattle.search_frames.specs.Configurations.{NumberedConfiguration, IsPossible, rules_in}
 use Rattle.search_frames.specs.Frames.{IsConfigurationIn, numbered_of}
-use Rattle.search_frames.specs.LetterTests.{MayEndLine, MayLeadTo, MayNeither}
-use Rattle.search_frames.proofs.AheadTests.{entrance_changed, rule_does}
+use Rattle.search_frames.specs.LetterTests.{DoAsRules, MayEndLine, MayLeadTo, MayNeither}
+use Rattle.search_frames.proofs.AheadTests.{entrance_changed}
 use Rattle.search_frames.proofs.ConfigurationRanks.{not_both_ways}
 use Rattle.summary_chart.specs.declared.state_set.StateSet.{StateSet}
 use Rattle.summary_chart.specs.declared.table.Table.{Table}
@@ -212,7 +211,7 @@ module _ (searched : SearchedLexicon) (line : Line) (choices : List Choice) (pla
       ],
     )
 
-  -- ---- a front at which each key fits the place
+  -- ---- a front at which each key does what its rule does
 
   module _ (is : IsSearchedLexicon searched) (phase taken node : ℕ) (front : IsFrontAt searched line (numbered_of searched place) phase taken node) where
     -- no change, and then the choices of the node
@@ -244,18 +243,29 @@ module _ (searched : SearchedLexicon) (line : Line) (choices : List Choice) (pla
           ]),
     )
 
-    module _ (ahead : Ahead) (is_ahead : IsAhead (rules_in searched) line place.at (numbered_of searched place).entrance ahead) where
+    module _ (ending : Bool) (does : DoAsRules searched line choices (numbered_of searched place) taken ending)
+        (begins : MayBegin (numbered_of searched place).entrance phase) where
+      -- where a key with a rule ends the line, the line may end there, since else the rule does nothing there
+      line_may_end : (may : Bool) → DoAsRules searched line choices (numbered_of searched place) taken may → (rule : ℕ) → 0 < rule
+          → MayEndLine searched line choices (numbered_of searched place) (key_with phase taken rule) → IsTrue may
+      line_may_end true is_so rule some ends = refl
+      line_may_end false is_so rule some ends =
+          let stands = ends.stands in
+          let fails : RuleFails (rules_in searched) line (place.at + taken) false phase rule =
+          record { leads = λ there inner. inner (ends.final_rule some); ends = λ ended. (let may = ended.may in absurd (cc)) } in
+          absurd ((is_so (key_with phase taken rule) test.Refused refl some (record { number = stands.number; within = stands.within; form = stands.form }) begins fails).ends ends)
+
       -- what a key with a choice does, its rule does
       rule_lives : (rule number : ℕ) → 0 < rule → LivesByKey searched line choices (numbered_of searched place) table (key_with phase taken rule) number
           → ((at : ℕ) × (entrance : Entrance) × RuleLeadsTo (rules_in searched) line (place.at + taken) phase rule at entrance × IsIn table (place_with at entrance number))
-          ⊎ (RuleEnds (rules_in searched) line (place.at + taken) ahead.may_end phase rule × IsTrue (is_accepting searched.machine (Some number)))
+          ⊎ (RuleEnds (rules_in searched) line (place.at + taken) ending phase rule × IsTrue (is_accepting searched.machine (Some number)))
       rule_lives rule number some (inl ends) =
           let may = ends.0 in
-          let ended : RuleEnds (rules_in searched) line (place.at + taken) ahead.may_end phase rule = record {
+          let ended : RuleEnds (rules_in searched) line (place.at + taken) ending phase rule = record {
             stands = record { follows = may.stands.follows some; written = may.stands.written };
             final_rule = may.final_rule some;
             all = may.all;
-            may = is_ahead.ending.1 may.blanks_before;
+            may = line_may_end ending does rule some may;
           } in
           inr (ended, ends.1)
       rule_lives rule number some (inr leads) =
@@ -271,25 +281,23 @@ module _ (searched : SearchedLexicon) (line : Line) (choices : List Choice) (pla
           inl (leads.0, leads.1, led, leads.3)
 
       -- so the states that live by the choices are those after which the line goes on by keys with them
-      pub living_by_choices : (fits : (key : Key) → key.taken ≡ taken → IsPossible searched line (numbered_of searched place) key
-          → MayBegin (numbered_of searched place).entrance key.phase → FitsPlace searched line choices (numbered_of searched place) key)
-          → MayBegin (numbered_of searched place).entrance phase → (living : StateSet)
-          → ((number : ℕ) → HasState living number ↔ LivesBy searched line table (record { node = node; end = place.at + taken; may_end = ahead.may_end; phase = phase })
+      pub living_by_choices : (living : StateSet)
+          → ((number : ℕ) → HasState living number ↔ LivesBy searched line table (record { node = node; end = place.at + taken; may_end = ending; phase = phase })
           (Contains (choices_of searched.tries node)) number)
           → AreLivingBy searched line choices (numbered_of searched place) table (IsByRule phase taken (choices_of searched.tries node)) living
-      living_by_choices fits begins living lives number = (
+      living_by_choices living lives number = (
         λ has.
             let here = numbered_of searched place in
             let by = (lives number).0 has in
             let rule = by.0 in
             let key = key_with phase taken rule in
             let some = (choice_number searched node rule is (front_node searched is line here phase taken node front) by.1).0 in
-            let fit = fits key refl (choice_possible searched is line here phase taken node front rule by.1) begins in (
+            let possible = choice_possible searched is line here phase taken node front rule by.1 in (
               key,
               (refl, refl, by.1),
               elim by.2 [
-                | inl led ↦ inr (led.0, led.1, rule_does searched line choices here key ahead.may_end is_ahead.ending (test.LeadsOn led.0 led.1) some fit led.2, led.3)
-                | inr ended ↦ inl (rule_does searched line choices here key ahead.may_end is_ahead.ending test.Ends some fit ended.0, ended.1)
+                | inl led ↦ inr (led.0, led.1, does key (test.LeadsOn led.0 led.1) refl some possible begins led.2, led.3)
+                | inr ended ↦ inl (does key test.Ends refl some possible begins ended.0, ended.1)
               ],
             ),
         λ goes.

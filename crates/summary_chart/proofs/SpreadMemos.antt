@@ -1,6 +1,6 @@
 -- What the memo of a pass keeps of rules that were spread: it stays so while the table grows, what it has is there already, and what was
--- spread at a place that every key fits serves wherever a form ends so.
-use Rattle.std.proofs.Common.{◌≡◌, ◌⊎◌, inl, inr, ℕ, ◌+◌, ◌<◌, ◌≤◌, ◌↔◌, Bool, IsTrue, List, length, get_or, All, Contains, refl, sym, ap, subst, ◌∙◌}
+-- spread at a place where each key does what its rule does serves wherever a form ends so.
+use Rattle.std.proofs.Common.{◌≡◌, ◌⊎◌, inl, inr, ℕ, ◌+◌, ◌<◌, ◌↔◌, Bool, List, length, get_or, Contains, refl, sym, ap, subst, ◌∙◌}
 use Rattle.std.proofs.lemmas.List.Elements.{All-contains, All-filter}
 use Rattle.list_laws.proofs.Sorted.{All-from_Contains}
 use Rattle.text_definitions.specs.Lines.{Line}
@@ -12,11 +12,11 @@ use Rattle.annotated_trie.specs.Searched.{SearchedLexicon, IsSearchedLexicon}
 use Rattle.answer_paths.specs.Following.{step_at}
 use Rattle.search_frames.specs.declared.configuration.Configuration.{Configuration}
 use Rattle.search_frames.specs.declared.letter_testing.LetterTest.TheVariants as test
-use Rattle.search_frames.specs.Ahead.{FitsPlace, MayBegin, RuleLeadsTo}
-use Rattle.search_frames.specs.Configurations.{IsPossible, rules_in}
+use Rattle.search_frames.specs.Ahead.{MayBegin, RuleLeadsTo}
+use Rattle.search_frames.specs.Configurations.{rules_in}
 use Rattle.search_frames.specs.Frames.{numbered_of}
-use Rattle.search_frames.specs.LetterTests.{MayLeadTo}
-use Rattle.search_frames.proofs.AheadTests.{entrance_changed, rule_does}
+use Rattle.search_frames.specs.LetterTests.{DoAsRules, MayLeadTo}
+use Rattle.search_frames.proofs.AheadTests.{entrance_changed}
 use Rattle.summary_chart.specs.declared.memo.Done.{Done}
 use Rattle.summary_chart.specs.declared.memo.Memo.{Memo}
 use Rattle.summary_chart.specs.declared.memo.Work.{Work}
@@ -129,19 +129,17 @@ module _ (searched : SearchedLexicon) (line : Line) (choices : List Choice) (pla
             let there = there_if_spread searched line table done work key.rule next.at put.number next.entrance (are.spread done known) same among by_phase has_number in
             subst (IsIn table) (λ i. record { at = next.at; entrance = next.entrance; state = sym put.is i }) there
 
-    -- where every key with this front fits the place, each of its rules that leads on was put into the table with the states that come after it
+    -- where every key with this front does what its rule does, each of its rules that leads on was put into the table with the states that come after it
     pub newly_spread : (mid new : Table) (memo : Memo) (known all : StateSet) (may_end : Bool)
-        → (IsTrue may_end ↔ All (λ blank. blank ≤ place.at) line.blanks)
         → letter ≡ get_or line.letters (place.at + taken) letter
         → MayBegin (numbered_of searched place).entrance work.phase
-        → ((key : Key) → key.taken ≡ taken → IsPossible searched line (numbered_of searched place) key → MayBegin (numbered_of searched place).entrance key.phase
-        → FitsPlace searched line choices (numbered_of searched place) key)
+        → DoAsRules searched line choices (numbered_of searched place) taken may_end
         → AreSpread searched line mid memo
         → ((number : ℕ) → HasState known number → IsKnownWith searched.tries memo work number)
         → ((number : ℕ) → HasState all number ↔ (HasState known number ⊎ HasState after number))
         → Puts searched line choices (numbered_of searched place) after (IsByRule work.phase taken (choices_with searched.tries work.node letter)) mid new
         → IsSpread searched line new (record { work = work; states = all })
-    newly_spread mid new memo known all may_end says next begins fits are has union puts rule at number entrance among leads in_all =
+    newly_spread mid new memo known all may_end next begins does are has union puts rule at number entrance among leads in_all =
         elim ((union number).0 in_all) [
           | inl before ↦
               let (done, is_known, same, had) = has number before in
@@ -153,8 +151,7 @@ module _ (searched : SearchedLexicon) (line : Line) (choices : List Choice) (pla
               let some = choice_numbered searched work.node rule is (front_node searched is line here work.phase taken work.node front) among in
               let possible = choice_possible searched is line here work.phase taken work.node front rule among in
               let by_end = subst (λ (e : ℕ). RuleLeadsTo (rules_in searched) line e work.phase rule at entrance) end leads in
-              let may : MayLeadTo searched line choices here key at entrance =
-              rule_does searched line choices here key may_end says (test.LeadsOn at entrance) some (fits key refl possible begins) by_end in
+              let may : MayLeadTo searched line choices here key at entrance = does key (test.LeadsOn at entrance) refl some possible begins by_end in
               let written = among_written searched is line here work.phase taken work.node front choices rule some may.may.stands letter next possible in
               puts.adds key (place_with at entrance number) (refl, refl, written) (record { leads = may; number = number; has = now; is = refl })
         ]

@@ -252,14 +252,14 @@ fn living_at_front<L>(
     let Some(letter) = line.letters.as_slice().get(end as usize) else {
         return Ok(unchanged);
     };
-    if !ahead.fits_all(lexicon, line, choices, place, front.taken) {
+    let Some(may_end) = ahead.end_by_rules(lexicon, line, choices, place, front.taken) else {
         let rules = lexicon.tries().choices_with(front.node, *letter, steps);
         return Ok(unchanged.union(living_by_all(here, front, rules, table, steps)));
-    }
+    };
     let work = Work {
         node: front.node,
         end,
-        may_end: ahead.may_end,
+        may_end,
         phase: front.phase,
     };
     let changed = living_after(here.site, &work, *letter, table, memo, steps)?;

@@ -1,7 +1,6 @@
-ghost use Rattle.std.specs.Prelude.{◌≡◌, ◌+◌, ◌*◌, ◌<◌, ◌≤◌, ℕ, length, slice_index_or, All, OnOk};
-ghost use Rattle.segmentation_definitions.specs.Listings.{Key as KeyValue};
+ghost use Rattle.std.specs.Prelude.{◌≡◌, ◌+◌, ◌*◌, ◌<◌, ◌≤◌, ℕ, Bool, length, slice_index_or, All, OnOk};
 ghost use Rattle.derivation.specs.Steps.{key_meant};
-ghost use Rattle.search_frames.specs.Ahead.{FitsPlace, MayBegin};
+ghost use Rattle.search_frames.specs.LetterTests.{DoAsRules};
 ghost use Rattle.search_frames.specs.Frames.{numbered_of};
 ghost use Rattle.search_frames.specs.Configurations.{IsPossible};
 ghost use Rattle.search_frames.specs.Costs.{HasAtMostRules};
@@ -91,7 +90,8 @@ fn spread_rules<L>(
     }
 }
 
-/// The same where every key with this front fits the place: of rules that do the same, one is looked at. Refused only for want of memory.
+/// The same where every key with this front does at the place what its rule does: of rules that do the same, one is looked at. Refused only
+/// for want of memory.
 fn spread_effects<L>(
     onward: Onward<'_>,
     front: &Front,
@@ -104,7 +104,7 @@ fn spread_effects<L>(
     requires limit { onward.here.site.place.now.at + front.now.taken ≤ onward.here.ahead.limit }
     requires rules { All (λ rule. 0 < rule) rules.now }
     requires possible { All (λ rule. IsPossible onward.here.site.lexicon.now onward.here.site.line.now (numbered_of onward.here.site.lexicon.now onward.here.site.place.now) (record { phase = front.now.phase; taken = front.now.taken; rule = rule })) rules.now }
-    requires fits { (key : KeyValue) → key.taken ≡ front.now.taken → IsPossible onward.here.site.lexicon.now onward.here.site.line.now (numbered_of onward.here.site.lexicon.now onward.here.site.place.now) key → MayBegin (numbered_of onward.here.site.lexicon.now onward.here.site.place.now).entrance key.phase → FitsPlace onward.here.site.lexicon.now onward.here.site.line.now onward.here.site.choices.now (numbered_of onward.here.site.lexicon.now onward.here.site.place.now) key }
+    requires does { (may_end : Bool) × DoAsRules onward.here.site.lexicon.now onward.here.site.line.now onward.here.site.choices.now (numbered_of onward.here.site.lexicon.now onward.here.site.place.now) front.now.taken may_end }
     requires table { IsTable (leads_in onward.here.site.lexicon.now) (length onward.here.site.line.now.letters) table.old }
     requires effects { AreEffects onward.here.site.lexicon.now.lexicon.rules effects.old }
     ensures effects { OnOk result (AreEffects onward.entry.here.site.lexicon.now.lexicon.rules effects.new) }
@@ -150,15 +150,12 @@ fn spread_unchanged(onward: Onward<'_>, front: &Front, table: &mut Table)
     spread_key(onward, key, table);
 }
 
-/// The states that the work gave, if the memo keeps this and it serves here; else none.
-fn known_states(tries: &Annotated, memo: &Memo, work: &Work, serves: bool) -> StateSet
+/// The states that the work gave, if the memo keeps this; else none.
+fn known_states(tries: &Annotated, memo: &Memo, work: &Work) -> StateSet
     requires node { work.now.node < length tries.now.trie.rows }
     requires nodes { HasNodes tries.now memo.now }
     ensures { (number : ℕ) → HasState result number → IsKnownWith tries.now memo.now work.now number }
 {
-    if !serves {
-        return StateSet::empty();
-    }
     match memo.get(tries, work) {
         Some(states) => states,
         None => StateSet::empty(),
@@ -195,23 +192,23 @@ fn spread_changed<L>(
     } = onward.here.site;
     let ahead = onward.here.ahead;
     let tries = lexicon.tries();
+    let Some(may_end) = ahead.end_by_rules(lexicon, line, choices, place, front.taken) else {
+        let rules = tries.choices_with(front.node, letter, steps);
+        spread_rules(onward, front, rules, table, steps);
+        return Ok(());
+    };
     let work = Work {
         node: front.node,
         end: place.at + front.taken,
-        may_end: ahead.may_end,
+        may_end,
         phase: front.phase,
     };
-    let shares = ahead.fits_all(lexicon, line, choices, place, front.taken);
-    let known = known_states(tries, memo, &work, shares);
+    let known = known_states(tries, memo, &work);
     let all = known.union(onward.after);
     if all == known {
         return Ok(());
     }
     let rules = tries.choices_with(front.node, letter, steps);
-    if !shares {
-        spread_rules(onward, front, rules, table, steps);
-        return Ok(());
-    }
     spread_effects(onward, front, rules, table, &mut memo.effects, steps)?;
     memo.keep(tries, &work, all)?;
     Ok(())

@@ -1,7 +1,6 @@
--- What may stand after the front is no change, and the choices that begin with the next letter (`VisitedKeys`); where each key fits the
--- place, the line goes on by these just as it does wherever the form begins (`LivingVisits`).
+-- What may stand after the front is no change, and the choices that begin with the next letter (`VisitedKeys`); where each key
+-- does what its rule does, the line goes on by these just as it does wherever the form begins (`LivingVisits`).
 use Rattle.std.proofs.Common.{◌≡◌, ℕ, ◌+◌, ◌<◌, List, length, All, get_or, sym, ap, subst, ◌∙◌, arith}
-use Rattle.std.proofs.lemmas.Bool.{OnTrue_at}
 use Rattle.text_definitions.specs.Lines.{Line as LineValue}
 use Rattle.segmentation_definitions.specs.Items.{Choice}
 use Rattle.segmentation_definitions.specs.Listings.{Key}
@@ -67,8 +66,8 @@ living_by_all-requires-clause-possible g c =
     subst (All (λ (rule : ℕ). IsPossible searched line here (key_with front.phase front.taken rule))) (sym rules)
     (choices_possible searched c.requires.here.site.searched line here front.phase front.taken front.node c.requires.front letter)
 
-pub returns-then-not-fits_all-clause-living : goal.returns-then-not-fits_all-clause-living
-returns-then-not-fits_all-clause-living g c =
+pub returns-in_default-end_by_rules-clause-living : goal.returns-in_default-end_by_rules-clause-living
+returns-in_default-end_by_rules-clause-living g c =
     let searched = c.args.here.site.lexicon.now in
     let front = c.args.front.now in
     let line = c.args.here.site.line.now in
@@ -91,8 +90,8 @@ returns-then-not-fits_all-clause-living g c =
     (subst (λ (some : List ℕ). AreLivingBy searched line choices (numbered_of searched place) c.args.table.now (IsByRule front.phase front.taken some) c.living_by_all.result)
     rules c.living_by_all.ensures.living) c.union.ensures))
 
-pub returns-then-not-fits_all-clause-steps : goal.returns-then-not-fits_all-clause-steps
-returns-then-not-fits_all-clause-steps g c most few =
+pub returns-in_default-end_by_rules-clause-steps : goal.returns-in_default-end_by_rules-clause-steps
+returns-in_default-end_by_rules-clause-steps g c most few =
     let searched = c.args.here.site.lexicon.now in
     let front = c.args.front.now in
     let letter = c.in-Some.letter.now in
@@ -125,7 +124,7 @@ returns-clause-living g c =
     living_shared searched line choices place table c.requires.here.site.searched front.phase front.taken front.node c.requires.front
     c.living_unchanged-unchanged.result changed c.union-2.result c.living_unchanged-unchanged.ensures
     (living_by_choices searched line choices place table c.requires.here.site.searched front.phase front.taken front.node c.requires.front
-    c.args.here.ahead c.requires.here.ahead (OnTrue_at c.if-not-fits_all.false c.fits_all.ensures) c.requires.begins changed c.in_ok-changed.ensures.living)
+    c.in-Some-end_by_rules.may_end c.in-Some-end_by_rules.ensures c.requires.begins changed c.in_ok-changed.ensures.living)
     c.union-2.ensures
 
 pub returns-clause-steps : goal.returns-clause-steps

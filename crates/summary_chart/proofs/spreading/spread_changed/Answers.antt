@@ -1,4 +1,5 @@
--- What the memo has is in the table already; what is put there serves wherever a form ends so, if every key fits the place (`SpreadMemos`).
+-- What the memo has is in the table already; what is put there serves wherever a form ends so, if every key does what its rule does
+-- (`SpreadMemos`).
 use Rattle.std.proofs.Common.{◌≡◌, ℕ, ◌+◌, ◌<◌, refl, inr, List, length, All, ap, sym, subst, ◌∙◌, arith, rules}
 use Rattle.list_laws.proofs.Sorted.{All-from_Contains}
 use Rattle.annotated_trie.specs.Choices.{AnnotatedTrie, choices_with}
@@ -22,7 +23,7 @@ known_states-known-requires-clause-node g c =
     let work : Work = record {
       node = c.args.front.now.node;
       end = c.args.onward.here.site.place.now.at + c.args.front.now.taken;
-      may_end = c.args.onward.here.ahead.may_end;
+      may_end = c.in-Some.may_end;
       phase = c.args.front.now.phase;
     } in
     subst (λ (t : AnnotatedTrie). work.node < length t.trie.rows) (sym c.tries-tries.ensures.value)
@@ -35,30 +36,24 @@ known_states-known-requires-clause-nodes g c =
 pub choices_with-rules-requires : goal.choices_with-rules-requires
 choices_with-rules-requires g c =
     let searched = c.args.onward.here.site.lexicon.now in
-    let work : Work = record {
-      node = c.args.front.now.node;
-      end = c.args.onward.here.site.place.now.at + c.args.front.now.taken;
-      may_end = c.args.onward.here.ahead.may_end;
-      phase = c.args.front.now.phase;
-    } in
-    subst (λ (t : AnnotatedTrie). work.node < length t.trie.rows) (sym c.tries-tries.ensures.value)
-    (front_node searched c.requires.onward.here.site.searched c.args.onward.here.site.line.now (numbered_of searched c.args.onward.here.site.place.now) work.phase c.args.front.now.taken work.node c.requires.front)
+    subst (λ (t : AnnotatedTrie). c.args.front.now.node < length t.trie.rows) (sym c.tries-tries.ensures.value)
+    (front_node searched c.requires.onward.here.site.searched c.args.onward.here.site.line.now (numbered_of searched c.args.onward.here.site.place.now) c.args.front.now.phase c.args.front.now.taken c.args.front.now.node c.requires.front)
+
+pub choices_with-rules-requires-2 : goal.choices_with-rules-requires-2
+choices_with-rules-requires-2 g c =
+    let searched = c.args.onward.here.site.lexicon.now in
+    subst (λ (t : AnnotatedTrie). c.args.front.now.node < length t.trie.rows) (sym c.tries-tries.ensures.value)
+    (front_node searched c.requires.onward.here.site.searched c.args.onward.here.site.line.now (numbered_of searched c.args.onward.here.site.place.now) c.args.front.now.phase c.args.front.now.taken c.args.front.now.node c.requires.front)
 
 pub spread_rules-requires-clause-possible : goal.spread_rules-requires-clause-possible
 spread_rules-requires-clause-possible g c =
     let searched = c.args.onward.here.site.lexicon.now in
     let line = c.args.onward.here.site.line.now in
-    let work : Work = record {
-      node = c.args.front.now.node;
-      end = c.args.onward.here.site.place.now.at + c.args.front.now.taken;
-      may_end = c.args.onward.here.ahead.may_end;
-      phase = c.args.front.now.phase;
-    } in
     let here = numbered_of searched c.args.onward.here.site.place.now in
-    let rules : c.choices_with-rules.result.now ≡ choices_with searched.tries work.node c.args.letter =
-    c.choices_with-rules.ensures.value ∙ ap (λ (t : AnnotatedTrie). choices_with t work.node c.args.letter) c.tries-tries.ensures.value in
-    subst (All (λ (rule : ℕ). IsPossible searched line here (key_with work.phase c.args.front.now.taken rule))) (sym rules)
-    (choices_possible searched c.requires.onward.here.site.searched line here work.phase c.args.front.now.taken work.node c.requires.front c.args.letter)
+    let rules : c.choices_with-rules.result.now ≡ choices_with searched.tries c.args.front.now.node c.args.letter =
+    c.choices_with-rules.ensures.value ∙ ap (λ (t : AnnotatedTrie). choices_with t c.args.front.now.node c.args.letter) c.tries-tries.ensures.value in
+    subst (All (λ (rule : ℕ). IsPossible searched line here (key_with c.args.front.now.phase c.args.front.now.taken rule))) (sym rules)
+    (choices_possible searched c.requires.onward.here.site.searched line here c.args.front.now.phase c.args.front.now.taken c.args.front.now.node c.requires.front c.args.letter)
 
 pub spread_effects-requires-clause-possible : goal.spread_effects-requires-clause-possible
 spread_effects-requires-clause-possible g c =
@@ -67,12 +62,12 @@ spread_effects-requires-clause-possible g c =
     let work : Work = record {
       node = c.args.front.now.node;
       end = c.args.onward.here.site.place.now.at + c.args.front.now.taken;
-      may_end = c.args.onward.here.ahead.may_end;
+      may_end = c.in-Some.may_end;
       phase = c.args.front.now.phase;
     } in
     let here = numbered_of searched c.args.onward.here.site.place.now in
-    let rules : c.choices_with-rules.result.now ≡ choices_with searched.tries work.node c.args.letter =
-    c.choices_with-rules.ensures.value ∙ ap (λ (t : AnnotatedTrie). choices_with t work.node c.args.letter) c.tries-tries.ensures.value in
+    let rules : c.choices_with-rules-2.result.now ≡ choices_with searched.tries work.node c.args.letter =
+    c.choices_with-rules-2.ensures.value ∙ ap (λ (t : AnnotatedTrie). choices_with t work.node c.args.letter) c.tries-tries.ensures.value in
     subst (All (λ (rule : ℕ). IsPossible searched line here (key_with work.phase c.args.front.now.taken rule))) (sym rules)
     (choices_possible searched c.requires.onward.here.site.searched line here work.phase c.args.front.now.taken work.node c.requires.front c.args.letter)
 
@@ -82,11 +77,11 @@ spread_effects-requires-clause-rules g c =
     let work : Work = record {
       node = c.args.front.now.node;
       end = c.args.onward.here.site.place.now.at + c.args.front.now.taken;
-      may_end = c.args.onward.here.ahead.may_end;
+      may_end = c.in-Some.may_end;
       phase = c.args.front.now.phase;
     } in
-    let rules : c.choices_with-rules.result.now ≡ choices_with searched.tries work.node c.args.letter =
-    c.choices_with-rules.ensures.value ∙ ap (λ (t : AnnotatedTrie). choices_with t work.node c.args.letter) c.tries-tries.ensures.value in
+    let rules : c.choices_with-rules-2.result.now ≡ choices_with searched.tries work.node c.args.letter =
+    c.choices_with-rules-2.ensures.value ∙ ap (λ (t : AnnotatedTrie). choices_with t work.node c.args.letter) c.tries-tries.ensures.value in
     let there = front_node searched c.requires.onward.here.site.searched c.args.onward.here.site.line.now (numbered_of searched c.args.onward.here.site.place.now) work.phase c.args.front.now.taken work.node c.requires.front in
     subst (All (λ (rule : ℕ). 0 < rule)) (sym rules)
     (All-from_Contains (λ (rule : ℕ). 0 < rule) (choices_with searched.tries work.node c.args.letter)
@@ -98,7 +93,7 @@ keep-requires g c =
     let work : Work = record {
       node = c.args.front.now.node;
       end = c.args.onward.here.site.place.now.at + c.args.front.now.taken;
-      may_end = c.args.onward.here.ahead.may_end;
+      may_end = c.in-Some.may_end;
       phase = c.args.front.now.phase;
     } in
     subst (λ (t : AnnotatedTrie). work.node < length t.trie.rows) (sym c.tries-tries.ensures.value)
@@ -111,7 +106,7 @@ returns-then-eq-clause-spreads g c =
     let work : Work = record {
       node = c.args.front.now.node;
       end = c.args.onward.here.site.place.now.at + c.args.front.now.taken;
-      may_end = c.args.onward.here.ahead.may_end;
+      may_end = c.in-Some.may_end;
       phase = c.args.front.now.phase;
     } in
     let has : (number : ℕ) → HasState c.known_states-known.result number → IsKnownWith searched.tries memo work number =
@@ -121,8 +116,8 @@ returns-then-eq-clause-spreads g c =
     c.requires.front c.args.onward.after c.args.table.now memo c.requires.memo
     (λ number in_after. has number (subst (λ (set : StateSet). HasState set number) same ((c.union-all.ensures number).1 (inr in_after))))
 
-pub returns-then-not-shares-clause-memo : goal.returns-then-not-shares-clause-memo
-returns-then-not-shares-clause-memo g c =
+pub returns-in_default-clause-memo : goal.returns-in_default-clause-memo
+returns-in_default-clause-memo g c =
     all_grown c.args.onward.here.site.lexicon.now c.args.onward.here.site.line.now c.args.table.now c.spread_rules.new.table c.args.memo.now c.spread_rules.ensures.spreads.keeps c.requires.memo
 
 pub returns-clause-memo : goal.returns-clause-memo
@@ -134,27 +129,27 @@ returns-clause-memo g c =
     let work : Work = record {
       node = c.args.front.now.node;
       end = c.args.onward.here.site.place.now.at + c.args.front.now.taken;
-      may_end = c.args.onward.here.ahead.may_end;
+      may_end = c.in-Some.may_end;
       phase = c.args.front.now.phase;
     } in
     let old = c.args.table.now in
     let new = c.spread_effects.new.table in
     let has : (number : ℕ) → HasState c.known_states-known.result number → IsKnownWith searched.tries memo work number =
     λ number in_known. subst (λ (t : AnnotatedTrie). IsKnownWith t memo work number) c.tries-tries.ensures.value (c.known_states-known.ensures number in_known) in
-    let rules : c.choices_with-rules.result.now ≡ choices_with searched.tries work.node c.args.letter =
-    c.choices_with-rules.ensures.value ∙ ap (λ (t : AnnotatedTrie). choices_with t work.node c.args.letter) c.tries-tries.ensures.value in
+    let rules : c.choices_with-rules-2.result.now ≡ choices_with searched.tries work.node c.args.letter =
+    c.choices_with-rules-2.ensures.value ∙ ap (λ (t : AnnotatedTrie). choices_with t work.node c.args.letter) c.tries-tries.ensures.value in
     let spreads = subst (λ (some : List ℕ). Puts searched line c.args.onward.here.site.choices.now (numbered_of searched place) c.args.onward.after (IsByRule work.phase c.args.front.now.taken some) old new)
     rules (c.in_ok-spread_effects.ensures.spreads) in
     all_with searched line new work c.union-all.result memo c.keep.new.self c.in_ok-keep.ensures.keeps
     (front_node searched c.requires.onward.here.site.searched line (numbered_of searched place) work.phase c.args.front.now.taken work.node c.requires.front)
     (newly_spread searched line c.args.onward.here.site.choices.now place c.requires.onward.here.site.searched work c.args.front.now.taken c.args.letter refl
-    c.requires.front c.args.onward.after old new memo c.known_states-known.result c.union-all.result c.args.onward.here.ahead.may_end c.requires.onward.here.ahead.ending
-    c.requires.letter c.requires.onward.begins c.if-not-shares.ensures c.requires.memo has c.union-all.ensures spreads)
+    c.requires.front c.args.onward.after old new memo c.known_states-known.result c.union-all.result c.in-Some.may_end
+    c.requires.letter c.requires.onward.begins c.in-Some.ensures c.requires.memo has c.union-all.ensures spreads)
     (subst (AreEffects (rules_in searched)) (sym c.in_ok-keep.ensures.effects) c.in_ok-spread_effects.ensures.effects)
     (all_grown searched line old new memo spreads.keeps c.requires.memo)
 
-pub returns-then-not-shares-clause-spreads : goal.returns-then-not-shares-clause-spreads
-returns-then-not-shares-clause-spreads g c =
+pub returns-in_default-clause-spreads : goal.returns-in_default-clause-spreads
+returns-in_default-clause-spreads g c =
     let searched = c.args.onward.here.site.lexicon.now in
     let place = c.args.onward.here.site.place.now in
     let front = c.args.front.now in
@@ -168,26 +163,20 @@ returns-clause-spreads g c =
     let searched = c.args.onward.here.site.lexicon.now in
     let place = c.args.onward.here.site.place.now in
     let front = c.args.front.now in
-    let rules : c.choices_with-rules.result.now ≡ choices_with searched.tries front.node c.args.letter =
-    c.choices_with-rules.ensures.value ∙ ap (λ (t : AnnotatedTrie). choices_with t front.node c.args.letter) c.tries-tries.ensures.value in
+    let rules : c.choices_with-rules-2.result.now ≡ choices_with searched.tries front.node c.args.letter =
+    c.choices_with-rules-2.ensures.value ∙ ap (λ (t : AnnotatedTrie). choices_with t front.node c.args.letter) c.tries-tries.ensures.value in
     subst (λ (some : List ℕ). Puts searched c.args.onward.here.site.line.now c.args.onward.here.site.choices.now (numbered_of searched place) c.args.onward.after (IsByRule front.phase front.taken some)
     c.args.table.now c.spread_effects.new.table) rules c.in_ok-spread_effects.ensures.spreads
 
-pub returns-then-not-shares-clause-steps : goal.returns-then-not-shares-clause-steps
-returns-then-not-shares-clause-steps g c most few =
+pub returns-in_default-clause-steps : goal.returns-in_default-clause-steps
+returns-in_default-clause-steps g c most few =
     let searched = c.args.onward.here.site.lexicon.now in
-    let work : Work = record {
-      node = c.args.front.now.node;
-      end = c.args.onward.here.site.place.now.at + c.args.front.now.taken;
-      may_end = c.args.onward.here.ahead.may_end;
-      phase = c.args.front.now.phase;
-    } in
-    let rules : c.choices_with-rules.result.now ≡ choices_with searched.tries work.node c.args.letter =
-    c.choices_with-rules.ensures.value ∙ ap (λ (t : AnnotatedTrie). choices_with t work.node c.args.letter) c.tries-tries.ensures.value in
+    let rules : c.choices_with-rules.result.now ≡ choices_with searched.tries c.args.front.now.node c.args.letter =
+    c.choices_with-rules.ensures.value ∙ ap (λ (t : AnnotatedTrie). choices_with t c.args.front.now.node c.args.letter) c.tries-tries.ensures.value in
     let count = ap length rules in
-    let short = few_written searched.tries work.node c.args.letter in
-    let there = front_node searched c.requires.onward.here.site.searched c.args.onward.here.site.line.now (numbered_of searched c.args.onward.here.site.place.now) work.phase c.args.front.now.taken work.node c.requires.front in
-    let all = few work.node there in
+    let short = few_written searched.tries c.args.front.now.node c.args.letter in
+    let there = front_node searched c.requires.onward.here.site.searched c.args.onward.here.site.line.now (numbered_of searched c.args.onward.here.site.place.now) c.args.front.now.phase c.args.front.now.taken c.args.front.now.node c.requires.front in
+    let all = few c.args.front.now.node there in
     omega (arith, c.tick.ensures, c.choices_with-rules.ensures.steps, c.spread_rules.ensures.steps, count, short, all)
 
 pub returns-in_err-keep-clause-steps : goal.returns-in_err-keep-clause-steps
@@ -196,16 +185,16 @@ returns-in_err-keep-clause-steps g c most few =
     let work : Work = record {
       node = c.args.front.now.node;
       end = c.args.onward.here.site.place.now.at + c.args.front.now.taken;
-      may_end = c.args.onward.here.ahead.may_end;
+      may_end = c.in-Some.may_end;
       phase = c.args.front.now.phase;
     } in
-    let rules : c.choices_with-rules.result.now ≡ choices_with searched.tries work.node c.args.letter =
-    c.choices_with-rules.ensures.value ∙ ap (λ (t : AnnotatedTrie). choices_with t work.node c.args.letter) c.tries-tries.ensures.value in
+    let rules : c.choices_with-rules-2.result.now ≡ choices_with searched.tries work.node c.args.letter =
+    c.choices_with-rules-2.ensures.value ∙ ap (λ (t : AnnotatedTrie). choices_with t work.node c.args.letter) c.tries-tries.ensures.value in
     let count = ap length rules in
     let short = few_written searched.tries work.node c.args.letter in
     let there = front_node searched c.requires.onward.here.site.searched c.args.onward.here.site.line.now (numbered_of searched c.args.onward.here.site.place.now) work.phase c.args.front.now.taken work.node c.requires.front in
     let all = few work.node there in
-    omega (arith, c.tick.ensures, c.choices_with-rules.ensures.steps, c.spread_effects.ensures.steps, count, short, all)
+    omega (arith, c.tick.ensures, c.choices_with-rules-2.ensures.steps, c.spread_effects.ensures.steps, count, short, all)
 
 pub returns-in_err-spread_effects-clause-steps : goal.returns-in_err-spread_effects-clause-steps
 returns-in_err-spread_effects-clause-steps g c most few =
@@ -213,16 +202,16 @@ returns-in_err-spread_effects-clause-steps g c most few =
     let work : Work = record {
       node = c.args.front.now.node;
       end = c.args.onward.here.site.place.now.at + c.args.front.now.taken;
-      may_end = c.args.onward.here.ahead.may_end;
+      may_end = c.in-Some.may_end;
       phase = c.args.front.now.phase;
     } in
-    let rules : c.choices_with-rules.result.now ≡ choices_with searched.tries work.node c.args.letter =
-    c.choices_with-rules.ensures.value ∙ ap (λ (t : AnnotatedTrie). choices_with t work.node c.args.letter) c.tries-tries.ensures.value in
+    let rules : c.choices_with-rules-2.result.now ≡ choices_with searched.tries work.node c.args.letter =
+    c.choices_with-rules-2.ensures.value ∙ ap (λ (t : AnnotatedTrie). choices_with t work.node c.args.letter) c.tries-tries.ensures.value in
     let count = ap length rules in
     let short = few_written searched.tries work.node c.args.letter in
     let there = front_node searched c.requires.onward.here.site.searched c.args.onward.here.site.line.now (numbered_of searched c.args.onward.here.site.place.now) work.phase c.args.front.now.taken work.node c.requires.front in
     let all = few work.node there in
-    omega (arith, c.tick.ensures, c.choices_with-rules.ensures.steps, c.spread_effects.ensures.steps, count, short, all)
+    omega (arith, c.tick.ensures, c.choices_with-rules-2.ensures.steps, c.spread_effects.ensures.steps, count, short, all)
 
 pub returns-clause-steps : goal.returns-clause-steps
 returns-clause-steps g c most few =
@@ -230,13 +219,13 @@ returns-clause-steps g c most few =
     let work : Work = record {
       node = c.args.front.now.node;
       end = c.args.onward.here.site.place.now.at + c.args.front.now.taken;
-      may_end = c.args.onward.here.ahead.may_end;
+      may_end = c.in-Some.may_end;
       phase = c.args.front.now.phase;
     } in
-    let rules : c.choices_with-rules.result.now ≡ choices_with searched.tries work.node c.args.letter =
-    c.choices_with-rules.ensures.value ∙ ap (λ (t : AnnotatedTrie). choices_with t work.node c.args.letter) c.tries-tries.ensures.value in
+    let rules : c.choices_with-rules-2.result.now ≡ choices_with searched.tries work.node c.args.letter =
+    c.choices_with-rules-2.ensures.value ∙ ap (λ (t : AnnotatedTrie). choices_with t work.node c.args.letter) c.tries-tries.ensures.value in
     let count = ap length rules in
     let short = few_written searched.tries work.node c.args.letter in
     let there = front_node searched c.requires.onward.here.site.searched c.args.onward.here.site.line.now (numbered_of searched c.args.onward.here.site.place.now) work.phase c.args.front.now.taken work.node c.requires.front in
     let all = few work.node there in
-    omega (arith, c.tick.ensures, c.choices_with-rules.ensures.steps, c.spread_effects.ensures.steps, count, short, all)
+    omega (arith, c.tick.ensures, c.choices_with-rules-2.ensures.steps, c.spread_effects.ensures.steps, count, short, all)
