@@ -14,9 +14,10 @@ use Rattle.list_laws.proofs.Sorted.{All-from_Contains}
 use Rattle.lexicon_definitions.specs.Rules.{no_change}
 use Rattle.lexicon_definitions.specs.Lexicons.{RuleSet, rule_of}
 use Rattle.lexicon_definitions.specs.Tries.{Row, Trie, IsTrie}
-use Rattle.annotated_trie.specs.Choices.{AreChoices, IsAnnotatedTrie, LeadsToEnd, choices_of, first_letter}
+use Rattle.annotated_trie.specs.Choices.{AreChoices, AreParts, IsAnnotatedTrie, LeadsToEnd, choices_of, first_letter, parts_of}
+use Rattle.annotated_trie.specs.RuleParts.{HaveParts}
 use Rattle.annotated_trie.specs.Suffixes.{AreGroups, AreListsFrom, AreNumbers, AreSetsAt}
-use Rattle.annotated_trie.specs.Views.{AreChosen, annotated_with, list_at}
+use Rattle.annotated_trie.specs.Views.{AreChosen, annotated_with, list_at, parts_in}
 
 -- a number that compares as less is less
 lt_from_Less : (x y : ℕ) → nat_cmp x y ≡ Less → x < y
@@ -109,15 +110,23 @@ chosen_few rules rows lists places most are few k d low =
     omega (arith, few, short, same)
 
 -- the trie with the lists at the places has its choices
-pub IsAnnotatedTrie-chosen : (rules : RuleSet) (trie : Trie) (lists : List (Vec ℕ)) (places firsts : List ℕ) → AreChosen rules trie.rows lists places → IsTrie trie → length trie.rows < 2 ^ 32
-    → firsts ≡ map first_letter rules.rules → IsAnnotatedTrie rules (annotated_with trie lists places firsts)
-IsAnnotatedTrie-chosen rules trie lists places firsts are is few are_firsts =
+pub IsAnnotatedTrie-chosen : (rules : RuleSet) (trie : Trie) (lists : List (Vec ℕ)) (places firsts : List ℕ) (part_rules : List (List ℕ)) → AreChosen rules trie.rows lists places → IsTrie trie → length trie.rows < 2 ^ 32
+    → firsts ≡ map first_letter rules.rules → HaveParts part_rules lists → IsAnnotatedTrie rules (annotated_with trie lists places firsts part_rules)
+IsAnnotatedTrie-chosen rules trie lists places firsts part_rules are is few are_firsts have =
+    let tries = annotated_with trie lists places firsts part_rules in
+    let parts_at : ℕ → List ℕ = λ place. parts_in part_rules (list_at lists place) in
+    let here : (node : ℕ) → node < length trie.rows → choices_of tries node ≡ list_at lists (get_or places node 0) =
+    λ node low. let count = are.count in get_or-map (list_at lists) places node 0 [] (omega (arith, low, count)) in
     record {
       trie = is;
       few = few;
-      each = λ node low.
-          let count = are.count in
-          let here : choices_of (annotated_with trie lists places firsts) node ≡ list_at lists (get_or places node 0) = get_or-map (list_at lists) places node 0 [] (omega (arith, low, count)) in
-          subst (AreChoices rules trie.rows node) (sym here) (are.each node low);
+      each = λ node low. subst (AreChoices rules trie.rows node) (sym (here node low)) (are.each node low);
       firsts = are_firsts;
+      parts = λ node low.
+          let count = are.count in
+          let there : node < length places = omega (arith, low, count) in
+          let place = get_or places node 0 in
+          let cut : parts_of tries node ≡ parts_at place = get_or-map parts_at places node 0 [] there in
+          let within : place < length lists = are.within node 0 there in
+          subst (AreParts tries (choices_of tries node)) (sym cut) (subst (λ (list : List ℕ). AreParts tries list (parts_at place)) (sym (here node low)) (have tries place refl within));
     }

@@ -2,17 +2,20 @@
 -- repetitions go.
 use Rattle.std.proofs.Common.{◌≡◌, ℕ, ◌+◌, ◌<◌, ◌≤◌, ◌⊎◌, ◌↔◌, inl, inr, List, [], ◌∷◌, ◌++◌, length, max, get_or, set, eqb, refl, sym, ◌∙◌, ap, subst, arith}
 use Rattle.std.specs.Global.{Vec}
-use Rattle.std.specs.Prelude.{Contains, IsPermutation}
+use Rattle.std.specs.Prelude.{All, Contains, IsPermutation}
 use Rattle.std.specs.Cmp.{unsigned_ties}
+use Rattle.std.specs.declared.cmp.Ordering.TheVariants.{Less}
 use Rattle.std.specs.List.{dedup}
 use Rattle.std.specs.List.Sorted.{IsSorted, IsStrictlySortedBy}
 use Rattle.std.specs.Ordering.{nat_cmp}
 use Rattle.std.proofs.lemmas.Bool.{cases_lt, cases_eq}
+use Rattle.std.proofs.lemmas.Bool.Decides.{nat_tests}
 use Rattle.std.proofs.lemmas.Cmp.{nat_cmp_total}
 use Rattle.std.proofs.lemmas.List.{get_or_append_left, get_or_push, length_push}
 use Rattle.std.proofs.lemmas.List.Elements.{All-append, All-cons, All-nil, All-weaker, Contains-append_left, Contains-append_right, Contains-append_cases, Contains-push, Contains-push_cases}
 use Rattle.std.proofs.lemmas.List.Kept.{Contains-dedup_nat, Contains-from_dedup, IsStrictlySortedBy-dedup}
 use Rattle.std.proofs.lemmas.List.Sorted.{Contains-permutation, IsPermutation-sym}
+use Rattle.list_laws.proofs.Sorted.{All-from_Contains, Contains-cons_cases, not_Contains-nil, sorted_append, sorted_nil}
 use Rattle.annotated_trie.specs.Suffixes.{AreGroups, AreListsFrom, IsInGroups, IsListFrom}
 use Rattle.annotated_trie.specs.Views.{IsMostRules, list_at}
 use Rattle.annotated_trie.proofs.ListPlaces.{list_at-append, list_at-push, list_at-set_other, list_at-set_same}
@@ -45,6 +48,26 @@ StandsAt-last numbers last =
     let long = length_push numbers last in
     (length numbers, refl, omega (arith, long), get_or_push numbers last 0 (length numbers) refl)
 
+-- a number that is less compares as less
+Less_from_lt : (x y : ℕ) → x < y → nat_cmp x y ≡ Less
+Less_from_lt x y l = grind (arith, nat_tests)
+
+-- one number alone rises
+one_rises : (x : ℕ) → IsStrictlySortedBy nat_cmp (x ∷ [])
+unfolding IsStrictlySortedBy
+one_rises x = (tt, tt)
+
+-- at first no group has a place
+pub AreGroups-none : (groups : List (Vec ℕ)) → ((number : ℕ) → list_at groups number ≡ []) → AreGroups [] groups
+AreGroups-none groups none =
+    record {
+      each = λ number place. (
+        λ (has : Contains (list_at groups number) place). absurd (not_Contains-nil place (subst (λ (xs : List ℕ). Contains xs place) (none number) has)),
+        λ (stands : StandsAt [] number place). absurd (omega (arith, stands.2)),
+      );
+      rising = λ number. subst (IsStrictlySortedBy nat_cmp) (sym (none number)) (sorted_nil nat_cmp);
+    }
+
 -- one number more is put into its group
 pub AreGroups-push : (numbers : List ℕ) (last : ℕ) (groups : List (Vec ℕ)) (longer : Vec ℕ) → AreGroups numbers groups → last < length groups
     → longer.items ≡ list_at groups last ++ (length numbers + 1) ∷ [] → AreGroups (numbers ++ last ∷ []) (set groups last longer)
@@ -76,6 +99,20 @@ AreGroups-push numbers last groups longer are low e =
                     | inr is ↦ absurd (apart (sym is.1))
                   ]),
             )
+      ];
+      rising = λ number. elim (cases_eq number last) [
+        | inl same ↦
+            let here : list_at (set groups last longer) number ≡ list_at groups last ++ place_of_last ∷ [] =
+            ap (list_at (set groups last longer)) same ∙ list_at-set_same groups last longer low ∙ e in
+            let after : (y : ℕ) → Contains (place_of_last ∷ []) y → All (λ (x : ℕ). nat_cmp x y ≡ Less) (list_at groups last) =
+            λ y among. elim (Contains-cons_cases place_of_last [] y among) [
+              | inl is ↦ All-from_Contains (λ (x : ℕ). nat_cmp x y ≡ Less) (list_at groups last) (λ x has.
+                  let (k, at, within, _) = (are.each last x).0 has in
+                  Less_from_lt x y (omega (arith, at, within, is)))
+              | inr none ↦ absurd (not_Contains-nil y none)
+            ] in
+            subst (IsStrictlySortedBy nat_cmp) (sym here) (sorted_append nat_cmp_total (list_at groups last) (place_of_last ∷ []) (are.rising last) (one_rises place_of_last) after)
+        | inr apart ↦ subst (IsStrictlySortedBy nat_cmp) (sym (list_at-set_other groups last number longer apart)) (are.rising number)
       ];
     }
 

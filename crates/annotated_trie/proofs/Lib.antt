@@ -7,3 +7,4 @@ pub mod GroupLaws
 pub mod ChoiceLaws
 pub mod SharedLexicons
 pub mod RuleGroupLaws
+pub mod PartLaws

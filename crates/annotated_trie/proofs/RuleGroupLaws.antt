@@ -189,11 +189,11 @@ lists_numbered numbers groups sets lists count size grouped from k none low =
     (omega (arith, e), omega (arith, e, within, size))))
 
 -- the group of a node's list that has the letter
-pub choices_with-read : (trie : Trie) (lists : List (Vec ℕ)) (places firsts : List ℕ) (groups : List (List ℕ)) (most : ℕ) (tries : AnnotatedTrie) (n node place code letter : ℕ)
-    → annotated_with trie lists places firsts ≡ tries → node < length tries.trie.rows → ArePlaces lists (length trie.rows) places most → AreGroupedBy firsts lists groups
+pub choices_with-read : (trie : Trie) (lists : List (Vec ℕ)) (places firsts : List ℕ) (groups part_rules : List (List ℕ)) (most : ℕ) (tries : AnnotatedTrie) (n node place code letter : ℕ)
+    → annotated_with trie lists places firsts part_rules ≡ tries → node < length tries.trie.rows → ArePlaces lists (length trie.rows) places most → AreGroupedBy firsts lists groups
     → place ≡ get_or places n place → n ≡ node → code ≡ letter → code < 51
     → (51 * place + code < length groups) × (get_or groups (51 * place + code) [] ≡ choices_with tries node letter)
-choices_with-read trie lists places firsts groups most tries n node place code letter view low are grouped read number same small =
+choices_with-read trie lists places firsts groups part_rules most tries n node place code letter view low are grouped read number same small =
     let nodes : length trie.rows ≡ length tries.trie.rows = ap (λ (t : AnnotatedTrie). length t.trie.rows) view in
     let count = are.count in
     let there : node < length places = omega (arith, low, nodes, count) in

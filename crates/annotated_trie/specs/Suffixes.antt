@@ -38,9 +38,10 @@ abbrev pub ArePlacesOf : List ℕ → ℕ → List ℕ → Type 0
 ArePlacesOf numbers number places =
     (place : ℕ) → Contains places place ↔ ((k : ℕ) × (place ≡ k + 1) × (k < length numbers) × (slice_index numbers k ≡ number))
 
--- for each number the list of its places
+-- for each number the list of its places, rising
 pub record AreGroups (numbers : List ℕ) (groups : List (Vec ℕ)) : Type 0 where
   pub each : (number : ℕ) → ArePlacesOf numbers number (list_at groups number)
+  pub rising : (number : ℕ) → IsStrictlySortedBy nat_cmp (list_at groups number)
 
 -- these are the numbers of the suffixes that lead from the node to the end of a form
 abbrev pub AreSuffixesAt : List (ℕ × ℕ) → List Row → ℕ → List ℕ → Type 0

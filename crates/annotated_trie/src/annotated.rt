@@ -1,10 +1,11 @@
 ghost use Rattle.std.specs.Prelude.{◌≡◌, ◌+◌, ◌≤◌, ◌<◌, ◌^◌, ◌⊎◌, ℕ, length, slice_get};
 ghost use Rattle.std.specs.Bool.{OnTrue};
-ghost use Rattle.annotated_trie.specs.Choices.{choices_of, choices_with, list_number_of};
+ghost use Rattle.annotated_trie.specs.Choices.{choices_of, choices_with, list_number_of, parts_of, rules_of_part};
 ghost use Rattle.annotated_trie.specs.RuleGroups.{AreGroupedBy};
-ghost use Rattle.annotated_trie.specs.Views.{annotated_with, ArePlaces};
+ghost use Rattle.annotated_trie.specs.Views.{annotated_with, ArePlaces, parts_of_lists};
 
 use super::rule_groups::{CODES, RuleGroups};
+use super::rule_parts::RuleParts;
 use outside::Steps;
 use phoneme::Letter;
 use shared_trie::{Node, Store};
@@ -13,7 +14,8 @@ use std::snapshot::Snapshot;
 
 /// A trie with the choices of each node: the rules whose `u` leads from the node to a form's end (Huet 2005), by their numbers,
 /// which are counted from 1, rising. Nodes from which the same suffixes of `u`s lead to an end share one list. The rules of each list
-/// stand besides in groups by the first letter of their `w`.
+/// stand besides in groups by the first letter of their `w`. Each list is told besides by its parts: the rules with one and the same `u`
+/// are a part.
 #[derive(Drop)]
 pub struct Annotated {
     store: Store,
@@ -22,20 +24,22 @@ pub struct Annotated {
     places: Vec<u32>,
     most: u32,
     groups: RuleGroups,
+    parts: RuleParts,
 }
 
 impl Model for Annotated {
-    ghost use Rattle.std.specs.Prelude.{length};
+    ghost use Rattle.std.specs.Prelude.{◌≡◌, length};
     ghost use Rattle.annotated_trie.specs.Choices.{AnnotatedTrie};
     ghost use Rattle.annotated_trie.specs.RuleGroups.{AreGroupedBy};
-    ghost use Rattle.annotated_trie.specs.Views.{annotated_with, ArePlaces};
+    ghost use Rattle.annotated_trie.specs.Views.{annotated_with, ArePlaces, parts_of_lists};
 
     ghost Value = { AnnotatedTrie };
 
-    ghost view = { λ a. annotated_with a.store a.lists.items a.places.items a.groups.firsts.value.items };
+    ghost view = { λ a. annotated_with a.store a.lists.items a.places.items a.groups.firsts.value.items a.parts.rules };
 
     ghost invariant = { λ a. ArePlaces a.lists.items (length a.store.rows) a.places.items a.most
-        × AreGroupedBy a.groups.firsts.value.items a.lists.items a.groups.lists };
+        × AreGroupedBy a.groups.firsts.value.items a.lists.items a.groups.lists
+        × (a.parts.lists ≡ parts_of_lists a.parts.rules a.lists.items) };
 }
 
 impl Annotated {
@@ -46,10 +50,12 @@ impl Annotated {
         places: Vec<u32>,
         most: u32,
         groups: RuleGroups,
+        parts: RuleParts,
     ) -> Annotated
         requires places { ArePlaces lists.items (length store.rows) places.items most }
         requires groups { AreGroupedBy groups.firsts.value.items lists.items groups.lists }
-        ensures { result ≡ annotated_with store lists.items places.items groups.firsts.value.items }
+        requires parts { parts.lists ≡ parts_of_lists parts.rules lists.items }
+        ensures { result ≡ annotated_with store lists.items places.items groups.firsts.value.items parts.rules }
     {
         Annotated {
             store,
@@ -57,6 +63,7 @@ impl Annotated {
             places,
             most,
             groups,
+            parts,
         }
     }
 
@@ -97,6 +104,25 @@ impl Annotated {
         self.groups
             .lists
             .get(CODES * place + letter.code() as usize)
+    }
+
+    /// The parts of the node's choices, by their numbers, rising: the choices are just the rules of these parts. The rules with one and
+    /// the same `u` are a part, whose number is that of its first rule. Nodes may have parts in common.
+    pub fn parts(&self, node: Node) -> &[u32]
+        requires { node < length self.now.trie.rows }
+        ensures value { result.now ≡ parts_of self.now node }
+    {
+        self.parts
+            .lists
+            .get(self.places[node.number() as usize] as usize)
+    }
+
+    /// The rules of the part, by their numbers, rising.
+    pub fn rules_of_part(&self, part: u32) -> &[u32]
+        requires { part < length self.now.part_rules }
+        ensures value { result.now ≡ rules_of_part self.now part }
+    {
+        self.parts.rules.get(part as usize)
     }
 
     /// The number of the list that has the node's choices. Nodes with the same number have the same choices.

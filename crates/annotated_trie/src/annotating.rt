@@ -1,7 +1,8 @@
-ghost use Rattle.std.specs.Prelude.{◌≡◌, ◌<◌, ◌≤◌, ◌^◌, length, IfOk};
+ghost use Rattle.std.specs.Prelude.{◌≡◌, ◌<◌, ◌≤◌, ◌^◌, ◌+◌, length, IfOk};
 ghost use Rattle.lexicon_definitions.specs.Tries.{IsTrie};
 ghost use Rattle.annotated_trie.specs.Choices.{IsAnnotatedTrie};
 ghost use Rattle.annotated_trie.specs.RuleGroups.{HaveNumbersUpTo};
+ghost use Rattle.annotated_trie.specs.RuleParts.{HaveParts};
 ghost use Rattle.annotated_trie.specs.Views.{AreChosen};
 
 use super::Annotated;
@@ -9,6 +10,8 @@ use super::groups::group_places;
 use super::node_choices::{join_each, longest_at};
 use super::node_suffixes::number_nodes;
 use super::rule_groups::group_lists;
+use super::rule_lists::RuleLists;
+use super::rule_parts::{RuleParts, cut_lists, part_rules};
 use super::suffixes::number_rules;
 use indexmap::IndexSet;
 use lexicon_definitions::MOST_RULES;
@@ -22,28 +25,36 @@ use std::alloc::Global;
 pub fn annotate(alloc: Global, store: Store, rules: &RuleSet) -> Result<Annotated, Memory>
     ensures ok { IfOk result (λ annotated. (annotated.trie ≡ store) × IsAnnotatedTrie rules.now annotated) }
 {
-    let (lists, places) = choose(alloc, &store, rules)?;
+    let (lists, places, part_rules) = choose(alloc, &store, rules)?;
     let groups = group_lists(alloc, lists.as_slice(), rules.rules())?;
+    let part_lists = cut_lists(alloc, lists.as_slice(), &part_rules)?;
     let most = longest_at(lists.as_slice(), places.as_slice());
-    Ok(Annotated::new(store, lists, places, most, groups))
+    let parts = RuleParts {
+        rules: part_rules,
+        lists: part_lists,
+    };
+    Ok(Annotated::new(store, lists, places, most, groups, parts))
 }
 
-/// Lists of choices, and for each node the place of its list.
+/// Lists of choices, for each node the place of its list, and for each rule that is the first of a part the rules of the part.
 fn choose(
     alloc: Global,
     store: &Store,
     rules: &RuleSet,
-) -> Result<(Vec<Vec<u32>>, Vec<u32>), Memory>
+) -> Result<(Vec<Vec<u32>>, Vec<u32>, RuleLists), Memory>
     ensures trie { IfOk result (λ _. IsTrie store.now) }
     ensures size { IfOk result (λ _. length store.now.rows < 2 ^ 32) }
     ensures rules { IfOk result (λ _. length rules.now.rules ≤ MOST_RULES) }
     ensures numbers { IfOk result (λ chosen. HaveNumbersUpTo (length rules.now.rules) chosen.0.items) }
     ensures ok { IfOk result (λ chosen. AreChosen rules.now store.now.rows chosen.0.items chosen.1.items) }
+    ensures count { IfOk result (λ chosen. length chosen.2 ≡ length rules.now.rules + 1) }
+    ensures parts { IfOk result (λ chosen. HaveParts chosen.2 chosen.0.items) }
 {
     let mut suffixes = IndexSet::new(alloc);
     let numbers = number_rules(alloc, &mut suffixes, rules.rules())?;
     let groups = group_places(alloc, suffixes.len() + 1, numbers.as_slice())?;
     let nodes = number_nodes(alloc, store, &suffixes)?;
     let lists = join_each(alloc, groups.as_slice(), nodes.sets.as_slice())?;
-    Ok((lists, nodes.places))
+    let part_rules = part_rules(alloc, groups.as_slice(), numbers.as_slice())?;
+    Ok((lists, nodes.places, part_rules))
 }

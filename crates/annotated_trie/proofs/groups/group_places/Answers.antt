@@ -1,11 +1,18 @@
 -- the place goes last in the group of its number
-use Rattle.std.proofs.Common.{◌≡◌, ◌<◌, ◌+◌, ℕ, List, [], ◌∷◌, ◌++◌, length, take, get_or, set, sym, ◌∙◌, ap, subst, arith}
+use Rattle.std.proofs.Common.{◌≡◌, ◌<◌, ◌+◌, ℕ, List, [], ◌∷◌, ◌++◌, length, take, get_or, set, refl, sym, ◌∙◌, ap, subst, arith}
 use Rattle.std.proofs.lemmas.List.{length-set, length-take-le, take_more}
 use Rattle.annotated_trie.specs.Suffixes.{AreGroups}
 use Rattle.annotated_trie.specs.Views.{list_at}
-use Rattle.annotated_trie.proofs.GroupLaws.{AreGroups-push}
+use Rattle.annotated_trie.proofs.GroupLaws.{AreGroups-none, AreGroups-push}
 use Rattle.annotated_trie.proofs.ListPlaces.{list_at-read}
 use Rattle.annotated_trie.proofs.groups.group_places.Goals as goal
+
+pub loop-number-init : goal.loop-number-init
+loop-number-init c = record {
+  count = c.in_ok-groups.ensures.count;
+  place = refl;
+  groups = AreGroups-none c.in_ok-groups.groups.items c.in_ok-groups.ensures.none;
+}
 
 pub loop-number-preserved : goal.loop-number-preserved
 loop-number-preserved c =

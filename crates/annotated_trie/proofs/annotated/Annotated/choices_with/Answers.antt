@@ -8,7 +8,7 @@ get-requires g c =
     let inside = c.self.inside in
     let code = c.code.result in
     let small : code < 51 = omega (arith, c.code.ensures.letter, c.code.ensures.value) in
-    (choices_with-read inside.store inside.lists.items inside.places.items inside.groups.firsts.value.items inside.groups.lists inside.most c.args.self.now c.number.result c.args.node c.index.result.now code c.args.letter
+    (choices_with-read inside.store inside.lists.items inside.places.items inside.groups.firsts.value.items inside.groups.lists inside.parts.rules inside.most c.args.self.now c.number.result c.args.node c.index.result.now code c.args.letter
     c.self.view_is c.requires c.self.invariant.0 c.self.invariant.1 c.index.ensures c.number.ensures c.code.ensures.value small).0
 
 pub returns-clause-value : goal.returns-clause-value
@@ -17,5 +17,5 @@ returns-clause-value g c =
     let code = c.code.result in
     let small : code < 51 = omega (arith, c.code.ensures.letter, c.code.ensures.value) in
     c.get.ensures
-    ∙ (choices_with-read inside.store inside.lists.items inside.places.items inside.groups.firsts.value.items inside.groups.lists inside.most c.args.self.now c.number.result c.args.node c.index.result.now code c.args.letter
+    ∙ (choices_with-read inside.store inside.lists.items inside.places.items inside.groups.firsts.value.items inside.groups.lists inside.parts.rules inside.most c.args.self.now c.number.result c.args.node c.index.result.now code c.args.letter
     c.self.view_is c.requires c.self.invariant.0 c.self.invariant.1 c.index.ensures c.number.ensures c.code.ensures.value small).1
