@@ -1,4 +1,4 @@
-ghost use Rattle.std.specs.Prelude.{◌≡◌, ◌≤◌, length, IfOk};
+ghost use Rattle.std.specs.Prelude.{◌≡◌, ◌≤◌, ◌<◌, ℕ, length, IfOk};
 ghost use Rattle.lexicon_definitions.specs.Lexicons.{IsLexicon, tree_of};
 ghost use Rattle.lexicon_definitions.specs.Limits.{IsWithinLimits};
 ghost use Rattle.lexicon_definitions.specs.Tries.{IsTrieOf};
@@ -27,6 +27,7 @@ pub struct Lexicon {
 }
 
 impl Model for Lexicon {
+    ghost use Rattle.std.specs.Prelude.{length};
     ghost use Rattle.trie_text_definitions.specs.TrieForms.{phases_of};
     ghost use Rattle.annotated_trie.specs.AlikePhases.{AreAlike};
     ghost use Rattle.annotated_trie.specs.Searched.{SearchedLexicon, IsSearchedLexicon};
@@ -35,7 +36,7 @@ impl Model for Lexicon {
 
     ghost view = { λ l. record { lexicon = record { rules = l.rules; phases = phases_of l.tries.trie }; machine = l.automaton; tries = l.tries } };
 
-    ghost invariant = { λ l. IsSearchedLexicon (record { lexicon = record { rules = l.rules; phases = phases_of l.tries.trie }; machine = l.automaton; tries = l.tries }) × AreAlike l.rules l.alike.items };
+    ghost invariant = { λ l. IsSearchedLexicon (record { lexicon = record { rules = l.rules; phases = phases_of l.tries.trie }; machine = l.automaton; tries = l.tries }) × AreAlike l.rules (length l.rules.names) l.alike.items };
 }
 
 impl Lexicon {
@@ -86,8 +87,10 @@ impl Lexicon {
     }
 
     /// The first phase, counted from 0 as this one is, that no rule tells from it: each rule may follow forms of both, or of neither.
+    /// A number past the phases of the lexicon is told as it is.
     pub fn alike_phase(&self, phase: u32) -> u32
-        ensures { IsAlike self.now.lexicon.rules result phase }
+        ensures alike { IsAlike self.now.lexicon.rules result phase }
+        ensures first { phase < length self.now.lexicon.rules.names → (other : ℕ) → IsAlike self.now.lexicon.rules other phase → result ≤ other }
     {
         match self.alike.get(phase as usize) {
             Some(first) => *first,

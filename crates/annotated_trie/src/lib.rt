@@ -6,7 +6,8 @@
 //! with a letter (`value`). `choice` and `choices_with` take one step (`steps`). Nodes with the same `list_number` have the same choices
 //! (`same`). The choices of a node are just the rules of its `parts`, as `rules_of_part` tells them (`value`), and no rule is in two of
 //! these (`parts` of `IsAnnotatedTrie`). A `Lexicon` is always that of its rules, forms and automaton, which is its invariant (`searched`
-//! of `rules`); threads may share it (`lexicons_are_shared`). Of phases that no rule tells apart, it tells the first (`alike_phase`).
+//! of `rules`); threads may share it (`lexicons_are_shared`). Of phases that no rule tells apart, it tells the first (`alike` and `first`
+//! of `alike_phase`).
 #![tactic(auto)]
 
 mod alike_phases;

@@ -1,5 +1,5 @@
 -- One phase more (`AlikeLaws`); at first none is told, and each stands for itself.
-use Rattle.std.proofs.Common.{◌≡◌, ◌+◌, List, ℕ, [], ◌∷◌, length, refl, sym, ap, subst, ◌∙◌, arith, length-append}
+use Rattle.std.proofs.Common.{◌+◌, [], ◌∷◌, length, sym, ap, subst, arith, length-append}
 use Rattle.annotated_trie.specs.AlikePhases.{AreAlike}
 use Rattle.annotated_trie.proofs.AlikeLaws.{one_more_alike}
 use Rattle.annotated_trie.proofs.alike_phases.alike_phases.Goals as goal
@@ -11,6 +11,6 @@ loop-phase-preserved c =
     let count = inv.count in
     record {
       count = omega (arith, count, ap length items, length-append c.loop-phase.firsts.items (c.first_alike.result ∷ []));
-      alike = subst (AreAlike c.args.rules.now) (sym items)
-          (one_more_alike c.args.rules.now c.loop-phase.firsts.items c.first_alike.result c.loop-phase.phase inv.count c.first_alike.ensures inv.alike);
+      alike = subst (AreAlike c.args.rules.now (c.loop-phase.phase + 1)) (sym items)
+          (one_more_alike c.args.rules.now c.loop-phase.firsts.items c.first_alike.result c.loop-phase.phase inv.count c.first_alike.ensures.alike c.first_alike.ensures.first inv.alike);
     }

@@ -6,5 +6,5 @@ use Rattle.annotated_trie.proofs.alike_phases.alike_phases.Given as goal
 abbrev pub invariant-loop-phase : goal.invariant-loop-phase
 invariant-loop-phase l = record {
   count : length l.firsts.items ≡ l.phase;
-  alike : AreAlike l.rules l.firsts.items;
+  alike : AreAlike l.rules l.phase l.firsts.items;
 }
