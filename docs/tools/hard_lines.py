@@ -8,10 +8,11 @@ the processors, and the peak of memory. A run is ended after a minute of a proce
 that of this script, some 12 MiB, is not told. All lexicons are within the limits; the letters of a line are all `a`. The status is 1 where a run
 was ended, or ended with another status than 0.
 """
-import multiprocessing, os, resource, subprocess, sys, tempfile, time
+import multiprocessing, os, random, resource, subprocess, sys, tempfile, time
 
 MOST_SECONDS = 60
-# Where one walk serves all phases that do the same, this family takes about a second on a slow machine, and else 12 to 18.
+# Where one walk serves all phases that do the same, the first of these takes about a second on a slow machine, and else 12 to 18. Where the
+# rules of a part are gone over once for all nodes that have it, the second takes a few seconds, and else more than a minute.
 MOST_SECONDS_OF = {"leads: 62 leads, 16 phases": 4}
 MOST_BYTES = 12 << 30
 
@@ -112,12 +113,26 @@ def family_refused():
     return lexicon(16, rules, forms), "a" * 1000
 
 
+def family_rejected():
+    """Twelve letters over the same lexicon; of the segments one is rejected."""
+    return family_leads_own_forms()[0], "a" * 12
+
+
 def family_nodes():
     """250 leads, each with nodes of its own: after how many a's forms end is another matter for each."""
     leads = words("abcd", 4)[:250]
     rules = [("a", v, "a") for v in leads]
     forms = {(name, v + "a" * n) for name in phases_of(16) for k, v in enumerate(leads + [""]) for n in range(1, 60) if n % 8 == 7 or k >> (n % 8) & 1}
     return lexicon(16, rules, forms), "a" * 1000
+
+
+def family_lists():
+    """62 leads; at each of their nodes forms end by some of twelve letters, which are drawn, so that nearly each node has a list of rules of its own."""
+    leads, ends, draw = words("aA", 5), "bcdefgijklmn", random.Random(1)
+    rules = [(end, v, "a" * n) for end in ends for v in leads for n in range(1, 6)]
+    forms = {("p0", v + "a" * n + end) for v in leads + [""] for n in range(59) for end in ends if draw.random() < 0.5}
+    forms |= {("p0", v + "a" * 59) for v in leads + [""]}
+    return lexicon(1, rules, forms), "a" * 1000
 
 
 FAMILIES = {
@@ -129,6 +144,8 @@ FAMILIES = {
     "own forms: 62 leads in 16 phases": (family_leads_own_forms, "segment"),
     "refused: rules that fail, 16 phases": (family_refused, "segment"),
     "nodes: 250 leads with nodes of their own": (family_nodes, "segment"),
+    "lists: a list of rules for each node": (family_lists, "first"),
+    "choices: 12 letters, one segment rejected": (family_rejected, "rejected"),
     "dead: 41 letters without an answer": (family_dead, "segment"),
     "dead: 1,000 letters without an answer": (family_dead_long, "segment"),
 }
@@ -150,10 +167,11 @@ def run(program, words, stdin, seconds):
     return time.perf_counter() - began, usage.ru_utime + usage.ru_stime, usage.ru_maxrss, ended, size
 
 
-def write_family(make, folder):
-    """Writes a family's lexicon, its line, and a session that asks for the line's summary."""
+def write_family(make, task, folder):
+    """Writes a family's lexicon, its line, and a session that asks for the line's summary, and then may reject a segment and ask for a page."""
     text, line = make()
-    for name, content in (("lexicon", text), ("line", line), ("session", "text slp1 %s\nsummary\n" % line)):
+    asked = "reject 1\npage 1\n" if task == "rejected" else ""
+    for name, content in (("lexicon", text), ("line", line), ("session", "text slp1 %s\nsummary\n%s" % (line, asked))):
         with open(os.path.join(folder, name), "w") as file:
             file.write(content)
 
@@ -168,12 +186,14 @@ def main():
             if wanted and not any(word in name for word in wanted):
                 continue
             # In a process of its own, since no run's peak is told that is below this script's memory as the run begins.
-            writer = multiprocessing.Process(target=write_family, args=(make, folder))
+            writer = multiprocessing.Process(target=write_family, args=(make, task, folder))
             writer.start()
             writer.join()
             seconds = MOST_SECONDS_OF.get(name, MOST_SECONDS)
-            if task == "summary":
+            if task in ("summary", "rejected"):
                 result = run(program, ["read", lexicon_path], session_path, seconds)
+            elif task == "first":
+                result = run(program, ["batch", lexicon_path, "slp1", line_path, "1"], None, seconds)
             else:
                 with open(line_path) as file:
                     result = run(program, ["segment", lexicon_path, file.read()], None, seconds)

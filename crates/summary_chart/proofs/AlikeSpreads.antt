@@ -1,6 +1,6 @@
 -- What is put into the table by keys of a front's phase, with the states that stand with it, is what keys of all phases spread that the front
 -- covers (`AlikeKeys`).
-use Rattle.std.proofs.Common.{◌≡◌, ◌⊎◌, inl, inr, ℕ, ◌+◌, ◌≤◌, IsSome, Option, Some, None, List, length, refl, ap, subst, ◌∙◌, arith}
+use Rattle.std.proofs.Common.{◌⊎◌, inl, inr, ℕ, ◌+◌, ◌≤◌, Some, List, length, refl, ap, subst, arith}
 use Rattle.text_definitions.specs.Lines.{Line}
 use Rattle.segmentation_definitions.specs.Items.{Choice}
 use Rattle.segmentation_definitions.specs.Listings.{Key}
@@ -10,7 +10,6 @@ use Rattle.search_frames.specs.declared.configuration.Configuration.{Configurati
 use Rattle.search_frames.specs.Configurations.{NumberedConfiguration, rules_in}
 use Rattle.search_frames.specs.Frames.{numbered_of}
 use Rattle.search_frames.specs.LetterTests.{MayLeadTo}
-use Rattle.search_frames.specs.Tests.{LeadsTo}
 use Rattle.search_frames.proofs.AheadTests.{begins_if_stands}
 use Rattle.search_frames.proofs.PossibleKeys.{possible_phase}
 use Rattle.summary_chart.specs.AlikeFronts.{AreOnwardFronts, IsCovered, IsCoveredBy, IsOnwardFront, front_at}
@@ -18,21 +17,14 @@ use Rattle.summary_chart.specs.declared.alike.AlikeFront.{AlikeFront}
 use Rattle.summary_chart.specs.declared.state_set.StateSet.{StateSet}
 use Rattle.summary_chart.specs.declared.table.Table.{Table}
 use Rattle.summary_chart.specs.Onward.{Puts}
-use Rattle.summary_chart.specs.Spreading.{EveryKey, IsInPhase, IsLedOnTo, Spreads, standing_with}
+use Rattle.summary_chart.specs.Spreading.{EveryKey, IsInPhase, IsLedOnTo, Spreads}
 use Rattle.summary_chart.specs.Summaries.{key_with}
 use Rattle.summary_chart.proofs.AlikeKeys.{may_lead_alike}
-use Rattle.summary_chart.proofs.SpreadKeys.{leads_to_place, may_if_led, possible_if_led}
+use Rattle.summary_chart.proofs.SpreadKeys.{leads_to_place, led_state, may_if_led, possible_if_led}
 use Rattle.summary_chart.proofs.VisitedKeys.{below_or_at}
 use Rattle.summary_chart.proofs.Visits.{spread_visit}
 
 module _ (searched : SearchedLexicon) (is : IsSearchedLexicon searched) (line : Line) (choices : List Choice) (place : Configuration) (states : StateSet) where
-  -- the state to which a key leads on from a state of the set
-  led_to : (key : Key) (next : Configuration) (number : ℕ) → LeadsTo searched line choices (standing_with searched place.at place.entrance number) key next
-      → (known : Option ℕ) → next_state searched.machine (Some number) key.phase ≡ known
-      → (to : ℕ) × (next_state searched.machine (Some number) key.phase ≡ Some to) × (next.state ≡ Some to)
-  led_to key next number leads None same = let live : IsSome {T = ℕ} None = subst IsSome same leads.leads_on.live in absurd (cc live)
-  led_to key next number leads (Some to) same = (to, same, ap (λ (s : NumberedConfiguration). s.state) leads.is ∙ same)
-
   -- where a key leads on to from a state of the set, it may lead on to
   may_lead_to : (key : Key) (next : Configuration) → IsLedOnTo searched line choices place.at place.entrance states key next
       → MayLeadTo searched line choices (numbered_of searched place) key next.at next.entrance
@@ -52,7 +44,7 @@ module _ (searched : SearchedLexicon) (is : IsSearchedLexicon searched) (line : 
     keeps = puts.keeps;
     adds = λ key next covered led.
         let (number, state, leads) = led in
-        let (to, goes, is_to) = led_to key next number leads (next_state searched.machine (Some number) key.phase) refl in
+        let (to, goes, is_to) = led_state searched line choices place states key number next leads (next_state searched.machine (Some number) key.phase) refl in
         let own = may_lead_alike searched line choices here is one.front key.phase one.front.phase covered.does onward.first.own key refl next.at next.entrance
         (may_lead_to key next led) in
         puts.adds (key_with one.front.phase key.taken key.rule) next refl
@@ -109,7 +101,7 @@ module _ (searched : SearchedLexicon) (is : IsSearchedLexicon searched) (line : 
       let (number, state, leads) = led in
       let possible = possible_if_led searched line choices place states key next led in
       let begins = begins_if_stands searched line choices (numbered_of searched place) key leads.leads_on.stands in
-      let (to, goes, is_to) = led_to key next number leads (next_state searched.machine (Some number) key.phase) refl in
+      let (to, goes, is_to) = led_state searched line choices place states key number next leads (next_state searched.machine (Some number) key.phase) refl in
       let (at, low, covered) = are.all key to (possible_phase searched is line (numbered_of searched place) key possible) possible begins (number, state, goes) in
       (at, omega (arith, low, enough), covered))
       (λ key told. tt)

@@ -1,7 +1,6 @@
 -- A key adds its item where some state goes further by it; so after each rule, front and phase the items of those so far are there, and
 -- at the end those of all keys. A rule whose u was seen after a front adds nothing there, since its item is that of the rule with the same u.
 use Rattle.std.proofs.Common.{◌≡◌, ◌≢◌, ◌⊎◌, ℕ, zero, suc, ◌+◌, ◌<◌, ◌≤◌, inl, inr, List, [], ◌∷◌, ◌++◌, length, take, drop, get_or, All, Contains, sym, ap, subst, ◌∙◌, refl, arith}
-use Rattle.std.proofs.lemmas.Bool.{cases_lt}
 use Rattle.std.proofs.lemmas.List.{take_more}
 use Rattle.std.proofs.lemmas.List.Elements.{All-get_or, Contains-push, Contains-push_cases, Contains-append_left}
 use Rattle.text_definitions.specs.Lines.{Line}
@@ -34,6 +33,7 @@ use Rattle.summary_chart.proofs.FurtherKeys.{possible_if_further}
 use Rattle.summary_chart.proofs.Visits.{further_stands, further_leads}
 use Rattle.summary_chart.proofs.FrontKeys.{ends_if_unchanged, among_written, letters_left}
 use Rattle.summary_chart.proofs.RisingItems.{adds_one, adds_none, adds_both, adds_same}
+use Rattle.summary_chart.proofs.VisitedKeys.{below_or_at}
 
 -- ---- one key
 
@@ -237,13 +237,6 @@ IsItemBelow searched line choices table place set phase taken item =
 abbrev pub IsItemEarlier : SearchedLexicon → Line → List Choice → Table → Configuration → StateSet → ℕ → Item → Type 0
 IsItemEarlier searched line choices table place set phase item =
     (key : Key) × (key.phase < phase) × IsItemBy searched line choices table place.at place.entrance set key item
-
--- what is below the next number is below this one or is this one
-below_or_at : (n low : ℕ) → n < low + 1 → (n < low) ⊎ (n ≡ low)
-below_or_at n low less = elim (cases_lt n low) [
-  | inl below ↦ inl below
-  | inr from ↦ inr (omega (arith, less, from))
-]
 
 module _ (searched : SearchedLexicon) (line : Line) (choices : List Choice) (table : Table) (place : Configuration) (set : StateSet) where
   module _ (phase : ℕ) where

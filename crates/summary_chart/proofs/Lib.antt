@@ -31,6 +31,7 @@ mod AlikeKeys
 mod AlikeLists
 mod AlikeSpreads
 mod LivingKeys
+mod PartRules
 mod LivingVisits
 mod AppendedWays
 mod OrderedKeys

@@ -23,7 +23,7 @@ use Rattle.summary_chart.specs.declared.memo.Work.{Work}
 use Rattle.summary_chart.specs.declared.state_set.StateSet.{StateSet}
 use Rattle.summary_chart.specs.declared.table.Table.{Table}
 use Rattle.summary_chart.specs.Effects.{AreEffects}
-use Rattle.summary_chart.specs.Memos.{AreLiving, EndFrom, IsLiving, IsSameWork, KeepsKnown, LivesBy}
+use Rattle.summary_chart.specs.Memos.{AreLiving, EndFrom, IsLiving, IsSameWork, IsWork, KeepsKnown, LivesBy, rules_at}
 use Rattle.summary_chart.specs.StateSets.{HasState}
 use Rattle.summary_chart.specs.Tables.{IsEntrance, set_at}
 use Rattle.summary_chart.proofs.FrontKeys.{filter_keeps}
@@ -176,24 +176,24 @@ pub same_work : (searched : SearchedLexicon) (line : Line) (table : Table) (done
     → IsLiving searched line table (record { work = work; states = states })
 same_work searched line table done work states same same_states living =
     let Lives = λ (choices : List ℕ) (end phase : ℕ) (may_end : Bool) (s : StateSet). (number : ℕ)
-    → HasState s number ↔ LivesBy searched line table (record { node = work.node; end = end; may_end = may_end; phase = phase }) (Contains choices) number in
-    let one = choices_of searched.tries done.work.node in
-    let other = choices_of searched.tries work.node in
+    → HasState s number ↔ LivesBy searched line table (record { node = work.node; part = work.part; end = end; may_end = may_end; phase = phase }) (Contains choices) number in
+    let one = rules_at searched.tries done.work in
+    let other = rules_at searched.tries work in
     subst (Lives other work.end work.phase work.may_end) same_states
     (subst (λ (b : Bool). Lives other work.end work.phase b done.states) same.may_end
     (subst (λ (p : ℕ). Lives other work.end p done.work.may_end done.states) same.phase
     (subst (λ (e : ℕ). Lives other e done.work.phase done.work.may_end done.states) same.end
-    (subst (λ (c : List ℕ). Lives c done.work.end done.work.phase done.work.may_end done.states) same.choices living))))
+    (subst (λ (c : List ℕ). Lives c done.work.end done.work.phase done.work.may_end done.states) same.rules living))))
 
 -- one work more is kept
 pub living_kept : (searched : SearchedLexicon) (line : Line) (table : Table) (work : Work) (states : StateSet) (old new : Memo)
-    → AreLiving searched line table old → work.node < length searched.tries.trie.rows → IsLiving searched line table (record { work = work; states = states })
+    → AreLiving searched line table old → IsWork searched.tries work → IsLiving searched line table (record { work = work; states = states })
     → KeepsKnown work states old new → AreEffects (rules_in searched) new.effects → AreLiving searched line table new
 living_kept searched line table work states old new are there living keeps effects = record {
   effects = effects;
-  nodes = λ done known. elim (keeps done known) [
-    | inl was ↦ are.nodes done was
-    | inr same ↦ subst (λ (d : Done). d.work.node < length searched.tries.trie.rows) (sym same) there
+  works = λ done known. elim (keeps done known) [
+    | inl was ↦ are.works done was
+    | inr same ↦ subst (λ (d : Done). IsWork searched.tries d.work) (sym same) there
   ];
   living = λ done known. elim (keeps done known) [
     | inl was ↦ are.living done was

@@ -15,11 +15,12 @@ use Rattle.summary_chart.specs.declared.memo.Memo.{Memo}
 use Rattle.summary_chart.specs.declared.state_set.StateSet.{StateSet}
 use Rattle.summary_chart.specs.declared.table.Table.{Table}
 use Rattle.summary_chart.specs.Effects.{AreEffects}
-use Rattle.summary_chart.specs.Memos.{AreLiving, AreSpread, EndFrom, IsKnown}
+use Rattle.summary_chart.specs.Memos.{AreLiving, AreSpread, EndFrom, IsKnown, rules_at}
 use Rattle.summary_chart.specs.Spreading.{leads_in}
 use Rattle.summary_chart.specs.StateSets.{HasState}
 use Rattle.summary_chart.specs.Tables.{ChangesAt, IsIndexed, IsTable, index_in, index_of, set_at, set_of, width_over}
 use Rattle.summary_chart.proofs.LivingKeys.{choice_number}
+use Rattle.summary_chart.proofs.SpreadMemos.{choice_at_work}
 use Rattle.summary_chart.proofs.TableOrder.{column_within, row_after}
 use Rattle.summary_chart.proofs.TablePlaces.{same_index_in}
 use Rattle.summary_chart.proofs.TableStates.{same_configuration}
@@ -32,7 +33,7 @@ LeadPast searched index memo = (done : Done) → IsKnown memo done → index ≤
 pub nothing_living : (searched : SearchedLexicon) (line : Line) (table : Table) (memo : Memo) → ((done : Done) → IsKnown memo done → ⊥)
     → AreEffects (rules_in searched) memo.effects → AreLiving searched line table memo
 nothing_living searched line table memo none effects = record {
-  nodes = λ done known. absurd (none done known);
+  works = λ done known. absurd (none done known);
   living = λ done known. absurd (none done known);
   effects = effects;
 }
@@ -40,7 +41,7 @@ nothing_living searched line table memo none effects = record {
 pub nothing_spread : (searched : SearchedLexicon) (line : Line) (table : Table) (memo : Memo) → ((done : Done) → IsKnown memo done → ⊥)
     → AreEffects (rules_in searched) memo.effects → AreSpread searched line table memo
 nothing_spread searched line table memo none effects = record {
-  nodes = λ done known. absurd (none done known);
+  works = λ done known. absurd (none done known);
   spread = λ done known. absurd (none done known);
   effects = effects;
 }
@@ -104,12 +105,12 @@ module _ (searched : SearchedLexicon) (line : Line) (index : ℕ) (old new : Tab
   -- what the memo keeps is right of the new table as of the old one
   pub living_stays : (memo : Memo) → LeadPast searched (index + 1) memo → AreLiving searched line old memo → AreLiving searched line new memo
   living_stays memo past are = record {
-    nodes = are.nodes;
+    works = are.works;
     effects = are.effects;
     living = λ done known number.
-        let Among = Contains (choices_of searched.tries done.work.node) in
+        let Among = Contains (rules_at searched.tries done.work) in
         let living = are.living done known number in
-        let there = are.nodes done known in
+        let there = are.works done known in
         let far = past done known in (
           λ has.
               let lives = living.0 has in (
@@ -118,7 +119,7 @@ module _ (searched : SearchedLexicon) (line : Line) (index : ℕ) (old new : Tab
                 elim lives.2 [
                   | inl leads ↦
                       let same = same_elsewhere leads.0 leads.1
-                      (led_past done.work.node done.work.end done.work.phase lives.0 leads.0 leads.1 there lives.1 far leads.2) in
+                      (led_past done.work.node done.work.end done.work.phase lives.0 leads.0 leads.1 there.node (choice_at_work searched done.work lives.0 is there lives.1) far leads.2) in
                       inl (
                         leads.0,
                         leads.1,
@@ -137,7 +138,7 @@ module _ (searched : SearchedLexicon) (line : Line) (index : ℕ) (old new : Tab
             elim lives.2 [
               | inl leads ↦
                   let same = same_elsewhere leads.0 leads.1
-                  (led_past done.work.node done.work.end done.work.phase lives.0 leads.0 leads.1 there lives.1 far leads.2) in
+                  (led_past done.work.node done.work.end done.work.phase lives.0 leads.0 leads.1 there.node (choice_at_work searched done.work lives.0 is there lives.1) far leads.2) in
                   inl (
                     leads.0,
                     leads.1,

@@ -282,7 +282,7 @@ module _ (searched : SearchedLexicon) (line : Line) (choices : List Choice) (pla
 
       -- so the states that live by the choices are those after which the line goes on by keys with them
       pub living_by_choices : (living : StateSet)
-          → ((number : ℕ) → HasState living number ↔ LivesBy searched line table (record { node = node; end = place.at + taken; may_end = ending; phase = phase })
+          → ((number : ℕ) → HasState living number ↔ LivesBy searched line table (record { node = node; part = None; end = place.at + taken; may_end = ending; phase = phase })
           (Contains (choices_of searched.tries node)) number)
           → AreLivingBy searched line choices (numbered_of searched place) table (IsByRule phase taken (choices_of searched.tries node)) living
       living_by_choices living lives number = (

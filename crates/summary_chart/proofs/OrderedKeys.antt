@@ -39,6 +39,7 @@ use Rattle.summary_chart.specs.Spreading.{OnlyKey, IsByRule, IsAtFront, IsInPhas
 use Rattle.summary_chart.proofs.AppendedWays.{append_none, append_same, append_two}
 use Rattle.summary_chart.proofs.FrontKeys.{filter_keeps, front_node, ends_if_unchanged, among_written, letters_left, choice_if_possible}
 use Rattle.summary_chart.proofs.SummarySteps.{fewer_within}
+use Rattle.summary_chart.proofs.VisitedKeys.{below_or_at}
 
 -- keys of the phase that take fewer letters
 abbrev pub IsBeforeFront : ℕ → ℕ → Key → Type 0
@@ -63,13 +64,6 @@ HasSpent most start (Some front) now = now ≤ start + MOST_RULE_LETTERS + front
 abbrev pub fronts_left : ℕ → ℕ → Option Front → ℕ
 fronts_left at limit None = 0
 fronts_left at limit (Some front) = 1 + (limit - (at + front.taken))
-
--- what is below the next number is below this one or is this one
-below_or_at : (n low : ℕ) → n < low + 1 → (n < low) ⊎ (n ≡ low)
-below_or_at n low less = elim (cases_lt n low) [
-  | inl below ↦ inl below
-  | inr from ↦ inr (omega (arith, less, from))
-]
 
 -- what is this number or above it is above it or is this one
 above_or_at : (low n : ℕ) → low ≤ n → (low + 1 ≤ n) ⊎ (n ≡ low)

@@ -75,15 +75,15 @@ module _ (searched : SearchedLexicon) (line : Line) (choices : List Choice) (pla
       let may = may_if_leads searched line choices (standing_with searched place.at place.entrance number) key leads.leads_on in
       record { stands = may.stands; inner = may.inner; left = may.left }
 
+  -- the state of a place to which a key leads on from a state
+  pub led_state : (key : Key) (number : ℕ) (next : Configuration) → LeadsTo searched line choices (standing_with searched place.at place.entrance number) key next
+      → (known : Option ℕ) → next_state searched.machine (Some number) key.phase ≡ known
+      → (to : ℕ) × (next_state searched.machine (Some number) key.phase ≡ Some to) × (next.state ≡ Some to)
+  led_state key number next leads None same = let live : IsSome {T = ℕ} None = subst IsSome same leads.leads_on.live in absurd (cc (live))
+  led_state key number next leads (Some to) same = (to, same, ap (λ (s : NumberedConfiguration). s.state) leads.is ∙ same)
+
   -- where a key leads on to as the letters tell
   module _ (key : Key) (at : ℕ) (entrance : Entrance) (may : MayLeadTo searched line choices (numbered_of searched place) key at entrance) where
-    -- the state of a place to which it leads on from a state
-    led_state : (number : ℕ) (next : Configuration) → LeadsTo searched line choices (standing_with searched place.at place.entrance number) key next
-        → (known : Option ℕ) → next_state searched.machine (Some number) key.phase ≡ known
-        → (to : ℕ) × (next_state searched.machine (Some number) key.phase ≡ Some to) × (next.state ≡ Some to)
-    led_state number next leads None same = let live : IsSome {T = ℕ} None = subst IsSome same leads.leads_on.live in absurd (cc (live))
-    led_state number next leads (Some to) same = (to, same, ap (λ (s : NumberedConfiguration). s.state) leads.is ∙ same)
-
     -- a place to which it leads on from a state is this one, with the state to which that one leads
     pub led_place : (number : ℕ) (next : Configuration) → LeadsTo searched line choices (standing_with searched place.at place.entrance number) key next
         → (next.at ≡ at) × (next.entrance ≡ entrance)
@@ -92,7 +92,7 @@ module _ (searched : SearchedLexicon) (line : Line) (choices : List Choice) (pla
       ap (λ (s : NumberedConfiguration). s.at) leads.is ∙ sym may.at_is,
       same_entrance (leads_of (rules_in searched).rules) next.entrance entrance (leads_rise (rules_in searched).rules) leads.within.over may.over
           (ap (λ (s : NumberedConfiguration). s.entrance) leads.is ∙ sym may.entrance_is),
-      led_state number next leads (next_state searched.machine (Some number) key.phase) refl,
+      led_state key number next leads (next_state searched.machine (Some number) key.phase) refl,
     )
 
     -- it leads to a place that is this one from a state that leads to the place's

@@ -38,7 +38,7 @@ one_more_within start count each now then spent more = one_frame_more start coun
 pub alike_within : (names most : ℕ) → names ≤ MOST_PHASES
     → names * (1 + MOST_RULE_LETTERS + names) + names * steps_after_first most ≤ names * (1 + steps_of_fronts most)
 alike_within names most few =
-    let each : 1 + 8 + names + (65 + 65 * (3 + most)) ≤ 1 + (8 + 65 + 65 * (3 * most + 4)) = omega (arith, few) in
+    let each : 1 + 8 + names + (65 + 65 * (3 + 2 * most)) ≤ 1 + (8 + 65 + 65 * (3 * most + 4)) = omega (arith, few) in
     let all = mul-le-mul_left names each in
     omega (arith, all)
 

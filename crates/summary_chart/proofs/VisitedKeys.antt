@@ -52,7 +52,7 @@ below_or_at n low less = elim (cases_lt n low) [
 module _ (searched : SearchedLexicon) (line : Line) (choices : List Choice) (place : Configuration) (S : Type 0)
     (visit : Visit searched line choices place S) where
   -- some keys and then others, told in another way
-  in_two : (IsFirst IsSecond IsTold : Key → Type 0) (s t u : S) → ((key : Key) → visit.Does key → IsTold key → IsFirst key ⊎ IsSecond key)
+  pub in_two : (IsFirst IsSecond IsTold : Key → Type 0) (s t u : S) → ((key : Key) → visit.Does key → IsTold key → IsFirst key ⊎ IsSecond key)
       → ((key : Key) → IsFirst key → IsTold key) → ((key : Key) → IsSecond key → IsTold key) → visit.Adds IsFirst s t → visit.Adds IsSecond t u → visit.Adds IsTold s u
   in_two IsFirst IsSecond IsTold s t u either is_first is_second first second =
       visit.same (λ key. IsFirst key ⊎ IsSecond key) IsTold s u either

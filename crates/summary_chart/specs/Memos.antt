@@ -1,9 +1,10 @@
 -- What rules do after a form that ends at a node and after so many letters of a line, wherever it begins; and what is kept of this (own).
-use Rattle.std.specs.Prelude.{◌≡◌, ℕ, ◌<◌, ◌≤◌, ◌⊎◌, ◌↔◌, IsTrue, Some, length, Contains}
+use Rattle.std.specs.Prelude.{◌≡◌, ℕ, ◌<◌, ◌≤◌, ◌⊎◌, ◌↔◌, IsTrue, Option, Some, None, List, length, Contains}
 use Rattle.text_definitions.specs.Lines.{Line}
+use Rattle.segmentation_definitions.specs.Listings.{Key}
 use Rattle.derivation.specs.declared.entrance.Entrance.{Entrance}
 use Rattle.phase_automaton.specs.Automata.{is_accepting}
-use Rattle.annotated_trie.specs.Choices.{AnnotatedTrie, choices_of}
+use Rattle.annotated_trie.specs.Choices.{AnnotatedTrie, choices_of, parts_of, rules_of_part}
 use Rattle.annotated_trie.specs.Searched.{SearchedLexicon}
 use Rattle.search_frames.specs.Ahead.{RuleLeadsTo, RuleEnds}
 use Rattle.search_frames.specs.Configurations.{rules_in}
@@ -21,13 +22,40 @@ use Rattle.summary_chart.specs.Tables.{IsIn}
 abbrev pub IsKnown : Memo → Done → Type 0
 IsKnown memo done = Contains memo.places.items (Some done)
 
--- the nodes of all that it keeps are some of the trie
-abbrev pub HasNodes : AnnotatedTrie → Memo → Type 0
-HasNodes tries memo = (done : Done) → IsKnown memo done → done.work.node < length tries.trie.rows
+-- the rules of a part, or all choices of the node where no part is told
+abbrev pub rules_told : AnnotatedTrie → ℕ → Option ℕ → List ℕ
+rules_told tries node None = choices_of tries node
+rules_told tries node (Some part) = rules_of_part tries part
 
--- the works give the same: their nodes have the same choices, and all else is the same
+-- the rules of the work
+abbrev pub rules_at : AnnotatedTrie → Work → List ℕ
+rules_at tries work = rules_told tries work.node work.part
+
+-- the rule is one of one of these parts
+abbrev pub IsOfParts : AnnotatedTrie → List ℕ → ℕ → Type 0
+IsOfParts tries parts rule = (part : ℕ) × Contains parts part × Contains (rules_of_part tries part) rule
+
+-- a key with this front, and with a rule of one of these parts
+abbrev pub IsByPart : AnnotatedTrie → ℕ → ℕ → List ℕ → Key → Type 0
+IsByPart tries phase taken parts key = (key.phase ≡ phase) × (key.taken ≡ taken) × IsOfParts tries parts key.rule
+
+-- the part, if there is one, is one of the node
+abbrev pub IsPartAt : AnnotatedTrie → ℕ → Option ℕ → Type 0
+IsPartAt tries node None = Unit {0}
+IsPartAt tries node (Some part) = Contains (parts_of tries node) part
+
+-- the node is one of the trie, and the part one of the node
+pub record IsWork (tries : AnnotatedTrie) (work : Work) : Type 0 where
+  pub node : work.node < length tries.trie.rows
+  pub part : IsPartAt tries work.node work.part
+
+-- all that the memo keeps is of such work
+abbrev pub HasWorks : AnnotatedTrie → Memo → Type 0
+HasWorks tries memo = (done : Done) → IsKnown memo done → IsWork tries done.work
+
+-- the works give the same: they have the same rules, and all else is the same
 pub record IsSameWork (tries : AnnotatedTrie) (one other : Work) : Type 0 where
-  pub choices : choices_of tries one.node ≡ choices_of tries other.node
+  pub rules : rules_at tries one ≡ rules_at tries other
   pub end : one.end ≡ other.end
   pub may_end : one.may_end ≡ other.may_end
   pub phase : one.phase ≡ other.phase
@@ -40,15 +68,15 @@ IsKnownWith tries memo work number = (done : Done) × IsKnown memo done × IsSam
 abbrev pub KeepsKnown : Work → StateSet → Memo → Memo → Type 0
 KeepsKnown work states old new = (done : Done) → IsKnown new done → IsKnown old done ⊎ (done ≡ record { work = work; states = states })
 
--- each rule that is a choice at the node leads on from the form only to places of the table, with each of the states
+-- each rule of the work leads on from the form only to places of the table, with each of the states
 abbrev pub IsSpread : SearchedLexicon → Line → Table → Done → Type 0
-IsSpread searched line table done = (rule at number : ℕ) (entrance : Entrance) → Contains (choices_of searched.tries done.work.node) rule
+IsSpread searched line table done = (rule at number : ℕ) (entrance : Entrance) → Contains (rules_at searched.tries done.work) rule
     → RuleLeadsTo (rules_in searched) line done.work.end done.work.phase rule at entrance → HasState done.states number
     → IsIn table (place_with at entrance number)
 
 -- all that the memo keeps is so, and rules stand for those that do the same
 pub record AreSpread (searched : SearchedLexicon) (line : Line) (table : Table) (memo : Memo) : Type 0 where
-  pub nodes : HasNodes searched.tries memo
+  pub works : HasWorks searched.tries memo
   pub spread : (done : Done) → IsKnown memo done → IsSpread searched line table done
   pub effects : AreEffects (rules_in searched) memo.effects
 
@@ -58,14 +86,14 @@ LivesBy searched line table work IsOne number = (rule : ℕ) × IsOne rule
     × (((at : ℕ) × (entrance : Entrance) × RuleLeadsTo (rules_in searched) line work.end work.phase rule at entrance × IsIn table (place_with at entrance number))
     ⊎ (RuleEnds (rules_in searched) line work.end work.may_end work.phase rule × IsTrue (is_accepting searched.machine (Some number))))
 
--- the states are just those after the phase from which a rule that is a choice at the node does so
+-- the states are just those after the phase from which a rule of the work does so
 abbrev pub IsLiving : SearchedLexicon → Line → Table → Done → Type 0
 IsLiving searched line table done = (number : ℕ)
-    → HasState done.states number ↔ LivesBy searched line table done.work (Contains (choices_of searched.tries done.work.node)) number
+    → HasState done.states number ↔ LivesBy searched line table done.work (Contains (rules_at searched.tries done.work)) number
 
 -- all that the memo keeps is so, and rules stand for those that do the same
 pub record AreLiving (searched : SearchedLexicon) (line : Line) (table : Table) (memo : Memo) : Type 0 where
-  pub nodes : HasNodes searched.tries memo
+  pub works : HasWorks searched.tries memo
   pub living : (done : Done) → IsKnown memo done → IsLiving searched line table done
   pub effects : AreEffects (rules_in searched) memo.effects
 

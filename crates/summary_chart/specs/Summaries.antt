@@ -117,7 +117,7 @@ steps_of_front most = 3 * most + 4
 
 -- the most steps of a pass in a phase, after the front that takes no letter was found: a walk, and the fronts
 abbrev pub steps_after_first : ℕ → ℕ
-steps_after_first most = NODES_OF_FRAME + NODES_OF_FRAME * (3 + most)
+steps_after_first most = NODES_OF_FRAME + NODES_OF_FRAME * (3 + 2 * most)
 
 -- the most steps in a phase: a walk, and the fronts
 abbrev pub steps_of_fronts : ℕ → ℕ

@@ -1,8 +1,5 @@
-ghost use Rattle.std.specs.Prelude.{◌≡◌, ◌+◌, ◌*◌, ◌<◌, ◌≤◌, ◌↔◌, ℕ, length, slice_index_or, All, Contains, IfOk, OnOk};
-ghost use Rattle.text_definitions.specs.Lines.{IsLine};
+ghost use Rattle.std.specs.Prelude.{◌≡◌, ◌+◌, ◌*◌, ◌<◌, ◌≤◌, ℕ, length, None, All, IfOk, OnOk};
 ghost use Rattle.derivation.specs.Steps.{key_meant};
-ghost use Rattle.annotated_trie.specs.Searched.{IsSearchedLexicon};
-ghost use Rattle.annotated_trie.specs.Choices.{choices_of};
 ghost use Rattle.search_frames.specs.Ahead.{MayBegin};
 ghost use Rattle.search_frames.specs.Frames.{numbered_of};
 ghost use Rattle.search_frames.specs.Configurations.{IsPossible};
@@ -12,28 +9,25 @@ ghost use Rattle.summary_chart.specs.Fronts.{IsFrontAt};
 ghost use Rattle.summary_chart.specs.PlaceWays.{HasEachKey, IsLivingKey, IsLivingPart};
 ghost use Rattle.summary_chart.specs.AlikeFronts.{IsFirst, IsLivingFront};
 ghost use Rattle.summary_chart.specs.Onward.{AreLivingBy};
-ghost use Rattle.summary_chart.specs.Effects.{AreEffects};
-ghost use Rattle.summary_chart.specs.Memos.{AreLiving, EndFrom, LivesBy};
+ghost use Rattle.summary_chart.specs.Memos.{AreLiving, EndFrom};
 ghost use Rattle.summary_chart.specs.Sites.{IsSite, IsSiteAhead};
-ghost use Rattle.summary_chart.specs.StateSets.{HasState};
 ghost use Rattle.summary_chart.specs.Tables.{IsTable};
 ghost use Rattle.summary_chart.specs.Spreading.{AreGoingFurther, EveryKey, GoesFurtherBy, OnlyKey, IsByRule, IsAtFront, IsInPhase, leads_in};
 ghost use Rattle.summary_chart.specs.Summaries.{steps_after_first, steps_of_items};
 
 use super::alike::{AlikeFront, alike_at, begun_front};
+use super::living_work::living_after;
 use super::memo::{Memo, Work};
 use super::room::Room;
-use super::same_effect::Effects;
 use super::site::{Front, Site, SiteAhead};
 use super::state_set::StateSet;
 use super::state_steps::{accepted_states, accepting_states, states_after, states_into};
 use super::table::Table;
 use super::walking::walk_on;
-use annotated_trie::Lexicon;
 use derivation::Key;
 use outside::Steps;
-use phoneme::{Letter, Line, Memory};
-use search_frames::{Ahead, LetterTest, Way, rule_test};
+use phoneme::Memory;
+use search_frames::{Ahead, LetterTest, Way};
 use shared_trie::Node;
 
 /// The states of the set from which the key, which is possible at the place, ends the line or leads on to a place of the table. The
@@ -135,90 +129,6 @@ fn living_unchanged(here: SiteAhead<'_>, front: &Front, table: &Table) -> StateS
     living_by_key(here, key, table)
 }
 
-/// The states after the phase from which the rule ends the line or leads on to a place of the table, after a form that ends as the work
-/// tells, wherever it begins.
-fn living_by_rule(lexicon: &Lexicon, line: &Line, work: &Work, rule: u32, table: &Table) -> StateSet
-    requires searched { IsSearchedLexicon lexicon.now }
-    requires line { IsLine line.now }
-    requires end { work.now.end ≤ length line.now.letters }
-    requires some { 0 < rule }
-    requires rule { rule ≤ length lexicon.now.lexicon.rules.rules }
-    requires table { IsTable (leads_in lexicon.now) (length line.now.letters) table.now }
-    ensures { (number : ℕ) → HasState result number ↔ LivesBy lexicon.now line.now table.now work.now (λ one. one ≡ rule) number }
-{
-    let end = work.end as usize;
-    match rule_test(lexicon.rules(), line, end, work.may_end, work.phase, rule) {
-        LetterTest::Refused => StateSet::empty(),
-        LetterTest::Ends => accepting_states(lexicon.automaton()),
-        LetterTest::LeadsOn { at, entrance } => table.get(at, entrance),
-    }
-}
-
-/// The same for each of these rules; of rules that do the same, one is looked at. Refused only for want of memory.
-fn living_by_rules<L>(
-    site: Site<'_>,
-    work: &Work,
-    rules: &[u32],
-    table: &Table,
-    effects: &mut Effects,
-    steps: &mut Steps<L>,
-) -> Result<StateSet, Memory>
-    requires site { IsSite site }
-    requires end { work.now.end ≤ length site.line.now.letters }
-    requires rules { All (λ rule. (0 < rule) × (rule ≤ length site.lexicon.now.lexicon.rules.rules)) rules.now }
-    requires table { IsTable (leads_in site.lexicon.now) (length site.line.now.letters) table.now }
-    requires effects { AreEffects site.lexicon.now.lexicon.rules effects.old }
-    ensures effects { OnOk result (AreEffects site.entry.lexicon.now.lexicon.rules effects.new) }
-    ensures living { IfOk result (λ living. (number : ℕ) → HasState living number ↔ LivesBy site.entry.lexicon.now site.entry.line.now table.now work.now (Contains rules.now) number) }
-    ensures steps { steps.new ≤ steps.old + length rules.now }
-    ensures counted { IfOk result (λ living. steps.old + length rules.now ≤ steps.new) }
-{
-    let lexicon = site.lexicon;
-    effects.begin(lexicon.rules(), rules.len())?;
-    let mut living = StateSet::empty();
-    for rule in rules {
-        steps.tick();
-        if effects.repeats(lexicon.rules(), *rule) {
-            continue;
-        }
-        living = living.union(living_by_rule(lexicon, site.line, work, *rule, table));
-    }
-    Ok(living)
-}
-
-/// The states after the phase from which a rule that is a choice at the node and whose `w` begins with the next letter, which is this, ends
-/// the line or leads on to a place of the table, after a form that ends as the work tells, wherever it begins. It is looked for in the
-/// memo first, and put there. Refused only for want of memory.
-fn living_after<L>(
-    site: Site<'_>,
-    work: &Work,
-    letter: Letter,
-    table: &Table,
-    memo: &mut Memo,
-    steps: &mut Steps<L>,
-) -> Result<StateSet, Memory>
-    requires site { IsSite site }
-    requires node { work.now.node < length site.lexicon.now.tries.trie.rows }
-    requires end { work.now.end < length site.line.now.letters }
-    requires letter { letter ≡ slice_index_or site.line.now.letters work.now.end letter }
-    requires table { IsTable (leads_in site.lexicon.now) (length site.line.now.letters) table.now }
-    requires memo { AreLiving site.lexicon.now site.line.now table.now memo.old }
-    ensures memo { OnOk result (AreLiving site.entry.lexicon.now site.entry.line.now table.now memo.new) }
-    ensures ends { OnOk result ((at : ℕ) → at ≤ work.now.end → EndFrom at memo.old → EndFrom at memo.new) }
-    ensures living { IfOk result (λ living. (number : ℕ) → HasState living number ↔ LivesBy site.entry.lexicon.now site.entry.line.now table.now work.now (Contains (choices_of site.entry.lexicon.now.tries work.now.node)) number) }
-    ensures steps { (most : ℕ) → HasAtMostRules site.entry.lexicon.now.tries most → steps.new ≤ steps.old + (2 + most) }
-{
-    steps.tick();
-    let tries = site.lexicon.tries();
-    if let Some(states) = memo.get(tries, work) {
-        return Ok(states);
-    }
-    let rules = tries.choices_with(work.node, letter, steps);
-    let living = living_by_rules(site, work, rules, table, &mut memo.effects, steps)?;
-    memo.keep(tries, work, living)?;
-    Ok(living)
-}
-
 /// The states after the phase of this front from which some key with it ends the line or leads on to a place of the table. Refused only for
 /// want of memory.
 fn living_at_front<L>(
@@ -237,7 +147,7 @@ fn living_at_front<L>(
     ensures memo { OnOk result (AreLiving here.entry.site.lexicon.now here.entry.site.line.now table.now memo.new) }
     ensures ends { OnOk result (EndFrom here.entry.site.place.now.at memo.old → EndFrom here.entry.site.place.now.at memo.new) }
     ensures living { let site = here.entry.site in IfOk result (λ living. AreLivingBy site.lexicon.now site.line.now site.choices.now (numbered_of site.lexicon.now site.place.now) table.now (IsAtFront front.now.phase front.now.taken) living) }
-    ensures steps { (most : ℕ) → HasAtMostRules here.entry.site.lexicon.now.tries most → steps.new ≤ steps.old + (3 + most) }
+    ensures steps { (most : ℕ) → HasAtMostRules here.entry.site.lexicon.now.tries most → steps.new ≤ steps.old + (3 + 2 * most) }
 {
     steps.tick();
     let Site {
@@ -258,6 +168,7 @@ fn living_at_front<L>(
     };
     let work = Work {
         node: front.node,
+        part: None,
         end,
         may_end,
         phase: front.phase,

@@ -2,8 +2,9 @@
 //! answer, as a set of the grammar's states for each number of letters derived and each entrance; and besides, from places that have
 //! few of them, the ways on from there, while there is room. One walk along the trie in a phase, at a number of letters and an entrance,
 //! serves all states there; where no choice is made it serves all phases that do the same from there, those in which the letters that the
-//! rule before supplies lead to the same node and that no rule tells apart. Where its ways are kept it is not made again, neither for the
-//! chart, nor for its summary, nor by a search that the chart guides.
+//! rule before supplies lead to the same node and that no rule tells apart. What the rules of a node do after a form is found once for all
+//! forms that end so, wherever they begin; where many of them may come next, once for each part of them, since nodes share parts. Where the
+//! ways of a place are kept its walk is not made again, neither for the chart, nor for its summary, nor by a search that the chart guides.
 //!
 //! Proved: a chart is a guide of a search that never says false of what stands in an answer (`guide` of `Chart::build`), and says
 //! true of nothing else (`exact`). Its table has just the places that a search comes to and from which there is a path to an answer, and
@@ -28,6 +29,7 @@ mod items;
 mod laws;
 mod leading_states;
 mod listing;
+mod living_work;
 mod memo;
 mod passes;
 mod place_ways;

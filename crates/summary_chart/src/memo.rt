@@ -1,10 +1,10 @@
-ghost use Rattle.std.specs.Prelude.{◌≡◌, ◌<◌, length, IfSome, OnOk};
+ghost use Rattle.std.specs.Prelude.{◌≡◌, ◌<◌, IfSome, OnOk};
 ghost use Rattle.std.specs.Bool.{OnTrue};
 ghost use Rattle.summary_chart.specs.declared.memo.TheConstants.{MOST_DONE};
 ghost use Rattle.summary_chart.specs.declared.memo.Done.{Done as DoneValue};
 ghost use Rattle.lexicon_definitions.specs.Lexicons.{RuleSet as RuleSetValue};
 ghost use Rattle.summary_chart.specs.Effects.{AreEffects};
-ghost use Rattle.summary_chart.specs.Memos.{HasNodes, IsKnown, IsSameWork, KeepsKnown};
+ghost use Rattle.summary_chart.specs.Memos.{HasWorks, IsKnown, IsSameWork, IsWork, KeepsKnown, rules_at};
 
 use super::same_effect::Effects;
 use super::state_set::StateSet;
@@ -13,14 +13,19 @@ use phoneme::Memory;
 use shared_trie::Node;
 use std::alloc::Global;
 
+/// The rules after a front are looked at one by one where they are no more, and else part by part.
+pub(crate) const FEW_RULES: usize = 32;
+
 /// So much is kept at most.
 const MOST_DONE: usize = 65_536;
 
 /// What rules do after a form: the node to which the letters before its `u` lead, after how many letters of the line these end, whether the
-/// line may end after it, and its phase, counted from 0. It is the same wherever the form begins.
+/// line may end after it, and its phase, counted from 0. It is the same wherever the form begins. The rules are those of a part of the node's
+/// choices, by its number, or all of them.
 #[derive(Clone, Copy)]
 pub(crate) struct Work {
     pub node: Node,
+    pub part: Option<u32>,
     pub end: u32,
     pub may_end: bool,
     pub phase: u32,
@@ -41,13 +46,16 @@ pub(crate) struct Memo {
     pub effects: Effects,
 }
 
-/// The place of the work, below `MOST_DONE`. Works of nodes with the same choices have the same place.
+/// The place of the work, below `MOST_DONE`. Works with the same rules have the same place.
 fn place_of(tries: &Annotated, work: &Work) -> usize
-    requires { work.now.node < length tries.now.trie.rows }
+    requires { IsWork tries.now work.now }
     ensures { result < MOST_DONE }
 {
-    let list = u64::from(tries.list_number(work.node));
-    let mixed = list
+    let rules = match work.part {
+        None => u64::from(tries.list_number(work.node)),
+        Some(part) => !u64::from(part),
+    };
+    let mixed = rules
         .wrapping_mul(0x9E37_79B9_7F4A_7C15)
         .wrapping_add(u64::from(work.end).wrapping_mul(0xC2B2_AE3D_27D4_EB4F))
         .wrapping_add(u64::from(work.phase).wrapping_mul(0x1656_67B1_9E37_79F9));
@@ -66,10 +74,10 @@ impl Memo {
         }
     }
 
-    /// The states that the work gave, if this is kept: it was done at this node, or at another with the same choices.
+    /// The states that the work gave, if this is kept: it was done with these rules, at this node or at another one.
     pub fn get(&self, tries: &Annotated, work: &Work) -> Option<StateSet>
-        requires node { work.now.node < length tries.now.trie.rows }
-        requires nodes { HasNodes tries.now self.now }
+        requires work { IsWork tries.now work.now }
+        requires works { HasWorks tries.now self.now }
         ensures { IfSome result (λ states. (done : DoneValue) × IsKnown self.now done × IsSameWork tries.now done.work work.now × (done.states ≡ states)) }
     {
         let Some(Some(done)) = self.places.get(place_of(tries, work)) else {
@@ -95,7 +103,7 @@ impl Memo {
 
     /// Keeps that the work gave these states, in place of what is kept at its place. Refused only for want of memory.
     pub fn keep(&mut self, tries: &Annotated, work: &Work, states: StateSet) -> Result<(), Memory>
-        requires { work.now.node < length tries.now.trie.rows }
+        requires { IsWork tries.now work.now }
         ensures keeps { OnOk result (KeepsKnown work.now states self.old self.new) }
         ensures effects { OnOk result (self.new.effects ≡ self.old.effects) }
     {
@@ -120,12 +128,25 @@ impl Memo {
 
 /// Whether works give the same: their nodes have the same choices, and all else is the same.
 fn is_same_work(tries: &Annotated, one: &Work, other: &Work) -> bool
-    requires one { one.now.node < length tries.now.trie.rows }
-    requires other { other.now.node < length tries.now.trie.rows }
+    requires one { IsWork tries.now one.now }
+    requires other { IsWork tries.now other.now }
     ensures { OnTrue result (IsSameWork tries.now one.now other.now) }
 {
     one.end == other.end
         && one.may_end == other.may_end
         && one.phase == other.phase
-        && tries.have_same_choices(one.node, other.node)
+        && have_same_rules(tries, one, other)
+}
+
+/// Whether works are known to have the same rules: the same part, or nodes that share one list of choices.
+fn have_same_rules(tries: &Annotated, one: &Work, other: &Work) -> bool
+    requires one { IsWork tries.now one.now }
+    requires other { IsWork tries.now other.now }
+    ensures { OnTrue result (rules_at tries.now one.now ≡ rules_at tries.now other.now) }
+{
+    match (one.part, other.part) {
+        (None, None) => tries.have_same_choices(one.node, other.node),
+        (Some(part), Some(other_part)) => part == other_part,
+        _ => false,
+    }
 }

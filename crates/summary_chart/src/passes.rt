@@ -43,8 +43,8 @@ fn most_kept(lexicon: &Lexicon, line: &Line, table: &Table) -> usize
 }
 
 /// Keeps the ways from the place with the states at its index of the table, and tells their stop: if they are few, and ways and stops are
-/// then no more than there is room for beside the table, and looking for them is worth it. Otherwise all ways and stops stay as they were. The place's own state is not looked at. Refused
-/// only for want of memory.
+/// then no more than there is room for beside the table, and looking for them is worth it. Otherwise all ways and stops stay as they were.
+/// The place's own state is not looked at. Refused only for want of memory.
 fn keep_ways<L>(
     site: Site<'_>,
     index: usize,

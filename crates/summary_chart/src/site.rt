@@ -36,3 +36,10 @@ pub(crate) struct Front {
     pub taken: u32,
     pub node: Node,
 }
+
+/// A front at a place where each key with it does what its rule does, wherever its form begins; and whether the line may end with such a form.
+#[derive(Clone, Copy)]
+pub(crate) struct RuledFront<'a> {
+    pub front: &'a Front,
+    pub may_end: bool,
+}

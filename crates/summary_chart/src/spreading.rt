@@ -1,4 +1,4 @@
-ghost use Rattle.std.specs.Prelude.{◌≡◌, ◌+◌, ◌*◌, ◌<◌, ◌≤◌, ℕ, Bool, length, slice_index_or, All, OnOk};
+ghost use Rattle.std.specs.Prelude.{◌≡◌, ◌+◌, ◌*◌, ◌<◌, ◌≤◌, ℕ, Bool, length, slice_index_or, All, Contains, OnOk};
 ghost use Rattle.derivation.specs.Steps.{key_meant};
 ghost use Rattle.search_frames.specs.LetterTests.{DoAsRules};
 ghost use Rattle.search_frames.specs.Frames.{numbered_of};
@@ -8,10 +8,10 @@ ghost use Rattle.search_frames.specs.WaysFrom.{IsWayFrom, key_of_way};
 ghost use Rattle.summary_chart.specs.Fronts.{IsFrontAt};
 ghost use Rattle.summary_chart.specs.PlaceWays.{HasEachKey, LeadsOnOrEnds};
 ghost use Rattle.summary_chart.specs.StateSets.{HasState};
-ghost use Rattle.annotated_trie.specs.Choices.{choices_with};
+ghost use Rattle.annotated_trie.specs.Choices.{choices_of, choices_with, parts_of, rules_of_part};
 ghost use Rattle.summary_chart.specs.AlikeFronts.{IsFirst};
 ghost use Rattle.summary_chart.specs.Effects.{AreEffects};
-ghost use Rattle.summary_chart.specs.Memos.{AreSpread, HasNodes, IsKnownWith};
+ghost use Rattle.summary_chart.specs.Memos.{AreSpread, HasWorks, IsKnownWith, IsWork};
 ghost use Rattle.summary_chart.specs.Onward.{IsOnward, SpreadsOnward};
 ghost use Rattle.summary_chart.specs.Sites.{IsSite};
 ghost use Rattle.summary_chart.specs.Tables.{IsTable};
@@ -19,10 +19,10 @@ ghost use Rattle.summary_chart.specs.Spreading.{Spreads, EveryKey, OnlyKey, IsBy
 ghost use Rattle.summary_chart.specs.Summaries.{steps_after_first, steps_of_items};
 
 use super::alike::find_onward;
-use super::memo::{Memo, Work};
+use super::memo::{FEW_RULES, Memo, Work};
 use super::room::Room;
 use super::same_effect::Effects;
-use super::site::{Front, Site, SiteAhead};
+use super::site::{Front, RuledFront, Site, SiteAhead};
 use super::state_set::StateSet;
 use super::state_steps::states_after;
 use super::table::Table;
@@ -152,14 +152,119 @@ fn spread_unchanged(onward: Onward<'_>, front: &Front, table: &mut Table)
 
 /// The states that the work gave, if the memo keeps this; else none.
 fn known_states(tries: &Annotated, memo: &Memo, work: &Work) -> StateSet
-    requires node { work.now.node < length tries.now.trie.rows }
-    requires nodes { HasNodes tries.now memo.now }
+    requires work { IsWork tries.now work.now }
+    requires works { HasWorks tries.now memo.now }
     ensures { (number : ℕ) → HasState result number → IsKnownWith tries.now memo.now work.now number }
 {
     match memo.get(tries, work) {
         Some(states) => states,
         None => StateSet::empty(),
     }
+}
+
+/// Puts into the table where the keys with this front and the rules of a part of its node's choices lead on to, where each key with the front
+/// does what its rule does. What the memo has already is not put there once more. Refused only for want of memory.
+fn spread_part<L>(
+    onward: Onward<'_>,
+    ruled: RuledFront<'_>,
+    part: u32,
+    table: &mut Table,
+    memo: &mut Memo,
+    steps: &mut Steps<L>,
+) -> Result<(), Memory>
+    requires onward { IsOnward onward ruled.front.now.phase }
+    requires limit { onward.here.site.place.now.at + ruled.front.now.taken ≤ onward.here.ahead.limit }
+    requires front { IsFrontAt onward.here.site.lexicon.now onward.here.site.line.now (numbered_of onward.here.site.lexicon.now onward.here.site.place.now) ruled.front.now.phase ruled.front.now.taken ruled.front.now.node }
+    requires does { DoAsRules onward.here.site.lexicon.now onward.here.site.line.now onward.here.site.choices.now (numbered_of onward.here.site.lexicon.now onward.here.site.place.now) ruled.front.now.taken ruled.may_end }
+    requires table { IsTable (leads_in onward.here.site.lexicon.now) (length onward.here.site.line.now.letters) table.old }
+    requires memo { AreSpread onward.here.site.lexicon.now onward.here.site.line.now table.old memo.old }
+    requires part { Contains (parts_of onward.here.site.lexicon.now.tries ruled.front.now.node) part }
+    ensures memo { OnOk result (AreSpread onward.entry.here.site.lexicon.now onward.entry.here.site.line.now table.new memo.new) }
+    ensures table { OnOk result (IsTable (leads_in onward.entry.here.site.lexicon.now) (length onward.entry.here.site.line.now.letters) table.new) }
+    ensures spreads { OnOk result (SpreadsOnward onward.entry (IsByRule ruled.entry.front.now.phase ruled.entry.front.now.taken (rules_of_part onward.entry.here.site.lexicon.now.tries part)) table.old table.new) }
+    ensures steps { steps.new ≤ steps.old + (1 + length (rules_of_part onward.entry.here.site.lexicon.now.tries part)) }
+{
+    steps.tick();
+    let RuledFront { front, may_end } = ruled;
+    let site = onward.here.site;
+    let tries = site.lexicon.tries();
+    let work = Work {
+        node: front.node,
+        part: Some(part),
+        end: site.place.at + front.taken,
+        may_end,
+        phase: front.phase,
+    };
+    let known = known_states(tries, memo, &work);
+    let all = known.union(onward.after);
+    if all == known {
+        return Ok(());
+    }
+    let rules = tries.rules_of_part(part);
+    spread_effects(onward, front, rules, table, &mut memo.effects, steps)?;
+    memo.keep(tries, &work, all)?;
+    Ok(())
+}
+
+/// The same for all choices of the node, part by part.
+fn spread_parts<L>(
+    onward: Onward<'_>,
+    ruled: RuledFront<'_>,
+    table: &mut Table,
+    memo: &mut Memo,
+    steps: &mut Steps<L>,
+) -> Result<(), Memory>
+    requires onward { IsOnward onward ruled.front.now.phase }
+    requires limit { onward.here.site.place.now.at + ruled.front.now.taken ≤ onward.here.ahead.limit }
+    requires front { IsFrontAt onward.here.site.lexicon.now onward.here.site.line.now (numbered_of onward.here.site.lexicon.now onward.here.site.place.now) ruled.front.now.phase ruled.front.now.taken ruled.front.now.node }
+    requires does { DoAsRules onward.here.site.lexicon.now onward.here.site.line.now onward.here.site.choices.now (numbered_of onward.here.site.lexicon.now onward.here.site.place.now) ruled.front.now.taken ruled.may_end }
+    requires table { IsTable (leads_in onward.here.site.lexicon.now) (length onward.here.site.line.now.letters) table.old }
+    requires memo { AreSpread onward.here.site.lexicon.now onward.here.site.line.now table.old memo.old }
+    ensures memo { OnOk result (AreSpread onward.entry.here.site.lexicon.now onward.entry.here.site.line.now table.new memo.new) }
+    ensures table { OnOk result (IsTable (leads_in onward.entry.here.site.lexicon.now) (length onward.entry.here.site.line.now.letters) table.new) }
+    ensures spreads { OnOk result (SpreadsOnward onward.entry (IsByRule ruled.entry.front.now.phase ruled.entry.front.now.taken (choices_of onward.entry.here.site.lexicon.now.tries ruled.entry.front.now.node)) table.old table.new) }
+    ensures steps { steps.new ≤ steps.old + 2 * length (choices_of onward.entry.here.site.lexicon.now.tries ruled.entry.front.now.node) }
+{
+    let tries = onward.here.site.lexicon.tries();
+    let parts = tries.parts(ruled.front.node);
+    for part in parts {
+        spread_part(onward, ruled, *part, table, memo, steps)?;
+    }
+    Ok(())
+}
+
+/// Puts into the table where the keys with this front and with a rule whose `w` begins with this letter, the next one of the line, lead on
+/// to, where each key with the front does what its rule does: rule by rule where these are few, and else part by part. Refused only for want
+/// of memory.
+fn spread_anew<L>(
+    onward: Onward<'_>,
+    ruled: RuledFront<'_>,
+    letter: Letter,
+    table: &mut Table,
+    memo: &mut Memo,
+    steps: &mut Steps<L>,
+) -> Result<(), Memory>
+    requires onward { IsOnward onward ruled.front.now.phase }
+    requires limit { onward.here.site.place.now.at + ruled.front.now.taken ≤ onward.here.ahead.limit }
+    requires front { IsFrontAt onward.here.site.lexicon.now onward.here.site.line.now (numbered_of onward.here.site.lexicon.now onward.here.site.place.now) ruled.front.now.phase ruled.front.now.taken ruled.front.now.node }
+    requires letter { letter ≡ slice_index_or onward.here.site.line.now.letters (onward.here.site.place.now.at + ruled.front.now.taken) letter }
+    requires does { DoAsRules onward.here.site.lexicon.now onward.here.site.line.now onward.here.site.choices.now (numbered_of onward.here.site.lexicon.now onward.here.site.place.now) ruled.front.now.taken ruled.may_end }
+    requires table { IsTable (leads_in onward.here.site.lexicon.now) (length onward.here.site.line.now.letters) table.old }
+    requires memo { AreSpread onward.here.site.lexicon.now onward.here.site.line.now table.old memo.old }
+    ensures memo { OnOk result (AreSpread onward.entry.here.site.lexicon.now onward.entry.here.site.line.now table.new memo.new) }
+    ensures table { OnOk result (IsTable (leads_in onward.entry.here.site.lexicon.now) (length onward.entry.here.site.line.now.letters) table.new) }
+    ensures spreads { OnOk result (SpreadsOnward onward.entry (IsByRule ruled.entry.front.now.phase ruled.entry.front.now.taken (choices_with onward.entry.here.site.lexicon.now.tries ruled.entry.front.now.node letter)) table.old table.new) }
+    ensures steps { (most : ℕ) → HasAtMostRules onward.entry.here.site.lexicon.now.tries most → steps.new ≤ steps.old + (1 + 2 * most) }
+{
+    let front = ruled.front;
+    let tries = onward.here.site.lexicon.tries();
+    let rules = tries.choices_with(front.node, letter, steps);
+    if rules.len() > FEW_RULES {
+        spread_parts(onward, ruled, table, memo, steps)?;
+        return Ok(());
+    }
+    spread_effects(onward, front, rules, table, &mut memo.effects, steps)?;
+    Ok(())
 }
 
 /// Puts into the table where the keys with this front and with a rule whose `w` begins with this letter, the next one of the line, lead on
@@ -181,7 +286,7 @@ fn spread_changed<L>(
     ensures memo { OnOk result (AreSpread onward.entry.here.site.lexicon.now onward.entry.here.site.line.now table.new memo.new) }
     ensures table { OnOk result (IsTable (leads_in onward.entry.here.site.lexicon.now) (length onward.entry.here.site.line.now.letters) table.new) }
     ensures spreads { OnOk result (SpreadsOnward onward.entry (IsByRule front.now.phase front.now.taken (choices_with onward.entry.here.site.lexicon.now.tries front.now.node letter)) table.old table.new) }
-    ensures steps { (most : ℕ) → HasAtMostRules onward.entry.here.site.lexicon.now.tries most → steps.new ≤ steps.old + (2 + most) }
+    ensures steps { (most : ℕ) → HasAtMostRules onward.entry.here.site.lexicon.now.tries most → steps.new ≤ steps.old + (2 + 2 * most) }
 {
     steps.tick();
     let Site {
@@ -199,6 +304,7 @@ fn spread_changed<L>(
     };
     let work = Work {
         node: front.node,
+        part: None,
         end: place.at + front.taken,
         may_end,
         phase: front.phase,
@@ -208,8 +314,8 @@ fn spread_changed<L>(
     if all == known {
         return Ok(());
     }
-    let rules = tries.choices_with(front.node, letter, steps);
-    spread_effects(onward, front, rules, table, &mut memo.effects, steps)?;
+    let ruled = RuledFront { front, may_end };
+    spread_anew(onward, ruled, letter, table, memo, steps)?;
     memo.keep(tries, &work, all)?;
     Ok(())
 }
@@ -231,7 +337,7 @@ fn spread_front<L>(
     ensures memo { OnOk result (AreSpread onward.entry.here.site.lexicon.now onward.entry.here.site.line.now table.new memo.new) }
     ensures table { OnOk result (IsTable (leads_in onward.entry.here.site.lexicon.now) (length onward.entry.here.site.line.now.letters) table.new) }
     ensures spreads { OnOk result (SpreadsOnward onward.entry (IsAtFront front.now.phase front.now.taken) table.old table.new) }
-    ensures steps { (most : ℕ) → HasAtMostRules onward.entry.here.site.lexicon.now.tries most → steps.new ≤ steps.old + (3 + most) }
+    ensures steps { (most : ℕ) → HasAtMostRules onward.entry.here.site.lexicon.now.tries most → steps.new ≤ steps.old + (3 + 2 * most) }
 {
     steps.tick();
     spread_unchanged(onward, front, table);

@@ -1,5 +1,5 @@
 -- One front more; no possible key of the phase takes more letters than the fronts do.
-use Rattle.std.proofs.Common.{◌+◌, arith}
+use Rattle.std.proofs.Common.{◌*◌, ◌+◌, arith}
 use Rattle.search_frames.specs.declared.frame.TheConstants.{NODES_OF_FRAME}
 use Rattle.summary_chart.specs.declared.state_set.StateSet.{StateSet}
 use Rattle.summary_chart.specs.Spreading.{IsAtFront, IsInPhase}
@@ -46,7 +46,7 @@ loop-taken-preserved g c =
           c.loop-taken.living c.in_ok-found.found c.union-living.result c.in_ok-found.ensures.living c.union-living.ensures);
       memo = c.in_ok-found.ensures.memo;
       ends = λ ends. c.in_ok-found.ensures.ends (inv.ends ends);
-      spent = λ most few. one_more_within (c.args.steps.now + NODES_OF_FRAME) c.loop-taken.taken (3 + most) c.loop-taken.steps c.living_at_front.new.steps
+      spent = λ most few. one_more_within (c.args.steps.now + NODES_OF_FRAME) c.loop-taken.taken (3 + 2 * most) c.loop-taken.steps c.living_at_front.new.steps
           (inv.spent most few) (c.living_at_front.ensures.steps most few);
     }
 
@@ -72,7 +72,7 @@ returns-clause-steps g c most few =
     let spent = inv.spent most few in
     let short = inv.fronts.few in
     let low = inv.low in
-    let all = fewer_within c.loop-taken.taken NODES_OF_FRAME (3 + most) (omega (arith, low, short)) in
+    let all = fewer_within c.loop-taken.taken NODES_OF_FRAME (3 + 2 * most) (omega (arith, low, short)) in
     omega (arith, spent, all)
 
 pub living_at_front-requires-clause-limit : goal.living_at_front-requires-clause-limit
@@ -84,9 +84,9 @@ living_at_front-requires-clause-limit g c =
 pub returns-in_err-found-clause-steps : goal.returns-in_err-found-clause-steps
 returns-in_err-found-clause-steps g c most few =
     let inv = c.loop-taken.invariant in
-    let one = one_more_within (c.args.steps.now + NODES_OF_FRAME) c.loop-taken.taken (3 + most) c.loop-taken.steps c.living_at_front.new.steps
+    let one = one_more_within (c.args.steps.now + NODES_OF_FRAME) c.loop-taken.taken (3 + 2 * most) c.loop-taken.steps c.living_at_front.new.steps
     (inv.spent most few) (c.living_at_front.ensures.steps most few) in
     let short = inv.fronts.few in
     let end = inv.end in
-    let all = fewer_within (c.loop-taken.taken + 1) NODES_OF_FRAME (3 + most) (omega (arith, c.loop-taken-test.true, end, short)) in
+    let all = fewer_within (c.loop-taken.taken + 1) NODES_OF_FRAME (3 + 2 * most) (omega (arith, c.loop-taken-test.true, end, short)) in
     omega (arith, one, all)

@@ -21,5 +21,5 @@ invariant-loop-taken g l = record {
       l.table (IsBelow l.first.phase l.taken) empty l.living;
   memo : AreLiving l.here.site.lexicon.now l.here.site.line.now l.table l.memo;
   ends : EndFrom l.here.site.place.now.at l.fn.memo → EndFrom l.here.site.place.now.at l.memo;
-  spent : (most : ℕ) → HasAtMostRules l.here.site.lexicon.now.tries most → l.steps ≤ l.fn.steps + NODES_OF_FRAME + l.taken * (3 + most);
+  spent : (most : ℕ) → HasAtMostRules l.here.site.lexicon.now.tries most → l.steps ≤ l.fn.steps + NODES_OF_FRAME + l.taken * (3 + 2 * most);
 }

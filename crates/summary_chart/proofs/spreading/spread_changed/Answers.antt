@@ -1,46 +1,40 @@
 -- What the memo has is in the table already; what is put there serves wherever a form ends so, if every key does what its rule does
 -- (`SpreadMemos`).
-use Rattle.std.proofs.Common.{◌≡◌, ℕ, ◌+◌, ◌<◌, refl, inr, List, length, All, ap, sym, subst, ◌∙◌, arith, rules}
-use Rattle.list_laws.proofs.Sorted.{All-from_Contains}
+use Rattle.std.proofs.Common.{◌≡◌, ℕ, ◌+◌, ◌<◌, refl, inr, None, List, length, All, ap, sym, subst, ◌∙◌, arith, rules}
 use Rattle.annotated_trie.specs.Choices.{AnnotatedTrie, choices_with}
 use Rattle.search_frames.specs.Configurations.{IsPossible, rules_in}
 use Rattle.search_frames.specs.Frames.{numbered_of}
 use Rattle.summary_chart.specs.declared.memo.Work.{Work}
 use Rattle.summary_chart.specs.declared.state_set.StateSet.{StateSet}
 use Rattle.summary_chart.specs.Effects.{AreEffects}
-use Rattle.summary_chart.specs.Memos.{HasNodes, IsKnownWith}
+use Rattle.summary_chart.specs.Memos.{HasWorks, IsKnownWith, IsWork}
 use Rattle.summary_chart.specs.Onward.{Puts}
 use Rattle.summary_chart.specs.Spreading.{IsByRule}
 use Rattle.summary_chart.specs.StateSets.{HasState}
 use Rattle.summary_chart.specs.Summaries.{key_with}
-use Rattle.summary_chart.proofs.FrontKeys.{front_node, choices_possible, few_written}
-use Rattle.summary_chart.proofs.SpreadMemos.{all_grown, all_with, choice_if_written, choice_numbered, nothing_new, newly_spread}
+use Rattle.summary_chart.proofs.FrontKeys.{among_written, choice_possible, front_node, choices_possible, few_written}
+use Rattle.summary_chart.proofs.SpreadMemos.{all_grown, all_with, choice_if_written, nothing_new, newly_spread}
 use Rattle.summary_chart.proofs.spreading.spread_changed.Goals as goal
 
-pub known_states-known-requires-clause-node : goal.known_states-known-requires-clause-node
-known_states-known-requires-clause-node g c =
+pub known_states-known-requires-clause-work : goal.known_states-known-requires-clause-work
+known_states-known-requires-clause-work g c =
     let searched = c.args.onward.here.site.lexicon.now in
     let work : Work = record {
       node = c.args.front.now.node;
+      part = None;
       end = c.args.onward.here.site.place.now.at + c.args.front.now.taken;
       may_end = c.in-Some.may_end;
       phase = c.args.front.now.phase;
     } in
-    subst (λ (t : AnnotatedTrie). work.node < length t.trie.rows) (sym c.tries-tries.ensures.value)
-    (front_node searched c.requires.onward.here.site.searched c.args.onward.here.site.line.now (numbered_of searched c.args.onward.here.site.place.now) work.phase c.args.front.now.taken work.node c.requires.front)
+    let there = front_node searched c.requires.onward.here.site.searched c.args.onward.here.site.line.now (numbered_of searched c.args.onward.here.site.place.now) c.args.front.now.phase c.args.front.now.taken c.args.front.now.node c.requires.front in
+    subst (λ (t : AnnotatedTrie). IsWork t work) (sym c.tries-tries.ensures.value) (record { node = there; part = tt })
 
-pub known_states-known-requires-clause-nodes : goal.known_states-known-requires-clause-nodes
-known_states-known-requires-clause-nodes g c =
-    subst (λ (t : AnnotatedTrie). HasNodes t c.args.memo.now) (sym c.tries-tries.ensures.value) c.requires.memo.nodes
+pub known_states-known-requires-clause-works : goal.known_states-known-requires-clause-works
+known_states-known-requires-clause-works g c =
+    subst (λ (t : AnnotatedTrie). HasWorks t c.args.memo.now) (sym c.tries-tries.ensures.value) c.requires.memo.works
 
 pub choices_with-rules-requires : goal.choices_with-rules-requires
 choices_with-rules-requires g c =
-    let searched = c.args.onward.here.site.lexicon.now in
-    subst (λ (t : AnnotatedTrie). c.args.front.now.node < length t.trie.rows) (sym c.tries-tries.ensures.value)
-    (front_node searched c.requires.onward.here.site.searched c.args.onward.here.site.line.now (numbered_of searched c.args.onward.here.site.place.now) c.args.front.now.phase c.args.front.now.taken c.args.front.now.node c.requires.front)
-
-pub choices_with-rules-requires-2 : goal.choices_with-rules-requires-2
-choices_with-rules-requires-2 g c =
     let searched = c.args.onward.here.site.lexicon.now in
     subst (λ (t : AnnotatedTrie). c.args.front.now.node < length t.trie.rows) (sym c.tries-tries.ensures.value)
     (front_node searched c.requires.onward.here.site.searched c.args.onward.here.site.line.now (numbered_of searched c.args.onward.here.site.place.now) c.args.front.now.phase c.args.front.now.taken c.args.front.now.node c.requires.front)
@@ -55,49 +49,18 @@ spread_rules-requires-clause-possible g c =
     subst (All (λ (rule : ℕ). IsPossible searched line here (key_with c.args.front.now.phase c.args.front.now.taken rule))) (sym rules)
     (choices_possible searched c.requires.onward.here.site.searched line here c.args.front.now.phase c.args.front.now.taken c.args.front.now.node c.requires.front c.args.letter)
 
-pub spread_effects-requires-clause-possible : goal.spread_effects-requires-clause-possible
-spread_effects-requires-clause-possible g c =
-    let searched = c.args.onward.here.site.lexicon.now in
-    let line = c.args.onward.here.site.line.now in
-    let work : Work = record {
-      node = c.args.front.now.node;
-      end = c.args.onward.here.site.place.now.at + c.args.front.now.taken;
-      may_end = c.in-Some.may_end;
-      phase = c.args.front.now.phase;
-    } in
-    let here = numbered_of searched c.args.onward.here.site.place.now in
-    let rules : c.choices_with-rules-2.result.now ≡ choices_with searched.tries work.node c.args.letter =
-    c.choices_with-rules-2.ensures.value ∙ ap (λ (t : AnnotatedTrie). choices_with t work.node c.args.letter) c.tries-tries.ensures.value in
-    subst (All (λ (rule : ℕ). IsPossible searched line here (key_with work.phase c.args.front.now.taken rule))) (sym rules)
-    (choices_possible searched c.requires.onward.here.site.searched line here work.phase c.args.front.now.taken work.node c.requires.front c.args.letter)
-
-pub spread_effects-requires-clause-rules : goal.spread_effects-requires-clause-rules
-spread_effects-requires-clause-rules g c =
-    let searched = c.args.onward.here.site.lexicon.now in
-    let work : Work = record {
-      node = c.args.front.now.node;
-      end = c.args.onward.here.site.place.now.at + c.args.front.now.taken;
-      may_end = c.in-Some.may_end;
-      phase = c.args.front.now.phase;
-    } in
-    let rules : c.choices_with-rules-2.result.now ≡ choices_with searched.tries work.node c.args.letter =
-    c.choices_with-rules-2.ensures.value ∙ ap (λ (t : AnnotatedTrie). choices_with t work.node c.args.letter) c.tries-tries.ensures.value in
-    let there = front_node searched c.requires.onward.here.site.searched c.args.onward.here.site.line.now (numbered_of searched c.args.onward.here.site.place.now) work.phase c.args.front.now.taken work.node c.requires.front in
-    subst (All (λ (rule : ℕ). 0 < rule)) (sym rules)
-    (All-from_Contains (λ (rule : ℕ). 0 < rule) (choices_with searched.tries work.node c.args.letter)
-    (λ rule among. choice_numbered searched work.node rule c.requires.onward.here.site.searched there (choice_if_written searched.tries work.node c.args.letter rule among)))
-
 pub keep-requires : goal.keep-requires
 keep-requires g c =
     let searched = c.args.onward.here.site.lexicon.now in
     let work : Work = record {
       node = c.args.front.now.node;
+      part = None;
       end = c.args.onward.here.site.place.now.at + c.args.front.now.taken;
       may_end = c.in-Some.may_end;
       phase = c.args.front.now.phase;
     } in
-    subst (λ (t : AnnotatedTrie). work.node < length t.trie.rows) (sym c.tries-tries.ensures.value)
-    (front_node searched c.requires.onward.here.site.searched c.args.onward.here.site.line.now (numbered_of searched c.args.onward.here.site.place.now) work.phase c.args.front.now.taken work.node c.requires.front)
+    let there = front_node searched c.requires.onward.here.site.searched c.args.onward.here.site.line.now (numbered_of searched c.args.onward.here.site.place.now) c.args.front.now.phase c.args.front.now.taken c.args.front.now.node c.requires.front in
+    subst (λ (t : AnnotatedTrie). IsWork t work) (sym c.tries-tries.ensures.value) (record { node = there; part = tt })
 
 pub returns-then-eq-clause-spreads : goal.returns-then-eq-clause-spreads
 returns-then-eq-clause-spreads g c =
@@ -105,16 +68,19 @@ returns-then-eq-clause-spreads g c =
     let memo = c.args.memo.now in
     let work : Work = record {
       node = c.args.front.now.node;
+      part = None;
       end = c.args.onward.here.site.place.now.at + c.args.front.now.taken;
       may_end = c.in-Some.may_end;
       phase = c.args.front.now.phase;
     } in
+    let there = front_node searched c.requires.onward.here.site.searched c.args.onward.here.site.line.now (numbered_of searched c.args.onward.here.site.place.now) c.args.front.now.phase c.args.front.now.taken c.args.front.now.node c.requires.front in
     let has : (number : ℕ) → HasState c.known_states-known.result number → IsKnownWith searched.tries memo work number =
     λ number in_known. subst (λ (t : AnnotatedTrie). IsKnownWith t memo work number) c.tries-tries.ensures.value (c.known_states-known.ensures number in_known) in
     let same : c.union-all.result ≡ c.known_states-known.result = search rules in
-    nothing_new searched c.args.onward.here.site.line.now c.args.onward.here.site.choices.now c.args.onward.here.site.place.now c.requires.onward.here.site.searched work c.args.front.now.taken c.args.letter refl
-    c.requires.front c.args.onward.after c.args.table.now memo c.requires.memo
+    nothing_new searched c.args.onward.here.site.line.now c.args.onward.here.site.choices.now c.args.onward.here.site.place.now c.requires.onward.here.site.searched work c.args.front.now.taken refl
+    (record { node = there; part = tt }) c.args.onward.after (choices_with searched.tries work.node c.args.letter) c.args.table.now memo c.requires.memo
     (λ number in_after. has number (subst (λ (set : StateSet). HasState set number) same ((c.union-all.ensures number).1 (inr in_after))))
+    (λ rule among. choice_if_written searched.tries work.node c.args.letter rule among)
 
 pub returns-in_default-clause-memo : goal.returns-in_default-clause-memo
 returns-in_default-clause-memo g c =
@@ -125,28 +91,33 @@ returns-clause-memo g c =
     let searched = c.args.onward.here.site.lexicon.now in
     let line = c.args.onward.here.site.line.now in
     let place = c.args.onward.here.site.place.now in
+    let choices = c.args.onward.here.site.choices.now in
+    let is = c.requires.onward.here.site.searched in
+    let here = numbered_of searched place in
     let memo = c.args.memo.now in
+    let later = c.spread_anew.new.memo in
+    let now = c.in_ok-spread_anew.ensures.memo in
     let work : Work = record {
       node = c.args.front.now.node;
+      part = None;
       end = c.args.onward.here.site.place.now.at + c.args.front.now.taken;
       may_end = c.in-Some.may_end;
       phase = c.args.front.now.phase;
     } in
+    let there = front_node searched c.requires.onward.here.site.searched c.args.onward.here.site.line.now (numbered_of searched c.args.onward.here.site.place.now) c.args.front.now.phase c.args.front.now.taken c.args.front.now.node c.requires.front in
+    let of_trie : IsWork searched.tries work = record { node = there; part = tt } in
     let old = c.args.table.now in
-    let new = c.spread_effects.new.table in
+    let new = c.spread_anew.new.table in
     let has : (number : ℕ) → HasState c.known_states-known.result number → IsKnownWith searched.tries memo work number =
     λ number in_known. subst (λ (t : AnnotatedTrie). IsKnownWith t memo work number) c.tries-tries.ensures.value (c.known_states-known.ensures number in_known) in
-    let rules : c.choices_with-rules-2.result.now ≡ choices_with searched.tries work.node c.args.letter =
-    c.choices_with-rules-2.ensures.value ∙ ap (λ (t : AnnotatedTrie). choices_with t work.node c.args.letter) c.tries-tries.ensures.value in
-    let spreads = subst (λ (some : List ℕ). Puts searched line c.args.onward.here.site.choices.now (numbered_of searched place) c.args.onward.after (IsByRule work.phase c.args.front.now.taken some) old new)
-    rules (c.in_ok-spread_effects.ensures.spreads) in
-    all_with searched line new work c.union-all.result memo c.keep.new.self c.in_ok-keep.ensures.keeps
-    (front_node searched c.requires.onward.here.site.searched line (numbered_of searched place) work.phase c.args.front.now.taken work.node c.requires.front)
-    (newly_spread searched line c.args.onward.here.site.choices.now place c.requires.onward.here.site.searched work c.args.front.now.taken c.args.letter refl
-    c.requires.front c.args.onward.after old new memo c.known_states-known.result c.union-all.result c.in-Some.may_end
-    c.requires.letter c.requires.onward.begins c.in-Some.ensures c.requires.memo has c.union-all.ensures spreads)
-    (subst (AreEffects (rules_in searched)) (sym c.in_ok-keep.ensures.effects) c.in_ok-spread_effects.ensures.effects)
-    (all_grown searched line old new memo spreads.keeps c.requires.memo)
+    all_with searched line new work c.union-all.result later c.keep.new.self c.in_ok-keep.ensures.keeps of_trie
+    (newly_spread searched line choices place is work c.args.front.now.taken refl of_trie c.args.onward.after (choices_with searched.tries work.node c.args.letter) old new memo
+    c.known_states-known.result c.union-all.result c.in-Some.may_end c.requires.front c.requires.onward.begins c.in-Some.ensures c.requires.memo has c.union-all.ensures
+    (λ rule among some stands. among_written searched is line here work.phase c.args.front.now.taken work.node c.requires.front choices rule some stands c.args.letter c.requires.letter
+    (choice_possible searched is line here work.phase c.args.front.now.taken work.node c.requires.front rule among))
+    c.in_ok-spread_anew.ensures.spreads)
+    (subst (AreEffects (rules_in searched)) (sym c.in_ok-keep.ensures.effects) now.effects)
+    now
 
 pub returns-in_default-clause-spreads : goal.returns-in_default-clause-spreads
 returns-in_default-clause-spreads g c =
@@ -157,16 +128,6 @@ returns-in_default-clause-spreads g c =
     c.choices_with-rules.ensures.value ∙ ap (λ (t : AnnotatedTrie). choices_with t front.node c.args.letter) c.tries-tries.ensures.value in
     subst (λ (some : List ℕ). Puts searched c.args.onward.here.site.line.now c.args.onward.here.site.choices.now (numbered_of searched place) c.args.onward.after (IsByRule front.phase front.taken some)
     c.args.table.now c.spread_rules.new.table) rules c.spread_rules.ensures.spreads
-
-pub returns-clause-spreads : goal.returns-clause-spreads
-returns-clause-spreads g c =
-    let searched = c.args.onward.here.site.lexicon.now in
-    let place = c.args.onward.here.site.place.now in
-    let front = c.args.front.now in
-    let rules : c.choices_with-rules-2.result.now ≡ choices_with searched.tries front.node c.args.letter =
-    c.choices_with-rules-2.ensures.value ∙ ap (λ (t : AnnotatedTrie). choices_with t front.node c.args.letter) c.tries-tries.ensures.value in
-    subst (λ (some : List ℕ). Puts searched c.args.onward.here.site.line.now c.args.onward.here.site.choices.now (numbered_of searched place) c.args.onward.after (IsByRule front.phase front.taken some)
-    c.args.table.now c.spread_effects.new.table) rules c.in_ok-spread_effects.ensures.spreads
 
 pub returns-in_default-clause-steps : goal.returns-in_default-clause-steps
 returns-in_default-clause-steps g c most few =
@@ -180,52 +141,10 @@ returns-in_default-clause-steps g c most few =
     omega (arith, c.tick.ensures, c.choices_with-rules.ensures.steps, c.spread_rules.ensures.steps, count, short, all)
 
 pub returns-in_err-keep-clause-steps : goal.returns-in_err-keep-clause-steps
-returns-in_err-keep-clause-steps g c most few =
-    let searched = c.args.onward.here.site.lexicon.now in
-    let work : Work = record {
-      node = c.args.front.now.node;
-      end = c.args.onward.here.site.place.now.at + c.args.front.now.taken;
-      may_end = c.in-Some.may_end;
-      phase = c.args.front.now.phase;
-    } in
-    let rules : c.choices_with-rules-2.result.now ≡ choices_with searched.tries work.node c.args.letter =
-    c.choices_with-rules-2.ensures.value ∙ ap (λ (t : AnnotatedTrie). choices_with t work.node c.args.letter) c.tries-tries.ensures.value in
-    let count = ap length rules in
-    let short = few_written searched.tries work.node c.args.letter in
-    let there = front_node searched c.requires.onward.here.site.searched c.args.onward.here.site.line.now (numbered_of searched c.args.onward.here.site.place.now) work.phase c.args.front.now.taken work.node c.requires.front in
-    let all = few work.node there in
-    omega (arith, c.tick.ensures, c.choices_with-rules-2.ensures.steps, c.spread_effects.ensures.steps, count, short, all)
+returns-in_err-keep-clause-steps g c most few = (let more = c.spread_anew.ensures.steps most few in omega (arith, c.tick.ensures, more))
 
-pub returns-in_err-spread_effects-clause-steps : goal.returns-in_err-spread_effects-clause-steps
-returns-in_err-spread_effects-clause-steps g c most few =
-    let searched = c.args.onward.here.site.lexicon.now in
-    let work : Work = record {
-      node = c.args.front.now.node;
-      end = c.args.onward.here.site.place.now.at + c.args.front.now.taken;
-      may_end = c.in-Some.may_end;
-      phase = c.args.front.now.phase;
-    } in
-    let rules : c.choices_with-rules-2.result.now ≡ choices_with searched.tries work.node c.args.letter =
-    c.choices_with-rules-2.ensures.value ∙ ap (λ (t : AnnotatedTrie). choices_with t work.node c.args.letter) c.tries-tries.ensures.value in
-    let count = ap length rules in
-    let short = few_written searched.tries work.node c.args.letter in
-    let there = front_node searched c.requires.onward.here.site.searched c.args.onward.here.site.line.now (numbered_of searched c.args.onward.here.site.place.now) work.phase c.args.front.now.taken work.node c.requires.front in
-    let all = few work.node there in
-    omega (arith, c.tick.ensures, c.choices_with-rules-2.ensures.steps, c.spread_effects.ensures.steps, count, short, all)
+pub returns-in_err-spread_anew-clause-steps : goal.returns-in_err-spread_anew-clause-steps
+returns-in_err-spread_anew-clause-steps g c most few = (let more = c.spread_anew.ensures.steps most few in omega (arith, c.tick.ensures, more))
 
 pub returns-clause-steps : goal.returns-clause-steps
-returns-clause-steps g c most few =
-    let searched = c.args.onward.here.site.lexicon.now in
-    let work : Work = record {
-      node = c.args.front.now.node;
-      end = c.args.onward.here.site.place.now.at + c.args.front.now.taken;
-      may_end = c.in-Some.may_end;
-      phase = c.args.front.now.phase;
-    } in
-    let rules : c.choices_with-rules-2.result.now ≡ choices_with searched.tries work.node c.args.letter =
-    c.choices_with-rules-2.ensures.value ∙ ap (λ (t : AnnotatedTrie). choices_with t work.node c.args.letter) c.tries-tries.ensures.value in
-    let count = ap length rules in
-    let short = few_written searched.tries work.node c.args.letter in
-    let there = front_node searched c.requires.onward.here.site.searched c.args.onward.here.site.line.now (numbered_of searched c.args.onward.here.site.place.now) work.phase c.args.front.now.taken work.node c.requires.front in
-    let all = few work.node there in
-    omega (arith, c.tick.ensures, c.choices_with-rules-2.ensures.steps, c.spread_effects.ensures.steps, count, short, all)
+returns-clause-steps g c most few = (let more = c.spread_anew.ensures.steps most few in omega (arith, c.tick.ensures, more))

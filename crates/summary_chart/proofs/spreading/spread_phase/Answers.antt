@@ -1,5 +1,5 @@
 -- One front more; no possible key of the phase takes more letters than the fronts do.
-use Rattle.std.proofs.Common.{◌+◌, arith}
+use Rattle.std.proofs.Common.{◌*◌, ◌+◌, arith}
 use Rattle.search_frames.specs.declared.frame.TheConstants.{NODES_OF_FRAME}
 use Rattle.summary_chart.specs.declared.table.Table.{Table}
 use Rattle.summary_chart.proofs.VisitedKeys.{visit_no_front, visit_front, visit_all_fronts}
@@ -32,7 +32,7 @@ loop-taken-preserved g c =
       spreads = visit_front c.args.onward.here.site.lexicon.now c.args.onward.here.site.line.now c.args.onward.here.site.choices.now c.args.onward.here.site.place.now Table
           (put_visit c.args.onward.here.site.lexicon.now c.args.onward.here.site.line.now c.args.onward.here.site.choices.now c.args.onward.here.site.place.now c.args.onward.after) c.args.first.now.phase c.loop-taken.taken
           c.args.table.now c.loop-taken.table c.spread_front.new.table inv.spreads c.in_ok-spread_front.ensures.spreads;
-      spent = λ most few. one_more_within (c.args.steps.now + NODES_OF_FRAME) c.loop-taken.taken (3 + most) c.loop-taken.steps c.spread_front.new.steps
+      spent = λ most few. one_more_within (c.args.steps.now + NODES_OF_FRAME) c.loop-taken.taken (3 + 2 * most) c.loop-taken.steps c.spread_front.new.steps
           (inv.spent most few) (c.spread_front.ensures.steps most few);
     }
 
@@ -45,10 +45,10 @@ pub returns-in_err-spread_front-clause-steps : goal.returns-in_err-spread_front-
 returns-in_err-spread_front-clause-steps g c most few =
     let inv = c.loop-taken.invariant in
     let spent = c.spread_front.ensures.steps most few in
-    let one = one_more_within (c.args.steps.now + NODES_OF_FRAME) c.loop-taken.taken (3 + most) c.loop-taken.steps c.spread_front.new.steps
+    let one = one_more_within (c.args.steps.now + NODES_OF_FRAME) c.loop-taken.taken (3 + 2 * most) c.loop-taken.steps c.spread_front.new.steps
     (inv.spent most few) spent in
     let short = inv.fronts.few in
-    let all = fewer_within (c.loop-taken.taken + 1) NODES_OF_FRAME (3 + most) (omega (arith, c.loop-taken-test.true, inv.end, short)) in
+    let all = fewer_within (c.loop-taken.taken + 1) NODES_OF_FRAME (3 + 2 * most) (omega (arith, c.loop-taken-test.true, inv.end, short)) in
     omega (arith, one, all)
 
 pub returns-clause-spreads : goal.returns-clause-spreads
@@ -64,5 +64,5 @@ returns-clause-steps g c most few =
     let spent = inv.spent most few in
     let short = inv.fronts.few in
     let low = inv.low in
-    let all = fewer_within c.loop-taken.taken NODES_OF_FRAME (3 + most) (omega (arith, low, short)) in
+    let all = fewer_within c.loop-taken.taken NODES_OF_FRAME (3 + 2 * most) (omega (arith, low, short)) in
     omega (arith, spent, all)

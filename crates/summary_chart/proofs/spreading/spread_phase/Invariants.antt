@@ -19,5 +19,5 @@ invariant-loop-taken g l = record {
   lawful : IsTable (leads_in l.onward.here.site.lexicon.now) (length l.onward.here.site.line.now.letters) l.table;
   memo : AreSpread l.onward.here.site.lexicon.now l.onward.here.site.line.now l.table l.memo;
   spreads : SpreadsOnward l.onward (IsBelow l.first.phase l.taken) l.fn.table l.table;
-  spent : (most : ℕ) → HasAtMostRules l.onward.here.site.lexicon.now.tries most → l.steps ≤ l.fn.steps + NODES_OF_FRAME + l.taken * (3 + most);
+  spent : (most : ℕ) → HasAtMostRules l.onward.here.site.lexicon.now.tries most → l.steps ≤ l.fn.steps + NODES_OF_FRAME + l.taken * (3 + 2 * most);
 }

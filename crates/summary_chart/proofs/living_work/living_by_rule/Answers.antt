@@ -3,7 +3,7 @@ use Rattle.std.proofs.Common.{subst}
 use Rattle.lexicon_definitions.specs.Lexicons.{RuleSet}
 use Rattle.search_frames.specs.Ahead.{RuleLeadsTo}
 use Rattle.summary_chart.proofs.LivingKeys.{lives_led}
-use Rattle.summary_chart.proofs.gathering.living_by_rule.Goals as goal
+use Rattle.summary_chart.proofs.living_work.living_by_rule.Goals as goal
 
 pub returns-in-LeadsOn : goal.returns-in-LeadsOn
 returns-in-LeadsOn c =

@@ -4,7 +4,7 @@ use Rattle.std.proofs.Common.{◌≡◌, ◌+◌, ◌≤◌, ◌↔◌, ℕ, len
 use Rattle.summary_chart.specs.Effects.{AreEffects, HaveLooked}
 use Rattle.summary_chart.specs.Memos.{LivesBy}
 use Rattle.summary_chart.specs.StateSets.{HasState}
-use Rattle.summary_chart.proofs.gathering.living_by_rules.Given as goal
+use Rattle.summary_chart.proofs.living_work.living_by_rules.Given as goal
 
 abbrev pub invariant-loop-rule : goal.invariant-loop-rule
 invariant-loop-rule g l = record {

@@ -5,7 +5,7 @@ use Rattle.lexicon_definitions.specs.Lexicons.{RuleSet}
 use Rattle.summary_chart.specs.Effects.{AreEffects, DoSame, HaveLooked}
 use Rattle.summary_chart.proofs.AlikeRules.{lives_passed}
 use Rattle.summary_chart.proofs.LivingKeys.{lives_first, lives_more, lives_all}
-use Rattle.summary_chart.proofs.gathering.living_by_rules.Goals as goal
+use Rattle.summary_chart.proofs.living_work.living_by_rules.Goals as goal
 
 pub loop-rule-init : goal.loop-rule-init
 loop-rule-init g c = record {
