@@ -11,9 +11,14 @@ was ended, or ended with another status than 0.
 import multiprocessing, os, random, resource, subprocess, sys, tempfile, time
 
 MOST_SECONDS = 60
-# Where one walk serves all phases that do the same, the first of these takes about a second on a slow machine, and else 12 to 18. Where the
-# rules of a part are gone over once for all nodes that have it, the second takes a few seconds, and else more than a minute.
-MOST_SECONDS_OF = {"leads: 62 leads, 16 phases": 4}
+# Where one walk serves all phases that do the same, the first of these takes 0.7 to 1.9 seconds, and else 12 to 18 or more; where the rules of a part
+# are gone over once for all nodes that have it, the second takes 2, and else twelve times as long; and where a choice leaves the memo of rules in
+# use, the third takes 1.7, and else some eight times as long.
+MOST_SECONDS_OF = {
+    "leads: 62 leads, 16 phases": 7,
+    "lists: a list of rules for each node": 12,
+    "choices: 12 letters, one segment rejected": 10,
+}
 MOST_BYTES = 12 << 30
 
 
