@@ -131,6 +131,11 @@ def family_nodes():
     return lexicon(16, rules, forms), "a" * 1000
 
 
+def family_lists_short():
+    """The same lexicon, where from most places near the line's end few of many thousand keys live."""
+    return family_lists()[0], "a" * 100
+
+
 def family_lists():
     """62 leads; at each of their nodes forms end by some of twelve letters, which are drawn, so that nearly each node has a list of rules of its own."""
     leads, ends, draw = words("aA", 5), "bcdefgijklmn", random.Random(1)
@@ -150,6 +155,7 @@ FAMILIES = {
     "refused: rules that fail, 16 phases": (family_refused, "segment"),
     "nodes: 250 leads with nodes of their own": (family_nodes, "segment"),
     "lists: a list of rules for each node": (family_lists, "first"),
+    "lists: 1,000 answers of 100 letters": (family_lists_short, "page"),
     "choices: 12 letters, one segment rejected": (family_rejected, "rejected"),
     "dead: 41 letters without an answer": (family_dead, "segment"),
     "dead: 1,000 letters without an answer": (family_dead_long, "segment"),
@@ -197,8 +203,9 @@ def main():
             seconds = MOST_SECONDS_OF.get(name, MOST_SECONDS)
             if task in ("summary", "rejected"):
                 result = run(program, ["read", lexicon_path], session_path, seconds)
-            elif task == "first":
-                result = run(program, ["batch", lexicon_path, "slp1", line_path, "1"], None, seconds)
+            elif task in ("first", "page"):
+                count = "1" if task == "first" else "1000"
+                result = run(program, ["batch", lexicon_path, "slp1", line_path, count], None, seconds)
             else:
                 with open(line_path) as file:
                     result = run(program, ["segment", lexicon_path, file.read()], None, seconds)

@@ -32,7 +32,7 @@ use Rattle.summary_chart.proofs.Walks.{first_entered}
 
 -- ---- phases that no rule tells apart
 
-alike_back : (rules : RuleSet) (one other : ℕ) → IsAlike rules one other → IsAlike rules other one
+pub alike_back : (rules : RuleSet) (one other : ℕ) → IsAlike rules one other → IsAlike rules other one
 alike_back rules one other alike place none low = (let same = alike place none low in (same.1, same.0))
 
 alike_through : (rules : RuleSet) (one other third : ℕ) → IsAlike rules one other → IsAlike rules other third → IsAlike rules one third
@@ -42,7 +42,7 @@ alike_through rules one other third first second place none low =
     (λ has. after.0 (before.0 has), λ has. before.1 (after.1 has))
 
 -- a rule that may follow the one may follow the other
-follows_alike : (rules : RuleSet) (one other : ℕ) → IsAlike rules one other → (number : ℕ) → 0 < number → number ≤ length rules.rules
+pub follows_alike : (rules : RuleSet) (one other : ℕ) → IsAlike rules one other → (number : ℕ) → 0 < number → number ≤ length rules.rules
     → HasPhase (rule_of rules number).before one → HasPhase (rule_of rules number).before other
 follows_alike rules one other alike zero some few has = absurd (omega (arith, some))
 follows_alike rules one other alike (suc n) some few has =

@@ -1,5 +1,6 @@
 -- Ways that are appended key by key, in the falling order: of no key, of one, of some and then of others that come before them, and of keys that
--- are told in another way. A key has a way where it is possible and may lead on or end the line as the letters tell. Turned round they rise.
+-- are told in another way. A key has a way where it is possible, may lead on or end the line as the letters tell, and is looked for. Turned round they
+-- rise.
 use Rattle.std.proofs.Common.{◌≡◌, ◌⊎◌, inl, inr, ◌≤◌, List, [], ◌∷◌, ◌++◌, length, take, drop, map, reverse, All, Contains, refl, sym, ◌∙◌, ap, subst, arith}
 use Rattle.std.specs.List.Sorted.{IsStrictlySortedBy}
 use Rattle.std.specs.declared.cmp.Ordering.TheVariants.{Less}
@@ -67,42 +68,46 @@ still_begins old mid new more appended kept =
     let whole : (old ++ more) ++ rest ≡ new = ap (λ (ways : List Way). ways ++ rest) (sym (kept ∙ appended)) ∙ take-append-drop (length mid) new in
     sym (ap (take (length old)) whole) ∙ take-append-le (length old) (old ++ more) rest (omega (arith, length-append old more)) ∙ take-append_seam old more
 
-module _ (searched : SearchedLexicon) (line : Line) (choices : List Choice) (here : NumberedConfiguration) where
+module _ (searched : SearchedLexicon) (line : Line) (choices : List Choice) (here : NumberedConfiguration) (IsSought : Key → Type 0) where
   -- of no key
   pub append_none : (IsTold : Key → Type 0) (ways : List Way)
-      → ((key : Key) → IsTold key → IsPossible searched line here key → (MayNeither searched line choices here key → ⊥) → ⊥)
-      → AppendsFalling searched line choices here IsTold ways ways
+      → ((key : Key) → IsTold key → IsPossible searched line here key → (MayNeither searched line choices here key → ⊥) → IsSought key → ⊥)
+      → AppendsFalling searched line choices here IsSought IsTold ways ways
   append_none IsTold ways none = record {
     ways = [];
     appended = sym (append-nil ways);
     each = All-nil (IsWayFrom searched line choices here);
     told = All-nil (λ way. IsTold (key_of_way way));
     falling = none_fall;
-    all = λ key told possible may. absurd (none key told possible may);
+    all = λ key told possible may sought. absurd (none key told possible may sought);
   }
 
   -- of one that may do neither
-  pub append_refused : (key : Key) (ways : List Way) → MayNeither searched line choices here key → AppendsFalling searched line choices here (OnlyKey key) ways ways
+  pub append_refused : (key : Key) (ways : List Way) → MayNeither searched line choices here key → AppendsFalling searched line choices here IsSought (OnlyKey key) ways ways
   append_refused key ways neither =
-      append_none (OnlyKey key) ways (λ other same possible may. may (subst (MayNeither searched line choices here) (sym same) neither))
+      append_none (OnlyKey key) ways (λ other same possible may sought. may (subst (MayNeither searched line choices here) (sym same) neither))
+
+  -- of one that is not looked for
+  pub append_unsought : (key : Key) (ways : List Way) → (IsSought key → ⊥) → AppendsFalling searched line choices here IsSought (OnlyKey key) ways ways
+  append_unsought key ways unsought = append_none (OnlyKey key) ways (λ other same possible may sought. unsought (subst IsSought same sought))
 
   -- of one that does something
   pub append_one : (way : Way) (old new : List Way) → IsWayFrom searched line choices here way → new ≡ old ++ way ∷ []
-      → AppendsFalling searched line choices here (OnlyKey (key_of_way way)) old new
+      → AppendsFalling searched line choices here IsSought (OnlyKey (key_of_way way)) old new
   append_one way old new is put = record {
     ways = way ∷ [];
     appended = put;
     each = All-cons (IsWayFrom searched line choices here) way [] is (All-nil (IsWayFrom searched line choices here));
     told = All-cons (λ other. OnlyKey (key_of_way way) (key_of_way other)) way [] refl (All-nil (λ other. OnlyKey (key_of_way way) (key_of_way other)));
     falling = one_falls (key_of_way way);
-    all = λ key same possible may. subst (Contains (key_of_way way ∷ [])) (sym same) (Contains-first (key_of_way way) []);
+    all = λ key same possible may sought. subst (Contains (key_of_way way ∷ [])) (sym same) (Contains-first (key_of_way way) []);
   }
 
   -- of some and then of others that come before them
   append_both : (IsFirst IsSecond : Key → Type 0) (old mid new : List Way)
       → ((one other : Key) → IsFirst one → IsSecond other → compare_keys other one ≡ Less)
-      → AppendsFalling searched line choices here IsFirst old mid → AppendsFalling searched line choices here IsSecond mid new
-      → AppendsFalling searched line choices here (λ key. IsFirst key ⊎ IsSecond key) old new
+      → AppendsFalling searched line choices here IsSought IsFirst old mid → AppendsFalling searched line choices here IsSought IsSecond mid new
+      → AppendsFalling searched line choices here IsSought (λ key. IsFirst key ⊎ IsSecond key) old new
   append_both IsFirst IsSecond old mid new before first second =
       let both : map key_of_way (first.ways ++ second.ways) ≡ map key_of_way first.ways ++ map key_of_way second.ways = map-append key_of_way first.ways second.ways in
       record {
@@ -115,24 +120,24 @@ module _ (searched : SearchedLexicon) (line : Line) (choices : List Choice) (her
         falling = subst (IsStrictlySortedBy compare_falling) (sym both)
             (sorted-append compare_falling (map key_of_way first.ways) (map key_of_way second.ways) first.falling second.falling
             (λ one other among later. before one other (told_of_key IsFirst first.ways first.told one among) (told_of_key IsSecond second.ways second.told other later)));
-        all = λ key told possible may. subst (λ (keys : List Key). Contains keys key) (sym both) (elim told [
-          | inl one ↦ Contains-append_left (map key_of_way first.ways) (map key_of_way second.ways) key (first.all key one possible may)
-          | inr other ↦ Contains-append_right (map key_of_way first.ways) (map key_of_way second.ways) key (second.all key other possible may)
+        all = λ key told possible may sought. subst (λ (keys : List Key). Contains keys key) (sym both) (elim told [
+          | inl one ↦ Contains-append_left (map key_of_way first.ways) (map key_of_way second.ways) key (first.all key one possible may sought)
+          | inr other ↦ Contains-append_right (map key_of_way first.ways) (map key_of_way second.ways) key (second.all key other possible may sought)
         ]);
       }
 
   -- of keys that are told in another way
   pub append_same : (IsFirst IsSecond : Key → Type 0) (old new : List Way)
-      → ((key : Key) → IsSecond key → IsPossible searched line here key → (MayNeither searched line choices here key → ⊥) → IsFirst key)
+      → ((key : Key) → IsSecond key → IsPossible searched line here key → (MayNeither searched line choices here key → ⊥) → IsSought key → IsFirst key)
       → ((key : Key) → IsFirst key → IsSecond key)
-      → AppendsFalling searched line choices here IsFirst old new → AppendsFalling searched line choices here IsSecond old new
+      → AppendsFalling searched line choices here IsSought IsFirst old new → AppendsFalling searched line choices here IsSought IsSecond old new
   append_same IsFirst IsSecond old new back forth first = record {
     ways = first.ways;
     appended = first.appended;
     each = first.each;
     told = All-weaker (λ way. IsFirst (key_of_way way)) (λ way. IsSecond (key_of_way way)) (λ way told. forth (key_of_way way) told) first.ways first.told;
     falling = first.falling;
-    all = λ key told possible may. first.all key (back key told possible may) possible may;
+    all = λ key told possible may sought. first.all key (back key told possible may sought) possible may sought;
   }
 
   -- some and then others, told in another way
@@ -140,10 +145,10 @@ module _ (searched : SearchedLexicon) (line : Line) (choices : List Choice) (her
       → ((one other : Key) → IsFirst one → IsSecond other → compare_keys other one ≡ Less)
       → ((key : Key) → IsTold key → IsPossible searched line here key → (MayNeither searched line choices here key → ⊥) → IsFirst key ⊎ IsSecond key)
       → ((key : Key) → IsFirst key → IsTold key) → ((key : Key) → IsSecond key → IsTold key)
-      → AppendsFalling searched line choices here IsFirst old mid → AppendsFalling searched line choices here IsSecond mid new
-      → AppendsFalling searched line choices here IsTold old new
+      → AppendsFalling searched line choices here IsSought IsFirst old mid → AppendsFalling searched line choices here IsSought IsSecond mid new
+      → AppendsFalling searched line choices here IsSought IsTold old new
   append_two IsFirst IsSecond IsTold old mid new before either is_first is_second first second =
-      append_same (λ key. IsFirst key ⊎ IsSecond key) IsTold old new either
+      append_same (λ key. IsFirst key ⊎ IsSecond key) IsTold old new (λ key told possible may sought. either key told possible may)
       (λ key told. elim told [
         | inl one ↦ is_first key one
         | inr other ↦ is_second key other
@@ -151,12 +156,12 @@ module _ (searched : SearchedLexicon) (line : Line) (choices : List Choice) (her
       (append_both IsFirst IsSecond old mid new before first second)
 
   -- the list does not become shorter
-  pub append_longer : (IsTold : Key → Type 0) (old new : List Way) → AppendsFalling searched line choices here IsTold old new → length old ≤ length new
+  pub append_longer : (IsTold : Key → Type 0) (old new : List Way) → AppendsFalling searched line choices here IsSought IsTold old new → length old ≤ length new
   append_longer IsTold old new appends = (let long = ap length appends.appended in omega (arith, long, length-append old appends.ways))
 
   -- turned round, they are in the order of their keys
-  pub append_reversed : (IsTold : Key → Type 0) (old mid new : List Way) → AppendsFalling searched line choices here IsTold old mid
-      → new ≡ take (length old) mid ++ reverse (drop (length old) mid) → AppendsWays searched line choices here IsTold old new
+  pub append_reversed : (IsTold : Key → Type 0) (old mid new : List Way) → AppendsFalling searched line choices here IsSought IsTold old mid
+      → new ≡ take (length old) mid ++ reverse (drop (length old) mid) → AppendsWays searched line choices here IsSought IsTold old new
   append_reversed IsTold old mid new falling turned =
       let ways = falling.ways in
       let kept : take (length old) mid ≡ old = begins_so old mid ways falling.appended in
@@ -169,7 +174,7 @@ module _ (searched : SearchedLexicon) (line : Line) (choices : List Choice) (her
         each = All-permutation (IsWayFrom searched line choices here) ways (reverse ways) same falling.each;
         told = All-permutation (λ way. IsTold (key_of_way way)) ways (reverse ways) same falling.told;
         rising = subst (IsStrictlySortedBy compare_keys) keys (reverse_rises (map key_of_way ways) falling.falling);
-        all = λ key told possible may. subst (λ (some : List Key). Contains some key) keys
+        all = λ key told possible may sought. subst (λ (some : List Key). Contains some key) keys
             (Contains-permutation (map key_of_way ways) (reverse (map key_of_way ways)) key (IsPermutation-reverse (map key_of_way ways))
-            (falling.all key told possible may));
+            (falling.all key told possible may sought));
       }

@@ -35,7 +35,7 @@ use Rattle.summary_chart.specs.declared.state_set.StateSet.{StateSet}
 use Rattle.summary_chart.specs.declared.table.Table.{Table}
 use Rattle.summary_chart.specs.StateSets.{IsStateOf}
 use Rattle.summary_chart.specs.Tables.{IsTable, IsIn, IsIndexed, IsEntrance, set_of}
-use Rattle.summary_chart.specs.Spreading.{GoesFurtherBy, IsLedByPhase, leads_in, place_with, standing_with}
+use Rattle.summary_chart.specs.Spreading.{EveryKey, GoesFurtherBy, IsLedByPhase, leads_in, place_with, standing_with}
 use Rattle.summary_chart.specs.Charts.{index_of_place}
 use Rattle.summary_chart.specs.PlaceWays.{AddsStop, AppendsWays, AreFew, AreWaysAt, AreWaysOf, HasEachKey, HasKept, HasWays, HaveAllWays, HaveLivingWays, HaveWays, HaveWaysBefore, IsStopWithin, LeadsOnOrEnds, compare_stops, ways_of}
 use Rattle.summary_chart.proofs.TableOrder.{same_index}
@@ -89,22 +89,28 @@ module _ (searched : SearchedLexicon) (line : Line) (choices : List Choice) wher
   module _ (index at : ℕ) (entrance : Entrance) (table : Table)
       (lawful : IsTable (leads_in searched) (length line.letters) table)
       (indexed : IsIndexed (leads_in searched) (length line.letters) index at entrance) where
-    -- ways that were appended from one place there, by phases to which a state of the set leads
-    module _ (state : Option ℕ) (old new : List Way)
-        (appends : AppendsWays searched line choices (numbered_of searched (record { at = at; entrance = entrance; state = state }))
+    -- ways that were appended from one place there, by phases to which a state of the set leads: those of keys that go on or end the line, and
+    -- are looked for
+    module _ (state : Option ℕ) (IsSought : Key → Type 0) (Goes : NumberedConfiguration → Key → Type 0) (old new : List Way)
+        (goes_on : (here : NumberedConfiguration) (key : Key) → Goes here key → LeadsOnOrEnds searched line choices here key)
+        (is_sought : (number : ℕ) (key : Key) → IsStateOf searched.machine (set_of table index) number → Goes (standing_with searched at entrance number) key
+        → IsSought key)
+        (appends : AppendsWays searched line choices (numbered_of searched (record { at = at; entrance = entrance; state = state })) IsSought
         (IsLedByPhase searched.machine (set_of table index)) old new) where
-      pub has_each_key : HasEachKey searched (LeadsOnOrEnds searched line choices) at entrance (set_of table index) appends.ways
-      has_each_key number key is goes =
+      pub has_each_key : HasEachKey searched Goes at entrance (set_of table index) appends.ways
+      has_each_key number key is by =
           let entered = entrance_of (leads_in searched) entrance in
           let here = standing_with searched at entrance number in
+          let goes = goes_on here key by in
           appends.all key (led_if_goes at number entrance (set_of table index) key is goes)
           (possible_elsewhere searched line choices at entered (Some number) state key (possible_if_goes here key goes))
           (λ neither. not_neither here key goes (neither_elsewhere searched line choices at entered state (Some number) key neither))
+          (is_sought number key is by)
 
       -- they are those of each place there that the table has
       pub ways_there : length new ≤ length old + MOST_WAYS
           → (place : Configuration) → IsConfigurationIn searched line place → IsEntrance place.entrance
-          → index_of_place searched place ≡ index → AreWaysOf searched line choices (LeadsOnOrEnds searched line choices) table place appends.ways
+          → index_of_place searched place ≡ index → AreWaysOf searched line choices Goes table place appends.ways
       ways_there few place within proper same =
           let leads = leads_in searched in
           let cell = same_index leads place.at at place.entrance entrance proper indexed.proper within.over indexed.over (same ∙ sym indexed.is) in
@@ -117,11 +123,22 @@ module _ (searched : SearchedLexicon) (line : Line) (choices : List Choice) wher
             each = subst (λ (n : ℕ). From n place.entrance) (sym cell.at_is) (subst (From at) (sym cell.entrance_is) each);
             all = λ inside key goes.
                 let here = at_index searched line index at entrance table lawful indexed place within inside same in
-                has_each_key here.number key here.state
-                (subst (λ (p : Configuration). LeadsOnOrEnds searched line choices (numbered_of searched p) key) here.is goes);
+                has_each_key here.number key here.state (subst (λ (p : Configuration). Goes (numbered_of searched p) key) here.is goes);
             rising = appends.rising;
             few = omega (arith, few, sum, count);
           }
+
+    -- of all ways, those of keys that lead on or end the line
+    module _ (state : Option ℕ) (old new : List Way)
+        (appends : AppendsWays searched line choices (numbered_of searched (record { at = at; entrance = entrance; state = state })) EveryKey
+        (IsLedByPhase searched.machine (set_of table index)) old new) where
+      pub each_key : HasEachKey searched (LeadsOnOrEnds searched line choices) at entrance (set_of table index) appends.ways
+      each_key = has_each_key state EveryKey (LeadsOnOrEnds searched line choices) old new (λ here key goes. goes) (λ number key is goes. tt) appends
+
+      pub all_ways_there : length new ≤ length old + MOST_WAYS
+          → (place : Configuration) → IsConfigurationIn searched line place → IsEntrance place.entrance
+          → index_of_place searched place ≡ index → AreWaysOf searched line choices (LeadsOnOrEnds searched line choices) table place appends.ways
+      all_ways_there = ways_there state EveryKey (LeadsOnOrEnds searched line choices) old new (λ here key goes. goes) (λ number key is goes. tt) appends
 
     -- what is found at the index
     module _ (stops : List Stop) (ways found : List Way) (have : HaveLivingWays searched line choices table stops ways)
@@ -140,7 +157,7 @@ module _ (searched : SearchedLexicon) (line : Line) (choices : List Choice) wher
   -- ---- one stop after another
 
   -- the ways of a stop stay where others are appended
-  still_ways : (ways more : List Way) (stop : Stop) → IsStopWithin (length ways) stop → ways_of (ways ++ more) stop ≡ ways_of ways stop
+  pub still_ways : (ways more : List Way) (stop : Stop) → IsStopWithin (length ways) stop → ways_of (ways ++ more) stop ≡ ways_of ways stop
   still_ways ways more stop is =
       let low : stop.first ≤ length ways = omega (arith, is.rises, is.within) in
       let count = length-drop stop.first ways in
@@ -149,7 +166,7 @@ module _ (searched : SearchedLexicon) (line : Line) (choices : List Choice) wher
       ∙ take-append-le (stop.end - stop.first) (drop stop.first ways) more enough
 
   -- the ways of the last stop are those that were appended
-  last_ways : (ways more : List Way) (index : ℕ)
+  pub last_ways : (ways more : List Way) (index : ℕ)
       → ways_of (ways ++ more) (record { index = index; first = length ways; end = length (ways ++ more) }) ≡ more
   last_ways ways more index =
       let count : length (ways ++ more) - length ways ≡ length more = let sum = length-append ways more in omega (arith, sum) in
@@ -180,7 +197,7 @@ module _ (searched : SearchedLexicon) (line : Line) (choices : List Choice) wher
   }
 
   -- a table that loses places, and fewer keys that are told
-  of_fewer : (IsTold IsMore : NumberedConfiguration → Key → Type 0) (old new : Table) (place : Configuration) (ways : List Way)
+  pub of_fewer : (IsTold IsMore : NumberedConfiguration → Key → Type 0) (old new : Table) (place : Configuration) (ways : List Way)
       → ((key : Key) → IsTold (numbered_of searched place) key → IsMore (numbered_of searched place) key) → (IsIn new place → IsIn old place)
       → AreWaysOf searched line choices IsMore old place ways → AreWaysOf searched line choices IsTold new place ways
   of_fewer IsTold IsMore old new place ways more fewer are = record {
@@ -202,13 +219,13 @@ module _ (searched : SearchedLexicon) (line : Line) (choices : List Choice) wher
   }
 
   -- a key that goes further leads on or ends the line
-  goes_if_further : (table : Table) (here : NumberedConfiguration) (key : Key) → GoesFurtherBy searched line choices table here key
+  pub goes_if_further : (table : Table) (here : NumberedConfiguration) (key : Key) → GoesFurtherBy searched line choices table here key
       → LeadsOnOrEnds searched line choices here key
   goes_if_further table here key (inl ends) = inl ends
   goes_if_further table here key (inr (next, leads, there)) = inr (next, leads)
 
   -- and where a table loses places, no more keys go further
-  further_before : (old new : Table) → ((place : Configuration) → IsConfigurationIn searched line place → IsIn new place → IsIn old place)
+  pub further_before : (old new : Table) → ((place : Configuration) → IsConfigurationIn searched line place → IsIn new place → IsIn old place)
       → (here : NumberedConfiguration) (key : Key) → GoesFurtherBy searched line choices new here key → GoesFurtherBy searched line choices old here key
   further_before old new fewer here key (inl ends) = inl ends
   further_before old new fewer here key (inr (next, leads, there)) = inr (next, leads, fewer next leads.within there)
@@ -327,7 +344,7 @@ module _ (searched : SearchedLexicon) (line : Line) (choices : List Choice) wher
         → HasEachKey searched (LeadsOnOrEnds searched line choices) at entrance (set_of table index) (ways_of kept.ways.items stop)
     keys_added stop adds =
         subst (HasEachKey searched (LeadsOnOrEnds searched line choices) at entrance (set_of table index)) (sym (added_ways stop adds))
-        (has_each_key index at entrance table lawful indexed state old.ways.items kept.ways.items adds.appends)
+        (each_key index at entrance table lawful indexed state old.ways.items kept.ways.items adds.appends)
 
     -- whether a stop was put in or not, those that are kept are right up to the next index
     module _ (new : Table)
@@ -342,7 +359,7 @@ module _ (searched : SearchedLexicon) (line : Line) (choices : List Choice) wher
           let stops = old.stops.items in
           let last : List Way → Stop = λ (w : List Way). record { index = index; first = length old.ways.items; end = length w } in
           let one = one_stop_more index table new stops old.ways.items was so_far adds.appends.ways
-          (ways_there index at entrance table lawful indexed state old.ways.items kept.ways.items adds.appends adds.few) in
+          (all_ways_there index at entrance table lawful indexed state old.ways.items kept.ways.items adds.appends adds.few) in
           subst (λ (s : List Stop). Have s kept.ways.items) (sym adds.added)
           (subst (λ (s : Stop). Have (stops ++ s ∷ []) kept.ways.items) (sym adds.is)
           (subst (λ (w : List Way). Have (stops ++ last w ∷ []) w) (sym adds.appends.appended) one))

@@ -30,6 +30,7 @@ mod FrontKeys
 mod AlikeKeys
 mod AlikeLists
 mod AlikeSpreads
+mod AlikeWorks
 mod LivingKeys
 mod PartRules
 mod LivingVisits
@@ -42,6 +43,7 @@ mod TableItems
 mod WaysElsewhere
 mod LivingParts
 mod KeptWays
+mod LateStops
 mod NarrowedStops
 mod ChartWays
 mod SummarySteps

@@ -314,15 +314,17 @@ module _ (searched : SearchedLexicon) (line : Line) (choices : List Choice) (pla
 
   -- ---- the states before a phase
 
-  module _ (set : StateSet) (phase : ℕ) (living : StateSet) (are : AreLivingBy searched line choices (numbered_of searched place) table (IsInPhase phase) living) where
+  -- by keys of one phase that are told
+  module _ (set : StateSet) (phase : ℕ) (living : StateSet) (IsTold : Key → Type 0) (in_phase : (key : Key) → IsTold key → key.phase ≡ phase)
+      (are : AreLivingBy searched line choices (numbered_of searched place) table IsTold living) where
     -- a state goes further that the phase leads to one after which the line goes on
     goes_into : (number to : ℕ) → next_state searched.machine (Some number) phase ≡ Some to → to < length searched.machine.states → HasState living to
-        → (key : Key) × IsInPhase phase key × GoesFurtherBy searched line choices table (standing_with searched place.at place.entrance number) key
+        → (key : Key) × IsTold key × GoesFurtherBy searched line choices table (standing_with searched place.at place.entrance number) key
     goes_into number to leads low has =
         let lives = (are to).0 has in
         let key = lives.0 in
         let by : next_state searched.machine (Some number) key.phase ≡ Some to =
-        ap (λ (p : ℕ). next_state searched.machine (Some number) p) lives.1 ∙ leads in (
+        ap (λ (p : ℕ). next_state searched.machine (Some number) p) (in_phase key lives.1) ∙ leads in (
           key,
           lives.1,
           elim lives.2 [
@@ -343,7 +345,7 @@ module _ (searched : SearchedLexicon) (line : Line) (choices : List Choice) (pla
         )
 
     -- the other way, a state that goes further is led by the phase to such a one
-    ended_in : (key : Key) (number : ℕ) → IsInPhase phase key → MayEndLine searched line choices (numbered_of searched place) key
+    ended_in : (key : Key) (number : ℕ) → IsTold key → MayEndLine searched line choices (numbered_of searched place) key
         → IsTrue (is_accepting searched.machine (next_state searched.machine (Some number) key.phase))
         → (known : Option ℕ) → next_state searched.machine (Some number) key.phase ≡ known
         → (to : ℕ) × (next_state searched.machine (Some number) phase ≡ Some to) × IsStateOf searched.machine living to
@@ -353,22 +355,22 @@ module _ (searched : SearchedLexicon) (line : Line) (choices : List Choice) (pla
     ended_in key number told may accepted (Some to) same =
         let accepts : IsTrue (is_accepting searched.machine (Some to)) = subst (λ (s : Option ℕ). IsTrue (is_accepting searched.machine s)) same accepted in (
           to,
-          ap (λ (p : ℕ). next_state searched.machine (Some number) p) (sym told) ∙ same,
+          ap (λ (p : ℕ). next_state searched.machine (Some number) p) (sym (in_phase key told)) ∙ same,
           (accepting_within searched.machine to accepts, (are to).1 (key, told, inl (may, accepts))),
         )
 
-    led_in : (key : Key) (number : ℕ) (next : Configuration) → IsInPhase phase key → MayLeadTo searched line choices (numbered_of searched place) key next.at next.entrance
+    led_in : (key : Key) (number : ℕ) (next : Configuration) → IsTold key → MayLeadTo searched line choices (numbered_of searched place) key next.at next.entrance
         → IsEntrance next.entrance → (known : Option ℕ) → next_state searched.machine (Some number) key.phase ≡ known → IsStateIn searched.machine known
         → HasThisState (set_at table next.at next.entrance) known
         → (to : ℕ) × (next_state searched.machine (Some number) phase ≡ Some to) × IsStateOf searched.machine living to
     led_in key number next told may proper None same low has = absurd has
     led_in key number next told may proper (Some to) same low has = (
       to,
-      ap (λ (p : ℕ). next_state searched.machine (Some number) p) (sym told) ∙ same,
+      ap (λ (p : ℕ). next_state searched.machine (Some number) p) (sym (in_phase key told)) ∙ same,
       (low, (are to).1 (key, told, inr (next.at, next.entrance, may, record { entrance = proper; state = has }))),
     )
 
-    goes_from : (key : Key) (number : ℕ) → IsInPhase phase key
+    goes_from : (key : Key) (number : ℕ) → IsTold key
         → GoesFurtherBy searched line choices table (standing_with searched place.at place.entrance number) key
         → (to : ℕ) × (next_state searched.machine (Some number) phase ≡ Some to) × IsStateOf searched.machine living to
     goes_from key number told (inl ends) =
@@ -384,10 +386,16 @@ module _ (searched : SearchedLexicon) (line : Line) (choices : List Choice) (pla
         let state : next_state searched.machine (Some number) key.phase ≡ next.state = sym (ap (λ (s : NumberedConfiguration). s.state) leads.is) in
         led_in key number next told may there.entrance next.state state leads.within.state_in there.state
 
-    -- so those of a set that lead into the living states are those that go further by the phase
-    pub further_into : (found : StateSet) → ((number : ℕ) → HasState found number ↔ LeadsInto searched.machine set phase living number)
-        → AreGoingFurther searched line choices table place.at place.entrance set (IsInPhase phase) found
-    further_into found led number = (
+    -- so those of a set that lead into the living states are those that go further by these keys
+    pub further_by : (found : StateSet) → ((number : ℕ) → HasState found number ↔ LeadsInto searched.machine set phase living number)
+        → AreGoingFurther searched line choices table place.at place.entrance set IsTold found
+    further_by found led number = (
       λ has. let into = (led number).0 has in (into.0, goes_into number into.1.0 into.1.1 into.1.2.0 into.1.2.1),
       λ goes. (led number).1 (goes.0, goes_from goes.1.0 number goes.1.1 goes.1.2),
     )
+
+  -- by all keys of a phase
+  pub further_into : (set : StateSet) (phase : ℕ) (living : StateSet) → AreLivingBy searched line choices (numbered_of searched place) table (IsInPhase phase) living
+      → (found : StateSet) → ((number : ℕ) → HasState found number ↔ LeadsInto searched.machine set phase living number)
+      → AreGoingFurther searched line choices table place.at place.entrance set (IsInPhase phase) found
+  further_into set phase living are found led = further_by set phase living (IsInPhase phase) (λ key told. told) are found led

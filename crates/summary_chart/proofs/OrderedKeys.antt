@@ -50,10 +50,10 @@ abbrev pub IsLedFrom : StateMachine → StateSet → ℕ → Key → Type 0
 IsLedFrom machine set phase key = (phase ≤ key.phase) × IsLedByPhase machine set key
 
 -- the ways of the fronts before the next one are appended, and where there is none those of the whole phase
-abbrev pub HasListed : SearchedLexicon → Line → List Choice → NumberedConfiguration → ℕ → ℕ → Option Front → List Way → List Way → Type 0
-HasListed searched line choices here phase limit None old new = AppendsFalling searched line choices here (IsInPhase phase) old new
-HasListed searched line choices here phase limit (Some front) old new =
-    IsNearFront searched line here phase limit front.taken front × AppendsFalling searched line choices here (IsBeforeFront phase front.taken) old new
+abbrev pub HasListed : SearchedLexicon → Line → List Choice → NumberedConfiguration → (Key → Type 0) → ℕ → ℕ → Option Front → List Way → List Way → Type 0
+HasListed searched line choices here IsSought phase limit None old new = AppendsFalling searched line choices here IsSought (IsInPhase phase) old new
+HasListed searched line choices here IsSought phase limit (Some front) old new =
+    IsNearFront searched line here phase limit front.taken front × AppendsFalling searched line choices here IsSought (IsBeforeFront phase front.taken) old new
 
 -- the steps of a phase so far
 abbrev pub HasSpent : ℕ → ℕ → Option Front → ℕ → Type 0
@@ -87,15 +87,15 @@ among_or_not firsts rules letter rule among not_missing =
       | inr fails ↦ absurd (not_missing (λ there. true≢false (sym (All-contains (λ x. begins x ≡ true) (filter begins rules) rule (filter_passes begins rules) there) ∙ fails)))
     ]
 
-module _ (searched : SearchedLexicon) (line : Line) (choices : List Choice) (here : NumberedConfiguration) where
+module _ (searched : SearchedLexicon) (line : Line) (choices : List Choice) (here : NumberedConfiguration) (IsSought : Key → Type 0) where
   -- ---- one rule after another
 
   module _ (phase taken : ℕ) (rules : List ℕ) (rises : IsStrictlySortedBy nat_cmp rules) where
     pub append_no_rule : (count : ℕ) → length rules ≤ count → (ways : List Way)
-        → AppendsFalling searched line choices here (IsByRule phase taken (drop count rules)) ways ways
+        → AppendsFalling searched line choices here IsSought (IsByRule phase taken (drop count rules)) ways ways
     append_no_rule count none ways =
-        append_none searched line choices here (IsByRule phase taken (drop count rules)) ways
-        (λ key told possible may. not_Contains-nil key.rule (subst (λ (some : List ℕ). Contains some key.rule) (drop_all count rules none) told.2))
+        append_none searched line choices here IsSought (IsByRule phase taken (drop count rules)) ways
+        (λ key told possible may sought. not_Contains-nil key.rule (subst (λ (some : List ℕ). Contains some key.rule) (drop_all count rules none) told.2))
 
     -- the rules so far are above the next
     later_above : (count rule later : ℕ) → rule ≡ get_or rules count rule → Contains (drop (count + 1) rules) later → rule < later
@@ -109,13 +109,13 @@ module _ (searched : SearchedLexicon) (line : Line) (choices : List Choice) (her
         among
 
     pub append_rule : (count rule : ℕ) → count < length rules → rule ≡ get_or rules count rule → (old mid new : List Way)
-        → AppendsFalling searched line choices here (IsByRule phase taken (drop (count + 1) rules)) old mid
-        → AppendsFalling searched line choices here (OnlyKey (key_with phase taken rule)) mid new
-        → AppendsFalling searched line choices here (IsByRule phase taken (drop count rules)) old new
+        → AppendsFalling searched line choices here IsSought (IsByRule phase taken (drop (count + 1) rules)) old mid
+        → AppendsFalling searched line choices here IsSought (OnlyKey (key_with phase taken rule)) mid new
+        → AppendsFalling searched line choices here IsSought (IsByRule phase taken (drop count rules)) old new
     append_rule count rule low is old mid new so_far one =
         let later = drop (count + 1) rules in
         let more : drop count rules ≡ rule ∷ later = drop_more rules count rule low ∙ ap (λ (r : ℕ). r ∷ later) (sym is) in
-        append_two searched line choices here (IsByRule phase taken later) (OnlyKey (key_with phase taken rule)) (IsByRule phase taken (drop count rules))
+        append_two searched line choices here IsSought (IsByRule phase taken later) (OnlyKey (key_with phase taken rule)) (IsByRule phase taken (drop count rules))
         old mid new
         (λ key other told same. subst (λ (k : Key). compare_keys k key ≡ Less) (sym same)
         (less_from_before (key_with phase taken rule) key (inr (sym told.0, inr (told.1, later_above count rule key.rule is told.2)))))
@@ -133,10 +133,10 @@ module _ (searched : SearchedLexicon) (line : Line) (choices : List Choice) (her
   module _ (is : IsSearchedLexicon searched) (phase taken node : ℕ) (front : IsFrontAt searched line here phase taken node) where
     -- no form ends there
     pub append_not_unchanged : (ways : List Way) → ((row_of searched.tries.trie.rows node).deltas ≢ [] → ⊥)
-        → AppendsFalling searched line choices here (OnlyKey (key_with phase taken 0)) ways ways
+        → AppendsFalling searched line choices here IsSought (OnlyKey (key_with phase taken 0)) ways ways
     append_not_unchanged ways unended =
-        append_none searched line choices here (OnlyKey (key_with phase taken 0)) ways
-        (λ key same possible may. unended (ends_if_unchanged searched is line here phase taken node front (subst (IsPossible searched line here) same possible)))
+        append_none searched line choices here IsSought (OnlyKey (key_with phase taken 0)) ways
+        (λ key same possible may sought. unended (ends_if_unchanged searched is line here phase taken node front (subst (IsPossible searched line here) same possible)))
 
     -- a key with this front is no change, or has a rule
     by_rule : (key : Key) → IsAtFront phase taken key → key ≡ key_with phase taken key.rule
@@ -155,14 +155,30 @@ module _ (searched : SearchedLexicon) (line : Line) (choices : List Choice) (her
 
     -- no letter is left, so only no change is there
     pub append_without_letter : (old new : List Way) → length line.letters ≤ here.at + taken
-        → AppendsFalling searched line choices here (OnlyKey (key_with phase taken 0)) old new
-        → AppendsFalling searched line choices here (IsAtFront phase taken) old new
+        → AppendsFalling searched line choices here IsSought (OnlyKey (key_with phase taken 0)) old new
+        → AppendsFalling searched line choices here IsSought (IsAtFront phase taken) old new
     append_without_letter old new none unchanged =
-        append_same searched line choices here (OnlyKey (key_with phase taken 0)) (IsAtFront phase taken) old new
-        (λ key at possible may. elim (cases_lt 0 key.rule) [
+        append_same searched line choices here IsSought (OnlyKey (key_with phase taken 0)) (IsAtFront phase taken) old new
+        (λ key at possible may sought. elim (cases_lt 0 key.rule) [
           | inl above ↦ absurd (may (neither key (λ stands.
               let left = letters_left searched is line here phase taken node front choices key.rule above (rule_stands key at stands) in
               omega (arith, left, none))))
+          | inr least ↦
+              let nothing : key.rule ≡ 0 = omega (arith, least) in
+              by_rule key at ∙ ap (key_with phase taken) nothing
+        ])
+        (λ key same. subst (IsAtFront phase taken) (sym same) (refl, refl))
+        unchanged
+
+    -- no key with a rule is looked for, so only no change is
+    pub append_passed_over : (old new : List Way)
+        → ((key : Key) → IsAtFront phase taken key → 0 < key.rule → IsPossible searched line here key → IsSought key → ⊥)
+        → AppendsFalling searched line choices here IsSought (OnlyKey (key_with phase taken 0)) old new
+        → AppendsFalling searched line choices here IsSought (IsAtFront phase taken) old new
+    append_passed_over old new none unchanged =
+        append_same searched line choices here IsSought (OnlyKey (key_with phase taken 0)) (IsAtFront phase taken) old new
+        (λ key at possible may sought. elim (cases_lt 0 key.rule) [
+          | inl above ↦ absurd (none key at above possible sought)
           | inr least ↦
               let nothing : key.rule ≡ 0 = omega (arith, least) in
               by_rule key at ∙ ap (key_with phase taken) nothing
@@ -186,11 +202,11 @@ module _ (searched : SearchedLexicon) (line : Line) (choices : List Choice) (her
           (((is.tries.each node (front_node searched is line here phase taken node front)).members rule).0 (choice_of_group searched is node letter rule among)).0
 
       pub append_with_letter : (old mid new : List Way)
-          → AppendsFalling searched line choices here (IsByRule phase taken (choices_with searched.tries node letter)) old mid
-          → AppendsFalling searched line choices here (OnlyKey (key_with phase taken 0)) mid new
-          → AppendsFalling searched line choices here (IsAtFront phase taken) old new
+          → AppendsFalling searched line choices here IsSought (IsByRule phase taken (choices_with searched.tries node letter)) old mid
+          → AppendsFalling searched line choices here IsSought (OnlyKey (key_with phase taken 0)) mid new
+          → AppendsFalling searched line choices here IsSought (IsAtFront phase taken) old new
       append_with_letter old mid new changed unchanged =
-          append_two searched line choices here (IsByRule phase taken (choices_with searched.tries node letter)) (OnlyKey (key_with phase taken 0)) (IsAtFront phase taken)
+          append_two searched line choices here IsSought (IsByRule phase taken (choices_with searched.tries node letter)) (OnlyKey (key_with phase taken 0)) (IsAtFront phase taken)
           old mid new
           (λ key other told same. subst (λ (k : Key). compare_keys k key ≡ Less) (sym same)
           (less_from_before (key_with phase taken 0) key (inr (sym told.0, inr (told.1, above_none key.rule told.2)))))
@@ -207,14 +223,14 @@ module _ (searched : SearchedLexicon) (line : Line) (choices : List Choice) (her
   -- ---- one front after another, the shortest first
 
   module _ (phase : ℕ) where
-    pub append_no_front : (ways : List Way) → AppendsFalling searched line choices here (IsBeforeFront phase 0) ways ways
-    append_no_front ways = append_none searched line choices here (IsBeforeFront phase 0) ways (λ key told possible may. omega (arith, told.1))
+    pub append_no_front : (ways : List Way) → AppendsFalling searched line choices here IsSought (IsBeforeFront phase 0) ways ways
+    append_no_front ways = append_none searched line choices here IsSought (IsBeforeFront phase 0) ways (λ key told possible may sought. omega (arith, told.1))
 
-    pub append_front : (taken : ℕ) (old mid new : List Way) → AppendsFalling searched line choices here (IsBeforeFront phase taken) old mid
-        → AppendsFalling searched line choices here (IsAtFront phase taken) mid new
-        → AppendsFalling searched line choices here (IsBeforeFront phase (taken + 1)) old new
+    pub append_front : (taken : ℕ) (old mid new : List Way) → AppendsFalling searched line choices here IsSought (IsBeforeFront phase taken) old mid
+        → AppendsFalling searched line choices here IsSought (IsAtFront phase taken) mid new
+        → AppendsFalling searched line choices here IsSought (IsBeforeFront phase (taken + 1)) old new
     append_front taken old mid new so_far one =
-        append_two searched line choices here (IsBeforeFront phase taken) (IsAtFront phase taken) (IsBeforeFront phase (taken + 1)) old mid new
+        append_two searched line choices here IsSought (IsBeforeFront phase taken) (IsAtFront phase taken) (IsBeforeFront phase (taken + 1)) old mid new
         (λ key other told at. less_from_before other key (inr (at.0 ∙ sym told.0, inl (omega (arith, told.1, at.1)))))
         (λ key told possible may. elim (below_or_at key.taken taken told.1) [
           | inl fewer ↦ inl (told.0, fewer)
@@ -227,11 +243,11 @@ module _ (searched : SearchedLexicon) (line : Line) (choices : List Choice) (her
     -- no key that may do something goes further than the limit, and none that goes no further takes as many letters
     pub append_all_fronts : (ahead : Ahead) → IsAhead (rules_in searched) line here.at here.entrance ahead → (taken : ℕ)
         → ((key : Key) → IsPossible searched line here key → key.phase ≡ phase → here.at + key.taken ≤ ahead.limit → key.taken < taken)
-        → (old new : List Way) → AppendsFalling searched line choices here (IsBeforeFront phase taken) old new
-        → AppendsFalling searched line choices here (IsInPhase phase) old new
+        → (old new : List Way) → AppendsFalling searched line choices here IsSought (IsBeforeFront phase taken) old new
+        → AppendsFalling searched line choices here IsSought (IsInPhase phase) old new
     append_all_fronts ahead is taken all old new so_far =
-        append_same searched line choices here (IsBeforeFront phase taken) (IsInPhase phase) old new
-        (λ key same possible may. elim (cases_lt ahead.limit (here.at + key.taken)) [
+        append_same searched line choices here IsSought (IsBeforeFront phase taken) (IsInPhase phase) old new
+        (λ key same possible may sought. elim (cases_lt ahead.limit (here.at + key.taken)) [
           | inl past ↦ absurd (may (past_limit searched line choices here key ahead is past))
           | inr near ↦ (same, all key possible same (omega (arith, near)))
         ])
@@ -240,12 +256,12 @@ module _ (searched : SearchedLexicon) (line : Line) (choices : List Choice) (her
     -- the next front, if there is one
     pub list_next : (ahead : Ahead) → IsAhead (rules_in searched) line here.at here.entrance ahead → (taken : ℕ) (next : Option Front)
         → IsNextFront searched line here phase ahead.limit taken next
-        → (old new : List Way) → AppendsFalling searched line choices here (IsBeforeFront phase taken) old new
-        → HasListed searched line choices here phase ahead.limit next old new
+        → (old new : List Way) → AppendsFalling searched line choices here IsSought (IsBeforeFront phase taken) old new
+        → HasListed searched line choices here IsSought phase ahead.limit next old new
     list_next ahead is taken None none old new so_far = append_all_fronts ahead is taken none old new so_far
     list_next ahead is taken (Some front) near old new so_far = (
       subst (λ (n : ℕ). IsNearFront searched line here phase ahead.limit n front) (sym near.taken_is) near,
-      subst (λ (n : ℕ). AppendsFalling searched line choices here (IsBeforeFront phase n) old new) (sym near.taken_is) so_far,
+      subst (λ (n : ℕ). AppendsFalling searched line choices here IsSought (IsBeforeFront phase n) old new) (sym near.taken_is) so_far,
     )
 
     -- there are not so many fronts that the steps are too many
@@ -266,18 +282,18 @@ module _ (searched : SearchedLexicon) (line : Line) (choices : List Choice) (her
   module _ (set : StateSet) where
     -- there are no more phases
     pub append_no_phase : (count : ℕ) → IsSearchedLexicon searched → length (rules_in searched).names ≤ count → (ways : List Way)
-        → AppendsFalling searched line choices here (IsLedFrom searched.machine set count) ways ways
+        → AppendsFalling searched line choices here IsSought (IsLedFrom searched.machine set count) ways ways
     append_no_phase count is enough ways =
-        append_none searched line choices here (IsLedFrom searched.machine set count) ways
-        (λ key told possible may. (let low = possible_phase searched is line here key possible in omega (arith, low, enough, told.0)))
+        append_none searched line choices here IsSought (IsLedFrom searched.machine set count) ways
+        (λ key told possible may sought. (let low = possible_phase searched is line here key possible in omega (arith, low, enough, told.0)))
 
     -- a phase to which some state leads
     pub append_phase : (phase to : ℕ) → IsLedTo searched.machine set phase to → (old mid new : List Way)
-        → AppendsFalling searched line choices here (IsLedFrom searched.machine set (phase + 1)) old mid
-        → AppendsFalling searched line choices here (IsInPhase phase) mid new
-        → AppendsFalling searched line choices here (IsLedFrom searched.machine set phase) old new
+        → AppendsFalling searched line choices here IsSought (IsLedFrom searched.machine set (phase + 1)) old mid
+        → AppendsFalling searched line choices here IsSought (IsInPhase phase) mid new
+        → AppendsFalling searched line choices here IsSought (IsLedFrom searched.machine set phase) old new
     append_phase phase to led old mid new so_far one =
-        append_two searched line choices here (IsLedFrom searched.machine set (phase + 1)) (IsInPhase phase) (IsLedFrom searched.machine set phase) old mid new
+        append_two searched line choices here IsSought (IsLedFrom searched.machine set (phase + 1)) (IsInPhase phase) (IsLedFrom searched.machine set phase) old mid new
         (λ key other told same. less_from_before other key (inl (omega (arith, told.0, same))))
         (λ key told possible may. elim (above_or_at phase key.phase told.0) [
           | inl above ↦ inl (above, told.1)
@@ -290,11 +306,11 @@ module _ (searched : SearchedLexicon) (line : Line) (choices : List Choice) (her
     -- a phase with no key that is asked for and may do something
     append_empty_phase : (phase : ℕ)
         → ((key : Key) → key.phase ≡ phase → IsLedByPhase searched.machine set key → (MayNeither searched line choices here key → ⊥) → ⊥)
-        → (old new : List Way) → AppendsFalling searched line choices here (IsLedFrom searched.machine set (phase + 1)) old new
-        → AppendsFalling searched line choices here (IsLedFrom searched.machine set phase) old new
+        → (old new : List Way) → AppendsFalling searched line choices here IsSought (IsLedFrom searched.machine set (phase + 1)) old new
+        → AppendsFalling searched line choices here IsSought (IsLedFrom searched.machine set phase) old new
     append_empty_phase phase nothing old new so_far =
-        append_same searched line choices here (IsLedFrom searched.machine set (phase + 1)) (IsLedFrom searched.machine set phase) old new
-        (λ key told possible may. elim (above_or_at phase key.phase told.0) [
+        append_same searched line choices here IsSought (IsLedFrom searched.machine set (phase + 1)) (IsLedFrom searched.machine set phase) old new
+        (λ key told possible may sought. elim (above_or_at phase key.phase told.0) [
           | inl above ↦ (above, told.1)
           | inr at ↦ absurd (nothing key at told.1 may)
         ])
@@ -303,21 +319,21 @@ module _ (searched : SearchedLexicon) (line : Line) (choices : List Choice) (her
 
     -- a phase to which none does
     pub append_dead_phase : (phase : ℕ) → ((number : ℕ) → IsLedTo searched.machine set phase number → ⊥) → (old new : List Way)
-        → AppendsFalling searched line choices here (IsLedFrom searched.machine set (phase + 1)) old new
-        → AppendsFalling searched line choices here (IsLedFrom searched.machine set phase) old new
+        → AppendsFalling searched line choices here IsSought (IsLedFrom searched.machine set (phase + 1)) old new
+        → AppendsFalling searched line choices here IsSought (IsLedFrom searched.machine set phase) old new
     append_dead_phase phase dead =
         append_empty_phase phase (λ key at led may. dead led.0 (subst (λ (p : ℕ). IsLedTo searched.machine set p led.0) at led.1))
 
     -- a phase that may not begin
     pub append_unbegun_phase : (phase : ℕ) → (MayBegin here.entrance phase → ⊥) → (old new : List Way)
-        → AppendsFalling searched line choices here (IsLedFrom searched.machine set (phase + 1)) old new
-        → AppendsFalling searched line choices here (IsLedFrom searched.machine set phase) old new
+        → AppendsFalling searched line choices here IsSought (IsLedFrom searched.machine set (phase + 1)) old new
+        → AppendsFalling searched line choices here IsSought (IsLedFrom searched.machine set phase) old new
     append_unbegun_phase phase unbegun =
         append_empty_phase phase (λ key at led may.
         may (not_begun searched line choices here key (λ begins. unbegun (subst (MayBegin here.entrance) at begins))))
 
-    pub append_all_phases : (old new : List Way) → AppendsFalling searched line choices here (IsLedFrom searched.machine set 0) old new
-        → AppendsFalling searched line choices here (IsLedByPhase searched.machine set) old new
+    pub append_all_phases : (old new : List Way) → AppendsFalling searched line choices here IsSought (IsLedFrom searched.machine set 0) old new
+        → AppendsFalling searched line choices here IsSought (IsLedByPhase searched.machine set) old new
     append_all_phases old new so_far =
-        append_same searched line choices here (IsLedFrom searched.machine set 0) (IsLedByPhase searched.machine set) old new
-        (λ key told possible may. (omega arith, told)) (λ key told. told.1) so_far
+        append_same searched line choices here IsSought (IsLedFrom searched.machine set 0) (IsLedByPhase searched.machine set) old new
+        (λ key told possible may sought. (omega arith, told)) (λ key told. told.1) so_far

@@ -22,7 +22,7 @@ use Rattle.summary_chart.specs.declared.state_set.StateSet.{StateSet}
 use Rattle.summary_chart.specs.declared.table.Table.{Table}
 use Rattle.summary_chart.specs.declared.passes.TheConstants.{SETS_FOR_A_WAY}
 use Rattle.summary_chart.specs.StateSets.{IsStateOf}
-use Rattle.summary_chart.specs.Spreading.{GoesFurtherBy, IsLedByPhase, standing_with}
+use Rattle.summary_chart.specs.Spreading.{EveryKey, GoesFurtherBy, IsLedByPhase, standing_with}
 use Rattle.summary_chart.specs.Tables.{IsIn, IsEntrance, set_of}
 use Rattle.summary_chart.specs.Charts.{IsChartTable, index_of_place, set_count}
 
@@ -61,37 +61,37 @@ abbrev pub LeadsOnOrEnds : SearchedLexicon → Line → List Choice → Numbered
 LeadsOnOrEnds searched line choices here key =
     Ends searched line choices here key ⊎ ((next : Configuration) × LeadsTo searched line choices here key next)
 
--- ways from here were appended, in the order of their keys: those of the keys that are told by this
+-- ways from here were appended, in the order of their keys: of those of the keys that are told by this all that are looked for
 pub record AppendsWays (searched : SearchedLexicon) (line : Line) (choices : List Choice) (here : NumberedConfiguration)
-    (IsTold : Key → Type 0) (old new : List Way) : Type 0 where
+    (IsSought IsTold : Key → Type 0) (old new : List Way) : Type 0 where
   pub ways : List Way
   pub appended : new ≡ old ++ ways
   pub each : All (IsWayFrom searched line choices here) ways
   pub told : All (λ way. IsTold (key_of_way way)) ways
   pub rising : IsStrictlySortedBy compare_keys (map key_of_way ways)
   pub all : (key : Key) → IsTold key → IsPossible searched line here key → (MayNeither searched line choices here key → ⊥)
-      → Contains (map key_of_way ways) key
+      → IsSought key → Contains (map key_of_way ways) key
 
 -- keys in the falling order
 abbrev pub compare_falling : Key → Key → Ordering
 compare_falling left right = compare_keys right left
 
--- ways from here were appended, in the falling order of their keys: those of the keys that are told by this
+-- ways from here were appended, in the falling order of their keys: of those of the keys that are told by this all that are looked for
 pub record AppendsFalling (searched : SearchedLexicon) (line : Line) (choices : List Choice) (here : NumberedConfiguration)
-    (IsTold : Key → Type 0) (old new : List Way) : Type 0 where
+    (IsSought IsTold : Key → Type 0) (old new : List Way) : Type 0 where
   pub ways : List Way
   pub appended : new ≡ old ++ ways
   pub each : All (IsWayFrom searched line choices here) ways
   pub told : All (λ way. IsTold (key_of_way way)) ways
   pub falling : IsStrictlySortedBy compare_falling (map key_of_way ways)
   pub all : (key : Key) → IsTold key → IsPossible searched line here key → (MayNeither searched line choices here key → ⊥)
-      → Contains (map key_of_way ways) key
+      → IsSought key → Contains (map key_of_way ways) key
 
 -- a stop for the index was put in, with ways from here: those by phases to which some state of the set leads, no more than are kept from one
 -- place, and stops and ways no more than this together
 pub record AddsStop (searched : SearchedLexicon) (line : Line) (choices : List Choice) (here : NumberedConfiguration) (set : StateSet)
     (index most : ℕ) (old new : PlaceWays) (stop : Stop) : Type 0 where
-  pub appends : AppendsWays searched line choices here (IsLedByPhase searched.machine set) old.ways.items new.ways.items
+  pub appends : AppendsWays searched line choices here EveryKey (IsLedByPhase searched.machine set) old.ways.items new.ways.items
   pub few : length new.ways.items ≤ length old.ways.items + MOST_WAYS
   pub is : stop ≡ record { index = index; first = length old.ways.items; end = length new.ways.items }
   pub added : new.stops.items ≡ old.stops.items ++ stop ∷ []
@@ -169,6 +169,11 @@ HaveAllWays searched line choices table stops ways = HaveWays searched line choi
 -- each stop has the living ways of its places: those of the keys that end the line, or lead on to a place of the table; and it may have others
 abbrev pub HaveLivingWays : SearchedLexicon → Line → List Choice → Table → List Stop → List Way → Type 0
 HaveLivingWays searched line choices table stops ways = HaveWays searched line choices (GoesFurtherBy searched line choices table) table stops ways
+
+-- the ways of these stops, in any order, are some of so many; and each has the living ways of its places, and may have others
+pub record AreLateStops (searched : SearchedLexicon) (line : Line) (choices : List Choice) (table : Table) (late : List Stop) (ways : List Way) : Type 0 where
+  pub within : All (IsStopWithin (length ways)) late
+  pub each : All (HasWays searched line choices (GoesFurtherBy searched line choices table) table ways) late
 
 -- each stop has all ways of its places, and stands before the index
 pub record HaveWaysBefore (searched : SearchedLexicon) (line : Line) (choices : List Choice) (index : ℕ) (table : Table)

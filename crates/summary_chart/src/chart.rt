@@ -71,10 +71,11 @@ impl Chart {
     }
 
     /// The chart of the line with these choices, over the lexicon: a set of states, of four bytes, for each number of letters and each
-    /// entrance; and the ways from places that have few of them, as long as ways and stops, of 24 bytes each, take no more than four
-    /// bytes for each of the sets and each phase, and one number for each letter. The ways of a place are told without those that lead to no
-    /// answer before the first that does and after the last; such ways between them are told. `steps` counts each phase, node, rule and way that is
-    /// looked at or kept, in two passes. Looking for sets that are not empty is not counted. Refused only for want of memory.
+    /// entrance; and the ways from places that have few of them, as long as ways and stops, of 24 bytes each, take no more than four bytes
+    /// for each of the sets and each phase, and one number for each letter. The ways of a place are told without those that lead to no
+    /// answer before the first that does and after the last; such ways between them are told. From places that have many ways those alone
+    /// may be told that lead to an answer. `steps` counts each phase, node, rule and way that is looked at or kept, in two passes. Looking
+    /// for sets that are not empty is not counted. Refused only for want of memory.
     pub fn build<L>(
         alloc: Global,
         lexicon: &Lexicon,

@@ -4,7 +4,8 @@
 //! serves all states there; where no choice is made it serves all phases that do the same from there, those in which the letters that the
 //! rule before supplies lead to the same node and that no rule tells apart. What the rules of a node do after a form is found once for all
 //! forms that end so, wherever they begin; where many of them may come next, once for each part of them, since nodes share parts. Where the
-//! ways of a place are kept its walk is not made again, neither for the chart, nor for its summary, nor by a search that the chart guides.
+//! ways of a place are kept its walk is not made again, neither for the chart, nor for its summary, nor by a search that the chart guides. Of
+//! places that have many ways, but few that lead to an answer, these may be kept, as the pass back finds them.
 //!
 //! Proved: a chart is a guide of a search that never says false of what stands in an answer (`guide` of `Chart::build`), and says
 //! true of nothing else (`exact`). Its table has just the places that a search comes to and from which there is a path to an answer, and
@@ -38,6 +39,7 @@ mod same_effect;
 mod same_u;
 mod sharing;
 mod site;
+mod sought;
 mod spreading;
 mod state_set;
 mod state_steps;

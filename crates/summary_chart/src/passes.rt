@@ -1,4 +1,4 @@
-ghost use Rattle.std.specs.Prelude.{◌≡◌, ◌<◌, ◌+◌, ◌*◌, ◌≤◌, ℕ, [], length, IfOk, IfSome, IsTrue, OnOk};
+ghost use Rattle.std.specs.Prelude.{◌≡◌, ◌<◌, ◌+◌, ◌*◌, ◌≤◌, ℕ, ◌++◌, [], length, IfOk, IfSome, IsTrue, OnOk};
 ghost use Rattle.text_definitions.specs.Lines.{IsLine, Line as LineValue};
 ghost use Rattle.annotated_trie.specs.Searched.{IsSearchedLexicon, SearchedLexicon};
 ghost use Rattle.search_frames.specs.Costs.{HasAtMostRules};
@@ -11,16 +11,19 @@ ghost use Rattle.summary_chart.specs.Tables.{HaveBits, IsTable, IsIndexed, set_o
 ghost use Rattle.summary_chart.specs.StateSets.{AreLeading};
 ghost use Rattle.summary_chart.specs.Spreading.{AreGoingFurther, EveryKey, leads_in};
 ghost use Rattle.summary_chart.specs.Charts.{HasReached, IsChartTable, IsOpenTable, IsReachedBefore};
-ghost use Rattle.summary_chart.specs.PlaceWays.{AreFew, AreFrom, AreStops, HasKeptFew, HasNoPlaceBetween, HaveAllWays, HaveLivingWays, HaveStops, HaveStopsBefore, HaveWaysBefore, IsStopAt, indices_of};
+ghost use Rattle.summary_chart.specs.PlaceWays.{AreFew, AreFrom, AreStops, HasKeptFew, HasNoPlaceBetween, HaveAllWays, HaveLivingWays, HaveStops, HaveStopsBefore, HaveWaysBefore, AreLateStops, IsStopAt, indices_of};
 ghost use Rattle.summary_chart.specs.Sites.{IsSite};
 ghost use Rattle.summary_chart.specs.Summaries.{steps_of_items, steps_of_summary};
 
+use super::collecting::Standing;
 use super::gathering::{gather, gather_ways};
 use super::leading_states::LeadingStates;
 use super::listing::push_ways;
+use super::memo::Memo;
 use super::place_ways::{PlaceWays, Stop};
 use super::room::Room;
 use super::site::{Passage, Site};
+use super::sought::{AllWays, LivingAlone};
 use super::spreading::{spread, spread_ways};
 use super::state_set::StateSet;
 use super::table::Table;
@@ -42,6 +45,9 @@ fn most_kept(lexicon: &Lexicon, line: &Line, table: &Table) -> usize
     table.sets.len() * lexicon.rules().phases().len() / SETS_FOR_A_WAY
 }
 
+/// So many rules are looked at from one place at most, for its ways to be kept in the pass forward.
+const MOST_LOOKED: usize = 1_024;
+
 /// Keeps the ways from the place with the states at its index of the table, and tells their stop: if they are few, and ways and stops are
 /// then no more than there is room for beside the table, and looking for them is worth it. Otherwise all ways and stops stay as they were.
 /// The place's own state is not looked at. Refused only for want of memory.
@@ -58,6 +64,7 @@ fn keep_ways<L>(
     requires there { index < length table.now.sets.items }
     requires table { IsTable (leads_in site.lexicon.now) (length site.line.now.letters) table.now }
     ensures kept { IfOk result (λ stop. HasKeptFew site.entry.lexicon.now site.entry.line.now site.entry.choices.now (numbered_of site.entry.lexicon.now site.entry.place.now) table.now index kept.old kept.new stop) }
+    ensures late { OnOk result (kept.new.late.items ≡ kept.old.late.items) }
     ensures steps { (most : ℕ) → HasAtMostRules site.entry.lexicon.now.tries most → steps.new ≤ steps.old + steps_of_items site.entry.lexicon.now most }
 {
     let most = most_kept(site.lexicon, site.line, table);
@@ -66,7 +73,17 @@ fn keep_ways<L>(
     }
     let states = table.sets[index];
     let first = kept.ways.len();
-    let all = push_ways(site, states, leading, &mut kept.ways, steps)?;
+    let mut rules_left = MOST_LOOKED;
+    let ways = &mut kept.ways;
+    let all = push_ways(
+        site,
+        states,
+        leading,
+        &mut rules_left,
+        &AllWays,
+        ways,
+        steps,
+    )?;
     if !all || !kept.has_room(most) {
         kept.drop_from(first);
         return Ok(None);
@@ -104,6 +121,7 @@ fn reach_from<L>(
     ensures before { OnOk result (IsReachedBefore site.entry.lexicon.now site.entry.line.now site.entry.choices.now (index + 1) table.new) }
     ensures kept { OnOk result (HaveWaysBefore site.entry.lexicon.now site.entry.line.now site.entry.choices.now (index + 1) table.new kept.new.stops.items kept.new.ways.items) }
     ensures stops { IfOk result (λ has_stop. IsTrue has_stop → HaveStopsBefore site.entry.lexicon.now site.entry.line.now index table.old (indices_of kept.old.stops.items) → HaveStopsBefore site.entry.lexicon.now site.entry.line.now (index + 1) table.new (indices_of kept.new.stops.items)) }
+    ensures late { OnOk result (kept.new.late.items ≡ kept.old.late.items) }
     ensures few { OnOk result (AreFew site.entry.lexicon.now site.entry.line.now kept.new.stops.items kept.new.ways.items) }
     ensures steps { (most : ℕ) → HasAtMostRules site.entry.lexicon.now.tries most → steps.new ≤ steps.old + 2 * steps_of_items site.entry.lexicon.now most }
 {
@@ -131,12 +149,14 @@ pub(crate) fn reach<L>(
     requires opening { IsOpenTable passage.lexicon.now passage.line.now table.old }
     requires stops { kept.old.stops.items ≡ [] }
     requires ways { kept.old.ways.items ≡ [] }
+    requires late { kept.old.late.items ≡ [] }
     requires memo { (done : DoneValue) → IsKnown room.old.memo done → ⊥ }
     requires effects { AreEffects passage.lexicon.now.lexicon.rules room.old.memo.effects }
     ensures effects { OnOk result (AreEffects passage.entry.lexicon.now.lexicon.rules room.new.memo.effects) }
     ensures reached { OnOk result (HasReached passage.entry.lexicon.now passage.entry.line.now passage.entry.choices.now table.new) }
     ensures kept { OnOk result (HaveAllWays passage.entry.lexicon.now passage.entry.line.now passage.entry.choices.now table.new kept.new.stops.items kept.new.ways.items) }
     ensures stops { IfOk result (λ each_has_stop. IsTrue each_has_stop → HaveStops passage.entry.lexicon.now passage.entry.line.now table.new (indices_of kept.new.stops.items)) }
+    ensures late { OnOk result (kept.new.late.items ≡ []) }
     ensures few { OnOk result (AreFew passage.entry.lexicon.now passage.entry.line.now kept.new.stops.items kept.new.ways.items) }
     ensures steps { (most : ℕ) → HasAtMostRules passage.entry.lexicon.now.tries most → steps.new ≤ steps.old + 2 * steps_of_summary passage.entry.lexicon.now passage.entry.line.now most }
 {
@@ -163,6 +183,59 @@ pub(crate) fn reach<L>(
     Ok(each_has_stop)
 }
 
+/// Keeps the ways from the place by which some state at its index of the table goes further, and puts in their late stop: if they are few,
+/// and ways and stops are then no more than there is room for beside the table, and no more rules are looked at than may be for one line.
+/// Otherwise all ways and stops stay as they were. There is no stop at the index. The place's own state is not looked at. Refused only for
+/// want of memory.
+fn keep_late<L>(
+    site: Site<'_>,
+    index: usize,
+    leading: &LeadingStates,
+    table: &Table,
+    kept: &mut PlaceWays,
+    memo: &Memo,
+    steps: &mut Steps<L>,
+) -> Result<(), Memory>
+    requires site { IsSite site }
+    requires leading { AreLeading site.lexicon.now.machine leading.now }
+    requires there { index < length table.now.sets.items }
+    requires indexed { IsIndexed (leads_in site.lexicon.now) (length site.line.now.letters) index site.place.now.at site.place.now.entrance }
+    requires table { IsTable (leads_in site.lexicon.now) (length site.line.now.letters) table.now }
+    requires kept { HaveLivingWays site.lexicon.now site.line.now site.choices.now table.now kept.old.stops.items kept.old.ways.items }
+    requires late { AreLateStops site.lexicon.now site.line.now site.choices.now table.now kept.old.late.items kept.old.ways.items }
+    requires few { AreFew site.lexicon.now site.line.now (kept.old.stops.items ++ kept.old.late.items) kept.old.ways.items }
+    requires memo { AreLiving site.lexicon.now site.line.now table.now memo.now }
+    ensures kept { OnOk result (HaveLivingWays site.entry.lexicon.now site.entry.line.now site.entry.choices.now table.now kept.new.stops.items kept.new.ways.items) }
+    ensures late { OnOk result (AreLateStops site.entry.lexicon.now site.entry.line.now site.entry.choices.now table.now kept.new.late.items kept.new.ways.items) }
+    ensures few { OnOk result (AreFew site.entry.lexicon.now site.entry.line.now (kept.new.stops.items ++ kept.new.late.items) kept.new.ways.items) }
+    ensures stops { OnOk result (kept.new.stops.items ≡ kept.old.stops.items) }
+    ensures steps { (most : ℕ) → HasAtMostRules site.entry.lexicon.now.tries most → steps.new ≤ steps.old + steps_of_items site.entry.lexicon.now most }
+{
+    let most = most_kept(site.lexicon, site.line, table);
+    if !kept.looks_back() || !kept.has_room(most) {
+        return Ok(());
+    }
+    let states = table.sets[index];
+    let living = LivingAlone {
+        standing: Standing { states, table },
+        memo,
+    };
+    let first = kept.ways.len();
+    let looks = &mut kept.looks_left;
+    let all = push_ways(site, states, leading, looks, &living, &mut kept.ways, steps)?;
+    if !all || !kept.has_room(most) {
+        kept.drop_from(first);
+        return Ok(());
+    }
+    let stop = Stop {
+        index,
+        first,
+        end: kept.ways.len(),
+    };
+    kept.push_late(stop)?;
+    Ok(())
+}
+
 /// A set of the table that the pass back comes to: its index, and the number of its stop where this is known.
 #[derive(Clone, Copy)]
 struct Visit {
@@ -172,35 +245,45 @@ struct Visit {
 
 /// The states of the places at the index, of which this is one, from which some key ends the line, or leads on to a place of the table: by
 /// the ways that are kept from there, or else by all that the lexicon has. The number of their stop may be known. This stop is left with
-/// the ways from the first to the last by which some state goes further. The place's own state is not looked at. Refused only for want of
-/// memory.
+/// the ways from the first to the last by which some state goes further; where there is none, and some state goes further, a late one may
+/// be put in. The place's own state is not looked at. Refused only for want of memory.
 fn gather_from<L>(
     site: Site<'_>,
     visit: Visit,
+    leading: &LeadingStates,
     table: &Table,
     kept: &mut PlaceWays,
     room: &mut Room,
     steps: &mut Steps<L>,
 ) -> Result<StateSet, Memory>
     requires site { IsSite site }
+    requires leading { AreLeading site.lexicon.now.machine leading.now }
     requires there { visit.index < length table.now.sets.items }
     requires indexed { IsIndexed (leads_in site.lexicon.now) (length site.line.now.letters) visit.index site.place.now.at site.place.now.entrance }
     requires table { IsTable (leads_in site.lexicon.now) (length site.line.now.letters) table.now }
     requires kept { HaveLivingWays site.lexicon.now site.line.now site.choices.now table.now kept.old.stops.items kept.old.ways.items }
+    requires late { AreLateStops site.lexicon.now site.line.now site.choices.now table.now kept.old.late.items kept.old.ways.items }
+    requires few { AreFew site.lexicon.now site.line.now (kept.old.stops.items ++ kept.old.late.items) kept.old.ways.items }
     requires known { IfSome visit.known (λ number. IsStopAt kept.old.stops.items visit.index number) }
     requires memo { AreLiving site.lexicon.now site.line.now table.now room.old.memo }
     ensures memo { OnOk result (AreLiving site.entry.lexicon.now site.entry.line.now table.now room.new.memo) }
     ensures ends { OnOk result (EndFrom site.entry.place.now.at room.old.memo → EndFrom site.entry.place.now.at room.new.memo) }
     ensures gathers { IfOk result (λ gathered. AreGoingFurther site.entry.lexicon.now site.entry.line.now site.entry.choices.now table.now site.entry.place.now.at site.entry.place.now.entrance (set_of table.now visit.index) EveryKey gathered) }
     ensures kept { OnOk result (HaveLivingWays site.entry.lexicon.now site.entry.line.now site.entry.choices.now table.now kept.new.stops.items kept.new.ways.items) }
+    ensures late { OnOk result (AreLateStops site.entry.lexicon.now site.entry.line.now site.entry.choices.now table.now kept.new.late.items kept.new.ways.items) }
+    ensures few { OnOk result (AreFew site.entry.lexicon.now site.entry.line.now (kept.new.stops.items ++ kept.new.late.items) kept.new.ways.items) }
     ensures count { OnOk result (length kept.new.stops.items ≡ length kept.old.stops.items) }
     ensures indices { OnOk result (indices_of kept.new.stops.items ≡ indices_of kept.old.stops.items) }
-    ensures ways { OnOk result (kept.new.ways.items ≡ kept.old.ways.items) }
-    ensures steps { (most : ℕ) → HasAtMostRules site.entry.lexicon.now.tries most → steps.new ≤ steps.old + steps_of_items site.entry.lexicon.now most }
+    ensures steps { (most : ℕ) → HasAtMostRules site.entry.lexicon.now.tries most → steps.new ≤ steps.old + 2 * steps_of_items site.entry.lexicon.now most }
 {
     let states = table.sets[visit.index];
     let Some(number) = kept.known_or_number_at(visit.known, site.place.at, visit.index) else {
-        return gather(site, states, table, room, steps);
+        let living = gather(site, states, table, room, steps)?;
+        if living.is_empty() {
+            return Ok(living);
+        }
+        keep_late(site, visit.index, leading, table, kept, &room.memo, steps)?;
+        return Ok(living);
     };
     let living = gather_ways(site, states, kept.of(kept.stops[number]), table, steps);
     kept.narrow(number, living.first, living.end);
@@ -236,10 +319,10 @@ fn visit_until(
     if last < until { last + 1 } else { until }
 }
 
-/// Leaves in the table, which has every place that a search comes to, those alone from which there is a path to an answer: from the
-/// last place in the order of the table to the first. Each stop is left with the ways from its first living one to its last, where a way is
-/// living that ends the line or leads on to a place of the table. Where each place has its stop, the stops tell which sets to go over.
-/// Refused only for want of memory.
+/// Leaves in the table, which has every place that a search comes to, those alone from which there is a path to an answer: from the last
+/// place in the order of the table to the first. Each stop is left with the ways from its first living one to its last, where a way is
+/// living that ends the line or leads on to a place of the table; and places without a stop may get one, with the living ways alone. Where
+/// each place has its stop, the stops tell which sets to go over. Refused only for want of memory.
 pub(crate) fn keep_living<L>(
     passage: Passage<'_>,
     each_has_stop: bool,
@@ -252,16 +335,18 @@ pub(crate) fn keep_living<L>(
     requires line { IsLine passage.line.now }
     requires reached { HasReached passage.lexicon.now passage.line.now passage.choices.now table.old }
     requires kept { HaveAllWays passage.lexicon.now passage.line.now passage.choices.now table.old kept.old.stops.items kept.old.ways.items }
+    requires late { kept.old.late.items ≡ [] }
+    requires few { AreFew passage.lexicon.now passage.line.now kept.old.stops.items kept.old.ways.items }
     requires stops { IsTrue each_has_stop → HaveStops passage.lexicon.now passage.line.now table.old (indices_of kept.old.stops.items) }
     requires memo { (done : DoneValue) → IsKnown room.old.memo done → ⊥ }
     requires effects { AreEffects passage.lexicon.now.lexicon.rules room.old.memo.effects }
     ensures living { OnOk result (IsChartTable passage.entry.lexicon.now passage.entry.line.now passage.entry.choices.now table.new) }
     ensures kept { OnOk result (HaveLivingWays passage.entry.lexicon.now passage.entry.line.now passage.entry.choices.now table.new kept.new.stops.items kept.new.ways.items) }
-    ensures count { OnOk result (length kept.new.stops.items ≡ length kept.old.stops.items) }
-    ensures ways { OnOk result (kept.new.ways.items ≡ kept.old.ways.items) }
-    ensures steps { (most : ℕ) → HasAtMostRules passage.entry.lexicon.now.tries most → steps.new ≤ steps.old + steps_of_summary passage.entry.lexicon.now passage.entry.line.now most }
+    ensures few { OnOk result (AreFew passage.entry.lexicon.now passage.entry.line.now kept.new.stops.items kept.new.ways.items) }
+    ensures steps { (most : ℕ) → HasAtMostRules passage.entry.lexicon.now.tries most → steps.new ≤ steps.old + 2 * steps_of_summary passage.entry.lexicon.now passage.entry.line.now most }
 {
     let state = passage.lexicon.automaton().start();
+    let leading = LeadingStates::of(passage.lexicon.automaton());
     let mut left = kept.stops.len();
     let mut until = visit_until(table, kept, left, each_has_stop, table.sets.len());
     while until > 0 {
@@ -279,10 +364,19 @@ pub(crate) fn keep_living<L>(
             place: &place,
         };
         let known = kept.last_at(left, index);
-        let living = gather_from(site, Visit { index, known }, table, kept, room, steps)?;
+        let living = gather_from(
+            site,
+            Visit { index, known },
+            &leading,
+            table,
+            kept,
+            room,
+            steps,
+        )?;
         table.replace(index, living);
         left = known.unwrap_or(left);
         until = visit_until(table, kept, left, each_has_stop, index);
     }
+    kept.put_in_order()?;
     Ok(())
 }

@@ -1,5 +1,7 @@
-ghost use Rattle.std.specs.Prelude.{◌≡◌, ◌+◌, ◌-◌, ◌<◌, ◌≤◌, ◌↔◌, ◌++◌, ◌∷◌, [], length, slice_set, take, IsTrue, IfSome, MatchOption, OnOk};
-ghost use Rattle.summary_chart.specs.PlaceWays.{AreStops, AreWaysAt, HasStopAt, IsStopAt, IsStopWithin, narrowed, stop_at, ways_of};
+ghost use Rattle.std.specs.Prelude.{◌≡◌, ◌+◌, ◌-◌, ◌<◌, ◌≤◌, ◌↔◌, ◌++◌, ◌∷◌, [], length, slice_set, take, Contains, IsTrue, IfSome, MatchOption, OnOk};
+ghost use Rattle.std.specs.List.Sorted.{IsStrictlySortedBy};
+ghost use Rattle.summary_chart.specs.declared.place_ways.Stop.{Stop as StopValue};
+ghost use Rattle.summary_chart.specs.PlaceWays.{AreStops, AreWaysAt, HasStopAt, IsStopAt, IsStopWithin, compare_stops, narrowed, stop_at, ways_of};
 
 use phoneme::Memory;
 use search_frames::Way;
@@ -7,6 +9,11 @@ use std::alloc::Global;
 
 /// From so many more places than those with ways that are kept, ways are looked for in vain.
 const MOST_MISSES: usize = 256;
+
+/// In the pass back so many rules are looked at for one line at most, for ways of more places to be kept; a place counts as 256 at least.
+const MOST_LOOKED_BACK: usize = 262_144;
+
+const LEAST_LOOKED_BACK: usize = 256;
 
 /// Where the ways stand that lead from the places at an index of a table: from `first` to before `end` among all ways. After the pass
 /// back these are the ways without the dead ones before the first living way and after the last.
@@ -17,17 +24,20 @@ pub(crate) struct Stop {
     pub end: usize,
 }
 
-/// The ways from places of a table, one stop after another in the order of the table. Not every place has a stop, and not every way is
-/// that of one.
+/// The ways from places of a table, one stop after another in the order of the table, and after these the late stops, which the pass back
+/// puts in, in its order, until all are put in order. Not every place has a stop, and not every way is that of one.
 #[derive(Drop)]
 pub(crate) struct PlaceWays {
     pub stops: Vec<Stop>,
     pub ways: Vec<Way>,
+    pub late: Vec<Stop>,
     /// How many stops stand before the places after each number of letters, as far as there are stops. It tells where to look first, and
     /// no contract speaks of it.
     starts: Vec<usize>,
     /// From how many places the ways were looked for and not kept. No contract speaks of it.
     misses: usize,
+    /// How many rules may still be looked at in the pass back. No contract speaks of it.
+    pub looks_left: usize,
 }
 
 impl PlaceWays {
@@ -36,8 +46,10 @@ impl PlaceWays {
         PlaceWays {
             stops: Vec::new(alloc),
             ways: Vec::new(alloc),
+            late: Vec::new(alloc),
             starts: Vec::new(alloc),
             misses: 0,
+            looks_left: MOST_LOOKED_BACK,
         }
     }
 
@@ -45,11 +57,28 @@ impl PlaceWays {
     pub fn clear(&mut self)
         ensures stops { self.new.stops.items ≡ [] }
         ensures ways { self.new.ways.items ≡ [] }
+        ensures late { self.new.late.items ≡ [] }
     {
         self.stops.clear();
         self.ways.clear();
+        self.late.clear();
         self.starts.clear();
         self.misses = 0;
+        self.looks_left = MOST_LOOKED_BACK;
+    }
+
+    /// Whether the ways of one place more are looked for in the pass back, which counts as so many rules at least. No contract speaks of
+    /// it.
+    pub fn looks_back(&mut self) -> bool
+        ensures late { self.new.late.items ≡ self.old.late.items }
+        ensures stops { self.new.stops.items ≡ self.old.stops.items }
+        ensures ways { self.new.ways.items ≡ self.old.ways.items }
+    {
+        if self.looks_left < LEAST_LOOKED_BACK {
+            return false;
+        }
+        self.looks_left -= LEAST_LOOKED_BACK;
+        true
     }
 
     /// Whether ways are looked for from one place more: not where they were looked for in vain by far more often than they were kept. No
@@ -62,6 +91,7 @@ impl PlaceWays {
     pub fn drop_from(&mut self, first: usize)
         requires first { first ≤ length self.old.ways.items }
         ensures stops { self.new.stops.items ≡ self.old.stops.items }
+        ensures late { self.new.late.items ≡ self.old.late.items }
         ensures ways { self.new.ways.items ≡ take first self.old.ways.items }
     {
         self.ways.truncate(first);
@@ -70,9 +100,9 @@ impl PlaceWays {
 
     /// Whether there are fewer stops and ways together than this.
     pub fn has_room(&self, most: usize) -> bool
-        ensures { IsTrue result ↔ (length self.now.stops.items + length self.now.ways.items < most) }
+        ensures { IsTrue result ↔ (length self.now.stops.items + length self.now.late.items + length self.now.ways.items < most) }
     {
-        self.stops.len() + self.ways.len() < most
+        self.stops.len() + self.late.len() < most.saturating_sub(self.ways.len())
     }
 
     /// The ways of the stop.
@@ -84,16 +114,49 @@ impl PlaceWays {
         &self.ways.as_slice()[stop.first..stop.end]
     }
 
-    /// Puts in a stop of places after so many letters of the line, no fewer than those of the stops before. Refused only for want of memory.
+    /// Puts in a stop of places after so many letters of the line, no fewer than those of the stops before. Refused only for want of
+    /// memory.
     pub fn push(&mut self, at: u32, stop: Stop) -> Result<(), Memory>
         ensures stops { OnOk result (self.new.stops.items ≡ self.old.stops.items ++ stop ∷ []) }
         ensures ways { self.new.ways.items ≡ self.old.ways.items }
+        ensures late { self.new.late.items ≡ self.old.late.items }
     {
         let start = self.stops.len();
         while self.starts.len() <= at as usize {
             self.starts.push(start)?;
         }
         self.stops.push(stop)?;
+        Ok(())
+    }
+
+    /// Puts in a late stop. Refused only for want of memory.
+    pub fn push_late(&mut self, stop: Stop) -> Result<(), Memory>
+        ensures late { OnOk result (self.new.late.items ≡ self.old.late.items ++ stop ∷ []) }
+        ensures stops { self.new.stops.items ≡ self.old.stops.items }
+        ensures ways { self.new.ways.items ≡ self.old.ways.items }
+    {
+        self.late.push(stop)?;
+        Ok(())
+    }
+
+    /// Puts the late stops among the others, by their indices. Refused only for want of memory.
+    pub fn put_in_order(&mut self) -> Result<(), Memory>
+        requires stops { AreStops self.old.stops.items (length self.old.ways.items) }
+        ensures rising { OnOk result (IsStrictlySortedBy compare_stops self.new.stops.items) }
+        ensures from { OnOk result ((stop : StopValue) → Contains self.new.stops.items stop → Contains (self.old.stops.items ++ self.old.late.items) stop) }
+        ensures few { OnOk result (length self.new.stops.items ≤ length self.old.stops.items + length self.old.late.items) }
+        ensures ways { self.new.ways.items ≡ self.old.ways.items }
+    {
+        if self.late.is_empty() {
+            return Ok(());
+        }
+        // Where a late stop stands among the others `starts` does not tell.
+        self.starts.clear();
+        self.stops.extend_from_slice(self.late.as_slice())?;
+        self.late.clear();
+        self.stops
+            .sort_unstable_by(|left, right| left.index.cmp(&right.index));
+        self.stops.dedup_by(|left, right| left.index == right.index);
         Ok(())
     }
 
@@ -193,6 +256,7 @@ impl PlaceWays {
         requires within { end ≤ (stop_at self.old.stops.items number).end - (stop_at self.old.stops.items number).first }
         ensures stops { self.new.stops.items ≡ slice_set self.old.stops.items number (narrowed (stop_at self.old.stops.items number) first end) }
         ensures ways { self.new.ways.items ≡ self.old.ways.items }
+        ensures late { self.new.late.items ≡ self.old.late.items }
     {
         let stop = self.stops[number];
         self.stops[number] = Stop {

@@ -1,4 +1,5 @@
 -- What may stand after the front is no change, where a form ends there, and the choices that begin with the next letter (`OrderedKeys`).
+use Rattle.std.proofs.lemmas.Bool.{OnTrue_at}
 use Rattle.std.proofs.Common.{◌≡◌, ℕ, ◌+◌, ◌<◌, List, length, All, get_or, sym, ap, subst, ◌∙◌, arith}
 use Rattle.std.specs.Ordering.{nat_cmp}
 use Rattle.std.specs.List.Sorted.{IsStrictlySortedBy}
@@ -12,7 +13,7 @@ use Rattle.summary_chart.specs.PlaceWays.{AppendsFalling}
 use Rattle.summary_chart.specs.Spreading.{IsByRule}
 use Rattle.summary_chart.specs.Summaries.{key_with}
 use Rattle.summary_chart.proofs.FrontKeys.{front_node, choices_possible, few_written}
-use Rattle.summary_chart.proofs.OrderedKeys.{append_without_letter, append_with_letter}
+use Rattle.summary_chart.proofs.OrderedKeys.{append_passed_over, append_without_letter, append_with_letter}
 use Rattle.summary_chart.proofs.SpreadMemos.{choice_if_written, choice_numbered}
 use Rattle.summary_chart.proofs.listing.push_front.Goals as goal
 
@@ -25,8 +26,17 @@ returns-in_default-clause-appends g c =
     let whole : c.as_slice.result.now ≡ line.letters = c.as_slice.ensures.value ∙ ap (λ (l : Line). l.letters) c.line.view_is in
     let past = c.in_default.ensures.lookup.3 in
     let long = ap length whole in
-    append_without_letter searched line site.choices.now (numbered_of searched site.place.now) c.requires.here.site.searched front.phase front.taken front.node c.requires.front
+    append_without_letter searched line site.choices.now (numbered_of searched site.place.now) (g.S.Sought.sought c.args.sought.now c.args.here.site) c.requires.here.site.searched front.phase front.taken front.node c.requires.front
     c.args.ways.now.items c.push_unchanged.new.ways.items (omega (arith, past, long)) c.in_ok-push_unchanged.ensures.appends
+
+pub returns-then-passes_over-clause-appends : goal.returns-then-passes_over-clause-appends
+returns-then-passes_over-clause-appends g c =
+    let site = c.args.here.site in
+    let searched = site.lexicon.now in
+    let front = c.args.front.now in
+    append_passed_over searched site.line.now site.choices.now (numbered_of searched site.place.now) (g.S.Sought.sought c.args.sought.now site)
+    c.requires.here.site.searched front.phase front.taken front.node c.requires.front c.args.ways.now.items c.push_unchanged-then-passes_over.new.ways.items
+    (OnTrue_at c.if-passes_over.true c.passes_over.ensures.none) c.in_ok-push_unchanged-2.ensures.appends
 
 pub choices_with-rules-requires : goal.choices_with-rules-requires
 choices_with-rules-requires g c =
@@ -87,11 +97,11 @@ returns-clause-appends g c =
     let whole : c.as_slice.result.now ≡ line.letters = c.as_slice.ensures.value ∙ ap (λ (l : Line). l.letters) c.line.view_is in
     let next : letter ≡ get_or line.letters (place.at + front.taken) letter =
     c.in-Some.ensures.lookup.1 ∙ ap (λ (letters : List ℕ). get_or letters (place.at + front.taken) letter) whole in
-    append_with_letter searched line site.choices.now here c.requires.here.site.searched front.phase front.taken front.node c.requires.front letter next
+    append_with_letter searched line site.choices.now here (g.S.Sought.sought c.args.sought.now c.args.here.site) c.requires.here.site.searched front.phase front.taken front.node c.requires.front letter next
     c.args.ways.now.items mid c.push_unchanged-2.new.ways.items
-    (subst (λ (some : List ℕ). AppendsFalling searched line site.choices.now here (IsByRule front.phase front.taken some) c.args.ways.now.items mid) rules
+    (subst (λ (some : List ℕ). AppendsFalling searched line site.choices.now here (g.S.Sought.sought c.args.sought.now c.args.here.site) (IsByRule front.phase front.taken some) c.args.ways.now.items mid) rules
     c.in_ok-push_rules.ensures.appends)
-    c.in_ok-push_unchanged-2.ensures.appends
+    c.in_ok-push_unchanged-3.ensures.appends
 
 pub returns-clause-steps : goal.returns-clause-steps
 returns-clause-steps g c most few =
@@ -104,7 +114,7 @@ returns-clause-steps g c most few =
     let count = ap length rules in
     let short = few_written searched.tries front.node letter in
     let all = few front.node (front_node searched c.requires.here.site.searched site.line.now (numbered_of searched site.place.now) front.phase front.taken front.node c.requires.front) in
-    omega (arith, c.tick.ensures, c.push_unchanged-2.ensures.steps, c.choices_with-rules.ensures.steps, c.push_rules.ensures.steps, count, short, all)
+    omega (arith, c.tick.ensures, c.passes_over.ensures.steps, c.push_unchanged-2.ensures.steps, c.choices_with-rules.ensures.steps, c.push_rules.ensures.steps, count, short, all)
 
 pub returns-in_err-push_rules-clause-steps : goal.returns-in_err-push_rules-clause-steps
 returns-in_err-push_rules-clause-steps g c most few =
@@ -117,10 +127,10 @@ returns-in_err-push_rules-clause-steps g c most few =
     let count = ap length rules in
     let short = few_written searched.tries front.node letter in
     let all = few front.node (front_node searched c.requires.here.site.searched site.line.now (numbered_of searched site.place.now) front.phase front.taken front.node c.requires.front) in
-    omega (arith, c.tick.ensures, c.choices_with-rules.ensures.steps, c.push_rules.ensures.steps, count, short, all)
+    omega (arith, c.tick.ensures, c.passes_over.ensures.steps, c.choices_with-rules.ensures.steps, c.push_rules.ensures.steps, count, short, all)
 
-pub returns-in_err-push_unchanged-2-clause-steps : goal.returns-in_err-push_unchanged-2-clause-steps
-returns-in_err-push_unchanged-2-clause-steps g c most few =
+pub returns-in_err-push_unchanged-3-clause-steps : goal.returns-in_err-push_unchanged-3-clause-steps
+returns-in_err-push_unchanged-3-clause-steps g c most few =
     let site = c.args.here.site in
     let searched = site.lexicon.now in
     let front = c.args.front.now in
@@ -130,4 +140,4 @@ returns-in_err-push_unchanged-2-clause-steps g c most few =
     let count = ap length rules in
     let short = few_written searched.tries front.node letter in
     let all = few front.node (front_node searched c.requires.here.site.searched site.line.now (numbered_of searched site.place.now) front.phase front.taken front.node c.requires.front) in
-    omega (arith, c.tick.ensures, c.push_unchanged-2.ensures.steps, c.choices_with-rules.ensures.steps, c.push_rules.ensures.steps, count, short, all)
+    omega (arith, c.tick.ensures, c.passes_over.ensures.steps, c.push_unchanged-2.ensures.steps, c.choices_with-rules.ensures.steps, c.push_rules.ensures.steps, count, short, all)

@@ -25,18 +25,18 @@ loop-next-init g c =
     let ways = c.args.ways.now.items in
     let next = c.first_front-next.ensures.front ahead.limit c.requires.here.ahead.low in
     record {
-      listed = list_next searched line c.args.here.site.choices.now here c.args.phase ahead c.requires.here.ahead 0 c.first_front-next.result next ways ways
-          (append_no_front searched line c.args.here.site.choices.now here c.args.phase ways);
+      listed = list_next searched line c.args.here.site.choices.now here (g.S.Sought.sought c.args.sought.now c.args.here.site) c.args.phase ahead c.requires.here.ahead 0 c.first_front-next.result next ways ways
+          (append_no_front searched line c.args.here.site.choices.now here (g.S.Sought.sought c.args.sought.now c.args.here.site) c.args.phase ways);
       above = c.requires.first;
       few = c.requires.few;
-      spent = λ most few. spend_next searched line c.args.here.site.choices.now here c.args.phase ahead.limit most c.args.steps.now c.first_front-next.new.steps 0
+      spent = λ most few. spend_next searched line c.args.here.site.choices.now here (g.S.Sought.sought c.args.sought.now c.args.here.site) c.args.phase ahead.limit most c.args.steps.now c.first_front-next.new.steps 0
           c.first_front-next.result next (omega arith) (omega (arith, c.first_front-next.ensures.steps));
     }
 
 pub push_front-requires-clause-limit : goal.push_front-requires-clause-limit
 push_front-requires-clause-limit g c =
     let site = c.args.here.site in
-    let listed = subst (λ (next : Option Front). HasListed site.lexicon.now site.line.now site.choices.now (numbered_of site.lexicon.now site.place.now) c.args.phase
+    let listed = subst (λ (next : Option Front). HasListed site.lexicon.now site.line.now site.choices.now (numbered_of site.lexicon.now site.place.now) (g.S.Sought.sought c.args.sought.now c.args.here.site) c.args.phase
     c.args.here.ahead.limit next c.args.ways.now.items c.loop-next.ways.items) c.in-Some.is c.loop-next.invariant.listed in
     listed.0.near
 
@@ -44,7 +44,7 @@ pub push_front-requires-clause-begins : goal.push_front-requires-clause-begins
 push_front-requires-clause-begins g c =
     let site = c.args.here.site in
     let here = numbered_of site.lexicon.now site.place.now in
-    let listed = subst (λ (next : Option Front). HasListed site.lexicon.now site.line.now site.choices.now here c.args.phase
+    let listed = subst (λ (next : Option Front). HasListed site.lexicon.now site.line.now site.choices.now here (g.S.Sought.sought c.args.sought.now c.args.here.site) c.args.phase
     c.args.here.ahead.limit next c.args.ways.now.items c.loop-next.ways.items) c.in-Some.is c.loop-next.invariant.listed in
     subst (MayBegin here.entrance) (sym listed.0.phase_is) c.requires.begins
 
@@ -52,7 +52,7 @@ pub push_front-requires-clause-front : goal.push_front-requires-clause-front
 push_front-requires-clause-front g c =
     let site = c.args.here.site in
     let here = numbered_of site.lexicon.now site.place.now in
-    let listed = subst (λ (next : Option Front). HasListed site.lexicon.now site.line.now site.choices.now here c.args.phase
+    let listed = subst (λ (next : Option Front). HasListed site.lexicon.now site.line.now site.choices.now here (g.S.Sought.sought c.args.sought.now c.args.here.site) c.args.phase
     c.args.here.ahead.limit next c.args.ways.now.items c.loop-next.ways.items) c.in-Some.is c.loop-next.invariant.listed in
     subst (λ (p : ℕ). IsFrontAt site.lexicon.now site.line.now here p c.in-Some.front.taken c.in-Some.front.node) (sym listed.0.phase_is) listed.0.is
 
@@ -60,14 +60,14 @@ pub longer_front-next-requires-clause-front : goal.longer_front-next-requires-cl
 longer_front-next-requires-clause-front g c =
     let site = c.args.here.site in
     let here = numbered_of site.lexicon.now site.place.now in
-    let listed = subst (λ (next : Option Front). HasListed site.lexicon.now site.line.now site.choices.now here c.args.phase
+    let listed = subst (λ (next : Option Front). HasListed site.lexicon.now site.line.now site.choices.now here (g.S.Sought.sought c.args.sought.now c.args.here.site) c.args.phase
     c.args.here.ahead.limit next c.args.ways.now.items c.loop-next.ways.items) c.in-Some.is c.loop-next.invariant.listed in
     subst (λ (p : ℕ). IsFrontAt site.lexicon.now site.line.now here p c.in-Some.front.taken c.in-Some.front.node) (sym listed.0.phase_is) listed.0.is
 
 pub longer_front-next-requires-clause-near : goal.longer_front-next-requires-clause-near
 longer_front-next-requires-clause-near g c =
     let site = c.args.here.site in
-    let listed = subst (λ (next : Option Front). HasListed site.lexicon.now site.line.now site.choices.now (numbered_of site.lexicon.now site.place.now) c.args.phase
+    let listed = subst (λ (next : Option Front). HasListed site.lexicon.now site.line.now site.choices.now (numbered_of site.lexicon.now site.place.now) (g.S.Sought.sought c.args.sought.now c.args.here.site) c.args.phase
     c.args.here.ahead.limit next c.args.ways.now.items c.loop-next.ways.items) c.in-Some.is c.loop-next.invariant.listed in
     listed.0.near
 
@@ -83,20 +83,20 @@ loop-next-preserved g c =
     let old = c.args.ways.now.items in
     let mid = c.loop-next.ways.items in
     let new = c.push_front.new.ways.items in
-    let listed = subst (λ (next : Option Front). HasListed searched line site.choices.now here c.args.phase ahead.limit next old mid) c.in-Some.is inv.listed in
-    let one = subst (λ (p : ℕ). AppendsFalling searched line site.choices.now here (IsAtFront p front.taken) mid new) listed.0.phase_is (OnTrue_at {P = AppendsFalling searched line site.choices.now here (IsAtFront front.phase front.taken) mid new} c.if-not-branch.false c.in_ok-push_front.ensures.appends) in
+    let listed = subst (λ (next : Option Front). HasListed searched line site.choices.now here (g.S.Sought.sought c.args.sought.now c.args.here.site) c.args.phase ahead.limit next old mid) c.in-Some.is inv.listed in
+    let one = subst (λ (p : ℕ). AppendsFalling searched line site.choices.now here (g.S.Sought.sought c.args.sought.now c.args.here.site) (IsAtFront p front.taken) mid new) listed.0.phase_is (OnTrue_at {P = AppendsFalling searched line site.choices.now here (g.S.Sought.sought c.args.sought.now c.args.here.site) (IsAtFront front.phase front.taken) mid new} c.if-not-branch.false c.in_ok-push_front.ensures.appends) in
     let next = subst (λ (p : ℕ). IsNextFront searched line here p ahead.limit (front.taken + 1) c.longer_front-next.result) listed.0.phase_is c.longer_front-next.ensures.front in
-    let longer = append_longer searched line site.choices.now here (IsAtFront c.args.phase front.taken) mid new one in
+    let longer = append_longer searched line site.choices.now here (g.S.Sought.sought c.args.sought.now c.args.here.site) (IsAtFront c.args.phase front.taken) mid new one in
     let short = front_short searched c.requires.here.site.searched line here c.args.phase ahead.limit front.taken front.node listed.0.is in
     record {
-      listed = list_next searched line site.choices.now here c.args.phase ahead c.requires.here.ahead (front.taken + 1) c.longer_front-next.result next old new
-          (append_front searched line site.choices.now here c.args.phase front.taken old mid new listed.1 one);
+      listed = list_next searched line site.choices.now here (g.S.Sought.sought c.args.sought.now c.args.here.site) c.args.phase ahead c.requires.here.ahead (front.taken + 1) c.longer_front-next.result next old new
+          (append_front searched line site.choices.now here (g.S.Sought.sought c.args.sought.now c.args.here.site) c.args.phase front.taken old mid new listed.1 one);
       above = omega (arith, inv.above, longer);
       few = omega (arith, c.if-len-first-gt-MOST_WAYS.false, c.len.ensures, c.push_front.new.ways.ok);
       spent = λ most few.
           let so_far = subst (λ (n : Option Front). HasSpent most c.args.steps.now n c.loop-next.steps) c.in-Some.is (inv.spent most few) in
           let more = c.push_front.ensures.steps most few in
-          spend_next searched line site.choices.now here c.args.phase ahead.limit most c.args.steps.now c.longer_front-next.new.steps (front.taken + 1)
+          spend_next searched line site.choices.now here (g.S.Sought.sought c.args.sought.now c.args.here.site) c.args.phase ahead.limit most c.args.steps.now c.longer_front-next.new.steps (front.taken + 1)
           c.longer_front-next.result next (omega (arith, short))
           (one_more_within (c.args.steps.now + MOST_RULE_LETTERS) front.taken (1 + steps_of_front most) c.loop-next.steps c.longer_front-next.new.steps
           so_far (omega (arith, more, c.longer_front-next.ensures.steps)));
@@ -110,11 +110,11 @@ loop-next-smaller g c =
     let here = numbered_of searched site.place.now in
     let limit = c.args.here.ahead.limit in
     let front = c.in-Some.front in
-    let listed = subst (λ (next : Option Front). HasListed searched line site.choices.now here c.args.phase limit next c.args.ways.now.items c.loop-next.ways.items)
+    let listed = subst (λ (next : Option Front). HasListed searched line site.choices.now here (g.S.Sought.sought c.args.sought.now c.args.here.site) c.args.phase limit next c.args.ways.now.items c.loop-next.ways.items)
     c.in-Some.is c.loop-next.invariant.listed in
     let next = subst (λ (p : ℕ). IsNextFront searched line here p limit (front.taken + 1) c.longer_front-next.result) listed.0.phase_is c.longer_front-next.ensures.front in
     subst (λ (n : ℕ). fronts_left here.at limit c.longer_front-next.result < n) (sym (ap (fronts_left here.at limit) c.in-Some.is))
-    (fewer_left searched line site.choices.now here c.args.phase limit front.taken c.longer_front-next.result next)
+    (fewer_left searched line site.choices.now here (g.S.Sought.sought c.args.sought.now c.args.here.site) c.args.phase limit front.taken c.longer_front-next.result next)
 
 pub returns-in_err-push_front-clause-steps : goal.returns-in_err-push_front-clause-steps
 returns-in_err-push_front-clause-steps g c most few =
@@ -123,7 +123,7 @@ returns-in_err-push_front-clause-steps g c most few =
     let here = numbered_of searched site.place.now in
     let front = c.in-Some.front in
     let inv = c.loop-next.invariant in
-    let listed = subst (λ (next : Option Front). HasListed searched site.line.now site.choices.now here c.args.phase c.args.here.ahead.limit next
+    let listed = subst (λ (next : Option Front). HasListed searched site.line.now site.choices.now here (g.S.Sought.sought c.args.sought.now c.args.here.site) c.args.phase c.args.here.ahead.limit next
     c.args.ways.now.items c.loop-next.ways.items) c.in-Some.is inv.listed in
     let short = front_short searched c.requires.here.site.searched site.line.now here c.args.phase c.args.here.ahead.limit front.taken front.node listed.0.is in
     let so_far = subst (λ (n : Option Front). HasSpent most c.args.steps.now n c.loop-next.steps) c.in-Some.is (inv.spent most few) in
@@ -138,7 +138,7 @@ returns-then-len-first-gt-MOST_WAYS-clause-steps g c most few =
     let here = numbered_of searched site.place.now in
     let front = c.in-Some.front in
     let inv = c.loop-next.invariant in
-    let listed = subst (λ (next : Option Front). HasListed searched site.line.now site.choices.now here c.args.phase c.args.here.ahead.limit next
+    let listed = subst (λ (next : Option Front). HasListed searched site.line.now site.choices.now here (g.S.Sought.sought c.args.sought.now c.args.here.site) c.args.phase c.args.here.ahead.limit next
     c.args.ways.now.items c.loop-next.ways.items) c.in-Some.is inv.listed in
     let short = front_short searched c.requires.here.site.searched site.line.now here c.args.phase c.args.here.ahead.limit front.taken front.node listed.0.is in
     let so_far = subst (λ (n : Option Front). HasSpent most c.args.steps.now n c.loop-next.steps) c.in-Some.is (inv.spent most few) in
@@ -153,7 +153,7 @@ returns-then-not-branch-clause-steps g c most few =
     let here = numbered_of searched site.place.now in
     let front = c.in-Some.front in
     let inv = c.loop-next.invariant in
-    let listed = subst (λ (next : Option Front). HasListed searched site.line.now site.choices.now here c.args.phase c.args.here.ahead.limit next
+    let listed = subst (λ (next : Option Front). HasListed searched site.line.now site.choices.now here (g.S.Sought.sought c.args.sought.now c.args.here.site) c.args.phase c.args.here.ahead.limit next
     c.args.ways.now.items c.loop-next.ways.items) c.in-Some.is inv.listed in
     let short = front_short searched c.requires.here.site.searched site.line.now here c.args.phase c.args.here.ahead.limit front.taken front.node listed.0.is in
     let so_far = subst (λ (n : Option Front). HasSpent most c.args.steps.now n c.loop-next.steps) c.in-Some.is (inv.spent most few) in
@@ -172,7 +172,7 @@ returns-then-not-branch-clause-kept g c =
     let site = c.args.here.site in
     let old = c.args.ways.now.items in
     let mid = c.loop-next.ways.items in
-    let listed = subst (λ (next : Option Front). HasListed site.lexicon.now site.line.now site.choices.now (numbered_of site.lexicon.now site.place.now) c.args.phase
+    let listed = subst (λ (next : Option Front). HasListed site.lexicon.now site.line.now site.choices.now (numbered_of site.lexicon.now site.place.now) (g.S.Sought.sought c.args.sought.now c.args.here.site) c.args.phase
     c.args.here.ahead.limit next old mid) c.in-Some.is c.loop-next.invariant.listed in
     let so_far = listed.1 in
     subst (λ (items : List Way). take (length old) items ≡ old) (sym (OnFalse_at c.if-not-branch.true c.in_ok-push_front.ensures.stays)) (begins_so old mid so_far.ways so_far.appended)
@@ -189,10 +189,10 @@ returns-then-len-first-gt-MOST_WAYS-clause-kept g c =
     let old = c.args.ways.now.items in
     let mid = c.loop-next.ways.items in
     let new = c.push_front.new.ways.items in
-    let listed = subst (λ (next : Option Front). HasListed site.lexicon.now site.line.now site.choices.now (numbered_of site.lexicon.now site.place.now) c.args.phase
+    let listed = subst (λ (next : Option Front). HasListed site.lexicon.now site.line.now site.choices.now (numbered_of site.lexicon.now site.place.now) (g.S.Sought.sought c.args.sought.now c.args.here.site) c.args.phase
     c.args.here.ahead.limit next old mid) c.in-Some.is c.loop-next.invariant.listed in
     let so_far = listed.1 in
-    let one = OnTrue_at {P = AppendsFalling site.lexicon.now site.line.now site.choices.now (numbered_of site.lexicon.now site.place.now) (IsAtFront c.in-Some.front.phase c.in-Some.front.taken) mid new} c.if-not-branch.false c.in_ok-push_front.ensures.appends in
+    let one = OnTrue_at {P = AppendsFalling site.lexicon.now site.line.now site.choices.now (numbered_of site.lexicon.now site.place.now) (g.S.Sought.sought c.args.sought.now c.args.here.site) (IsAtFront c.in-Some.front.phase c.in-Some.front.taken) mid new} c.if-not-branch.false c.in_ok-push_front.ensures.appends in
     still_begins old mid new so_far.ways so_far.appended (begins_so mid new one.ways one.appended)
 
 pub returns-clause-kept : goal.returns-clause-kept
@@ -200,15 +200,15 @@ returns-clause-kept g c =
     let site = c.args.here.site in
     let old = c.args.ways.now.items in
     let new = c.loop-next.ways.items in
-    let all : AppendsFalling site.lexicon.now site.line.now site.choices.now (numbered_of site.lexicon.now site.place.now) (IsInPhase c.args.phase) old new =
-    subst (λ (next : Option Front). HasListed site.lexicon.now site.line.now site.choices.now (numbered_of site.lexicon.now site.place.now) c.args.phase
+    let all : AppendsFalling site.lexicon.now site.line.now site.choices.now (numbered_of site.lexicon.now site.place.now) (g.S.Sought.sought c.args.sought.now c.args.here.site) (IsInPhase c.args.phase) old new =
+    subst (λ (next : Option Front). HasListed site.lexicon.now site.line.now site.choices.now (numbered_of site.lexicon.now site.place.now) (g.S.Sought.sought c.args.sought.now c.args.here.site) c.args.phase
     c.args.here.ahead.limit next old new) c.in_default.is c.loop-next.invariant.listed in
     begins_so old new all.ways all.appended
 
 pub returns-clause-appends : goal.returns-clause-appends
 returns-clause-appends g c =
     let site = c.args.here.site in
-    subst (λ (next : Option Front). HasListed site.lexicon.now site.line.now site.choices.now (numbered_of site.lexicon.now site.place.now) c.args.phase
+    subst (λ (next : Option Front). HasListed site.lexicon.now site.line.now site.choices.now (numbered_of site.lexicon.now site.place.now) (g.S.Sought.sought c.args.sought.now c.args.here.site) c.args.phase
     c.args.here.ahead.limit next c.args.ways.now.items c.loop-next.ways.items) c.in_default.is c.loop-next.invariant.listed
 
 pub returns-clause-steps : goal.returns-clause-steps

@@ -8,7 +8,7 @@ use Rattle.summary_chart.proofs.listing.push_phase.Given as goal
 
 abbrev pub invariant-loop-next : goal.invariant-loop-next
 invariant-loop-next g l = record {
-  listed : HasListed l.here.site.lexicon.now l.here.site.line.now l.here.site.choices.now (numbered_of l.here.site.lexicon.now l.here.site.place.now) l.phase l.here.ahead.limit l.next l.fn.ways.items l.ways.items;
+  listed : HasListed l.here.site.lexicon.now l.here.site.line.now l.here.site.choices.now (numbered_of l.here.site.lexicon.now l.here.site.place.now) (g.S.Sought.sought l.sought l.here.site) l.phase l.here.ahead.limit l.next l.fn.ways.items l.ways.items;
   above : l.first ≤ length l.ways.items;
   few : length l.ways.items ≤ l.first + MOST_WAYS;
   spent : (most : ℕ) → HasAtMostRules l.here.site.lexicon.now.tries most → HasSpent most l.fn.steps l.next l.steps;

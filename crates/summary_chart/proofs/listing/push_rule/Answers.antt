@@ -14,7 +14,7 @@ returns-then-not-is_written g c =
     let here = numbered_of searched site.place.now in
     let key = key_meant c.args.key in
     record {
-      appends = append_refused searched site.line.now site.choices.now here key c.args.ways.now.items
+      appends = append_refused searched site.line.now site.choices.now here (g.S.Sought.sought c.args.sought.now c.args.here.site) key c.args.ways.now.items
           (not_standing searched site.line.now site.choices.now here key (λ stands.
           let written = subst (λ (rules : RuleSet). take (length (rule_of rules key.rule).w) (drop (site.place.now.at + key.taken) site.line.now.letters) ≡ (rule_of rules key.rule).w)
           (sym c.rules.ensures.value) stands.written in

@@ -11,7 +11,7 @@ pub loop-place-init : goal.loop-place-init
 loop-place-init g c =
     record {
       low = omega arith;
-      appends = append_no_rule c.args.here.site.lexicon.now c.args.here.site.line.now c.args.here.site.choices.now (numbered_of c.args.here.site.lexicon.now c.args.here.site.place.now) c.args.front.now.phase c.args.front.now.taken
+      appends = append_no_rule c.args.here.site.lexicon.now c.args.here.site.line.now c.args.here.site.choices.now (numbered_of c.args.here.site.lexicon.now c.args.here.site.place.now) (g.S.Sought.sought c.args.sought.now c.args.here.site) c.args.front.now.phase c.args.front.now.taken
           c.args.rules.now c.requires.rising (length c.args.rules.now) (omega arith) c.args.ways.now.items;
       spent = omega arith;
       counted = omega arith;
@@ -29,10 +29,10 @@ loop-place-preserved g c =
     let rule = get_or rules place 0 in
     record {
       low = omega (arith, inv.low);
-      appends = append_rule searched c.args.here.site.line.now c.args.here.site.choices.now here c.args.front.now.phase c.args.front.now.taken
+      appends = append_rule searched c.args.here.site.line.now c.args.here.site.choices.now here (g.S.Sought.sought c.args.sought.now c.args.here.site) c.args.front.now.phase c.args.front.now.taken
           rules c.requires.rising place rule low (get_or_default rules place 0 rule low)
           c.args.ways.now.items c.loop-place.ways.items c.push_rule.new.ways.items
-          (subst (λ (n : ℕ). AppendsFalling searched c.args.here.site.line.now c.args.here.site.choices.now here
+          (subst (λ (n : ℕ). AppendsFalling searched c.args.here.site.line.now c.args.here.site.choices.now here (g.S.Sought.sought c.args.sought.now c.args.here.site)
           (IsByRule c.args.front.now.phase c.args.front.now.taken (drop n rules)) c.args.ways.now.items c.loop-place.ways.items) one inv.appends)
           c.in_ok-push_rule.ensures.appends;
       spent = omega (arith, inv.spent, one, c.tick.ensures, c.push_rule.ensures.steps);
@@ -43,6 +43,6 @@ pub returns-clause-appends : goal.returns-clause-appends
 returns-clause-appends g c =
     let none : c.loop-place.place ≡ 0 = omega (arith, c.loop-place-test.false) in
     let searched = c.args.here.site.lexicon.now in
-    subst (λ (n : ℕ). AppendsFalling searched c.args.here.site.line.now c.args.here.site.choices.now (numbered_of searched c.args.here.site.place.now)
+    subst (λ (n : ℕ). AppendsFalling searched c.args.here.site.line.now c.args.here.site.choices.now (numbered_of searched c.args.here.site.place.now) (g.S.Sought.sought c.args.sought.now c.args.here.site)
     (IsByRule c.args.front.now.phase c.args.front.now.taken (drop n c.args.rules.now)) c.args.ways.now.items c.loop-place.ways.items) none
     c.loop-place.invariant.appends

@@ -8,7 +8,7 @@ use Rattle.summary_chart.proofs.listing.push_rules.Given as goal
 abbrev pub invariant-loop-place : goal.invariant-loop-place
 invariant-loop-place g l = record {
   low : l.place ≤ length l.rules;
-  appends : AppendsFalling l.here.site.lexicon.now l.here.site.line.now l.here.site.choices.now (numbered_of l.here.site.lexicon.now l.here.site.place.now) (IsByRule l.front.phase l.front.taken (drop l.place l.rules)) l.fn.ways.items l.ways.items;
+  appends : AppendsFalling l.here.site.lexicon.now l.here.site.line.now l.here.site.choices.now (numbered_of l.here.site.lexicon.now l.here.site.place.now) (g.S.Sought.sought l.sought l.here.site) (IsByRule l.front.phase l.front.taken (drop l.place l.rules)) l.fn.ways.items l.ways.items;
   spent : l.steps + 2 * l.place ≤ l.fn.steps + 2 * length l.rules;
   counted : l.fn.steps + length l.rules ≤ l.steps + l.place;
 }

@@ -30,6 +30,6 @@ returns-then-not-accepts-clause-appends g c =
     let searched = site.lexicon.now in
     let front = c.args.front.now in
     let trie : c.store.result.now ≡ searched.tries.trie = c.store.ensures ∙ ap (λ (t : AnnotatedTrie). t.trie) c.tries.ensures.value in
-    append_not_unchanged searched site.line.now site.choices.now (numbered_of searched site.place.now) c.requires.here.site.searched front.phase front.taken front.node
+    append_not_unchanged searched site.line.now site.choices.now (numbered_of searched site.place.now) (g.S.Sought.sought c.args.sought.now c.args.here.site) c.requires.here.site.searched front.phase front.taken front.node
     c.requires.front c.args.ways.now.items
     (λ ends. (let yes = c.accepts.ensures.1 (subst (λ (t : Trie). (row_of t.rows front.node).deltas ≢ []) (sym trie) ends) in let no = c.if-not-accepts.true in cc (yes, no)))

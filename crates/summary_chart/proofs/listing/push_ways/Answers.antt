@@ -31,7 +31,7 @@ loop-phase-init g c =
     sym (length-map c.phases-phases.result.now string_bytes) ∙ ap length c.phases-phases.ensures ∙ ap (λ (r : RuleSet). length r.names) c.rules-rules.ensures.value in
     record {
       low = omega (arith, end);
-      appends = append_no_phase searched c.args.site.line.now c.args.site.choices.now (numbered_of searched c.args.site.place.now) c.args.states
+      appends = append_no_phase searched c.args.site.line.now c.args.site.choices.now (numbered_of searched c.args.site.place.now) (g.S.Sought.sought c.args.sought.now c.args.site) c.args.states
           (length c.phases-phases.result.now) c.requires.site.searched (omega (arith, end)) c.args.ways.now.items;
       few = omega arith;
       spent = λ most few. (let same = ap (λ (n : ℕ). n * (1 + steps_of_fronts most)) end in omega (arith, same));
@@ -53,18 +53,18 @@ loop-phase-preserved-then-not-lead g c =
     let here = numbered_of searched c.args.site.place.now in
     let phase = c.loop-phase.phase - 1 in
     let one : c.loop-phase.phase ≡ phase + 1 = omega (arith, c.loop-phase-test.true) in
-    let so_far = subst (λ (n : ℕ). AppendsFalling searched c.args.site.line.now c.args.site.choices.now here (IsLedFrom searched.machine c.args.states n)
+    let so_far = subst (λ (n : ℕ). AppendsFalling searched c.args.site.line.now c.args.site.choices.now here (g.S.Sought.sought c.args.sought.now c.args.site) (IsLedFrom searched.machine c.args.states n)
     c.args.ways.now.items c.loop-phase.ways.items) one inv.appends in
     let low : phase < searched.machine.phases = omega (arith, one, inv.low, c.requires.site.searched.phases) in
     record {
       low = omega (arith, inv.low);
       appends = elim c.then-not-lead.branch [
         | then-not-lead-via-then-not-lead w ↦
-            append_dead_phase searched c.args.site.line.now c.args.site.choices.now here c.args.states phase
+            append_dead_phase searched c.args.site.line.now c.args.site.choices.now here (g.S.Sought.sought c.args.sought.now c.args.site) c.args.states phase
             (MatchBool-at_false _ _ w.if-not-lead.true (c.lead.ensures searched.machine c.requires.leading low))
             c.args.ways.now.items c.loop-phase.ways.items so_far
         | then-not-lead-via-else-not-lead+then-not-may_begin w ↦
-            append_unbegun_phase searched c.args.site.line.now c.args.site.choices.now here c.args.states phase
+            append_unbegun_phase searched c.args.site.line.now c.args.site.choices.now here (g.S.Sought.sought c.args.sought.now c.args.site) c.args.states phase
             (λ begins.
             let yes = w.may_begin.ensures.1 (subst (λ (r : RuleSet). MayBegin (entrance_of (leads_of r.rules) c.args.site.place.now.entrance) phase)
             (sym c.rules-rules.ensures.value) begins) in
@@ -86,16 +86,16 @@ loop-phase-preserved g c =
     let here = numbered_of searched c.args.site.place.now in
     let phase = c.loop-phase.phase - 1 in
     let one : c.loop-phase.phase ≡ phase + 1 = omega (arith, c.loop-phase-test.true) in
-    let so_far = subst (λ (n : ℕ). AppendsFalling searched c.args.site.line.now c.args.site.choices.now here (IsLedFrom searched.machine c.args.states n)
+    let so_far = subst (λ (n : ℕ). AppendsFalling searched c.args.site.line.now c.args.site.choices.now here (g.S.Sought.sought c.args.sought.now c.args.site) (IsLedFrom searched.machine c.args.states n)
     c.args.ways.now.items c.loop-phase.ways.items) one inv.appends in
     let low : phase < searched.machine.phases = omega (arith, one, inv.low, c.requires.site.searched.phases) in
     let some = MatchBool-at_true _ _ c.if-not-lead.false (c.lead.ensures searched.machine c.requires.leading low) in
     let led = some.1 in
     record {
       low = omega (arith, inv.low);
-      appends = append_phase searched c.args.site.line.now c.args.site.choices.now here c.args.states phase some.0 led
+      appends = append_phase searched c.args.site.line.now c.args.site.choices.now here (g.S.Sought.sought c.args.sought.now c.args.site) c.args.states phase some.0 led
           c.args.ways.now.items c.loop-phase.ways.items c.push_phase.new.ways.items so_far
-          (OnTrue_at {P = AppendsFalling searched c.args.site.line.now c.args.site.choices.now here (IsInPhase phase)
+          (OnTrue_at {P = AppendsFalling searched c.args.site.line.now c.args.site.choices.now here (g.S.Sought.sought c.args.sought.now c.args.site) (IsInPhase phase)
           c.loop-phase.ways.items c.push_phase.new.ways.items} c.if-not-branch.false c.in_ok-push_phase.ensures.appends);
       few = (let few = OnTrue_at c.if-not-branch.false c.in_ok-push_phase.ensures.few in omega (arith, few, c.len-first.ensures, c.args.ways.now.ok));
       spent = λ most few. one_less phase (1 + steps_of_fronts most) c.loop-phase.steps c.push_phase.new.steps
@@ -142,8 +142,8 @@ returns-clause-appends g c =
     let old = c.args.ways.now.items in
     let mid = c.loop-phase.ways.items in
     let none : c.loop-phase.phase ≡ 0 = omega (arith, c.loop-phase-test.false) in
-    let all = append_all_phases searched line choices here c.args.states old mid
-    (subst (λ (n : ℕ). AppendsFalling searched line choices here (IsLedFrom searched.machine c.args.states n) old mid) none c.loop-phase.invariant.appends) in
+    let all = append_all_phases searched line choices here (g.S.Sought.sought c.args.sought.now c.args.site) c.args.states old mid
+    (subst (λ (n : ℕ). AppendsFalling searched line choices here (g.S.Sought.sought c.args.sought.now c.args.site) (IsLedFrom searched.machine c.args.states n) old mid) none c.loop-phase.invariant.appends) in
     let first : c.len-first.result ≡ length old = omega (arith, c.len-first.ensures, c.args.ways.now.ok) in
-    append_reversed searched line choices here (IsLedByPhase searched.machine c.args.states) old mid c.reverse_from.new.ways.items all
+    append_reversed searched line choices here (g.S.Sought.sought c.args.sought.now c.args.site) (IsLedByPhase searched.machine c.args.states) old mid c.reverse_from.new.ways.items all
     (c.reverse_from.ensures.items ∙ ap (λ (n : ℕ). take n mid ++ reverse (drop n mid)) first)

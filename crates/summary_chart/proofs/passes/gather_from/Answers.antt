@@ -1,16 +1,17 @@
 -- What is kept at the index are the ways from each place there, of which a part has all that are living, and to go over them takes no more
 -- steps than to go over all (`NarrowedStops`).
-use Rattle.std.proofs.Common.{◌≡◌, List, length, slice_set, sym, ap, subst, ◌∙◌, arith}
+use Rattle.std.proofs.Common.{◌≡◌, ◌++◌, List, length, slice_set, sym, ap, subst, ◌∙◌, arith}
 use Rattle.std.specs.List.{All}
-use Rattle.std.proofs.lemmas.List.{get_or_read}
+use Rattle.std.proofs.lemmas.List.{get_or_read, length-set}
 use Rattle.search_frames.specs.declared.way.Way.{Way}
 use Rattle.search_frames.specs.Frames.{numbered_of}
 use Rattle.search_frames.specs.WaysFrom.{IsWayFrom}
 use Rattle.summary_chart.specs.declared.place_ways.Stop.{Stop}
 use Rattle.summary_chart.specs.declared.state_set.StateSet.{StateSet}
 use Rattle.summary_chart.specs.Spreading.{GoesFurtherBy}
-use Rattle.summary_chart.specs.PlaceWays.{HasEachKey, HaveLivingWays, IsLivingKey, IsLivingPart, indices_of, narrowed, stop_at, ways_of}
+use Rattle.summary_chart.specs.PlaceWays.{AreFew, AreLateStops, HasEachKey, HaveLivingWays, IsLivingKey, IsLivingPart, indices_of, narrowed, stop_at, ways_of}
 use Rattle.summary_chart.proofs.KeptWays.{keys_found, ways_at}
+use Rattle.summary_chart.proofs.LateStops.{few_still}
 use Rattle.summary_chart.proofs.NarrowedStops.{at_number, still_living}
 use Rattle.summary_chart.proofs.StopIndices.{narrowed_indices}
 use Rattle.summary_chart.proofs.TableItems.{read_set}
@@ -81,6 +82,24 @@ returns-clause-kept g c =
     c.requires.kept c.in-Some.number is first end part in
     subst (λ (s : List Stop). HaveLivingWays searched line choices table s c.narrow.new.self.ways.items) (sym c.narrow.ensures.stops)
     (subst (λ (w : List Way). HaveLivingWays searched line choices table (slice_set stops c.in-Some.number (narrowed stop first end)) w) (sym c.narrow.ensures.ways) still)
+
+pub returns-clause-late : goal.returns-clause-late
+returns-clause-late g c =
+    let site = c.args.site in
+    let Are = AreLateStops site.lexicon.now site.line.now site.choices.now c.args.table.now in
+    subst (λ (s : List Stop). Are s c.narrow.new.self.ways.items) (sym c.narrow.ensures.late)
+    (subst (Are c.args.kept.now.late.items) (sym c.narrow.ensures.ways) c.requires.late)
+
+pub returns-clause-few : goal.returns-clause-few
+returns-clause-few g c =
+    let site = c.args.site in
+    let kept = c.args.kept.now in
+    let new = c.narrow.new.self in
+    subst (AreFew site.lexicon.now site.line.now (new.stops.items ++ new.late.items)) (sym c.narrow.ensures.ways)
+    (few_still site.lexicon.now site.line.now site.choices.now kept.stops.items kept.late.items new.stops.items new.late.items kept.ways.items
+    (ap length c.narrow.ensures.stops ∙ length-set kept.stops.items c.in-Some.number
+    (narrowed (stop_at kept.stops.items c.in-Some.number) c.gather_ways-living.result.first c.gather_ways-living.result.end))
+    c.narrow.ensures.late c.requires.few)
 
 pub returns-clause-indices : goal.returns-clause-indices
 returns-clause-indices g c =

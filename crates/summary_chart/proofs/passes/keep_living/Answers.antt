@@ -1,16 +1,24 @@
 -- One turn by the lemmas on turns, from an index to one before it from which on no place is passed over; before the pass the table has only
 -- places that are reached, and every living one. What a turn leaves of the stops is told by their indices (`StopIndices`).
-use Rattle.std.proofs.Common.{◌≡◌, ◌+◌, ◌-◌, ◌*◌, ℕ, IsTrue, length, refl, sym, ap, subst, ◌∙◌, arith}
+use Rattle.std.proofs.Common.{◌≡◌, ◌+◌, ◌-◌, ◌*◌, ◌++◌, ℕ, IsTrue, List, length, sym, ap, subst, arith}
+use Rattle.phase_automaton.specs.Automata.{StateMachine}
 use Rattle.summary_chart.specs.Spreading.{leads_in}
+use Rattle.summary_chart.specs.StateSets.{AreLeading}
 use Rattle.summary_chart.specs.Charts.{IsAliveFrom, set_count}
-use Rattle.summary_chart.specs.PlaceWays.{HaveStops, indices_of}
+use Rattle.summary_chart.specs.declared.place_ways.Stop.{Stop}
+use Rattle.summary_chart.specs.PlaceWays.{AreFew, AreLateStops, HaveLivingWays, HaveStops, indices_of}
 use Rattle.summary_chart.specs.Summaries.{steps_of_items, steps_of_summary}
 use Rattle.summary_chart.proofs.LivingPlaces.{gather_back, old_if_new, living_down, reached_back, chart_if_alive}
 use Rattle.summary_chart.proofs.KeptWays.{living_of_all, fewer_places}
+use Rattle.summary_chart.proofs.LateStops.{all_in_order, few_without, late_fewer, none_late}
 use Rattle.summary_chart.proofs.LivingMemos.{LeadPast, nothing_living, nothing_past, past_down, ends_if_past, past_if_ends, living_stays}
 use Rattle.summary_chart.proofs.StopIndices.{from_end, from_lower, left_from, left_within, stops_of_fewer}
 use Rattle.summary_chart.proofs.PassCosts.{one_frame_less, fewer_left}
 use Rattle.summary_chart.proofs.passes.keep_living.Goals as goal
+
+pub gather_from-requires-clause-leading : goal.gather_from-requires-clause-leading
+gather_from-requires-clause-leading g c =
+    subst (λ (machine : StateMachine). AreLeading machine c.of-leading.result) c.automaton-2.ensures.value c.of-leading.ensures
 
 pub loop-until-init : goal.loop-until-init
 loop-until-init g c =
@@ -31,13 +39,15 @@ loop-until-init g c =
       later = from_end c.args.kept.now.stops.items first c.len-left.result left;
       stops = c.requires.stops;
       kept = living_of_all searched line choices table c.args.kept.now.stops.items c.args.kept.now.ways.items c.requires.kept;
-      count = refl;
-      ways = refl;
+      late = subst (λ (late : List Stop). AreLateStops searched line choices table late c.args.kept.now.ways.items) (sym c.requires.late)
+          (none_late searched line choices table c.args.kept.now.ways.items);
+      few = subst (λ (late : List Stop). AreFew searched line (c.args.kept.now.stops.items ++ late) c.args.kept.now.ways.items) (sym c.requires.late)
+          (few_without searched line choices c.args.kept.now.stops.items c.args.kept.now.ways.items c.requires.few);
       memo = nothing_living searched line table c.args.room.now.memo c.requires.memo c.requires.effects;
       past = nothing_past searched first c.args.room.now.memo c.requires.memo;
       steps = λ most few.
-          let less = fewer_left (c.args.steps.now + steps_of_summary searched line most) c.len.result first (steps_of_items searched most) c.args.steps.now visit.rises
-          (let same = ap (λ (n : ℕ). n * steps_of_items searched most) all in omega (arith, same)) in
+          let less = fewer_left (c.args.steps.now + 2 * steps_of_summary searched line most) c.len.result first (2 * steps_of_items searched most) c.args.steps.now visit.rises
+          (let same = ap (λ (n : ℕ). n * (2 * steps_of_items searched most)) all in let twice : set_count searched line * (2 * steps_of_items searched most) ≡ 2 * steps_of_summary searched line most = omega arith in omega (arith, same, twice)) in
           less;
     }
 
@@ -86,14 +96,14 @@ loop-until-preserved g c =
       stops = each;
       kept = fewer_places searched line choices old new c.gather_from.new.kept.stops.items c.gather_from.new.kept.ways.items fewer
           c.in_ok-living.ensures.kept;
-      count = c.in_ok-living.ensures.count ∙ inv.count;
-      ways = c.in_ok-living.ensures.ways ∙ inv.ways;
+      late = late_fewer searched line choices old new c.gather_from.new.kept.late.items c.gather_from.new.kept.ways.items fewer gathered.late;
+      few = gathered.few;
       memo = living_stays searched line index old new c.requires.searched from.has.lawful replace.changes c.gather_from.new.room.memo past c.in_ok-living.ensures.memo;
       past = past_down searched next (index + 1) c.gather_from.new.room.memo (let rises = visit.rises in omega (arith, rises)) past;
       low = (let rises = visit.rises in let low = inv.low in let count = replace.changes.count in omega (arith, rises, low, count, here));
       steps = λ most few.
-          fewer_left (c.args.steps.now + steps_of_summary searched line most) index next (steps_of_items searched most) c.gather_from.new.steps visit.rises
-          (one_frame_less (c.args.steps.now + steps_of_summary searched line most) c.loop-until.until (steps_of_items searched most)
+          fewer_left (c.args.steps.now + 2 * steps_of_summary searched line most) index next (2 * steps_of_items searched most) c.gather_from.new.steps visit.rises
+          (one_frame_less (c.args.steps.now + 2 * steps_of_summary searched line most) c.loop-until.until (2 * steps_of_items searched most)
           c.loop-until.steps c.gather_from.new.steps (omega (arith, here)) (inv.steps most few) (c.gather_from.ensures.steps most few));
     }
 
@@ -109,7 +119,7 @@ returns-in_err-living-clause-steps g c most few =
     let searched = c.args.passage.lexicon.now in
     let line = c.args.passage.line.now in
     let inv = c.loop-until.invariant in
-    let one = one_frame_less (c.args.steps.now + steps_of_summary searched line most) c.loop-until.until (steps_of_items searched most)
+    let one = one_frame_less (c.args.steps.now + 2 * steps_of_summary searched line most) c.loop-until.until (2 * steps_of_items searched most)
     c.loop-until.steps c.gather_from.new.steps (omega (arith, c.loop-until-test.true)) (inv.steps most few) (c.gather_from.ensures.steps most few) in
     omega (arith, one)
 
@@ -118,3 +128,12 @@ returns-clause-living g c =
     let none : c.loop-until.until ≡ 0 = omega (arith, c.loop-until-test.false) in
     chart_if_alive c.args.passage.lexicon.now c.args.passage.line.now c.args.passage.choices.now c.loop-until.table
     (subst (λ (n : ℕ). IsAliveFrom c.args.passage.lexicon.now c.args.passage.line.now c.args.passage.choices.now n c.loop-until.table) none c.loop-until.invariant.from)
+
+pub returns-clause-kept : goal.returns-clause-kept
+returns-clause-kept g c =
+    let inv = c.loop-until.invariant in
+    let kept = c.loop-until.kept in
+    subst (HaveLivingWays c.args.passage.lexicon.now c.args.passage.line.now c.args.passage.choices.now c.loop-until.table c.put_in_order.new.self.stops.items)
+    (sym c.put_in_order.ensures.ways)
+    (all_in_order c.args.passage.lexicon.now c.args.passage.line.now c.args.passage.choices.now c.loop-until.table kept.stops.items kept.late.items
+    c.put_in_order.new.self.stops.items kept.ways.items inv.kept inv.late c.in_ok-put_in_order.ensures.rising c.in_ok-put_in_order.ensures.from)

@@ -1,10 +1,10 @@
--- From each index on the table has only living places, and the living ways of its places are kept; each of these indices took its
+-- From each index on the table has only living places, and the living ways of its places are kept, also by the late stops; each of these indices took its
 -- steps. The stops that are not left stand there too, and where each place had its stop, each still has.
-use Rattle.std.proofs.Common.{◌≡◌, ◌+◌, ◌*◌, ◌≤◌, ℕ, IsTrue, length}
+use Rattle.std.proofs.Common.{◌+◌, ◌*◌, ◌≤◌, ◌++◌, ℕ, IsTrue, length}
 use Rattle.search_frames.specs.Costs.{HasAtMostRules}
 use Rattle.summary_chart.specs.Charts.{IsAliveFrom}
 use Rattle.summary_chart.specs.Memos.{AreLiving}
-use Rattle.summary_chart.specs.PlaceWays.{AreFrom, HaveLivingWays, HaveStops, indices_of}
+use Rattle.summary_chart.specs.PlaceWays.{AreFew, AreFrom, AreLateStops, HaveLivingWays, HaveStops, indices_of}
 use Rattle.summary_chart.specs.Summaries.{steps_of_items, steps_of_summary}
 use Rattle.summary_chart.proofs.LivingMemos.{LeadPast}
 use Rattle.summary_chart.proofs.passes.keep_living.Given as goal
@@ -14,8 +14,8 @@ invariant-loop-until g l =
     record {
       from : IsAliveFrom l.passage.lexicon.now l.passage.line.now l.passage.choices.now l.until l.table;
       kept : HaveLivingWays l.passage.lexicon.now l.passage.line.now l.passage.choices.now l.table l.kept.stops.items l.kept.ways.items;
-      count : length l.kept.stops.items ≡ length l.fn.kept.stops.items;
-      ways : l.kept.ways.items ≡ l.fn.kept.ways.items;
+      late : AreLateStops l.passage.lexicon.now l.passage.line.now l.passage.choices.now l.table l.kept.late.items l.kept.ways.items;
+      few : AreFew l.passage.lexicon.now l.passage.line.now (l.kept.stops.items ++ l.kept.late.items) l.kept.ways.items;
       left : l.left ≤ length l.kept.stops.items;
       later : AreFrom l.until (indices_of l.kept.stops.items) l.left;
       stops : IsTrue l.each_has_stop → HaveStops l.passage.lexicon.now l.passage.line.now l.table (indices_of l.kept.stops.items);
@@ -23,7 +23,7 @@ invariant-loop-until g l =
       past : LeadPast l.passage.lexicon.now l.until l.room.memo;
       low : l.until ≤ length l.table.sets.items;
       steps : (most : ℕ) → HasAtMostRules l.passage.lexicon.now.tries most
-          → l.steps + l.until * steps_of_items l.passage.lexicon.now most ≤ l.fn.steps + steps_of_summary l.passage.lexicon.now l.passage.line.now most;
+          → l.steps + l.until * (2 * steps_of_items l.passage.lexicon.now most) ≤ l.fn.steps + 2 * steps_of_summary l.passage.lexicon.now l.passage.line.now most;
     }
 
 abbrev pub decreases-loop-until : goal.decreases-loop-until

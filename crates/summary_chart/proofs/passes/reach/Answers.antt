@@ -1,6 +1,6 @@
 -- The turn is that of `reach_from`, and where sets are empty nothing is to be done (`ReachedPlaces`, `KeptWays`); at the end the table is
 -- closed everywhere.
-use Rattle.std.proofs.Common.{◌≡◌, ◌+◌, ◌*◌, ◌&&◌, Bool, true, false, [], ℕ, List, refl, sym, subst, arith}
+use Rattle.std.proofs.Common.{◌∙◌, ◌≡◌, ◌+◌, ◌*◌, ◌&&◌, Bool, true, false, [], ℕ, List, refl, sym, subst, arith}
 use Rattle.std.proofs.lemmas.Bool.{false≢true}
 use Rattle.phase_automaton.specs.Automata.{StateMachine}
 use Rattle.summary_chart.specs.declared.place_ways.Stop.{Stop}
@@ -41,6 +41,7 @@ loop-index-init g c =
     record {
       before = nothing_until searched line choices 0 c.next_filled-index.result table (opened searched line choices table c.requires.opening) empty;
       kept = until searched line choices 0 c.next_filled-index.result table stops ways (omega arith) none;
+      late = c.requires.late;
       few = subst (λ (s : List Stop). AreFew searched line s ways) (sym c.requires.stops)
           (subst (AreFew searched line []) (sym c.requires.ways) (none_few searched line choices));
       stops = λ told. stops_on searched line 0 c.next_filled-index.result table (indices_of stops)
@@ -75,6 +76,7 @@ loop-index-preserved g c =
     record {
       before = nothing_until searched line choices (index + 1) next new.table from.before empty;
       kept = until searched line choices (index + 1) next new.table new.kept.stops.items new.kept.ways.items empty.rises from.kept;
+      late = from.late ∙ inv.late;
       few = from.few;
       stops = λ told.
           let both = both_true c.loop-index.each_has_stop c.in_ok-each_has_stop.field-0 told in

@@ -1,6 +1,6 @@
 -- Before each index the table is closed, and the ways that are kept are those of its places, few as they are; each index took its steps
 -- twice at most. As long as each place had its stop kept, each place before the index has one.
-use Rattle.std.proofs.Common.{◌+◌, ◌*◌, ◌≤◌, ◌-◌, ℕ, IsTrue, length}
+use Rattle.std.proofs.Common.{◌≡◌, [], ◌+◌, ◌*◌, ◌≤◌, ◌-◌, ℕ, IsTrue, length}
 use Rattle.search_frames.specs.Costs.{HasAtMostRules}
 use Rattle.summary_chart.specs.Charts.{IsReachedBefore}
 use Rattle.summary_chart.specs.Memos.{AreSpread}
@@ -14,6 +14,7 @@ invariant-loop-index g l =
       before : IsReachedBefore l.passage.lexicon.now l.passage.line.now l.passage.choices.now l.index l.table;
       kept : HaveWaysBefore l.passage.lexicon.now l.passage.line.now l.passage.choices.now l.index l.table l.kept.stops.items l.kept.ways.items;
       stops : IsTrue l.each_has_stop → HaveStopsBefore l.passage.lexicon.now l.passage.line.now l.index l.table (indices_of l.kept.stops.items);
+      late : l.kept.late.items ≡ [];
       few : AreFew l.passage.lexicon.now l.passage.line.now l.kept.stops.items l.kept.ways.items;
       memo : AreSpread l.passage.lexicon.now l.passage.line.now l.table l.room.memo;
       within : l.index ≤ length l.table.sets.items;

@@ -1,10 +1,16 @@
 -- The table that the passes leave is that of a guide; and two passes take fewer steps than the bound.
-use Rattle.std.proofs.Common.{subst, arith}
+use Rattle.std.proofs.Common.{length, subst, arith}
 use Rattle.text_definitions.specs.Lines.{IsLine}
 use Rattle.phase_automaton.specs.Automata.{IsStateMachine}
+use Rattle.summary_chart.specs.Spreading.{leads_in}
+use Rattle.summary_chart.proofs.EmptiedSets.{can_be_emptied}
 use Rattle.summary_chart.proofs.ChartGuides.{chart_is_guide, chart_is_exact}
 use Rattle.summary_chart.proofs.SummarySteps.{passes_within}
 use Rattle.summary_chart.proofs.chart.Chart.rebuilt.Goals as goal
+
+pub invariant_of-result : goal.invariant_of-result
+invariant_of-result g c =
+    can_be_emptied (leads_in c.args.lexicon.now) (length c.args.line.now.letters) c.keep_living.new.table c.in_ok-keep_living.ensures.living.lawful
 
 pub returns-clause-guide : goal.returns-clause-guide
 returns-clause-guide g c =

@@ -7,6 +7,7 @@ invariant-loop-self l =
     record {
       stops : l.self.stops ≡ l.fn.self.stops;
       ways : l.self.ways ≡ l.fn.self.ways;
+      late : l.self.late ≡ l.fn.self.late;
     }
 
 abbrev pub decreases-loop-self : goal.decreases-loop-self

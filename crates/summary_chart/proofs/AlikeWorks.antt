@@ -1,0 +1,62 @@
+-- What rules do after a form of a phase they do after one of a phase that no rule tells from it.
+use Rattle.std.proofs.Common.{ℕ, ◌<◌, ◌≤◌, ◌↔◌, inl, inr, Bool, Option, length}
+use Rattle.text_definitions.specs.Lines.{Line}
+use Rattle.annotated_trie.specs.AlikePhases.{IsAlike}
+use Rattle.annotated_trie.specs.Searched.{SearchedLexicon}
+use Rattle.search_frames.specs.Ahead.{RuleStands}
+use Rattle.search_frames.specs.Configurations.{rules_in}
+use Rattle.summary_chart.specs.declared.memo.Work.{Work}
+use Rattle.summary_chart.specs.declared.table.Table.{Table}
+use Rattle.summary_chart.specs.Memos.{LivesBy}
+use Rattle.summary_chart.proofs.AlikeKeys.{alike_back, follows_alike}
+
+module _ (searched : SearchedLexicon) (line : Line) (table : Table) (node end : ℕ) (part : Option ℕ) (may_end : Bool) where
+  abbrev work_in : ℕ → Work
+  work_in phase = record { node = node; part = part; end = end; may_end = may_end; phase = phase }
+
+  stands_alike : (one other : ℕ) → IsAlike (rules_in searched) one other → (rule : ℕ) → 0 < rule → rule ≤ length (rules_in searched).rules
+      → RuleStands (rules_in searched) line end one rule → RuleStands (rules_in searched) line end other rule
+  stands_alike one other alike rule some within stands = record {
+    follows = follows_alike (rules_in searched) one other alike rule some within stands.follows;
+    written = stands.written;
+  }
+
+  module _ (IsOne : ℕ → Type 0) (numbered : (rule : ℕ) → IsOne rule → (0 < rule) × (rule ≤ length (rules_in searched).rules)) where
+    lives_after : (one other : ℕ) → IsAlike (rules_in searched) one other → (number : ℕ) → LivesBy searched line table (work_in one) IsOne number
+        → LivesBy searched line table (work_in other) IsOne number
+    lives_after one other alike number lives =
+        let rule = lives.0 in
+        let (some, within) = numbered rule lives.1 in (
+          rule,
+          lives.1,
+          elim lives.2 [
+            | inl (at, entrance, leads, there) ↦
+                inl (
+                  at,
+                  entrance,
+                  record {
+                    stands = stands_alike one other alike rule some within leads.stands;
+                    inner = leads.inner;
+                    at_is = leads.at_is;
+                    entrance_is = leads.entrance_is;
+                    over = leads.over;
+                  },
+                  there,
+                )
+            | inr (ends, accepts) ↦
+                inr (
+                  record {
+                    stands = stands_alike one other alike rule some within ends.stands;
+                    final_rule = ends.final_rule;
+                    all = ends.all;
+                    may = ends.may;
+                  },
+                  accepts,
+                )
+          ],
+        )
+
+    pub lives_alike : (one other : ℕ) → IsAlike (rules_in searched) one other → (number : ℕ)
+        → LivesBy searched line table (work_in one) IsOne number ↔ LivesBy searched line table (work_in other) IsOne number
+    lives_alike one other alike number =
+        (λ lives. lives_after one other alike number lives, λ lives. lives_after other one (alike_back (rules_in searched) one other alike) number lives)
