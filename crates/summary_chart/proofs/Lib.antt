@@ -13,6 +13,7 @@ mod FilledSets
 mod EmptiedSets
 mod LivingPlaces
 mod LivingMemos
+mod LivingRooms
 mod PassCosts
 mod OpenTables
 mod ChartAnswers
@@ -28,12 +29,17 @@ mod AlikeRules
 mod Walks
 mod FrontKeys
 mod AlikeKeys
+mod Changes
+mod WalkedFronts
+mod SpreadWalks
+mod WalkSteps
 mod AlikeLists
 mod AlikeSpreads
 mod AlikeWorks
 mod LivingKeys
 mod PartRules
 mod LivingVisits
+mod LivingWalks
 mod AppendedWays
 mod OrderedKeys
 mod WayKeys

@@ -84,7 +84,7 @@ module _ (searched : SearchedLexicon) (line : Line) (index at : ℕ) (entrance :
 module _ (searched : SearchedLexicon) (line : Line) (index : ℕ) (old new : Table) (is : IsSearchedLexicon searched)
     (lawful : IsTable (leads_in searched) (length line.letters) old) (changes : ChangesAt index old new) where
   -- at another index the same stands in both tables
-  same_elsewhere : (at : ℕ) (entrance : Entrance) → index_of (length (leads_in searched)) at entrance ≢ index → set_at new at entrance ≡ set_at old at entrance
+  pub same_elsewhere : (at : ℕ) (entrance : Entrance) → index_of (length (leads_in searched)) at entrance ≢ index → set_at new at entrance ≡ set_at old at entrance
   same_elsewhere at entrance other =
       let there = same_configuration (leads_in searched) (length line.letters) at entrance old lawful in
       ap (set_of new) (same_index_in index at entrance old new changes)

@@ -14,11 +14,11 @@ use Rattle.summary_chart.specs.Summaries.{steps_after_first, steps_of_front, ste
 use Rattle.summary_chart.proofs.PassCosts.{frame_and_skip, one_frame_more}
 
 -- four times what a place takes is at most 96 steps for each look
-place_within : (phases most : ℕ) → 4 * (phases * (1 + (8 + 65 + 65 * (3 * most + 4)))) ≤ 96 * (phases * 65 * (most + 1))
+place_within : (phases most : ℕ) → 4 * (phases * (1 + (8 + 65 + 65 * (3 * most + 6)))) ≤ 96 * (phases * 65 * (most + 1))
 place_within phases most =
-    let each : 4 * (1 + (8 + 65 + 65 * (3 * most + 4))) ≤ 96 * (65 * (most + 1)) = omega arith in
+    let each : 4 * (1 + (8 + 65 + 65 * (3 * most + 6))) ≤ 96 * (65 * (most + 1)) = omega arith in
     let all = mul-le-mul_left phases each in
-    let four : phases * (4 * (1 + (8 + 65 + 65 * (3 * most + 4)))) ≡ 4 * (phases * (1 + (8 + 65 + 65 * (3 * most + 4)))) = omega arith in
+    let four : phases * (4 * (1 + (8 + 65 + 65 * (3 * most + 6)))) ≡ 4 * (phases * (1 + (8 + 65 + 65 * (3 * most + 6)))) = omega arith in
     let looks : phases * (96 * (65 * (most + 1))) ≡ 96 * (phases * 65 * (most + 1)) = omega arith in
     omega (arith, all, four, looks)
 
@@ -38,7 +38,7 @@ one_more_within start count each now then spent more = one_frame_more start coun
 pub alike_within : (names most : ℕ) → names ≤ MOST_PHASES
     → names * (1 + MOST_RULE_LETTERS + names) + names * steps_after_first most ≤ names * (1 + steps_of_fronts most)
 alike_within names most few =
-    let each : 1 + 8 + names + (65 + 65 * (3 + 2 * most)) ≤ 1 + (8 + 65 + 65 * (3 * most + 4)) = omega (arith, few) in
+    let each : 1 + 8 + names + (1 + 65 * (6 + 2 * most)) ≤ 1 + (8 + 65 + 65 * (3 * most + 6)) = omega (arith, few) in
     let all = mul-le-mul_left names each in
     omega (arith, all)
 
@@ -57,8 +57,8 @@ phase_within searched most fronts is few =
 pub ways_within : (searched : SearchedLexicon) (most count : ℕ) → IsSearchedLexicon searched → count ≤ MOST_WAYS → 3 * count ≤ steps_of_items searched most
 ways_within searched most count is few =
     let one : 1 ≤ length (rules_in searched).names = is.limits.some_phase in
-    let all : 1 * (1 + (8 + 65 + 65 * (3 * most + 4))) ≤ length (rules_in searched).names * (1 + (8 + 65 + 65 * (3 * most + 4))) =
-    mul-le-mul_right (1 + (8 + 65 + 65 * (3 * most + 4))) one in
+    let all : 1 * (1 + (8 + 65 + 65 * (3 * most + 6))) ≤ length (rules_in searched).names * (1 + (8 + 65 + 65 * (3 * most + 6))) =
+    mul-le-mul_right (1 + (8 + 65 + 65 * (3 * most + 6))) one in
     omega (arith, all, few)
 
 module _ (searched : SearchedLexicon) (line : Line) (most : ℕ) where

@@ -10,3 +10,4 @@ pub mod Memos
 pub mod Sites
 pub mod Onward
 pub mod AlikeFronts
+pub mod Walked

@@ -113,11 +113,12 @@ pub record HasItemsBefore (searched : SearchedLexicon) (line : Line) (choices : 
 -- the most steps at a front: to ask whether a form ends there, to take the rules that begin with the next letter, and for no change two
 -- and for each rule three, since an item takes two, to be made and to be put in order
 abbrev pub steps_of_front : ℕ → ℕ
-steps_of_front most = 3 * most + 4
+steps_of_front most = 3 * most + 6
 
--- the most steps of a pass in a phase, after the front that takes no letter was found: a walk, and the fronts
+-- the most steps of a pass in a phase, after the front that takes no letter was found: each front is asked for, walked on from, gone over
+-- and kept
 abbrev pub steps_after_first : ℕ → ℕ
-steps_after_first most = NODES_OF_FRAME + NODES_OF_FRAME * (3 + 2 * most)
+steps_after_first most = 1 + NODES_OF_FRAME * (6 + 2 * most)
 
 -- the most steps in a phase: a walk, and the fronts
 abbrev pub steps_of_fronts : ℕ → ℕ

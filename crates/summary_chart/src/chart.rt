@@ -12,10 +12,11 @@ ghost use Rattle.summary_chart.specs.Tables.{CanBeEmptied};
 use super::memo::Memo;
 use super::passes::{keep_living, reach};
 use super::place_ways::PlaceWays;
-use super::room::Room;
+use super::room::{Room, WalkRoom};
 use super::site::Passage;
 use super::state_set::StateSet;
 use super::table::Table;
+use super::walk_memo::WalkMemo;
 use annotated_trie::Lexicon;
 use derivation::{Entrance, Guide};
 use outside::Steps;
@@ -119,8 +120,11 @@ impl Chart {
         let mut kept = self.kept;
         kept.clear();
         let mut room = Room {
-            nodes: self.nodes,
-            memo: Memo::new(alloc),
+            walking: WalkRoom {
+                nodes: self.nodes,
+                memo: Memo::new(alloc),
+                walks: WalkMemo::new(alloc),
+            },
             fronts: Vec::new(alloc),
         };
         let passage = Passage {
@@ -129,7 +133,8 @@ impl Chart {
             choices,
         };
         let each_has_stop = reach(passage, &mut table, &mut kept, &mut room, steps)?;
-        room.memo.clear();
+        room.walking.memo.clear();
+        room.walking.walks.clear();
         keep_living(
             passage,
             each_has_stop,
@@ -138,7 +143,7 @@ impl Chart {
             &mut room,
             steps,
         )?;
-        let Room { nodes, .. } = room;
+        let WalkRoom { nodes, .. } = room.walking;
         Ok(Chart { table, kept, nodes })
     }
 }

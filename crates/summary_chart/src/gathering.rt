@@ -1,4 +1,4 @@
-ghost use Rattle.std.specs.Prelude.{◌≡◌, ◌+◌, ◌*◌, ◌<◌, ◌≤◌, ℕ, length, None, All, IfOk, OnOk};
+ghost use Rattle.std.specs.Prelude.{[], IfSome, IsTrue, ◌≡◌, ◌⊎◌, ◌+◌, ◌*◌, ◌<◌, ◌≤◌, ℕ, length, None, All, IfOk, OnOk};
 ghost use Rattle.derivation.specs.Steps.{key_meant};
 ghost use Rattle.search_frames.specs.Ahead.{MayBegin};
 ghost use Rattle.search_frames.specs.Frames.{numbered_of};
@@ -7,7 +7,11 @@ ghost use Rattle.search_frames.specs.Costs.{HasAtMostRules};
 ghost use Rattle.search_frames.specs.WaysFrom.{IsWayFrom, key_of_way};
 ghost use Rattle.summary_chart.specs.Fronts.{IsFrontAt};
 ghost use Rattle.summary_chart.specs.PlaceWays.{HasEachKey, IsLivingKey, IsLivingPart};
+ghost use Rattle.search_frames.specs.declared.frame.TheConstants.{NODES_OF_FRAME};
 ghost use Rattle.summary_chart.specs.AlikeFronts.{IsFirst, IsLivingFront};
+ghost use Rattle.summary_chart.specs.Walked.{AreWalkedFronts, AreWalksLiving, FitWithLetter, IsFromFront, IsKept, IsLater, IsLivingRoom, IsWalkOf};
+ghost use Rattle.summary_chart.specs.declared.table.Table.{Table as TableValue};
+ghost use Rattle.summary_chart.specs.declared.walk_memo.Walked.{Walked as WalkedValue};
 ghost use Rattle.summary_chart.specs.Onward.{AreLivingBy};
 ghost use Rattle.summary_chart.specs.Memos.{AreLiving, EndFrom};
 ghost use Rattle.summary_chart.specs.Sites.{IsSite, IsSiteAhead};
@@ -18,12 +22,13 @@ ghost use Rattle.summary_chart.specs.Summaries.{steps_after_first, steps_of_item
 use super::alike::{AlikeFront, alike_at, begun_front};
 use super::living_work::living_after;
 use super::memo::{Memo, Work};
-use super::room::Room;
+use super::room::{Room, WalkRoom};
 use super::site::{Front, Site, SiteAhead};
 use super::state_set::StateSet;
 use super::state_steps::{accepted_states, accepting_states, states_after, states_into};
 use super::table::Table;
-use super::walking::walk_on;
+use super::walk_memo::{Walk, WalkMemo, shares_walks};
+use super::walking::longer_front;
 use derivation::Key;
 use outside::Steps;
 use phoneme::Memory;
@@ -171,46 +176,121 @@ fn living_at_front<L>(
         part: None,
         end,
         may_end,
-        phase: front.phase,
+        phase: lexicon.alike_phase(front.phase),
     };
     let changed = living_after(here.site, &work, *letter, table, memo, steps)?;
     Ok(unchanged.union(changed))
 }
 
-/// The same for the keys of the phase of the front, which takes no letter. Refused only for want of memory.
+/// The states after the phase of this front from which some key with it or a longer front ends the line or leads on to a place of the
+/// table, if the memo keeps them. It is asked of a front that takes a letter, where `shares` says that it may be. Takes a step.
+fn known_living<L>(
+    here: SiteAhead<'_>,
+    front: &Front,
+    shares: bool,
+    walks: &WalkMemo,
+    steps: &mut Steps<L>,
+) -> Option<StateSet>
+    requires here { IsSiteAhead here }
+    requires limit { here.site.place.now.at + front.now.taken ≤ here.ahead.limit }
+    ensures known { IfSome result (λ living. (walked : WalkedValue) × IsKept walks.now walked × IsWalkOf here.entry front.now shares living walked) }
+    ensures steps { steps.new ≡ steps.old + 1 }
+{
+    steps.tick();
+    if !shares || front.taken == 0 {
+        return None;
+    }
+    walks.get(&Walk::from(here, front))
+}
+
+/// Puts the nodes of the fronts of the phase of this one, which takes no letter, into the list, which is empty: as far as they lead, or
+/// until one of which the memo keeps what lives from there on, where `shares` says that it may be asked. Gives what it keeps, and else no
+/// state. Refused only for want of memory.
+fn walk_to_known<L>(
+    here: SiteAhead<'_>,
+    first: &Front,
+    shares: bool,
+    nodes: &mut Vec<Node>,
+    walks: &WalkMemo,
+    steps: &mut Steps<L>,
+) -> Result<StateSet, Memory>
+    requires here { IsSiteAhead here }
+    requires first { IsFirst here.site.lexicon.now here.site.line.now here.site.choices.now (numbered_of here.site.lexicon.now here.site.place.now) first.now }
+    requires shares { IsTrue shares → FitWithLetter here }
+    requires nodes { nodes.old.items ≡ [] }
+    ensures nodes { OnOk result (AreWalkedFronts here.entry first.now.phase nodes.new.items) }
+    ensures living { (table : TableValue) → let site = here.entry.site in AreWalksLiving site.lexicon.now site.line.now table walks.now → IfOk result (λ living. AreLivingBy site.lexicon.now site.line.now site.choices.now (numbered_of site.lexicon.now site.place.now) table (IsFromFront first.now.phase (length nodes.new.items)) living) }
+    ensures steps { steps.new ≤ steps.old + 2 * NODES_OF_FRAME + 1 }
+{
+    let mut next = Some(*first);
+    while let Some(front) = next {
+        if let Some(living) = known_living(here, &front, shares, walks, steps) {
+            return Ok(living);
+        }
+        nodes.push(front.node)?;
+        next = longer_front(here.site, &front, here.ahead.limit, steps);
+    }
+    Ok(StateSet::empty())
+}
+
+/// Keeps that these are the states that live from this front on, if it takes a letter and `shares` says that this may be asked elsewhere.
+/// Refused only for want of memory.
+fn keep_walk<L>(
+    here: SiteAhead<'_>,
+    front: &Front,
+    shares: bool,
+    living: StateSet,
+    walks: &mut WalkMemo,
+    steps: &mut Steps<L>,
+) -> Result<(), Memory>
+    requires here { IsSiteAhead here }
+    requires limit { here.site.place.now.at + front.now.taken ≤ here.ahead.limit }
+    ensures keeps { OnOk result ((walked : WalkedValue) → IsKept walks.new walked → IsKept walks.old walked ⊎ IsWalkOf here.entry front.now shares living walked) }
+    ensures steps { steps.new ≤ steps.old + 1 }
+{
+    if !shares || front.taken == 0 {
+        return Ok(());
+    }
+    steps.tick();
+    walks.keep(&Walk::from(here, front), living)
+}
+
+/// The states after the phase of this front, which takes no letter, from which some key of the phase ends the line or leads on to a place
+/// of the table. What the memo of walks has already is not found once more. Refused only for want of memory.
 fn living_in_phase<L>(
     here: SiteAhead<'_>,
     first: &Front,
     table: &Table,
-    nodes: &mut Vec<Node>,
-    memo: &mut Memo,
+    room: &mut WalkRoom,
     steps: &mut Steps<L>,
 ) -> Result<StateSet, Memory>
     requires here { IsSiteAhead here }
     requires first { IsFirst here.site.lexicon.now here.site.line.now here.site.choices.now (numbered_of here.site.lexicon.now here.site.place.now) first.now }
     requires table { IsTable (leads_in here.site.lexicon.now) (length here.site.line.now.letters) table.now }
-    requires memo { AreLiving here.site.lexicon.now here.site.line.now table.now memo.old }
-    ensures memo { OnOk result (AreLiving here.entry.site.lexicon.now here.entry.site.line.now table.now memo.new) }
-    ensures ends { OnOk result (EndFrom here.entry.site.place.now.at memo.old → EndFrom here.entry.site.place.now.at memo.new) }
+    requires room { IsLivingRoom here.site.lexicon.now here.site.line.now table.now room.old }
+    ensures room { OnOk result (IsLivingRoom here.entry.site.lexicon.now here.entry.site.line.now table.now room.new) }
+    ensures later { OnOk result (IsLater here.entry.site.place.now.at room.old → IsLater here.entry.site.place.now.at room.new) }
     ensures living { let site = here.entry.site in IfOk result (λ living. AreLivingBy site.lexicon.now site.line.now site.choices.now (numbered_of site.lexicon.now site.place.now) table.now (IsInPhase first.now.phase) living) }
     ensures steps { (most : ℕ) → HasAtMostRules here.entry.site.lexicon.now.tries most → steps.new ≤ steps.old + steps_after_first most }
 {
-    walk_on(here.site, first, here.ahead.limit, nodes, steps)?;
-    let mut living = StateSet::empty();
-    for taken in 0..nodes.len() {
+    let shares = shares_walks(here);
+    room.nodes.clear();
+    let mut living = walk_to_known(here, first, shares, &mut room.nodes, &room.walks, steps)?;
+    for taken in (0..room.nodes.len()).rev() {
         let front = Front {
             phase: first.phase,
             taken: taken as u32,
-            node: nodes[taken],
+            node: room.nodes[taken],
         };
-        let found = living_at_front(here, &front, table, memo, steps)?;
+        let found = living_at_front(here, &front, table, &mut room.memo, steps)?;
         living = living.union(found);
+        keep_walk(here, &front, shares, living, &mut room.walks, steps)?;
     }
     Ok(living)
 }
 
-/// The same, where it is looked for first among the fronts of other phases with what was found for them, and put there. Refused only for want
-/// of memory.
+/// The same, where it is looked for first among the fronts of other phases with what was found for them, and put there. Refused only for
+/// want of memory.
 fn living_from_first<L>(
     here: SiteAhead<'_>,
     first: &Front,
@@ -221,10 +301,10 @@ fn living_from_first<L>(
     requires here { IsSiteAhead here }
     requires first { IsFirst here.site.lexicon.now here.site.line.now here.site.choices.now (numbered_of here.site.lexicon.now here.site.place.now) first.now }
     requires table { IsTable (leads_in here.site.lexicon.now) (length here.site.line.now.letters) table.now }
-    requires memo { AreLiving here.site.lexicon.now here.site.line.now table.now room.old.memo }
+    requires room { IsLivingRoom here.site.lexicon.now here.site.line.now table.now room.old.walking }
     requires fronts { All (IsLivingFront here.site.lexicon.now here.site.line.now here.site.choices.now (numbered_of here.site.lexicon.now here.site.place.now) table.now) room.old.fronts.items }
-    ensures memo { OnOk result (AreLiving here.entry.site.lexicon.now here.entry.site.line.now table.now room.new.memo) }
-    ensures ends { OnOk result (EndFrom here.entry.site.place.now.at room.old.memo → EndFrom here.entry.site.place.now.at room.new.memo) }
+    ensures room { OnOk result (IsLivingRoom here.entry.site.lexicon.now here.entry.site.line.now table.now room.new.walking) }
+    ensures later { OnOk result (IsLater here.entry.site.place.now.at room.old.walking → IsLater here.entry.site.place.now.at room.new.walking) }
     ensures fronts { let site = here.entry.site in OnOk result (All (IsLivingFront site.lexicon.now site.line.now site.choices.now (numbered_of site.lexicon.now site.place.now) table.now) room.new.fronts.items) }
     ensures few { OnOk result (length room.new.fronts.items ≤ length room.old.fronts.items + 1) }
     ensures living { let site = here.entry.site in IfOk result (λ living. AreLivingBy site.lexicon.now site.line.now site.choices.now (numbered_of site.lexicon.now site.place.now) table.now (IsInPhase first.now.phase) living) }
@@ -233,7 +313,7 @@ fn living_from_first<L>(
     if let Some(number) = alike_at(here.site, first, room.fronts.as_slice(), steps) {
         return Ok(room.fronts[number].states);
     }
-    let living = living_in_phase(here, first, table, &mut room.nodes, &mut room.memo, steps)?;
+    let living = living_in_phase(here, first, table, &mut room.walking, steps)?;
     room.fronts.push(AlikeFront {
         front: *first,
         states: living,
@@ -252,9 +332,9 @@ pub(crate) fn gather<L>(
 ) -> Result<StateSet, Memory>
     requires site { IsSite site }
     requires table { IsTable (leads_in site.lexicon.now) (length site.line.now.letters) table.now }
-    requires memo { AreLiving site.lexicon.now site.line.now table.now room.old.memo }
-    ensures memo { OnOk result (AreLiving site.entry.lexicon.now site.entry.line.now table.now room.new.memo) }
-    ensures ends { OnOk result (EndFrom site.entry.place.now.at room.old.memo → EndFrom site.entry.place.now.at room.new.memo) }
+    requires room { IsLivingRoom site.lexicon.now site.line.now table.now room.old.walking }
+    ensures room { OnOk result (IsLivingRoom site.entry.lexicon.now site.entry.line.now table.now room.new.walking) }
+    ensures later { OnOk result (IsLater site.entry.place.now.at room.old.walking → IsLater site.entry.place.now.at room.new.walking) }
     ensures gathers { IfOk result (λ gathered. AreGoingFurther site.entry.lexicon.now site.entry.line.now site.entry.choices.now table.now site.entry.place.now.at site.entry.place.now.entrance states EveryKey gathered) }
     ensures steps { (most : ℕ) → HasAtMostRules site.entry.lexicon.now.tries most → steps.new ≤ steps.old + steps_of_items site.entry.lexicon.now most }
 {
@@ -298,8 +378,8 @@ pub(crate) fn states_by_way(site: Site<'_>, states: StateSet, way: &Way, table: 
     }
 }
 
-/// The states of a set that go further by some ways, and where the ways stand that are left without the dead ones before the first living way
-/// and after the last: from `first` to before `end` among these ways.
+/// The states of a set that go further by some ways, and where the ways stand that are left without the dead ones before the first living
+/// way and after the last: from `first` to before `end` among these ways.
 #[derive(Clone, Copy)]
 pub(crate) struct LivingWays {
     pub states: StateSet,

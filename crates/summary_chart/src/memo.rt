@@ -20,8 +20,8 @@ pub(crate) const FEW_RULES: usize = 32;
 const MOST_DONE: usize = 65_536;
 
 /// What rules do after a form: the node to which the letters before its `u` lead, after how many letters of the line these end, whether the
-/// line may end after it, and its phase, counted from 0. It is the same wherever the form begins. The rules are those of a part of the node's
-/// choices, by its number, or all of them.
+/// line may end after it, and its phase, counted from 0, or another that no rule tells from it. It is the same wherever the form begins.
+/// The rules are those of a part of the node's choices, by its number, or all of them.
 #[derive(Clone, Copy)]
 pub(crate) struct Work {
     pub node: Node,

@@ -6,7 +6,7 @@ ghost use Rattle.search_frames.specs.Frames.{numbered_of};
 ghost use Rattle.summary_chart.specs.declared.passes.TheConstants.{SETS_FOR_A_WAY};
 ghost use Rattle.summary_chart.specs.declared.memo.Done.{Done as DoneValue};
 ghost use Rattle.summary_chart.specs.Effects.{AreEffects};
-ghost use Rattle.summary_chart.specs.Memos.{AreLiving, AreSpread, EndFrom, IsKnown};
+ghost use Rattle.summary_chart.specs.Memos.{AreLiving, IsKnown};
 ghost use Rattle.summary_chart.specs.Tables.{HaveBits, IsTable, IsIndexed, set_of};
 ghost use Rattle.summary_chart.specs.StateSets.{AreLeading};
 ghost use Rattle.summary_chart.specs.Spreading.{AreGoingFurther, EveryKey, leads_in};
@@ -14,6 +14,8 @@ ghost use Rattle.summary_chart.specs.Charts.{HasReached, IsChartTable, IsOpenTab
 ghost use Rattle.summary_chart.specs.PlaceWays.{AreFew, AreFrom, AreStops, HasKeptFew, HasNoPlaceBetween, HaveAllWays, HaveLivingWays, HaveStops, HaveStopsBefore, HaveWaysBefore, AreLateStops, IsStopAt, indices_of};
 ghost use Rattle.summary_chart.specs.Sites.{IsSite};
 ghost use Rattle.summary_chart.specs.Summaries.{steps_of_items, steps_of_summary};
+ghost use Rattle.summary_chart.specs.Walked.{IsKept, IsLater, IsLivingRoom, IsSpreadRoom};
+ghost use Rattle.summary_chart.specs.declared.walk_memo.Walked.{Walked as WalkedValue};
 
 use super::collecting::Standing;
 use super::gathering::{gather, gather_ways};
@@ -116,8 +118,8 @@ fn reach_from<L>(
     requires before { IsReachedBefore site.lexicon.now site.line.now site.choices.now index table.old }
     requires kept { HaveWaysBefore site.lexicon.now site.line.now site.choices.now index table.old kept.old.stops.items kept.old.ways.items }
     requires few { AreFew site.lexicon.now site.line.now kept.old.stops.items kept.old.ways.items }
-    requires memo { AreSpread site.lexicon.now site.line.now table.old room.old.memo }
-    ensures memo { OnOk result (AreSpread site.entry.lexicon.now site.entry.line.now table.new room.new.memo) }
+    requires room { IsSpreadRoom site.lexicon.now site.line.now table.old room.old.walking }
+    ensures room { OnOk result (IsSpreadRoom site.entry.lexicon.now site.entry.line.now table.new room.new.walking) }
     ensures before { OnOk result (IsReachedBefore site.entry.lexicon.now site.entry.line.now site.entry.choices.now (index + 1) table.new) }
     ensures kept { OnOk result (HaveWaysBefore site.entry.lexicon.now site.entry.line.now site.entry.choices.now (index + 1) table.new kept.new.stops.items kept.new.ways.items) }
     ensures stops { IfOk result (λ has_stop. IsTrue has_stop → HaveStopsBefore site.entry.lexicon.now site.entry.line.now index table.old (indices_of kept.old.stops.items) → HaveStopsBefore site.entry.lexicon.now site.entry.line.now (index + 1) table.new (indices_of kept.new.stops.items)) }
@@ -150,9 +152,10 @@ pub(crate) fn reach<L>(
     requires stops { kept.old.stops.items ≡ [] }
     requires ways { kept.old.ways.items ≡ [] }
     requires late { kept.old.late.items ≡ [] }
-    requires memo { (done : DoneValue) → IsKnown room.old.memo done → ⊥ }
-    requires effects { AreEffects passage.lexicon.now.lexicon.rules room.old.memo.effects }
-    ensures effects { OnOk result (AreEffects passage.entry.lexicon.now.lexicon.rules room.new.memo.effects) }
+    requires memo { (done : DoneValue) → IsKnown room.old.walking.memo done → ⊥ }
+    requires walks { (walked : WalkedValue) → IsKept room.old.walking.walks walked → ⊥ }
+    requires effects { AreEffects passage.lexicon.now.lexicon.rules room.old.walking.memo.effects }
+    ensures effects { OnOk result (AreEffects passage.entry.lexicon.now.lexicon.rules room.new.walking.memo.effects) }
     ensures reached { OnOk result (HasReached passage.entry.lexicon.now passage.entry.line.now passage.entry.choices.now table.new) }
     ensures kept { OnOk result (HaveAllWays passage.entry.lexicon.now passage.entry.line.now passage.entry.choices.now table.new kept.new.stops.items kept.new.ways.items) }
     ensures stops { IfOk result (λ each_has_stop. IsTrue each_has_stop → HaveStops passage.entry.lexicon.now passage.entry.line.now table.new (indices_of kept.new.stops.items)) }
@@ -265,9 +268,9 @@ fn gather_from<L>(
     requires late { AreLateStops site.lexicon.now site.line.now site.choices.now table.now kept.old.late.items kept.old.ways.items }
     requires few { AreFew site.lexicon.now site.line.now (kept.old.stops.items ++ kept.old.late.items) kept.old.ways.items }
     requires known { IfSome visit.known (λ number. IsStopAt kept.old.stops.items visit.index number) }
-    requires memo { AreLiving site.lexicon.now site.line.now table.now room.old.memo }
-    ensures memo { OnOk result (AreLiving site.entry.lexicon.now site.entry.line.now table.now room.new.memo) }
-    ensures ends { OnOk result (EndFrom site.entry.place.now.at room.old.memo → EndFrom site.entry.place.now.at room.new.memo) }
+    requires room { IsLivingRoom site.lexicon.now site.line.now table.now room.old.walking }
+    ensures room { OnOk result (IsLivingRoom site.entry.lexicon.now site.entry.line.now table.now room.new.walking) }
+    ensures later { OnOk result (IsLater site.entry.place.now.at room.old.walking → IsLater site.entry.place.now.at room.new.walking) }
     ensures gathers { IfOk result (λ gathered. AreGoingFurther site.entry.lexicon.now site.entry.line.now site.entry.choices.now table.now site.entry.place.now.at site.entry.place.now.entrance (set_of table.now visit.index) EveryKey gathered) }
     ensures kept { OnOk result (HaveLivingWays site.entry.lexicon.now site.entry.line.now site.entry.choices.now table.now kept.new.stops.items kept.new.ways.items) }
     ensures late { OnOk result (AreLateStops site.entry.lexicon.now site.entry.line.now site.entry.choices.now table.now kept.new.late.items kept.new.ways.items) }
@@ -282,7 +285,8 @@ fn gather_from<L>(
         if living.is_empty() {
             return Ok(living);
         }
-        keep_late(site, visit.index, leading, table, kept, &room.memo, steps)?;
+        let memo = &room.walking.memo;
+        keep_late(site, visit.index, leading, table, kept, memo, steps)?;
         return Ok(living);
     };
     let living = gather_ways(site, states, kept.of(kept.stops[number]), table, steps);
@@ -338,8 +342,9 @@ pub(crate) fn keep_living<L>(
     requires late { kept.old.late.items ≡ [] }
     requires few { AreFew passage.lexicon.now passage.line.now kept.old.stops.items kept.old.ways.items }
     requires stops { IsTrue each_has_stop → HaveStops passage.lexicon.now passage.line.now table.old (indices_of kept.old.stops.items) }
-    requires memo { (done : DoneValue) → IsKnown room.old.memo done → ⊥ }
-    requires effects { AreEffects passage.lexicon.now.lexicon.rules room.old.memo.effects }
+    requires memo { (done : DoneValue) → IsKnown room.old.walking.memo done → ⊥ }
+    requires walks { (walked : WalkedValue) → IsKept room.old.walking.walks walked → ⊥ }
+    requires effects { AreEffects passage.lexicon.now.lexicon.rules room.old.walking.memo.effects }
     ensures living { OnOk result (IsChartTable passage.entry.lexicon.now passage.entry.line.now passage.entry.choices.now table.new) }
     ensures kept { OnOk result (HaveLivingWays passage.entry.lexicon.now passage.entry.line.now passage.entry.choices.now table.new kept.new.stops.items kept.new.ways.items) }
     ensures few { OnOk result (AreFew passage.entry.lexicon.now passage.entry.line.now kept.new.stops.items kept.new.ways.items) }

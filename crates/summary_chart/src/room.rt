@@ -1,12 +1,19 @@
 use super::alike::AlikeFront;
 use super::memo::Memo;
+use super::walk_memo::WalkMemo;
 use shared_trie::Node;
 
-/// What a pass uses again at each place: room for the nodes of a walk, what is known of the work that was done, and room for the fronts of
-/// phases.
+/// What walks use again: room for their nodes, and what is known of the work that was done and of the walks that were made.
 #[derive(Drop)]
-pub(crate) struct Room {
+pub(crate) struct WalkRoom {
     pub nodes: Vec<Node>,
     pub memo: Memo,
+    pub walks: WalkMemo,
+}
+
+/// What a pass uses again at each place: what walks use, and room for the fronts of phases.
+#[derive(Drop)]
+pub(crate) struct Room {
+    pub walking: WalkRoom,
     pub fronts: Vec<AlikeFront>,
 }

@@ -1,4 +1,4 @@
-ghost use Rattle.std.specs.Prelude.{◌≡◌, ◌+◌, ◌*◌, ◌<◌, ◌≤◌, ℕ, Bool, length, slice_index_or, All, Contains, OnOk};
+ghost use Rattle.std.specs.Prelude.{[], ◌≡◌, ◌+◌, ◌*◌, ◌<◌, ◌≤◌, ℕ, Bool, length, slice_index_or, All, Contains, OnOk};
 ghost use Rattle.derivation.specs.Steps.{key_meant};
 ghost use Rattle.search_frames.specs.LetterTests.{DoAsRules};
 ghost use Rattle.search_frames.specs.Frames.{numbered_of};
@@ -9,24 +9,30 @@ ghost use Rattle.summary_chart.specs.Fronts.{IsFrontAt};
 ghost use Rattle.summary_chart.specs.PlaceWays.{HasEachKey, LeadsOnOrEnds};
 ghost use Rattle.summary_chart.specs.StateSets.{HasState};
 ghost use Rattle.annotated_trie.specs.Choices.{choices_of, choices_with, parts_of, rules_of_part};
+ghost use Rattle.std.specs.Bool.{OnTrue};
+ghost use Rattle.search_frames.specs.declared.frame.TheConstants.{NODES_OF_FRAME};
 ghost use Rattle.summary_chart.specs.AlikeFronts.{IsFirst};
+ghost use Rattle.summary_chart.specs.Walked.{AreWalkedFronts, AreWalksSpread, IsKeptWith, IsKnownFrom, IsSpreadRoom, IsWalkOfSome, IsWalkSpread};
+ghost use Rattle.summary_chart.specs.declared.table.Table.{Table as TableValue};
+ghost use Rattle.summary_chart.specs.declared.walk_memo.Walk.{Walk as WalkValue};
 ghost use Rattle.summary_chart.specs.Effects.{AreEffects};
 ghost use Rattle.summary_chart.specs.Memos.{AreSpread, HasWorks, IsKnownWith, IsWork};
 ghost use Rattle.summary_chart.specs.Onward.{IsOnward, SpreadsOnward};
-ghost use Rattle.summary_chart.specs.Sites.{IsSite};
+ghost use Rattle.summary_chart.specs.Sites.{IsSite, IsSiteAhead};
 ghost use Rattle.summary_chart.specs.Tables.{IsTable};
 ghost use Rattle.summary_chart.specs.Spreading.{Spreads, EveryKey, OnlyKey, IsByRule, IsAtFront, IsInPhase, leads_in};
 ghost use Rattle.summary_chart.specs.Summaries.{steps_after_first, steps_of_items};
 
 use super::alike::find_onward;
 use super::memo::{FEW_RULES, Memo, Work};
-use super::room::Room;
+use super::room::{Room, WalkRoom};
 use super::same_effect::Effects;
 use super::site::{Front, RuledFront, Site, SiteAhead};
 use super::state_set::StateSet;
 use super::state_steps::states_after;
 use super::table::Table;
-use super::walking::walk_on;
+use super::walk_memo::{Walk, WalkMemo, shares_walks};
+use super::walking::longer_front;
 use annotated_trie::Annotated;
 use derivation::Key;
 use outside::Steps;
@@ -41,8 +47,8 @@ pub(crate) struct Onward<'a> {
     pub after: StateSet,
 }
 
-/// Puts into the table where the key, which is possible at the place, leads on to, with the states that come after it. The place's own state is
-/// not looked at.
+/// Puts into the table where the key, which is possible at the place, leads on to, with the states that come after it. The place's own
+/// state is not looked at.
 fn spread_key(onward: Onward<'_>, key: Key, table: &mut Table)
     requires onward { IsOnward onward key.phase }
     requires limit { onward.here.site.place.now.at + key.taken ≤ onward.here.ahead.limit }
@@ -162,8 +168,8 @@ fn known_states(tries: &Annotated, memo: &Memo, work: &Work) -> StateSet
     }
 }
 
-/// Puts into the table where the keys with this front and the rules of a part of its node's choices lead on to, where each key with the front
-/// does what its rule does. What the memo has already is not put there once more. Refused only for want of memory.
+/// Puts into the table where the keys with this front and the rules of a part of its node's choices lead on to, where each key with the
+/// front does what its rule does. What the memo has already is not put there once more. Refused only for want of memory.
 fn spread_part<L>(
     onward: Onward<'_>,
     ruled: RuledFront<'_>,
@@ -234,8 +240,8 @@ fn spread_parts<L>(
 }
 
 /// Puts into the table where the keys with this front and with a rule whose `w` begins with this letter, the next one of the line, lead on
-/// to, where each key with the front does what its rule does: rule by rule where these are few, and else part by part. Refused only for want
-/// of memory.
+/// to, where each key with the front does what its rule does: rule by rule where these are few, and else part by part. Refused only for
+/// want of memory.
 fn spread_anew<L>(
     onward: Onward<'_>,
     ruled: RuledFront<'_>,
@@ -350,34 +356,132 @@ fn spread_front<L>(
     spread_changed(onward, front, *letter, table, memo, steps)
 }
 
-/// Puts into the table where the keys of the phase of the front, which takes no letter, lead on to. Refused only for want of memory.
+/// The states that the walk gave, if the memo keeps this; else none.
+fn known_of_walk(walks: &WalkMemo, walk: &Walk) -> StateSet
+    ensures { (number : ℕ) → HasState result number → IsKeptWith walks.now walk.now number }
+{
+    match walks.get(walk) {
+        Some(states) => states,
+        None => StateSet::empty(),
+    }
+}
+
+/// Whether the memo keeps that all keys with this front and with longer ones were spread with the states that come after them. It is asked
+/// of a front that takes a letter, where `shares` says that it may be. Takes a step.
+fn is_spread<L>(
+    onward: Onward<'_>,
+    front: &Front,
+    shares: bool,
+    walks: &WalkMemo,
+    steps: &mut Steps<L>,
+) -> bool
+    requires here { IsSiteAhead onward.here }
+    requires limit { onward.here.site.place.now.at + front.now.taken ≤ onward.here.ahead.limit }
+    ensures known { OnTrue result (IsKnownFrom onward.entry.here front.now onward.entry.after walks.now) }
+    ensures steps { steps.new ≡ steps.old + 1 }
+{
+    steps.tick();
+    if !shares || front.taken == 0 {
+        return false;
+    }
+    let known = known_of_walk(walks, &Walk::from(onward.here, front));
+    known.union(onward.after) == known
+}
+
+/// Puts into the table where the keys of the phase of the front, which takes no letter, lead on to, front by front until one from which
+/// this was done already, where `shares` says that the memo may be asked. The list, which is empty, has then the nodes of the fronts that
+/// were gone over. Refused only for want of memory.
+fn spread_fronts<L>(
+    onward: Onward<'_>,
+    first: &Front,
+    shares: bool,
+    table: &mut Table,
+    room: &mut WalkRoom,
+    steps: &mut Steps<L>,
+) -> Result<(), Memory>
+    requires onward { IsOnward onward first.now.phase }
+    requires first { let site = onward.here.site in IsFirst site.lexicon.now site.line.now site.choices.now (numbered_of site.lexicon.now site.place.now) first.now }
+    requires nodes { room.old.nodes.items ≡ [] }
+    requires table { IsTable (leads_in onward.here.site.lexicon.now) (length onward.here.site.line.now.letters) table.old }
+    requires room { IsSpreadRoom onward.here.site.lexicon.now onward.here.site.line.now table.old room.old }
+    ensures room { OnOk result (IsSpreadRoom onward.entry.here.site.lexicon.now onward.entry.here.site.line.now table.new room.new) }
+    ensures table { OnOk result (IsTable (leads_in onward.entry.here.site.lexicon.now) (length onward.entry.here.site.line.now.letters) table.new) }
+    ensures spreads { OnOk result (SpreadsOnward onward.entry (IsInPhase first.now.phase) table.old table.new) }
+    ensures nodes { OnOk result (AreWalkedFronts onward.entry.here first.now.phase room.new.nodes.items) }
+    ensures steps { (most : ℕ) → HasAtMostRules onward.entry.here.site.lexicon.now.tries most → steps.new ≤ steps.old + NODES_OF_FRAME * (5 + 2 * most) + 1 }
+{
+    let here = onward.here;
+    let mut next = Some(*first);
+    while let Some(front) = next {
+        if is_spread(onward, &front, shares, &room.walks, steps) {
+            return Ok(());
+        }
+        spread_front(onward, &front, table, &mut room.memo, steps)?;
+        room.nodes.push(front.node)?;
+        next = longer_front(here.site, &front, here.ahead.limit, steps);
+    }
+    Ok(())
+}
+
+/// Keeps of each of the fronts with these nodes but the first, which takes no letter, that its keys and those of longer fronts were spread
+/// with the states that come after them. Refused only for want of memory.
+fn keep_spread<L>(
+    onward: Onward<'_>,
+    phase: u32,
+    nodes: &[Node],
+    walks: &mut WalkMemo,
+    steps: &mut Steps<L>,
+) -> Result<(), Memory>
+    requires here { IsSiteAhead onward.here }
+    requires nodes { AreWalkedFronts onward.here phase nodes.now }
+    ensures walks { (table : TableValue) → let site = onward.entry.here.site in AreWalksSpread site.lexicon.now site.line.now table walks.old → ((from : WalkValue) → IsWalkOfSome onward.entry.here phase nodes.now from → IsWalkSpread site.lexicon.now site.line.now table (record { walk = from; states = onward.entry.after })) → OnOk result (AreWalksSpread site.lexicon.now site.line.now table walks.new) }
+    ensures steps { steps.new ≤ steps.old + length nodes.now }
+{
+    for taken in 1..nodes.len() {
+        steps.tick();
+        let front = Front {
+            phase,
+            taken: taken as u32,
+            node: nodes[taken],
+        };
+        let walk = Walk::from(onward.here, &front);
+        let known = known_of_walk(walks, &walk);
+        walks.keep(&walk, known.union(onward.after))?;
+    }
+    Ok(())
+}
+
+/// Puts into the table where the keys of the phase of the front, which takes no letter, lead on to. What the memo of walks has already is
+/// not put there once more. Refused only for want of memory.
 fn spread_phase<L>(
     onward: Onward<'_>,
     first: &Front,
     table: &mut Table,
-    nodes: &mut Vec<Node>,
-    memo: &mut Memo,
+    room: &mut WalkRoom,
     steps: &mut Steps<L>,
 ) -> Result<(), Memory>
     requires onward { IsOnward onward first.now.phase }
     requires first { let site = onward.here.site in IsFirst site.lexicon.now site.line.now site.choices.now (numbered_of site.lexicon.now site.place.now) first.now }
     requires table { IsTable (leads_in onward.here.site.lexicon.now) (length onward.here.site.line.now.letters) table.old }
-    requires memo { AreSpread onward.here.site.lexicon.now onward.here.site.line.now table.old memo.old }
-    ensures memo { OnOk result (AreSpread onward.entry.here.site.lexicon.now onward.entry.here.site.line.now table.new memo.new) }
+    requires room { IsSpreadRoom onward.here.site.lexicon.now onward.here.site.line.now table.old room.old }
+    ensures room { OnOk result (IsSpreadRoom onward.entry.here.site.lexicon.now onward.entry.here.site.line.now table.new room.new) }
     ensures table { OnOk result (IsTable (leads_in onward.entry.here.site.lexicon.now) (length onward.entry.here.site.line.now.letters) table.new) }
     ensures spreads { OnOk result (SpreadsOnward onward.entry (IsInPhase first.now.phase) table.old table.new) }
     ensures steps { (most : ℕ) → HasAtMostRules onward.entry.here.site.lexicon.now.tries most → steps.new ≤ steps.old + steps_after_first most }
 {
-    let here = onward.here;
-    walk_on(here.site, first, here.ahead.limit, nodes, steps)?;
-    for taken in 0..nodes.len() {
-        let front = Front {
-            phase: first.phase,
-            taken: taken as u32,
-            node: nodes[taken],
-        };
-        spread_front(onward, &front, table, memo, steps)?;
+    let shares = shares_walks(onward.here);
+    room.nodes.clear();
+    spread_fronts(onward, first, shares, table, room, steps)?;
+    if !shares {
+        return Ok(());
     }
+    keep_spread(
+        onward,
+        first.phase,
+        room.nodes.as_slice(),
+        &mut room.walks,
+        steps,
+    )?;
     Ok(())
 }
 
@@ -392,8 +496,8 @@ pub(crate) fn spread<L>(
 ) -> Result<(), Memory>
     requires site { IsSite site }
     requires table { IsTable (leads_in site.lexicon.now) (length site.line.now.letters) table.old }
-    requires memo { AreSpread site.lexicon.now site.line.now table.old room.old.memo }
-    ensures memo { OnOk result (AreSpread site.entry.lexicon.now site.entry.line.now table.new room.new.memo) }
+    requires room { IsSpreadRoom site.lexicon.now site.line.now table.old room.old.walking }
+    ensures room { OnOk result (IsSpreadRoom site.entry.lexicon.now site.entry.line.now table.new room.new.walking) }
     ensures table { OnOk result (IsTable (leads_in site.entry.lexicon.now) (length site.entry.line.now.letters) table.new) }
     ensures spreads { OnOk result (Spreads site.entry.lexicon.now site.entry.line.now site.entry.choices.now site.entry.place.now.at site.entry.place.now.entrance states EveryKey table.old table.new) }
     ensures steps { (most : ℕ) → HasAtMostRules site.entry.lexicon.now.tries most → steps.new ≤ steps.old + steps_of_items site.entry.lexicon.now most }
@@ -409,14 +513,7 @@ pub(crate) fn spread<L>(
             here,
             after: one.states,
         };
-        spread_phase(
-            onward,
-            &one.front,
-            table,
-            &mut room.nodes,
-            &mut room.memo,
-            steps,
-        )?;
+        spread_phase(onward, &one.front, table, &mut room.walking, steps)?;
     }
     Ok(())
 }

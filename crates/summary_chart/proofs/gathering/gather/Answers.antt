@@ -40,8 +40,8 @@ loop-phase-preserved-then-is_empty g c =
           empty c.loop-phase.gathered (inv.gathers empty nothing);
       fronts = inv.fronts;
       few = omega (arith, inv.few);
-      memo = inv.memo;
-      ends = inv.ends;
+      room = inv.room;
+      later = inv.later;
       spent = λ most few. one_more_within c.args.steps.now phase (1 + steps_of_fronts most) c.loop-phase.steps c.tick.new.self
           (inv.spent most few) (omega (arith, c.tick.ensures));
     }
@@ -65,8 +65,8 @@ loop-phase-preserved-in_default g c =
           empty c.loop-phase.gathered (inv.gathers empty nothing);
       fronts = inv.fronts;
       few = omega (arith, inv.few);
-      memo = inv.memo;
-      ends = inv.ends;
+      room = inv.room;
+      later = inv.later;
       spent = λ most few. one_more_within c.args.steps.now phase (1 + steps_of_fronts most) c.loop-phase.steps c.begun_front.new.steps
           (inv.spent most few) (omega (arith, c.tick.ensures, c.begun_front.ensures.steps));
     }
@@ -95,8 +95,8 @@ loop-phase-preserved g c =
           (further_into searched line choices place table set phase living are c.states_into-found.result into) c.union-gathered.ensures);
       fronts = c.in_ok-living.ensures.fronts;
       few = omega (arith, inv.few, c.in_ok-living.ensures.few);
-      memo = c.in_ok-living.ensures.memo;
-      ends = λ ends. c.in_ok-living.ensures.ends (inv.ends ends);
+      room = c.in_ok-living.ensures.room;
+      later = λ later. c.in_ok-living.ensures.later (inv.later later);
       spent = λ most few. one_more_within c.args.steps.now phase (1 + steps_of_fronts most) c.loop-phase.steps c.living_from_first.new.steps
           (inv.spent most few)
           (let spent = c.living_from_first.ensures.steps most few in

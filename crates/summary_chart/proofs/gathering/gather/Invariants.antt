@@ -6,10 +6,10 @@ use Rattle.search_frames.specs.Configurations.{rules_in}
 use Rattle.search_frames.specs.Frames.{numbered_of}
 use Rattle.summary_chart.specs.declared.state_set.StateSet.{StateSet}
 use Rattle.summary_chart.specs.AlikeFronts.{IsLivingFront}
-use Rattle.summary_chart.specs.Memos.{AreLiving, EndFrom}
 use Rattle.summary_chart.specs.StateSets.{HasState}
 use Rattle.summary_chart.specs.Spreading.{GathersMore}
 use Rattle.summary_chart.specs.Summaries.{steps_of_fronts}
+use Rattle.summary_chart.specs.Walked.{IsLater, IsLivingRoom}
 use Rattle.summary_chart.proofs.VisitedKeys.{IsEarlier}
 use Rattle.summary_chart.proofs.gathering.gather.Given as goal
 
@@ -21,7 +21,7 @@ invariant-loop-phase g l = record {
       → GathersMore l.site.lexicon.now l.site.line.now l.site.choices.now l.table l.site.place.now.at l.site.place.now.entrance l.states (IsEarlier l.phase) empty l.gathered;
   fronts : All (IsLivingFront l.site.lexicon.now l.site.line.now l.site.choices.now (numbered_of l.site.lexicon.now l.site.place.now) l.table) l.room.fronts.items;
   few : length l.room.fronts.items ≤ l.phase;
-  memo : AreLiving l.site.lexicon.now l.site.line.now l.table l.room.memo;
-  ends : EndFrom l.site.place.now.at l.fn.room.memo → EndFrom l.site.place.now.at l.room.memo;
+  room : IsLivingRoom l.site.lexicon.now l.site.line.now l.table l.room.walking;
+  later : IsLater l.site.place.now.at l.fn.room.walking → IsLater l.site.place.now.at l.room.walking;
   spent : (most : ℕ) → HasAtMostRules l.site.lexicon.now.tries most → l.steps ≤ l.fn.steps + l.phase * (1 + steps_of_fronts most);
 }

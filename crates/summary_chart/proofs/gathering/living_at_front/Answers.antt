@@ -1,20 +1,25 @@
 -- What may stand after the front is no change, and the choices that begin with the next letter (`VisitedKeys`); where each key
 -- does what its rule does, the line goes on by these just as it does wherever the form begins (`LivingVisits`).
-use Rattle.std.proofs.Common.{◌≡◌, ℕ, ◌+◌, ◌<◌, List, length, All, get_or, sym, ap, subst, ◌∙◌, arith}
+use Rattle.std.proofs.Common.{◌≡◌, ℕ, ◌+◌, ◌<◌, ◌↔◌, None, List, Contains, length, All, get_or, sym, ap, subst, ◌∙◌, arith}
 use Rattle.text_definitions.specs.Lines.{Line as LineValue}
 use Rattle.segmentation_definitions.specs.Items.{Choice}
 use Rattle.segmentation_definitions.specs.Listings.{Key}
 use Rattle.phoneme.specs.declared.line.Line.{Line}
-use Rattle.annotated_trie.specs.Choices.{AnnotatedTrie, choices_with}
+use Rattle.annotated_trie.specs.Choices.{AnnotatedTrie, choices_of, choices_with}
 use Rattle.annotated_trie.specs.Searched.{SearchedLexicon}
 use Rattle.search_frames.specs.declared.configuration.Configuration.{Configuration}
 use Rattle.search_frames.specs.Configurations.{IsPossible}
 use Rattle.search_frames.specs.Frames.{numbered_of}
+use Rattle.summary_chart.specs.declared.memo.Work.{Work}
 use Rattle.summary_chart.specs.declared.state_set.StateSet.{StateSet}
 use Rattle.summary_chart.specs.declared.table.Table.{Table}
+use Rattle.summary_chart.specs.Memos.{LivesBy}
+use Rattle.summary_chart.specs.StateSets.{HasState}
 use Rattle.summary_chart.specs.Onward.{AreLivingBy, LivesMore}
 use Rattle.summary_chart.specs.Spreading.{IsAtFront, IsByRule, OnlyKey}
 use Rattle.summary_chart.specs.Summaries.{key_with}
+use Rattle.summary_chart.proofs.AlikeWorks.{lives_alike}
+use Rattle.summary_chart.proofs.LivingKeys.{choice_number}
 use Rattle.summary_chart.proofs.FrontKeys.{front_node, choices_possible, few_written}
 use Rattle.summary_chart.proofs.LivingVisits.{lives_again, lives_found, living_by_choices, living_by_more, living_shared, living_visit}
 use Rattle.summary_chart.proofs.VisitedKeys.{visit_without_letter, visit_with_letter}
@@ -121,10 +126,20 @@ returns-clause-living g c =
     let place = c.args.here.site.place.now in
     let table = c.args.table.now in
     let changed = c.in_ok-changed.changed in
-    living_shared searched line choices place table c.requires.here.site.searched front.phase front.taken front.node c.requires.front
+    let is = c.requires.here.site.searched in
+    let there = front_node searched is line (numbered_of searched place) front.phase front.taken front.node c.requires.front in
+    let choices_are = choice_number searched front.node in
+    let alike = lives_alike searched line table front.node (place.at + front.taken) None c.in-Some-end_by_rules.may_end (Contains (choices_of searched.tries front.node))
+    (λ rule among. choices_are rule is there among) c.alike_phase.result front.phase c.alike_phase.ensures.alike in
+    let own : Work = record { node = front.node; part = None; end = place.at + front.taken; may_end = c.in-Some-end_by_rules.may_end; phase = front.phase } in
+    let lives : (number : ℕ) → HasState changed number ↔ LivesBy searched line table own (Contains (choices_of searched.tries front.node)) number = λ number. (
+      λ has. (alike number).0 ((c.in_ok-changed.ensures.living number).0 has),
+      λ by. (c.in_ok-changed.ensures.living number).1 ((alike number).1 by),
+    ) in
+    living_shared searched line choices place table is front.phase front.taken front.node c.requires.front
     c.living_unchanged-unchanged.result changed c.union-2.result c.living_unchanged-unchanged.ensures
-    (living_by_choices searched line choices place table c.requires.here.site.searched front.phase front.taken front.node c.requires.front
-    c.in-Some-end_by_rules.may_end c.in-Some-end_by_rules.ensures c.requires.begins changed c.in_ok-changed.ensures.living)
+    (living_by_choices searched line choices place table is front.phase front.taken front.node c.requires.front
+    c.in-Some-end_by_rules.may_end c.in-Some-end_by_rules.ensures c.requires.begins changed lives)
     c.union-2.ensures
 
 pub returns-clause-steps : goal.returns-clause-steps

@@ -8,7 +8,7 @@ use Rattle.search_frames.specs.Frames.{numbered_of}
 use Rattle.search_frames.specs.WaysFrom.{IsWayFrom}
 use Rattle.summary_chart.specs.declared.place_ways.Stop.{Stop}
 use Rattle.summary_chart.specs.declared.state_set.StateSet.{StateSet}
-use Rattle.summary_chart.specs.Spreading.{GoesFurtherBy}
+use Rattle.summary_chart.specs.Spreading.{AreGoingFurther, EveryKey, GoesFurtherBy}
 use Rattle.summary_chart.specs.PlaceWays.{AreFew, AreLateStops, HasEachKey, HaveLivingWays, IsLivingKey, IsLivingPart, indices_of, narrowed, stop_at, ways_of}
 use Rattle.summary_chart.proofs.KeptWays.{keys_found, ways_at}
 use Rattle.summary_chart.proofs.LateStops.{few_still}
@@ -82,6 +82,21 @@ returns-clause-kept g c =
     c.requires.kept c.in-Some.number is first end part in
     subst (λ (s : List Stop). HaveLivingWays searched line choices table s c.narrow.new.self.ways.items) (sym c.narrow.ensures.stops)
     (subst (λ (w : List Way). HaveLivingWays searched line choices table (slice_set stops c.in-Some.number (narrowed stop first end)) w) (sym c.narrow.ensures.ways) still)
+
+pub returns-in_default-clause-gathers : goal.returns-in_default-clause-gathers
+returns-in_default-clause-gathers g c =
+    let site = c.args.site in
+    let place = site.place.now in
+    subst (λ (set : StateSet). AreGoingFurther site.lexicon.now site.line.now site.choices.now c.args.table.now place.at place.entrance set EveryKey c.in_ok-living.living)
+    (sym (read_set c.args.table.now c.args.visit.index c.index-states.result.now c.requires.there c.index-states.ensures)) c.in_ok-living.ensures.gathers
+
+pub returns-clause-gathers : goal.returns-clause-gathers
+returns-clause-gathers g c =
+    let site = c.args.site in
+    let place = site.place.now in
+    subst (λ (set : StateSet). AreGoingFurther site.lexicon.now site.line.now site.choices.now c.args.table.now place.at place.entrance set EveryKey
+    c.gather_ways-living.result.states)
+    (sym (read_set c.args.table.now c.args.visit.index c.index-states.result.now c.requires.there c.index-states.ensures)) c.gather_ways-living.ensures.gathers
 
 pub returns-clause-late : goal.returns-clause-late
 returns-clause-late g c =

@@ -11,7 +11,7 @@ use Rattle.summary_chart.specs.Summaries.{steps_of_items, steps_of_summary}
 use Rattle.summary_chart.proofs.LivingPlaces.{gather_back, old_if_new, living_down, reached_back, chart_if_alive}
 use Rattle.summary_chart.proofs.KeptWays.{living_of_all, fewer_places}
 use Rattle.summary_chart.proofs.LateStops.{all_in_order, few_without, late_fewer, none_late}
-use Rattle.summary_chart.proofs.LivingMemos.{LeadPast, nothing_living, nothing_past, past_down, ends_if_past, past_if_ends, living_stays}
+use Rattle.summary_chart.proofs.LivingRooms.{LeadsPast, nothing_in_room, room_past, past_down, later_if_past, past_if_later, room_stays}
 use Rattle.summary_chart.proofs.StopIndices.{from_end, from_lower, left_from, left_within, stops_of_fewer}
 use Rattle.summary_chart.proofs.PassCosts.{one_frame_less, fewer_left}
 use Rattle.summary_chart.proofs.passes.keep_living.Goals as goal
@@ -43,8 +43,8 @@ loop-until-init g c =
           (none_late searched line choices table c.args.kept.now.ways.items);
       few = subst (λ (late : List Stop). AreFew searched line (c.args.kept.now.stops.items ++ late) c.args.kept.now.ways.items) (sym c.requires.late)
           (few_without searched line choices c.args.kept.now.stops.items c.args.kept.now.ways.items c.requires.few);
-      memo = nothing_living searched line table c.args.room.now.memo c.requires.memo c.requires.effects;
-      past = nothing_past searched first c.args.room.now.memo c.requires.memo;
+      room = nothing_in_room searched line table c.args.room.now.walking c.requires.memo c.requires.walks c.requires.effects;
+      past = room_past searched first c.args.room.now.walking c.requires.memo c.requires.walks;
       steps = λ most few.
           let less = fewer_left (c.args.steps.now + 2 * steps_of_summary searched line most) c.len.result first (2 * steps_of_items searched most) c.args.steps.now visit.rises
           (let same = ap (λ (n : ℕ). n * (2 * steps_of_items searched most)) all in let twice : set_count searched line * (2 * steps_of_items searched most) ≡ 2 * steps_of_summary searched line most = omega arith in omega (arith, same, twice)) in
@@ -70,10 +70,10 @@ loop-until-preserved g c =
     new living replace.changes replace.set gathers in
     let fewer = old_if_new searched line choices index c.place-at.result.0 c.place-at.result.1 old c.requires.searched from indexed
     new living replace.changes replace.set gathers in
-    let past : LeadPast searched (index + 1) c.gather_from.new.room.memo =
-    past_if_ends searched line index c.place-at.result.0 c.place-at.result.1 indexed c.gather_from.new.room.memo
-    (c.in_ok-living.ensures.ends (ends_if_past searched line index c.place-at.result.0 c.place-at.result.1 indexed c.loop-until.room.memo
-    (subst (λ (n : ℕ). LeadPast searched n c.loop-until.room.memo) here inv.past))) in
+    let past : LeadsPast searched (index + 1) c.gather_from.new.room.walking =
+    past_if_later searched line index c.place-at.result.0 c.place-at.result.1 indexed c.gather_from.new.room.walking
+    (c.in_ok-living.ensures.later (later_if_past searched line index c.place-at.result.0 c.place-at.result.1 indexed c.loop-until.room.walking
+    (subst (λ (n : ℕ). LeadsPast searched n c.loop-until.room.walking) here inv.past))) in
     let next = c.visit_until-until-in-loop-until.result in
     let visit = c.visit_until-until-in-loop-until.ensures in
     let stops = c.loop-until.kept.stops.items in
@@ -98,8 +98,8 @@ loop-until-preserved g c =
           c.in_ok-living.ensures.kept;
       late = late_fewer searched line choices old new c.gather_from.new.kept.late.items c.gather_from.new.kept.ways.items fewer gathered.late;
       few = gathered.few;
-      memo = living_stays searched line index old new c.requires.searched from.has.lawful replace.changes c.gather_from.new.room.memo past c.in_ok-living.ensures.memo;
-      past = past_down searched next (index + 1) c.gather_from.new.room.memo (let rises = visit.rises in omega (arith, rises)) past;
+      room = room_stays searched line index old new c.requires.searched from.has.lawful replace.changes c.gather_from.new.room.walking past c.in_ok-living.ensures.room;
+      past = past_down searched next (index + 1) c.gather_from.new.room.walking (let rises = visit.rises in omega (arith, rises)) past;
       low = (let rises = visit.rises in let low = inv.low in let count = replace.changes.count in omega (arith, rises, low, count, here));
       steps = λ most few.
           fewer_left (c.args.steps.now + 2 * steps_of_summary searched line most) index next (2 * steps_of_items searched most) c.gather_from.new.steps visit.rises

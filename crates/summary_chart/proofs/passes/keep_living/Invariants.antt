@@ -3,10 +3,10 @@
 use Rattle.std.proofs.Common.{◌+◌, ◌*◌, ◌≤◌, ◌++◌, ℕ, IsTrue, length}
 use Rattle.search_frames.specs.Costs.{HasAtMostRules}
 use Rattle.summary_chart.specs.Charts.{IsAliveFrom}
-use Rattle.summary_chart.specs.Memos.{AreLiving}
 use Rattle.summary_chart.specs.PlaceWays.{AreFew, AreFrom, AreLateStops, HaveLivingWays, HaveStops, indices_of}
 use Rattle.summary_chart.specs.Summaries.{steps_of_items, steps_of_summary}
-use Rattle.summary_chart.proofs.LivingMemos.{LeadPast}
+use Rattle.summary_chart.specs.Walked.{IsLivingRoom}
+use Rattle.summary_chart.proofs.LivingRooms.{LeadsPast}
 use Rattle.summary_chart.proofs.passes.keep_living.Given as goal
 
 abbrev pub invariant-loop-until : goal.invariant-loop-until
@@ -19,8 +19,8 @@ invariant-loop-until g l =
       left : l.left ≤ length l.kept.stops.items;
       later : AreFrom l.until (indices_of l.kept.stops.items) l.left;
       stops : IsTrue l.each_has_stop → HaveStops l.passage.lexicon.now l.passage.line.now l.table (indices_of l.kept.stops.items);
-      memo : AreLiving l.passage.lexicon.now l.passage.line.now l.table l.room.memo;
-      past : LeadPast l.passage.lexicon.now l.until l.room.memo;
+      room : IsLivingRoom l.passage.lexicon.now l.passage.line.now l.table l.room.walking;
+      past : LeadsPast l.passage.lexicon.now l.until l.room.walking;
       low : l.until ≤ length l.table.sets.items;
       steps : (most : ℕ) → HasAtMostRules l.passage.lexicon.now.tries most
           → l.steps + l.until * (2 * steps_of_items l.passage.lexicon.now most) ≤ l.fn.steps + 2 * steps_of_summary l.passage.lexicon.now l.passage.line.now most;

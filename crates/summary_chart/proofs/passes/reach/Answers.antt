@@ -46,7 +46,10 @@ loop-index-init g c =
           (subst (AreFew searched line []) (sym c.requires.ways) (none_few searched line choices));
       stops = λ told. stops_on searched line 0 c.next_filled-index.result table (indices_of stops)
           (none_in_empty searched line choices table c.requires.opening.lawful 0 c.next_filled-index.result empty) (none_before searched line table (indices_of stops));
-      memo = nothing_spread searched line table c.args.room.now.memo c.requires.memo c.requires.effects;
+      room = record {
+        memo = nothing_spread searched line table c.args.room.now.walking.memo c.requires.memo c.requires.effects;
+        walks = λ walked kept. absurd (c.requires.walks walked kept);
+      };
       within = empty.within;
       steps = λ most few. omega arith;
     }
@@ -82,7 +85,7 @@ loop-index-preserved g c =
           let both = both_true c.loop-index.each_has_stop c.in_ok-each_has_stop.field-0 told in
           stops_on searched line (index + 1) next new.table (indices_of new.kept.stops.items)
           (none_in_empty searched line choices new.table from.before.lawful (index + 1) next empty) (from.stops both.1 (inv.stops both.0));
-      memo = from.memo;
+      room = from.room;
       within = empty.within;
       steps = λ most few. frame_and_skip c.args.steps.now index next (2 * steps_of_items searched most) c.loop-index.steps new.steps empty.rises
           (inv.steps most few) (c.reach_from.ensures.steps most few);

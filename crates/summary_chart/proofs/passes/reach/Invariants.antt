@@ -3,9 +3,9 @@
 use Rattle.std.proofs.Common.{◌≡◌, [], ◌+◌, ◌*◌, ◌≤◌, ◌-◌, ℕ, IsTrue, length}
 use Rattle.search_frames.specs.Costs.{HasAtMostRules}
 use Rattle.summary_chart.specs.Charts.{IsReachedBefore}
-use Rattle.summary_chart.specs.Memos.{AreSpread}
 use Rattle.summary_chart.specs.PlaceWays.{AreFew, HaveStopsBefore, HaveWaysBefore, indices_of}
 use Rattle.summary_chart.specs.Summaries.{steps_of_items}
+use Rattle.summary_chart.specs.Walked.{IsSpreadRoom}
 use Rattle.summary_chart.proofs.passes.reach.Given as goal
 
 abbrev pub invariant-loop-index : goal.invariant-loop-index
@@ -16,7 +16,7 @@ invariant-loop-index g l =
       stops : IsTrue l.each_has_stop → HaveStopsBefore l.passage.lexicon.now l.passage.line.now l.index l.table (indices_of l.kept.stops.items);
       late : l.kept.late.items ≡ [];
       few : AreFew l.passage.lexicon.now l.passage.line.now l.kept.stops.items l.kept.ways.items;
-      memo : AreSpread l.passage.lexicon.now l.passage.line.now l.table l.room.memo;
+      room : IsSpreadRoom l.passage.lexicon.now l.passage.line.now l.table l.room.walking;
       within : l.index ≤ length l.table.sets.items;
       steps : (most : ℕ) → HasAtMostRules l.passage.lexicon.now.tries most → l.steps ≤ l.fn.steps + l.index * (2 * steps_of_items l.passage.lexicon.now most);
     }

@@ -13,6 +13,7 @@ use Rattle.summary_chart.specs.PlaceWays.{HasEachKey, LeadsOnOrEnds, ways_of}
 use Rattle.summary_chart.proofs.ReachedPlaces.{spread_on, old_before}
 use Rattle.summary_chart.proofs.KeptWays.{each_added, keys_added, left, put_in, with_stop, without_stop}
 use Rattle.summary_chart.proofs.SpreadMemos.{all_grown}
+use Rattle.summary_chart.proofs.SpreadWalks.{room_grown}
 use Rattle.summary_chart.proofs.StopIndices.{one_more_stop}
 use Rattle.summary_chart.proofs.TableItems.{read_set}
 use Rattle.summary_chart.proofs.passes.reach_from.Goals as goal
@@ -149,9 +150,13 @@ returns-clause-stops g c told so_far =
     (subst (λ (set : StateSet). Spreads searched line choices place.at place.entrance set EveryKey table new) (sym read) c.spread_ways.ensures.spreads))
     so_far
 
-pub returns-clause-memo : goal.returns-clause-memo
-returns-clause-memo g c =
-    all_grown c.args.site.lexicon.now c.args.site.line.now c.args.table.now c.spread_ways.new.table c.args.room.now.memo c.spread_ways.ensures.spreads.keeps c.requires.memo
+pub returns-clause-room : goal.returns-clause-room
+returns-clause-room g c =
+    let searched = c.args.site.lexicon.now in
+    let line = c.args.site.line.now in
+    let keeps = c.spread_ways.ensures.spreads.keeps in
+    room_grown searched line c.args.table.now c.spread_ways.new.table c.args.room.now.walking c.args.room.now.walking keeps refl
+    (all_grown searched line c.args.table.now c.spread_ways.new.table c.args.room.now.walking.memo keeps c.requires.room.memo) c.requires.room
 
 pub returns-clause-few : goal.returns-clause-few
 returns-clause-few g c =

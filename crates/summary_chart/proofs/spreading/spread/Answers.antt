@@ -46,7 +46,7 @@ loop-number-preserved g c =
       few = inv.few;
       fronts = inv.fronts;
       lawful = c.in_ok-spread_phase.ensures.table;
-      memo = c.in_ok-spread_phase.ensures.memo;
+      room = c.in_ok-spread_phase.ensures.room;
       spreads = spreads_front searched c.requires.site.searched line choices place c.args.states fronts number c.args.table.now c.loop-number.table c.spread_phase.new.table inv.spreads
           (covered_spreads searched c.requires.site.searched line choices place c.args.states (front_at fronts number) onward c.loop-number.table c.spread_phase.new.table puts);
       spent = λ most few. one_more_within (c.args.steps.now + names * (1 + MOST_RULE_LETTERS + names)) number (steps_after_first most) c.loop-number.steps c.spread_phase.new.steps

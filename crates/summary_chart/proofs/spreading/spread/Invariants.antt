@@ -5,10 +5,10 @@ use Rattle.search_frames.specs.Costs.{HasAtMostRules}
 use Rattle.search_frames.specs.Configurations.{rules_in}
 use Rattle.search_frames.specs.Frames.{numbered_of}
 use Rattle.summary_chart.specs.AlikeFronts.{AreOnwardFronts, IsCoveredBy}
-use Rattle.summary_chart.specs.Memos.{AreSpread}
 use Rattle.summary_chart.specs.Tables.{IsTable}
 use Rattle.summary_chart.specs.Spreading.{Spreads, leads_in}
 use Rattle.summary_chart.specs.Summaries.{steps_after_first}
+use Rattle.summary_chart.specs.Walked.{IsSpreadRoom}
 use Rattle.summary_chart.proofs.spreading.spread.Given as goal
 
 abbrev pub invariant-loop-number : goal.invariant-loop-number
@@ -24,7 +24,7 @@ invariant-loop-number g l =
       few : length l.room.fronts.items ≤ names;
       fronts : AreOnwardFronts searched line choices (numbered_of searched place) l.fn.states names l.room.fronts.items;
       lawful : IsTable (leads_in searched) (length line.letters) l.table;
-      memo : AreSpread searched line l.table l.room.memo;
+      room : IsSpreadRoom searched line l.table l.room.walking;
       spreads : Spreads searched line choices place.at place.entrance l.fn.states
           (λ key. IsCoveredBy searched line choices (numbered_of searched place) l.fn.states l.room.fronts.items l.number key.phase) l.fn.table l.table;
       spent : (most : ℕ) → HasAtMostRules searched.tries most

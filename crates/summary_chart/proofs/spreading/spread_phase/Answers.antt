@@ -1,68 +1,51 @@
--- One front more; no possible key of the phase takes more letters than the fronts do.
-use Rattle.std.proofs.Common.{◌*◌, ◌+◌, arith}
-use Rattle.search_frames.specs.declared.frame.TheConstants.{NODES_OF_FRAME}
-use Rattle.summary_chart.specs.declared.table.Table.{Table}
-use Rattle.summary_chart.proofs.VisitedKeys.{visit_no_front, visit_front, visit_all_fronts}
-use Rattle.summary_chart.proofs.PutKeys.{put_visit}
-use Rattle.summary_chart.proofs.SummarySteps.{one_more_within, fewer_within}
+-- Where walks are shared, what was put into the table is kept of each walk on from a front that takes a letter (`SpreadWalks`).
+use Rattle.std.proofs.Common.{length, ap, sym, subst, arith}
+use Rattle.std.proofs.lemmas.Bool.{OnTrue_at}
+use Rattle.std.specs.Prelude.{slice_index_or}
+use Rattle.summary_chart.specs.Walked.{AreWalkedFronts, FitWithLetter}
+use Rattle.summary_chart.proofs.SpreadWalks.{walk_spread}
+use Rattle.summary_chart.proofs.WalkSteps.{few_walked}
 use Rattle.summary_chart.proofs.spreading.spread_phase.Goals as goal
 
-pub loop-taken-init : goal.loop-taken-init
-loop-taken-init g c =
+pub keep_spread-requires-clause-nodes : goal.keep_spread-requires-clause-nodes
+keep_spread-requires-clause-nodes g c =
+    subst (AreWalkedFronts c.args.onward.here c.args.first.now.phase) (sym c.as_slice.ensures.value) c.in_ok-spread_fronts.ensures.nodes
+
+pub returns-clause-room : goal.returns-clause-room
+returns-clause-room g c =
+    let onward = c.args.onward in
+    let here = onward.here in
+    let site = here.site in
+    let phase = c.args.first.now.phase in
+    let nodes = c.as_slice.result.now in
+    let fronts = subst (AreWalkedFronts here phase) (sym c.as_slice.ensures.value) c.in_ok-spread_fronts.ensures.nodes in
+    let new = c.spread_fronts.new.table in
+    let spread = c.in_ok-spread_fronts.ensures in
+    let fits : FitWithLetter here = OnTrue_at {P = FitWithLetter here} c.if-not-shares.false c.shares_walks-shares.ensures in
     record {
-      fronts = c.in_ok-walk_on.ensures.fronts;
-      end = omega (arith, c.len-taken-end.ensures, c.walk_on.new.nodes.ok);
-      low = omega arith;
-      lawful = c.requires.table;
-      memo = c.requires.memo;
-      spreads = visit_no_front c.args.onward.here.site.lexicon.now c.args.onward.here.site.line.now c.args.onward.here.site.choices.now c.args.onward.here.site.place.now Table
-          (put_visit c.args.onward.here.site.lexicon.now c.args.onward.here.site.line.now c.args.onward.here.site.choices.now c.args.onward.here.site.place.now c.args.onward.after) c.args.first.now.phase c.args.table.now;
-      spent = λ most few. omega (arith, c.walk_on.ensures.steps);
+      memo = spread.room.memo;
+      walks = c.in_ok-keep_spread.ensures.walks new spread.room.walks
+          (λ from of_some.
+          let (taken, some, below, is_from) = of_some in
+          walk_spread here c.requires.onward.here (record { phase = phase; taken = taken; node = slice_index_or nodes taken 0 }) from
+          (fronts.each taken below) some is_from onward.after c.args.table.now new c.requires.onward.begins fits spread.spreads);
     }
-
-pub loop-taken-preserved : goal.loop-taken-preserved
-loop-taken-preserved g c =
-    let inv = c.loop-taken.invariant in
-    record {
-      fronts = inv.fronts;
-      end = inv.end;
-      low = omega (arith, c.loop-taken-test.true, inv.end);
-      lawful = c.in_ok-spread_front.ensures.table;
-      memo = c.in_ok-spread_front.ensures.memo;
-      spreads = visit_front c.args.onward.here.site.lexicon.now c.args.onward.here.site.line.now c.args.onward.here.site.choices.now c.args.onward.here.site.place.now Table
-          (put_visit c.args.onward.here.site.lexicon.now c.args.onward.here.site.line.now c.args.onward.here.site.choices.now c.args.onward.here.site.place.now c.args.onward.after) c.args.first.now.phase c.loop-taken.taken
-          c.args.table.now c.loop-taken.table c.spread_front.new.table inv.spreads c.in_ok-spread_front.ensures.spreads;
-      spent = λ most few. one_more_within (c.args.steps.now + NODES_OF_FRAME) c.loop-taken.taken (3 + 2 * most) c.loop-taken.steps c.spread_front.new.steps
-          (inv.spent most few) (c.spread_front.ensures.steps most few);
-    }
-
-pub spread_front-requires-clause-limit : goal.spread_front-requires-clause-limit
-spread_front-requires-clause-limit g c =
-    let inv = c.loop-taken.invariant in
-    inv.fronts.near c.loop-taken.taken (omega (arith, c.loop-taken-test.true, inv.end))
-
-pub returns-in_err-spread_front-clause-steps : goal.returns-in_err-spread_front-clause-steps
-returns-in_err-spread_front-clause-steps g c most few =
-    let inv = c.loop-taken.invariant in
-    let spent = c.spread_front.ensures.steps most few in
-    let one = one_more_within (c.args.steps.now + NODES_OF_FRAME) c.loop-taken.taken (3 + 2 * most) c.loop-taken.steps c.spread_front.new.steps
-    (inv.spent most few) spent in
-    let short = inv.fronts.few in
-    let all = fewer_within (c.loop-taken.taken + 1) NODES_OF_FRAME (3 + 2 * most) (omega (arith, c.loop-taken-test.true, inv.end, short)) in
-    omega (arith, one, all)
-
-pub returns-clause-spreads : goal.returns-clause-spreads
-returns-clause-spreads g c =
-    let inv = c.loop-taken.invariant in
-    visit_all_fronts c.args.onward.here.site.lexicon.now c.args.onward.here.site.line.now c.args.onward.here.site.choices.now c.args.onward.here.site.place.now Table
-    (put_visit c.args.onward.here.site.lexicon.now c.args.onward.here.site.line.now c.args.onward.here.site.choices.now c.args.onward.here.site.place.now c.args.onward.after) c.args.first.now.phase c.args.onward.here.ahead c.requires.onward.here.ahead
-    c.loop-taken.taken c.walk_on.new.nodes.items (omega (arith, c.loop-taken-test.false, inv.end)) inv.fronts c.args.table.now c.loop-taken.table inv.spreads
 
 pub returns-clause-steps : goal.returns-clause-steps
 returns-clause-steps g c most few =
-    let inv = c.loop-taken.invariant in
-    let spent = inv.spent most few in
-    let short = inv.fronts.few in
-    let low = inv.low in
-    let all = fewer_within c.loop-taken.taken NODES_OF_FRAME (3 + 2 * most) (omega (arith, low, short)) in
-    omega (arith, spent, all)
+    let spent = c.spread_fronts.ensures.steps most few in
+    let nodes = c.spread_fronts.new.room.nodes.items in
+    let short = few_walked c.args.onward.here c.args.first.now.phase nodes c.requires.onward.here.site.searched c.in_ok-spread_fronts.ensures.nodes in
+    let same = ap length c.as_slice.ensures.value in
+    omega (arith, spent, short, same, c.keep_spread.ensures.steps)
+
+pub returns-then-not-shares-clause-steps : goal.returns-then-not-shares-clause-steps
+returns-then-not-shares-clause-steps g c most few = (let spent = c.spread_fronts.ensures.steps most few in omega (arith, spent))
+
+pub returns-in_err-keep_spread-clause-steps : goal.returns-in_err-keep_spread-clause-steps
+returns-in_err-keep_spread-clause-steps g c most few =
+    let spent = c.spread_fronts.ensures.steps most few in
+    let nodes = c.spread_fronts.new.room.nodes.items in
+    let short = few_walked c.args.onward.here c.args.first.now.phase nodes c.requires.onward.here.site.searched c.in_ok-spread_fronts.ensures.nodes in
+    let same = ap length c.as_slice.ensures.value in
+    omega (arith, spent, short, same, c.keep_spread.ensures.steps)
