@@ -126,6 +126,7 @@ impl Chart {
                 walks: WalkMemo::new(alloc),
             },
             fronts: Vec::new(alloc),
+            alloc,
         };
         let passage = Passage {
             lexicon,
