@@ -195,7 +195,7 @@ fn last_taken(rules: &RuleSet, line: &Line, place: &Configuration, taken: u32) -
 
 /// Whether a form that takes no letter of the line may be entered at the place: after a letter, this and the first letter of the rule's
 /// `u` are a plain pair.
-pub fn lets_rule_in(rules: &RuleSet, place: &Configuration, rule: u32) -> bool
+fn lets_rule_in(rules: &RuleSet, place: &Configuration, rule: u32) -> bool
     requires { rule ≤ length rules.now.rules }
     ensures { IsTrue result ↔ LetsRuleIn rules.now (entrance_of (leads_of rules.now.rules) place.now.entrance) rule }
 {

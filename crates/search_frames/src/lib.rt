@@ -36,7 +36,7 @@ mod walking;
 mod way;
 mod way_turns;
 
-pub use ahead::{Ahead, lets_rule_in, is_written, may_begin, rule_test};
+pub use ahead::{Ahead, is_written, may_begin, rule_test};
 pub use configuration::Configuration;
 pub use cursor::Cursor;
 pub use frame::{Frame, NODES_OF_FRAME};

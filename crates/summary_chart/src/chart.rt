@@ -126,7 +126,6 @@ impl Chart {
                 walks: WalkMemo::new(alloc),
             },
             fronts: Vec::new(alloc),
-            alloc,
         };
         let passage = Passage {
             lexicon,

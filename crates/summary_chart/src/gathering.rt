@@ -20,7 +20,7 @@ ghost use Rattle.summary_chart.specs.Spreading.{AreGoingFurther, EveryKey, GoesF
 ghost use Rattle.summary_chart.specs.Summaries.{steps_after_first, steps_of_items};
 
 use super::alike::{AlikeFront, alike_at, begun_front};
-use super::living_work::{living_after, living_by_part};
+use super::living_work::living_after;
 use super::memo::{Memo, Work};
 use super::room::{Room, WalkRoom};
 use super::site::{Front, Site, SiteAhead};
@@ -32,7 +32,7 @@ use super::walking::longer_front;
 use derivation::Key;
 use outside::Steps;
 use phoneme::Memory;
-use search_frames::{lets_rule_in, Ahead, LetterTest, Way};
+use search_frames::{Ahead, LetterTest, Way};
 use shared_trie::Node;
 
 /// The states of the set from which the key, which is possible at the place, ends the line or leads on to a place of the table. The
@@ -169,26 +169,7 @@ fn living_at_front<L>(
     };
     let Some(may_end) = ahead.end_by_rules(lexicon, line, choices, place, front.taken) else {
         let rules = lexicon.tries().choices_with(front.node, *letter, steps);
-        if rules.len() <= 32 || !choices.list().is_empty() {
-            return Ok(unchanged.union(living_by_all(here, front, rules, table, steps)));
-        }
-        let mut living = unchanged;
-        let tries = lexicon.tries();
-        for part in tries.parts(front.node) {
-            let some = tries.rules_of_part(*part);
-            if some.is_empty() || !lets_rule_in(lexicon.rules(), place, some[0]) {
-                continue;
-            }
-            let work = Work {
-                node: front.node,
-                part: None,
-                end,
-                may_end: ahead.may_end,
-                phase: lexicon.alike_phase(front.phase),
-            };
-            living = living.union(living_by_part(here.site, &work, *part, table, memo, steps)?);
-        }
-        return Ok(living);
+        return Ok(unchanged.union(living_by_all(here, front, rules, table, steps)));
     };
     let work = Work {
         node: front.node,

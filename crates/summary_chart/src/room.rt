@@ -2,7 +2,6 @@ use super::alike::AlikeFront;
 use super::memo::Memo;
 use super::walk_memo::WalkMemo;
 use shared_trie::Node;
-use std::alloc::Global;
 
 /// What walks use again: room for their nodes, and what is known of the work that was done and of the walks that were made.
 #[derive(Drop)]
@@ -17,5 +16,4 @@ pub(crate) struct WalkRoom {
 pub(crate) struct Room {
     pub walking: WalkRoom,
     pub fronts: Vec<AlikeFront>,
-    pub alloc: Global,
 }

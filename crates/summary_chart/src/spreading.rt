@@ -23,7 +23,7 @@ ghost use Rattle.summary_chart.specs.Tables.{IsTable};
 ghost use Rattle.summary_chart.specs.Spreading.{Spreads, EveryKey, OnlyKey, IsByRule, IsAtFront, IsInPhase, leads_in};
 ghost use Rattle.summary_chart.specs.Summaries.{steps_after_first, steps_of_items};
 
-use super::alike::{AlikeFront, find_onward};
+use super::alike::find_onward;
 use super::memo::{FEW_RULES, Memo, Work};
 use super::room::{Room, WalkRoom};
 use super::same_effect::Effects;
@@ -37,7 +37,7 @@ use annotated_trie::Annotated;
 use derivation::Key;
 use outside::Steps;
 use phoneme::{Letter, Memory};
-use search_frames::{lets_rule_in, Ahead, LetterTest, Way};
+use search_frames::{Ahead, LetterTest, Way};
 use shared_trie::Node;
 
 /// A site with what the line tells there, and the states that come after the forms that are looked at.
@@ -199,7 +199,7 @@ fn spread_part<L>(
         part: Some(part),
         end: site.place.at + front.taken,
         may_end,
-        phase: onward.here.site.lexicon.alike_phase(front.phase),
+        phase: front.phase,
     };
     let known = known_states(tries, memo, &work);
     let all = known.union(onward.after);
@@ -305,18 +305,7 @@ fn spread_changed<L>(
     let tries = lexicon.tries();
     let Some(may_end) = ahead.end_by_rules(lexicon, line, choices, place, front.taken) else {
         let rules = tries.choices_with(front.node, letter, steps);
-        if rules.len() <= 32 || !choices.list().is_empty() {
-            spread_rules(onward, front, rules, table, steps);
-            return Ok(());
-        }
-        for part in tries.parts(front.node) {
-            let some = tries.rules_of_part(*part);
-            if some.is_empty() || !lets_rule_in(lexicon.rules(), place, some[0]) {
-                continue;
-            }
-            let ruled = RuledFront { front, may_end: ahead.may_end };
-            spread_part(onward, ruled, *part, table, memo, steps)?;
-        }
+        spread_rules(onward, front, rules, table, steps);
         return Ok(());
     };
     let work = Work {
@@ -324,7 +313,7 @@ fn spread_changed<L>(
         part: None,
         end: place.at + front.taken,
         may_end,
-        phase: onward.here.site.lexicon.alike_phase(front.phase),
+        phase: front.phase,
     };
     let known = known_states(tries, memo, &work);
     let all = known.union(onward.after);
@@ -518,49 +507,13 @@ pub(crate) fn spread<L>(
         ahead: Ahead::of(site.lexicon.rules(), site.line, site.place),
     };
     find_onward(site, states, &mut room.fronts, steps)?;
-    let shares = shares_walks(here);
-    let mut gone: Vec<AlikeFront> = Vec::new(room.alloc);
-    let mut level = 0usize;
-    let mut end = 0usize;
-    // fronts of this level stand in room.fronts[level..end]
-    end = room.fronts.len();
-    while level < end {
-        let next_from = room.fronts.len();
-        for number in level..end {
-            let one = room.fronts[number];
-            let onward = Onward { here, after: one.states };
-            if is_spread(onward, &one.front, shares, &room.walking.walks, steps) {
-                continue;
-            }
-            spread_front(onward, &one.front, table, &mut room.walking.memo, steps)?;
-            gone.push(one)?;
-            let Some(longer) = longer_front(site, &one.front, here.ahead.limit, steps) else {
-                continue;
-            };
-            let mut found = false;
-            for k in next_from..room.fronts.len() {
-                let other = room.fronts[k];
-                if site.choices.list().is_empty() && other.front.node == longer.node && site.lexicon.alike_phase(other.front.phase) == site.lexicon.alike_phase(longer.phase) {
-                    room.fronts[k] = AlikeFront { front: other.front, states: other.states.union(one.states) };
-                    found = true;
-                    break;
-                }
-            }
-            if !found {
-                room.fronts.push(AlikeFront { front: longer, states: one.states })?;
-            }
-        }
-        level = next_from;
-        end = room.fronts.len();
-    }
-    if shares {
-        for number in 0..gone.len() {
-            let one = gone[number];
-            if one.front.taken == 0 { continue; }
-            let walk = Walk::from(here, &one.front);
-            let known = known_of_walk(&room.walking.walks, &walk);
-            room.walking.walks.keep(&walk, known.union(one.states))?;
-        }
+    for number in 0..room.fronts.len() {
+        let one = room.fronts[number];
+        let onward = Onward {
+            here,
+            after: one.states,
+        };
+        spread_phase(onward, &one.front, table, &mut room.walking, steps)?;
     }
     Ok(())
 }
