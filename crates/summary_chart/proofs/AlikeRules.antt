@@ -16,13 +16,13 @@ use Rattle.search_frames.specs.declared.letter_testing.LetterTest.TheVariants as
 use Rattle.search_frames.specs.Ahead.{MayBegin, RuleEnds, RuleLeadsTo, RuleStands}
 use Rattle.search_frames.specs.Configurations.{IsPossible, rules_in}
 use Rattle.search_frames.specs.Frames.{numbered_of}
-use Rattle.search_frames.specs.LetterTests.{DoAsRules, MayLeadTo}
+use Rattle.search_frames.specs.LetterTests.{DoAsRules}
 use Rattle.summary_chart.specs.declared.memo.Work.{Work}
 use Rattle.summary_chart.specs.declared.state_set.StateSet.{StateSet}
 use Rattle.summary_chart.specs.declared.table.Table.{Table}
 use Rattle.summary_chart.specs.Effects.{DoSame}
 use Rattle.summary_chart.specs.Memos.{LivesBy}
-use Rattle.summary_chart.specs.Onward.{Puts, PutsAt}
+use Rattle.summary_chart.specs.Onward.{LeadSame, Puts, PutsAt}
 use Rattle.summary_chart.specs.Spreading.{IsByRule}
 use Rattle.summary_chart.specs.StateSets.{HasState}
 use Rattle.summary_chart.specs.Summaries.{key_with}
@@ -94,25 +94,19 @@ module _ (rules : List ℕ) (count rule : ℕ) (low : count < length rules) (is 
     ]),
   )
 
-  -- at a place where all keys with the front do what their rules do
-  module _ (searched : SearchedLexicon) (line : Line) (choices : List Choice) (place : Configuration) (after : StateSet) (phase taken : ℕ) (may_end : Bool)
-      (begins : MayBegin (numbered_of searched place).entrance phase) (does : DoAsRules searched line choices (numbered_of searched place) taken may_end)
-      (some : All (λ r. 0 < r) rules)
+  -- at a place where rules that do the same lead on to the same
+  module _ (searched : SearchedLexicon) (line : Line) (choices : List Choice) (place : Configuration) (after : StateSet) (phase taken : ℕ)
+      (leads : LeadSame searched line choices (numbered_of searched place) phase taken) (some : All (λ r. 0 < r) rules)
       (possible : All (λ r. IsPossible searched line (numbered_of searched place) (key_with phase taken r)) rules) where
     put_alike : DoSame (rules_in searched) one rule → 0 < rule → (next : Configuration)
         → PutsAt searched line choices (numbered_of searched place) after (key_with phase taken rule) next
         → PutsAt searched line choices (numbered_of searched place) after (key_with phase taken one) next
     put_alike same above next put =
         let here = numbered_of searched place in
-        let key = key_with phase taken one in
         let some_one : 0 < one = All-contains (λ (r : ℕ). 0 < r) (take count rules) one (All-take (λ (r : ℕ). 0 < r) count rules some) among in
         let Possible = λ (r : ℕ). IsPossible searched line here (key_with phase taken r) in
         let possible_one = All-contains Possible (take count rules) one (All-take Possible count rules possible) among in
-        let led = leads_alike (rules_in searched) line (place.at + taken) phase one rule same next.at next.entrance
-        (leads_by_rule searched line choices place (key_with phase taken rule) next.at next.entrance above put.leads) in
-        let may : MayLeadTo searched line choices here key next.at next.entrance =
-        does key (test.LeadsOn next.at next.entrance) refl some_one possible_one begins led in
-        record { leads = may; number = put.number; has = put.has; is = put.is }
+        record { leads = leads one rule next.at next.entrance same some_one above possible_one put.leads; number = put.number; has = put.has; is = put.is }
 
     pub spread_passed : DoSame (rules_in searched) one rule → 0 < rule → (old new : Table)
         → Puts searched line choices (numbered_of searched place) after (IsByRule phase taken (take count rules)) old new
@@ -135,3 +129,12 @@ module _ (rules : List ℕ) (count rule : ℕ) (low : count < length rules) (is 
         )
       ];
     }
+
+-- they do so where all keys with the front do what their rules do
+pub lead_by_rules : (searched : SearchedLexicon) (line : Line) (choices : List Choice) (place : Configuration) (phase taken : ℕ) (may_end : Bool)
+    → MayBegin (numbered_of searched place).entrance phase → DoAsRules searched line choices (numbered_of searched place) taken may_end
+    → LeadSame searched line choices (numbered_of searched place) phase taken
+lead_by_rules searched line choices place phase taken may_end begins does one other at entrance same some_one some_other possible may =
+    does (key_with phase taken one) (test.LeadsOn at entrance) refl some_one possible begins
+    (leads_alike (rules_in searched) line (place.at + taken) phase one other same at entrance
+    (leads_by_rule searched line choices place (key_with phase taken other) at entrance some_other may))

@@ -26,6 +26,7 @@ mod RisingItems
 mod SameU
 mod SameEffects
 mod AlikeRules
+mod SameKeys
 mod Walks
 mod FrontKeys
 mod AlikeKeys

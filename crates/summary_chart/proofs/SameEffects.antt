@@ -1,6 +1,6 @@
 -- For each rule one that does the same: at first itself, and one that is put in place of another does the same. And of the rules
 -- that have the round, one that was looked at does the same, also after one more.
-use Rattle.std.proofs.Common.{◌≡◌, ◌≢◌, ◌⊎◌, ℕ, ◌<◌, ◌≤◌, inl, inr, List, [], ◌∷◌, ◌++◌, length, get_or, set, Contains, sym, ap, ◌∙◌, arith, length-set}
+use Rattle.std.proofs.Common.{◌≡◌, ◌≢◌, ◌⊎◌, ℕ, ◌<◌, ◌≤◌, inl, inr, List, [], ◌∷◌, ◌++◌, length, take, get_or, set, Contains, sym, ap, ◌∙◌, arith, length-set}
 use Rattle.std.proofs.lemmas.Bool.{cases_lt}
 use Rattle.std.proofs.lemmas.List.{get_or-set_same, get_or-set_other}
 use Rattle.std.proofs.lemmas.List.Elements.{Contains-push, Contains-append_left}
@@ -23,6 +23,7 @@ module _ (rules : RuleSet) where
   -- a rule does what it does, and so it goes from rule to rule
   pub does_itself : (one other : ℕ) → one ≡ other → DoSame rules one other
   does_itself one other same = record {
+    begins = ap (λ (r : ℕ). take 1 (rule_of rules r).u) same;
     before = ap (λ (r : ℕ). (rule_of rules r).before) same;
     w = ap (λ (r : ℕ). (rule_of rules r).w) same;
     v = ap (λ (r : ℕ). (rule_of rules r).v) same;
@@ -30,10 +31,11 @@ module _ (rules : RuleSet) where
   }
 
   pub does_back : (one other : ℕ) → DoSame rules one other → DoSame rules other one
-  does_back one other does = record { before = sym does.before; w = sym does.w; v = sym does.v; after = sym does.after }
+  does_back one other does = record { begins = sym does.begins; before = sym does.before; w = sym does.w; v = sym does.v; after = sym does.after }
 
   pub does_on : (one two three : ℕ) → DoSame rules one two → DoSame rules two three → DoSame rules one three
   does_on one two three first second = record {
+    begins = first.begins ∙ second.begins;
     before = first.before ∙ second.before;
     w = first.w ∙ second.w;
     v = first.v ∙ second.v;

@@ -7,6 +7,7 @@ use Rattle.text_definitions.specs.Lines.{Line}
 use Rattle.segmentation_definitions.specs.Items.{Choice}
 use Rattle.segmentation_definitions.specs.Listings.{Key}
 use Rattle.derivation.specs.declared.entrance.Entrance.{Entrance}
+use Rattle.annotated_trie.specs.AlikePhases.{IsAlike}
 use Rattle.annotated_trie.specs.Choices.{AnnotatedTrie, choices_of, choices_with}
 use Rattle.annotated_trie.specs.Searched.{SearchedLexicon, IsSearchedLexicon}
 use Rattle.answer_paths.specs.Following.{MayStand, step_at}
@@ -30,6 +31,8 @@ use Rattle.summary_chart.specs.Spreading.{IsByRule, place_with}
 use Rattle.summary_chart.specs.StateSets.{HasState}
 use Rattle.summary_chart.specs.Summaries.{key_with}
 use Rattle.summary_chart.specs.Tables.{IsIn}
+use Rattle.summary_chart.proofs.AlikeKeys.{alike_back}
+use Rattle.summary_chart.proofs.AlikeWorks.{rule_leads_alike}
 use Rattle.summary_chart.proofs.FrontKeys.{choice_possible}
 
 -- ---- choices
@@ -130,43 +133,45 @@ module _ (searched : SearchedLexicon) (line : Line) (choices : List Choice) (pla
   }
 
   module _ (is : IsSearchedLexicon searched) (work : Work) (taken : ℕ) (end : work.end ≡ place.at + taken) (of_trie : IsWork searched.tries work)
-      (after : StateSet) (rules : List ℕ) where
+      (phase : ℕ) (alike : IsAlike (rules_in searched) work.phase phase) (after : StateSet) (rules : List ℕ) where
     -- where the memo has all states that come after the form, nothing is left to be put into the table by rules of the work
     pub nothing_new : (table : Table) (memo : Memo) → AreSpread searched line table memo
         → ((number : ℕ) → HasState after number → IsKnownWith searched.tries memo work number)
         → ((rule : ℕ) → Contains rules rule → Contains (rules_at searched.tries work) rule)
-        → Puts searched line choices (numbered_of searched place) after (IsByRule work.phase taken rules) table table
+        → Puts searched line choices (numbered_of searched place) after (IsByRule phase taken rules) table table
     nothing_new table memo are has among = record {
       keeps = λ other there. there;
       adds = λ key next told put. added key next told put;
       only = λ other within there. inl there;
     }
       where
-        added : (key : Key) (next : Configuration) → IsByRule work.phase taken rules key
+        added : (key : Key) (next : Configuration) → IsByRule phase taken rules key
             → PutsAt searched line choices (numbered_of searched place) after key next → IsIn table next
         added key next (same_phase, same_taken, told) put =
             let of_work = among key.rule told in
-            let some = (rule_at_work searched work key.rule is of_trie of_work).0 in
+            let (some, within) = rule_at_work searched work key.rule is of_trie of_work in
             let here = leads_by_rule key next.at next.entrance some put.leads in
             let by_end = subst (λ (e : ℕ). RuleLeadsTo (rules_in searched) line e key.phase key.rule next.at next.entrance)
             (ap (λ (t : ℕ). place.at + t) same_taken ∙ sym end) here in
             let by_phase = subst (λ (p : ℕ). RuleLeadsTo (rules_in searched) line work.end p key.rule next.at next.entrance) same_phase by_end in
+            let by_work = rule_leads_alike (rules_in searched) line work.end phase work.phase key.rule (alike_back (rules_in searched) work.phase phase alike)
+            some within next.at next.entrance by_phase in
             let (done, known, same, has_number) = has put.number put.has in
-            let there = there_if_spread searched line table done work key.rule next.at put.number next.entrance (are.spread done known) same of_work by_phase has_number in
+            let there = there_if_spread searched line table done work key.rule next.at put.number next.entrance (are.spread done known) same of_work by_work has_number in
             subst (IsIn table) (λ i. record { at = next.at; entrance = next.entrance; state = sym put.is i }) there
 
     -- where every key with this front does what its rule does, each rule of the work that leads on was put into the table with the states that come
     -- after it, if all of them were looked at that may stand there
     pub newly_spread : (mid new : Table) (memo : Memo) (known all : StateSet) (may_end : Bool)
-        → IsFrontAt searched line (numbered_of searched place) work.phase taken work.node
-        → MayBegin (numbered_of searched place).entrance work.phase
+        → IsFrontAt searched line (numbered_of searched place) phase taken work.node
+        → MayBegin (numbered_of searched place).entrance phase
         → DoAsRules searched line choices (numbered_of searched place) taken may_end
         → AreSpread searched line mid memo
         → ((number : ℕ) → HasState known number → IsKnownWith searched.tries memo work number)
         → ((number : ℕ) → HasState all number ↔ (HasState known number ⊎ HasState after number))
         → ((rule : ℕ) → Contains (rules_at searched.tries work) rule → 0 < rule
-        → MayStand searched.lexicon line choices place.at (numbered_of searched place).entrance (key_with work.phase taken rule) → Contains rules rule)
-        → Puts searched line choices (numbered_of searched place) after (IsByRule work.phase taken rules) mid new
+        → MayStand searched.lexicon line choices place.at (numbered_of searched place).entrance (key_with phase taken rule) → Contains rules rule)
+        → Puts searched line choices (numbered_of searched place) after (IsByRule phase taken rules) mid new
         → IsSpread searched line new (record { work = work; states = all })
     newly_spread mid new memo known all may_end front begins does are has union looked puts rule at number entrance among leads in_all =
         elim ((union number).0 in_all) [
@@ -176,10 +181,11 @@ module _ (searched : SearchedLexicon) (line : Line) (choices : List Choice) (pla
               (there_if_spread searched line mid done work rule at number entrance (are.spread done is_known) same among leads had)
           | inr now ↦
               let here = numbered_of searched place in
-              let key = key_with work.phase taken rule in
-              let some = (rule_at_work searched work rule is of_trie among).0 in
-              let possible = choice_possible searched is line here work.phase taken work.node front rule (choice_at_work searched work rule is of_trie among) in
-              let by_end = subst (λ (e : ℕ). RuleLeadsTo (rules_in searched) line e work.phase rule at entrance) end leads in
+              let key = key_with phase taken rule in
+              let (some, within) = rule_at_work searched work rule is of_trie among in
+              let possible = choice_possible searched is line here phase taken work.node front rule (choice_at_work searched work rule is of_trie among) in
+              let by_phase = rule_leads_alike (rules_in searched) line work.end work.phase phase rule alike some within at entrance leads in
+              let by_end = subst (λ (e : ℕ). RuleLeadsTo (rules_in searched) line e phase rule at entrance) end by_phase in
               let may : MayLeadTo searched line choices here key at entrance = does key (test.LeadsOn at entrance) refl some possible begins by_end in
               puts.adds key (place_with at entrance number) (refl, refl, looked rule among some may.may.stands) (record { leads = may; number = number; has = now; is = refl })
         ]

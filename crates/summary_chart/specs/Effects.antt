@@ -1,10 +1,12 @@
--- Rules that do the same after a form, whatever their u, and which of them were looked at (own).
-use Rattle.std.specs.Prelude.{◌≡◌, ℕ, ◌+◌, ◌<◌, ◌≤◌, List, length, slice_index_or, Contains}
+-- Rules that do the same after a form, whatever else their u has than its first letter, and which of them were looked at (own).
+use Rattle.std.specs.Prelude.{◌≡◌, ℕ, ◌+◌, ◌<◌, ◌≤◌, List, length, take, slice_index_or, Contains}
 use Rattle.lexicon_definitions.specs.Lexicons.{RuleSet, rule_of}
 use Rattle.summary_chart.specs.declared.same_effect.Effects.{Effects}
 
--- the rules do the same: they follow the same phases, the same comes next in the line, and the same form may come after them
+-- the rules do the same: they follow the same phases, their u begin with the same letter or are both empty, the same comes next in the line,
+-- and the same form may come after them
 pub record DoSame (rules : RuleSet) (one other : ℕ) : Type 0 where
+  pub begins : take 1 (rule_of rules one).u ≡ take 1 (rule_of rules other).u
   pub before : (rule_of rules one).before ≡ (rule_of rules other).before
   pub w : (rule_of rules one).w ≡ (rule_of rules other).w
   pub v : (rule_of rules one).v ≡ (rule_of rules other).v

@@ -1,6 +1,6 @@
 -- What keys of a place do as far as the letters of the line, the blanks and the choices tell, whatever the grammar's state there: where they
 -- lead on to with states that come after them, and after which states the line goes further by them (own).
-use Rattle.std.specs.Prelude.{◌≡◌, ◌⊎◌, ◌↔◌, ℕ, IsTrue, Some, List}
+use Rattle.std.specs.Prelude.{◌≡◌, ◌<◌, ◌⊎◌, ◌↔◌, ℕ, IsTrue, Some, List}
 use Rattle.text_definitions.specs.Lines.{Line}
 use Rattle.segmentation_definitions.specs.Items.{Choice}
 use Rattle.segmentation_definitions.specs.Listings.{Key}
@@ -8,16 +8,18 @@ use Rattle.derivation.specs.declared.entrance.Entrance.{Entrance}
 use Rattle.phase_automaton.specs.Automata.{is_accepting}
 use Rattle.annotated_trie.specs.Searched.{SearchedLexicon}
 use Rattle.search_frames.specs.Ahead.{MayBegin}
-use Rattle.search_frames.specs.Configurations.{NumberedConfiguration}
+use Rattle.search_frames.specs.Configurations.{NumberedConfiguration, IsPossible, rules_in}
 use Rattle.search_frames.specs.Frames.{IsConfigurationIn, numbered_of}
 use Rattle.search_frames.specs.LetterTests.{MayEndLine, MayLeadTo}
 use Rattle.search_frames.specs.declared.configuration.Configuration.{Configuration}
 use Rattle.summary_chart.specs.declared.spreading.Onward.{Onward}
 use Rattle.summary_chart.specs.declared.state_set.StateSet.{StateSet}
 use Rattle.summary_chart.specs.declared.table.Table.{Table}
+use Rattle.summary_chart.specs.Effects.{DoSame}
 use Rattle.summary_chart.specs.Sites.{IsSiteAhead}
 use Rattle.summary_chart.specs.Spreading.{place_with}
 use Rattle.summary_chart.specs.StateSets.{HasState}
+use Rattle.summary_chart.specs.Summaries.{key_with}
 use Rattle.summary_chart.specs.Tables.{IsIn}
 
 -- a form of the phase may be entered at the place
@@ -32,6 +34,12 @@ pub record PutsAt (searched : SearchedLexicon) (line : Line) (choices : List Cho
   pub number : ℕ
   pub has : HasState after number
   pub is : next.state ≡ Some number
+
+-- of possible keys of the phase that take so many letters and whose rules do the same, one may lead on to a place where another may
+abbrev pub LeadSame : SearchedLexicon → Line → List Choice → NumberedConfiguration → ℕ → ℕ → Type 0
+LeadSame searched line choices here phase taken = (one other at : ℕ) (entrance : Entrance) → DoSame (rules_in searched) one other → 0 < one → 0 < other
+    → IsPossible searched line here (key_with phase taken one)
+    → MayLeadTo searched line choices here (key_with phase taken other) at entrance → MayLeadTo searched line choices here (key_with phase taken one) at entrance
 
 -- the places to which a key that is told by this may lead on were added to the table with each of the states, and no others
 pub record Puts (searched : SearchedLexicon) (line : Line) (choices : List Choice) (here : NumberedConfiguration) (after : StateSet)

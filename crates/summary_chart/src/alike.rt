@@ -28,7 +28,7 @@ fn do_alike(site: Site<'_>, one: &Front, other: &Front) -> bool
     ensures { OnTrue result (DoAlike site.entry.lexicon.now site.entry.choices.now one.now other.now) }
 {
     one.node == other.node
-        && site.choices.list().is_empty()
+        && site.is_free()
         && site.lexicon.alike_phase(one.phase) == site.lexicon.alike_phase(other.phase)
 }
 

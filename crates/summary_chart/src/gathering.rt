@@ -5,6 +5,7 @@ ghost use Rattle.search_frames.specs.Frames.{numbered_of};
 ghost use Rattle.search_frames.specs.Configurations.{IsPossible};
 ghost use Rattle.search_frames.specs.Costs.{HasAtMostRules};
 ghost use Rattle.search_frames.specs.WaysFrom.{IsWayFrom, key_of_way};
+ghost use Rattle.summary_chart.specs.Effects.{AreEffects};
 ghost use Rattle.summary_chart.specs.Fronts.{IsFrontAt};
 ghost use Rattle.summary_chart.specs.PlaceWays.{HasEachKey, IsLivingKey, IsLivingPart};
 ghost use Rattle.search_frames.specs.declared.frame.TheConstants.{NODES_OF_FRAME};
@@ -23,6 +24,7 @@ use super::alike::{AlikeFront, alike_at, begun_front};
 use super::living_work::living_after;
 use super::memo::{Memo, Work};
 use super::room::{Room, WalkRoom};
+use super::same_effect::Effects;
 use super::site::{Front, Site, SiteAhead};
 use super::state_set::StateSet;
 use super::state_steps::{accepted_states, accepting_states, states_after, states_into};
@@ -114,6 +116,45 @@ fn living_by_all<L>(
     living
 }
 
+/// The same where no choice is made: of rules that do the same, one is looked at. Refused only for want of memory.
+fn living_by_effects<L>(
+    here: SiteAhead<'_>,
+    front: &Front,
+    rules: &[u32],
+    table: &Table,
+    effects: &mut Effects,
+    steps: &mut Steps<L>,
+) -> Result<StateSet, Memory>
+    requires here { IsSiteAhead here }
+    requires free { here.site.choices.now ≡ [] }
+    requires limit { here.site.place.now.at + front.now.taken ≤ here.ahead.limit }
+    requires begins { MayBegin (numbered_of here.site.lexicon.now here.site.place.now).entrance front.now.phase }
+    requires rules { All (λ rule. 0 < rule) rules.now }
+    requires possible { All (λ rule. IsPossible here.site.lexicon.now here.site.line.now (numbered_of here.site.lexicon.now here.site.place.now) (record { phase = front.now.phase; taken = front.now.taken; rule = rule })) rules.now }
+    requires table { IsTable (leads_in here.site.lexicon.now) (length here.site.line.now.letters) table.now }
+    requires effects { AreEffects here.site.lexicon.now.lexicon.rules effects.old }
+    ensures effects { OnOk result (AreEffects here.entry.site.lexicon.now.lexicon.rules effects.new) }
+    ensures living { let site = here.entry.site in IfOk result (λ living. AreLivingBy site.lexicon.now site.line.now site.choices.now (numbered_of site.lexicon.now site.place.now) table.now (IsByRule front.now.phase front.now.taken rules.now) living) }
+    ensures steps { steps.new ≤ steps.old + length rules.now }
+{
+    let lexicon = here.site.lexicon;
+    effects.begin(lexicon.rules(), rules.len())?;
+    let mut living = StateSet::empty();
+    for rule in rules {
+        steps.tick();
+        if effects.repeats(lexicon.rules(), *rule) {
+            continue;
+        }
+        let key = Key {
+            phase: front.phase,
+            taken: front.taken,
+            rule: *rule,
+        };
+        living = living.union(living_by_key(here, key, table));
+    }
+    Ok(living)
+}
+
 /// The same for the key with this front that has no change, if a form ends at its node.
 fn living_unchanged(here: SiteAhead<'_>, front: &Front, table: &Table) -> StateSet
     requires here { IsSiteAhead here }
@@ -169,6 +210,11 @@ fn living_at_front<L>(
     };
     let Some(may_end) = ahead.end_by_rules(lexicon, line, choices, place, front.taken) else {
         let rules = lexicon.tries().choices_with(front.node, *letter, steps);
+        if here.site.is_free() {
+            let effects = &mut memo.effects;
+            let found = living_by_effects(here, front, rules, table, effects, steps)?;
+            return Ok(unchanged.union(found));
+        }
         return Ok(unchanged.union(living_by_all(here, front, rules, table, steps)));
     };
     let work = Work {

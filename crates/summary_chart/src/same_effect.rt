@@ -1,4 +1,4 @@
-ghost use Rattle.std.specs.Prelude.{◌≡◌, ◌+◌, ◌++◌, ◌∷◌, [], ◌≤◌, ℕ, List, length, Contains, IfOk, IfSome, OnOk};
+ghost use Rattle.std.specs.Prelude.{◌≡◌, ◌+◌, ◌++◌, ◌∷◌, [], ◌≤◌, ℕ, List, length, take, Contains, IfOk, IfSome, OnOk};
 ghost use Rattle.std.specs.Bool.{OnTrue};
 ghost use Rattle.lexicon_definitions.specs.Lexicons.{RuleSet as RuleSetValue, rule_of};
 ghost use Rattle.summary_chart.specs.Effects.{AreEffects, DoSame, HaveSameEffect, HaveLooked};
@@ -12,7 +12,7 @@ use std::cmp::Ordering;
 /// Rules are put in order by what they do once so many times as many were looked at as there are: that takes about as long.
 const TIMES_LOOKED_AT: usize = 8;
 
-/// Which rules do the same after a form, whatever their `u`: for each rule, by its number, one that does the same stands for it. And of
+/// Which rules do the same after a form, whatever else their `u` has than its first letter: for each rule, by its number, one that does the same stands for it. And of
 /// which rules one was looked at in this round: those for which the same one stands. At first there is none that stands for any.
 #[derive(Drop)]
 pub(crate) struct Effects {
@@ -20,6 +20,16 @@ pub(crate) struct Effects {
     seen: Vec<u32>,
     round: u32,
     looked_at: usize,
+}
+
+/// The first letter, if there is one.
+fn beginning(letters: &[Letter]) -> &[Letter]
+    ensures { result.now ≡ take 1 letters.now }
+{
+    match letters {
+        [] => &[],
+        [_, ..] => &letters[..1],
+    }
 }
 
 /// The rule with this number, counted from 1; none for 0, which stands for no change, and for a number past the last rule.
@@ -37,6 +47,10 @@ fn compare_effects(rules: &RuleSet, left: u32, right: u32) -> Ordering {
     match (rule_numbered(rules, left), rule_numbered(rules, right)) {
         (Some(one), Some(other)) => compare_letters(one.w.as_slice(), other.w.as_slice())
             .then_with(|| compare_letters(one.v.as_slice(), other.v.as_slice()))
+            .then_with(|| compare_letters(
+                beginning(one.u.as_slice()),
+                beginning(other.u.as_slice()),
+            ))
             .then(one.before.cmp(&other.before))
             .then(one.after.cmp(&other.after)),
         _ => left.cmp(&right),
@@ -61,6 +75,7 @@ fn do_same(rules: &RuleSet, one: u32, other: u32) -> bool
         && one.after == other.after
         && are_same(one.w.as_slice(), other.w.as_slice())
         && are_same(one.v.as_slice(), other.v.as_slice())
+        && are_same(beginning(one.u.as_slice()), beginning(other.u.as_slice()))
 }
 
 /// For each rule, by its number, the number of a rule that does the same after a form: for all that do one thing this is the same. No

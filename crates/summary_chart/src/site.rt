@@ -1,3 +1,6 @@
+ghost use Rattle.std.specs.Prelude.{◌≡◌, []};
+ghost use Rattle.std.specs.Bool.{OnTrue};
+
 use annotated_trie::Lexicon;
 use phoneme::Line;
 use reader_choices::Choices;
@@ -19,6 +22,15 @@ pub(crate) struct Site<'a> {
     pub line: &'a Line,
     pub choices: &'a Choices,
     pub place: &'a Configuration,
+}
+
+impl<'a> Site<'a> {
+    /// Whether no choice is made.
+    pub fn is_free(self) -> bool
+        ensures { OnTrue result (self.entry.choices.now ≡ []) }
+    {
+        self.choices.list().is_empty()
+    }
 }
 
 /// A site, and what the line tells of every form that begins there.

@@ -1,4 +1,4 @@
-ghost use Rattle.std.specs.Prelude.{[], ◌≡◌, ◌+◌, ◌*◌, ◌<◌, ◌≤◌, ℕ, Bool, length, slice_index_or, All, Contains, OnOk};
+ghost use Rattle.std.specs.Prelude.{[], ◌≡◌, ◌+◌, ◌*◌, ◌<◌, ◌≤◌, ℕ, length, slice_index_or, All, Contains, OnOk};
 ghost use Rattle.derivation.specs.Steps.{key_meant};
 ghost use Rattle.search_frames.specs.LetterTests.{DoAsRules};
 ghost use Rattle.search_frames.specs.Frames.{numbered_of};
@@ -17,7 +17,7 @@ ghost use Rattle.summary_chart.specs.declared.table.Table.{Table as TableValue};
 ghost use Rattle.summary_chart.specs.declared.walk_memo.Walk.{Walk as WalkValue};
 ghost use Rattle.summary_chart.specs.Effects.{AreEffects};
 ghost use Rattle.summary_chart.specs.Memos.{AreSpread, HasWorks, IsKnownWith, IsWork};
-ghost use Rattle.summary_chart.specs.Onward.{IsOnward, SpreadsOnward};
+ghost use Rattle.summary_chart.specs.Onward.{IsOnward, LeadSame, SpreadsOnward};
 ghost use Rattle.summary_chart.specs.Sites.{IsSite, IsSiteAhead};
 ghost use Rattle.summary_chart.specs.Tables.{IsTable};
 ghost use Rattle.summary_chart.specs.Spreading.{Spreads, EveryKey, OnlyKey, IsByRule, IsAtFront, IsInPhase, leads_in};
@@ -96,8 +96,8 @@ fn spread_rules<L>(
     }
 }
 
-/// The same where every key with this front does at the place what its rule does: of rules that do the same, one is looked at. Refused only
-/// for want of memory.
+/// The same where keys with this front whose rules do the same lead on to the same from the place: of such rules one is looked at. Refused
+/// only for want of memory.
 fn spread_effects<L>(
     onward: Onward<'_>,
     front: &Front,
@@ -110,7 +110,7 @@ fn spread_effects<L>(
     requires limit { onward.here.site.place.now.at + front.now.taken ≤ onward.here.ahead.limit }
     requires rules { All (λ rule. 0 < rule) rules.now }
     requires possible { All (λ rule. IsPossible onward.here.site.lexicon.now onward.here.site.line.now (numbered_of onward.here.site.lexicon.now onward.here.site.place.now) (record { phase = front.now.phase; taken = front.now.taken; rule = rule })) rules.now }
-    requires does { (may_end : Bool) × DoAsRules onward.here.site.lexicon.now onward.here.site.line.now onward.here.site.choices.now (numbered_of onward.here.site.lexicon.now onward.here.site.place.now) front.now.taken may_end }
+    requires leads { LeadSame onward.here.site.lexicon.now onward.here.site.line.now onward.here.site.choices.now (numbered_of onward.here.site.lexicon.now onward.here.site.place.now) front.now.phase front.now.taken }
     requires table { IsTable (leads_in onward.here.site.lexicon.now) (length onward.here.site.line.now.letters) table.old }
     requires effects { AreEffects onward.here.site.lexicon.now.lexicon.rules effects.old }
     ensures effects { OnOk result (AreEffects onward.entry.here.site.lexicon.now.lexicon.rules effects.new) }
@@ -199,7 +199,7 @@ fn spread_part<L>(
         part: Some(part),
         end: site.place.at + front.taken,
         may_end,
-        phase: front.phase,
+        phase: site.lexicon.alike_phase(front.phase),
     };
     let known = known_states(tries, memo, &work);
     let all = known.union(onward.after);
@@ -305,6 +305,10 @@ fn spread_changed<L>(
     let tries = lexicon.tries();
     let Some(may_end) = ahead.end_by_rules(lexicon, line, choices, place, front.taken) else {
         let rules = tries.choices_with(front.node, letter, steps);
+        if onward.here.site.is_free() {
+            spread_effects(onward, front, rules, table, &mut memo.effects, steps)?;
+            return Ok(());
+        }
         spread_rules(onward, front, rules, table, steps);
         return Ok(());
     };
@@ -313,7 +317,7 @@ fn spread_changed<L>(
         part: None,
         end: place.at + front.taken,
         may_end,
-        phase: front.phase,
+        phase: lexicon.alike_phase(front.phase),
     };
     let known = known_states(tries, memo, &work);
     let all = known.union(onward.after);

@@ -49,7 +49,7 @@ pub(crate) fn shares_walks(here: SiteAhead<'_>) -> bool
     requires { IsSiteAhead here }
     ensures { OnTrue result (FitWithLetter here.entry) }
 {
-    here.site.choices.list().is_empty() && here.ahead.enters
+    here.site.is_free() && here.ahead.enters
 }
 
 /// A walk that was made, and the states that it gave.

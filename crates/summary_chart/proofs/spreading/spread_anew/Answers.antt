@@ -7,6 +7,7 @@ use Rattle.search_frames.specs.Frames.{numbered_of}
 use Rattle.summary_chart.specs.Onward.{Puts}
 use Rattle.summary_chart.specs.Spreading.{IsByRule}
 use Rattle.summary_chart.specs.Summaries.{key_with}
+use Rattle.summary_chart.proofs.AlikeRules.{lead_by_rules}
 use Rattle.summary_chart.proofs.FrontKeys.{front_node, choices_possible, few_written}
 use Rattle.summary_chart.proofs.PartRules.{written_puts}
 use Rattle.summary_chart.proofs.SpreadMemos.{all_grown, choice_if_written, choice_numbered}
@@ -27,6 +28,12 @@ spread_effects-requires-clause-possible g c =
     c.choices_with-rules.ensures.value ∙ ap (λ (t : AnnotatedTrie). choices_with t c.args.ruled.front.now.node c.args.letter) c.tries-tries.ensures.value in
     subst (All (λ (rule : ℕ). IsPossible searched line here (key_with c.args.ruled.front.now.phase c.args.ruled.front.now.taken rule))) (sym rules)
     (choices_possible searched c.requires.onward.here.site.searched line here c.args.ruled.front.now.phase c.args.ruled.front.now.taken c.args.ruled.front.now.node c.requires.front c.args.letter)
+
+pub spread_effects-requires-clause-leads : goal.spread_effects-requires-clause-leads
+spread_effects-requires-clause-leads g c =
+    let site = c.args.onward.here.site in
+    let front = c.args.ruled.front.now in
+    lead_by_rules site.lexicon.now site.line.now site.choices.now site.place.now front.phase front.taken c.args.ruled.may_end c.requires.onward.begins c.requires.does
 
 pub spread_effects-requires-clause-rules : goal.spread_effects-requires-clause-rules
 spread_effects-requires-clause-rules g c =

@@ -46,7 +46,7 @@ loop-rule-preserved-then-repeats g c =
           (c.repeats.ensures.looked (take c.loop-rule.rule-index rules) have));
       lawful = inv.lawful;
       spreads = spread_passed rules c.loop-rule.rule-index rule c.loop-rule-test.true is one.0 one.1 c.args.onward.here.site.lexicon.now c.args.onward.here.site.line.now c.args.onward.here.site.choices.now
-          c.args.onward.here.site.place.now c.args.onward.after c.args.front.now.phase c.args.front.now.taken c.requires.does.0 c.requires.onward.begins c.requires.does.1
+          c.args.onward.here.site.place.now c.args.onward.after c.args.front.now.phase c.args.front.now.taken c.requires.leads
           c.requires.rules c.requires.possible (subst (λ (s : RuleSet). DoSame s one.0 rule) value one.2) above c.args.table.now c.loop-rule.table inv.spreads;
       spent = omega (arith, inv.spent, c.tick.ensures);
     }

@@ -13,6 +13,7 @@ use Rattle.summary_chart.specs.Onward.{Puts}
 use Rattle.summary_chart.specs.Spreading.{IsByRule}
 use Rattle.summary_chart.specs.StateSets.{HasState}
 use Rattle.summary_chart.specs.Summaries.{key_with}
+use Rattle.summary_chart.proofs.AlikeRules.{lead_by_rules}
 use Rattle.summary_chart.proofs.FrontKeys.{choice_possible, front_node}
 use Rattle.summary_chart.proofs.SpreadMemos.{all_grown, all_with, choice_at_work, newly_spread, nothing_new, rule_at_work}
 use Rattle.summary_chart.proofs.spreading.spread_part.Goals as goal
@@ -25,9 +26,9 @@ known_states-known-requires-clause-work g c =
       part = Some c.args.part;
       end = c.args.onward.here.site.place.now.at + c.args.ruled.front.now.taken;
       may_end = c.args.ruled.may_end;
-      phase = c.args.ruled.front.now.phase;
+      phase = c.alike_phase.result;
     } in
-    let there = front_node searched c.requires.onward.here.site.searched c.args.onward.here.site.line.now (numbered_of searched c.args.onward.here.site.place.now) work.phase c.args.ruled.front.now.taken work.node c.requires.front in
+    let there = front_node searched c.requires.onward.here.site.searched c.args.onward.here.site.line.now (numbered_of searched c.args.onward.here.site.place.now) c.args.ruled.front.now.phase c.args.ruled.front.now.taken work.node c.requires.front in
     subst (λ (t : AnnotatedTrie). IsWork t work) (sym c.tries-tries.ensures.value) (record { node = there; part = c.requires.part })
 
 pub known_states-known-requires-clause-works : goal.known_states-known-requires-clause-works
@@ -41,6 +42,12 @@ rules_of_part-rules-requires g c =
     subst (λ (t : AnnotatedTrie). c.args.part < length t.part_rules) (sym c.tries-tries.ensures.value)
     (All-contains (λ (part : ℕ). part < length searched.tries.part_rules) _ c.args.part (c.requires.onward.here.site.searched.tries.parts c.args.ruled.front.now.node there).there c.requires.part)
 
+pub spread_effects-requires-clause-leads : goal.spread_effects-requires-clause-leads
+spread_effects-requires-clause-leads g c =
+    let site = c.args.onward.here.site in
+    let front = c.args.ruled.front.now in
+    lead_by_rules site.lexicon.now site.line.now site.choices.now site.place.now front.phase front.taken c.args.ruled.may_end c.requires.onward.begins c.requires.does
+
 pub spread_effects-requires-clause-rules : goal.spread_effects-requires-clause-rules
 spread_effects-requires-clause-rules g c =
     let searched = c.args.onward.here.site.lexicon.now in
@@ -49,9 +56,9 @@ spread_effects-requires-clause-rules g c =
       part = Some c.args.part;
       end = c.args.onward.here.site.place.now.at + c.args.ruled.front.now.taken;
       may_end = c.args.ruled.may_end;
-      phase = c.args.ruled.front.now.phase;
+      phase = c.alike_phase.result;
     } in
-    let there = front_node searched c.requires.onward.here.site.searched c.args.onward.here.site.line.now (numbered_of searched c.args.onward.here.site.place.now) work.phase c.args.ruled.front.now.taken work.node c.requires.front in
+    let there = front_node searched c.requires.onward.here.site.searched c.args.onward.here.site.line.now (numbered_of searched c.args.onward.here.site.place.now) c.args.ruled.front.now.phase c.args.ruled.front.now.taken work.node c.requires.front in
     let rules : c.rules_of_part-rules.result.now ≡ rules_of_part searched.tries c.args.part =
     c.rules_of_part-rules.ensures.value ∙ ap (λ (t : AnnotatedTrie). rules_of_part t c.args.part) c.tries-tries.ensures.value in
     subst (All (λ (rule : ℕ). 0 < rule)) (sym rules)
@@ -69,15 +76,15 @@ spread_effects-requires-clause-possible g c =
       part = Some c.args.part;
       end = c.args.onward.here.site.place.now.at + c.args.ruled.front.now.taken;
       may_end = c.args.ruled.may_end;
-      phase = c.args.ruled.front.now.phase;
+      phase = c.alike_phase.result;
     } in
-    let there = front_node searched is line here work.phase c.args.ruled.front.now.taken work.node c.requires.front in
+    let there = front_node searched is line here c.args.ruled.front.now.phase c.args.ruled.front.now.taken work.node c.requires.front in
     let rules : c.rules_of_part-rules.result.now ≡ rules_of_part searched.tries c.args.part =
     c.rules_of_part-rules.ensures.value ∙ ap (λ (t : AnnotatedTrie). rules_of_part t c.args.part) c.tries-tries.ensures.value in
-    let Possible : ℕ → Type 0 = λ rule. IsPossible searched line here (key_with work.phase c.args.ruled.front.now.taken rule) in
+    let Possible : ℕ → Type 0 = λ rule. IsPossible searched line here (key_with c.args.ruled.front.now.phase c.args.ruled.front.now.taken rule) in
     subst (All Possible) (sym rules)
     (All-from_Contains Possible (rules_of_part searched.tries c.args.part)
-    (λ rule among. choice_possible searched is line here work.phase c.args.ruled.front.now.taken work.node c.requires.front rule
+    (λ rule among. choice_possible searched is line here c.args.ruled.front.now.phase c.args.ruled.front.now.taken work.node c.requires.front rule
     (choice_at_work searched work rule is (record { node = there; part = c.requires.part }) among)))
 
 pub keep-requires : goal.keep-requires
@@ -88,9 +95,9 @@ keep-requires g c =
       part = Some c.args.part;
       end = c.args.onward.here.site.place.now.at + c.args.ruled.front.now.taken;
       may_end = c.args.ruled.may_end;
-      phase = c.args.ruled.front.now.phase;
+      phase = c.alike_phase.result;
     } in
-    let there = front_node searched c.requires.onward.here.site.searched c.args.onward.here.site.line.now (numbered_of searched c.args.onward.here.site.place.now) work.phase c.args.ruled.front.now.taken work.node c.requires.front in
+    let there = front_node searched c.requires.onward.here.site.searched c.args.onward.here.site.line.now (numbered_of searched c.args.onward.here.site.place.now) c.args.ruled.front.now.phase c.args.ruled.front.now.taken work.node c.requires.front in
     subst (λ (t : AnnotatedTrie). IsWork t work) (sym c.tries-tries.ensures.value) (record { node = there; part = c.requires.part })
 
 pub returns-then-eq-clause-spreads : goal.returns-then-eq-clause-spreads
@@ -105,14 +112,14 @@ returns-then-eq-clause-spreads g c =
       part = Some c.args.part;
       end = c.args.onward.here.site.place.now.at + c.args.ruled.front.now.taken;
       may_end = c.args.ruled.may_end;
-      phase = c.args.ruled.front.now.phase;
+      phase = c.alike_phase.result;
     } in
-    let there = front_node searched is line (numbered_of searched place) work.phase c.args.ruled.front.now.taken work.node c.requires.front in
+    let there = front_node searched is line (numbered_of searched place) c.args.ruled.front.now.phase c.args.ruled.front.now.taken work.node c.requires.front in
     let has : (number : ℕ) → HasState c.known_states-known.result number → IsKnownWith searched.tries memo work number =
     λ number in_known. subst (λ (t : AnnotatedTrie). IsKnownWith t memo work number) c.tries-tries.ensures.value (c.known_states-known.ensures number in_known) in
     let same : c.union-all.result ≡ c.known_states-known.result = search rules in
     nothing_new searched line c.args.onward.here.site.choices.now place is work c.args.ruled.front.now.taken refl (record { node = there; part = c.requires.part })
-    c.args.onward.after (rules_of_part searched.tries c.args.part) c.args.table.now memo c.requires.memo
+    c.args.ruled.front.now.phase c.alike_phase.ensures.alike c.args.onward.after (rules_of_part searched.tries c.args.part) c.args.table.now memo c.requires.memo
     (λ number in_after. has number (subst (λ (set : StateSet). HasState set number) same ((c.union-all.ensures number).1 (inr in_after))))
     (λ rule among. among)
 
@@ -129,9 +136,9 @@ returns-clause-memo g c =
       part = Some c.args.part;
       end = c.args.onward.here.site.place.now.at + c.args.ruled.front.now.taken;
       may_end = c.args.ruled.may_end;
-      phase = c.args.ruled.front.now.phase;
+      phase = c.alike_phase.result;
     } in
-    let there = front_node searched is line (numbered_of searched place) work.phase c.args.ruled.front.now.taken work.node c.requires.front in
+    let there = front_node searched is line (numbered_of searched place) c.args.ruled.front.now.phase c.args.ruled.front.now.taken work.node c.requires.front in
     let of_trie : IsWork searched.tries work = record { node = there; part = c.requires.part } in
     let old = c.args.table.now in
     let new = c.spread_effects.new.table in
@@ -139,10 +146,10 @@ returns-clause-memo g c =
     λ number in_known. subst (λ (t : AnnotatedTrie). IsKnownWith t memo work number) c.tries-tries.ensures.value (c.known_states-known.ensures number in_known) in
     let rules : c.rules_of_part-rules.result.now ≡ rules_of_part searched.tries c.args.part =
     c.rules_of_part-rules.ensures.value ∙ ap (λ (t : AnnotatedTrie). rules_of_part t c.args.part) c.tries-tries.ensures.value in
-    let spreads = subst (λ (some : List ℕ). Puts searched line choices (numbered_of searched place) c.args.onward.after (IsByRule work.phase c.args.ruled.front.now.taken some) old new)
+    let spreads = subst (λ (some : List ℕ). Puts searched line choices (numbered_of searched place) c.args.onward.after (IsByRule c.args.ruled.front.now.phase c.args.ruled.front.now.taken some) old new)
     rules c.in_ok-spread_effects.ensures.spreads in
     all_with searched line new work c.union-all.result memo c.keep.new.self c.in_ok-keep.ensures.keeps of_trie
-    (newly_spread searched line choices place is work c.args.ruled.front.now.taken refl of_trie c.args.onward.after (rules_of_part searched.tries c.args.part) old new memo
+    (newly_spread searched line choices place is work c.args.ruled.front.now.taken refl of_trie c.args.ruled.front.now.phase c.alike_phase.ensures.alike c.args.onward.after (rules_of_part searched.tries c.args.part) old new memo
     c.known_states-known.result c.union-all.result c.args.ruled.may_end c.requires.front c.requires.onward.begins c.requires.does c.requires.memo has c.union-all.ensures
     (λ rule among some stands. among) spreads)
     (subst (AreEffects (rules_in searched)) (sym c.in_ok-keep.ensures.effects) c.in_ok-spread_effects.ensures.effects)

@@ -1,7 +1,6 @@
 -- A form that takes a letter may be entered, no blank stands before the limit, and where no choice is made each is allowed.
-use Rattle.std.proofs.Common.{◌≡◌, ◌∷◌, [], List, length, refl, sym, subst, arith, rules}
+use Rattle.std.proofs.Common.{List, length, sym, subst, rules}
 use Rattle.std.proofs.lemmas.Bool.{OnTrue_from}
-use Rattle.std.proofs.lemmas.Grind.{common_steps}
 use Rattle.segmentation_definitions.specs.Items.{Choice}
 use Rattle.segmentation_definitions.specs.LocalTests.{Allows}
 use Rattle.answer_paths.specs.Following.{is_start, placed_at}
@@ -10,20 +9,15 @@ use Rattle.search_frames.specs.Frames.{numbered_of}
 use Rattle.search_frames.proofs.AheadTests.{enters_with_letter, no_blank_inside}
 use Rattle.summary_chart.proofs.walk_memo.shares_walks.Goals as goal
 
--- a list with no element is empty
-none_if_empty : (choices : List Choice) → length choices ≡ 0 → choices ≡ []
-none_if_empty [] none = refl
-none_if_empty (first ∷ rest) none = absurd (omega (arith, none))
-
-pub returns-then-is_empty : goal.returns-then-is_empty
-returns-then-is_empty c =
+pub returns-then-is_free : goal.returns-then-is_free
+returns-then-is_free c =
     let here = c.args.here in
     let searched = here.site.lexicon.now in
     let line = here.site.line.now in
     let choices = here.site.choices.now in
     let stands = numbered_of searched here.site.place.now in
     let ahead = c.requires.ahead in
-    let none : choices ≡ [] = grind (arith, common_steps, none_if_empty) in
+    let none = c.if-is_free.ensures in
     OnTrue_from here.ahead.enters _ (λ enters key some near possible begins. record {
       number = possible.number;
       within = possible.within;
