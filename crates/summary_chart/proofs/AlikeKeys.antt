@@ -1,13 +1,12 @@
 -- Forms of a phase do from a place what forms of another phase do that has the same front there and that no rule tells from it, where no
 -- choice is made.
-use Rattle.std.proofs.Common.{◌≡◌, ◌⊎◌, inl, inr, ℕ, zero, suc, ◌<◌, ◌≤◌, Some, List, [], length, take, drop, refl, sym, subst, ◌∙◌, arith}
+use Rattle.std.proofs.Common.{◌≡◌, ◌⊎◌, inl, inr, ℕ, zero, suc, ◌+◌, ◌-◌, ◌<◌, ◌≤◌, Some, List, [], length, refl, sym, subst, ◌∙◌, arith}
 use Rattle.std.proofs.lemmas.Bool.{cases_lt}
 use Rattle.std.proofs.lemmas.List.Elements.{All-get_or}
 use Rattle.std.specs.Prelude.{slice_index}
 use Rattle.text_definitions.specs.Lines.{Line}
 use Rattle.lexicon_definitions.specs.Lexicons.{IsPlain, RuleSet, rule_of}
 use Rattle.lexicon_definitions.specs.Rules.{HasPhase, Rule, no_change}
-use Rattle.lexicon_definitions.proofs.TrieWalks.{walk-two}
 use Rattle.lexicon_definitions.specs.Tries.{walk}
 use Rattle.segmentation_definitions.specs.Configurations.{Entrance, Lead, Plain, Start}
 use Rattle.segmentation_definitions.specs.Derivations.{Step}
@@ -16,19 +15,18 @@ use Rattle.segmentation_definitions.specs.Listings.{Key}
 use Rattle.segmentation_definitions.specs.LocalTests.{Allows}
 use Rattle.derivation.specs.declared.entrance.Entrance.{Entrance as ProgramEntrance}
 use Rattle.answer_paths.specs.Following.{MayEnter, MayStand, is_start, placed_at}
-use Rattle.answer_paths.specs.Fronts.{supplied}
 use Rattle.annotated_trie.specs.AlikePhases.{IsAlike}
 use Rattle.annotated_trie.specs.Searched.{IsSearchedLexicon, SearchedLexicon}
 use Rattle.search_frames.specs.Ahead.{MayBegin}
 use Rattle.search_frames.specs.Configurations.{IsPossible, NumberedConfiguration, rules_in}
 use Rattle.search_frames.specs.LetterTests.{MayEndLine, MayLeadTo}
 use Rattle.search_frames.proofs.PossibleKeys.{possible_walks, root_in}
-use Rattle.summary_chart.specs.AlikeFronts.{DoAlike, DoesAs, IsFirst}
+use Rattle.summary_chart.specs.AlikeFronts.{DoAlike, DoesAs}
 use Rattle.summary_chart.specs.Fronts.{IsFrontAt, front_after}
 use Rattle.summary_chart.specs.Summaries.{key_with}
 use Rattle.summary_chart.specs.declared.site.Front.{Front}
 use Rattle.summary_chart.proofs.FrontKeys.{choice_if_possible, choice_possible, ends_if_unchanged, unchanged_possible}
-use Rattle.summary_chart.proofs.Walks.{first_entered}
+use Rattle.summary_chart.proofs.LongerFronts.{back_to_front, on_from_front}
 
 -- ---- phases that no rule tells apart
 
@@ -58,13 +56,20 @@ enters_alike rules (Plain letter) one other same begins enters = subst (λ (form
 enters_alike rules (Lead v after) one other same begins enters = begins
 
 module _ (searched : SearchedLexicon) (line : Line) (choices : List Choice) (here : NumberedConfiguration) where
-  -- forms of the phase of a front do what those of an alike front's phase do
-  pub does_alike : (one other : Front) → IsFirst searched line choices here other → DoAlike searched choices one other
-      → DoesAs searched line choices here one other.phase
-  does_alike one other is alike = record {
-    begins = is.own.begins;
-    leads = subst (IsFrontAt searched line here other.phase 0) (sym alike.node) is.own.leads;
-    alike = inr (alike.free, alike.alike);
+  -- forms of a phase that do what those of a front's phase do, do what those of an alike front's phase do
+  pub does_alike : (one other : Front) (phase : ℕ) → DoAlike searched choices one other → DoesAs searched line choices here other phase
+      → DoesAs searched line choices here one phase
+  does_alike one other phase alike does = record {
+    begins = does.begins;
+    leads = subst (λ (taken : ℕ). IsFrontAt searched line here phase taken one.node) (sym alike.taken)
+        (subst (IsFrontAt searched line here phase other.taken) (sym alike.node) does.leads);
+    alike = inr (
+      alike.free,
+      elim does.alike [
+        | inl same ↦ subst (IsAlike (rules_in searched) one.phase) (sym same) alike.alike
+        | inr (free, as_other) ↦ alike_through (rules_in searched) one.phase other.phase phase alike.alike as_other
+      ],
+    );
   }
 
   module _ (is : IsSearchedLexicon searched) (front : Front) (one other : ℕ) (as_one : DoesAs searched line choices here front one)
@@ -83,21 +88,23 @@ module _ (searched : SearchedLexicon) (line : Line) (choices : List Choice) (her
           ]
     ]
 
-    -- where the front of the one phase leads, there leads that of the other
-    front_alike : (taken node : ℕ) → IsFrontAt searched line here one taken node → IsFrontAt searched line here other taken node
-    front_alike taken node is_front =
-        let letters = take taken (drop here.at line.letters) in
+    -- where a longer front of the one phase leads, there leads that of the other
+    pub front_alike : (taken node : ℕ) → front.taken ≤ taken → IsFrontAt searched line here one taken node → IsFrontAt searched line here other taken node
+    front_alike taken node longer is_front =
+        let further = taken - front.taken in
+        let count : front.taken + further ≡ taken = omega (arith, longer) in
+        let Leads = λ (phase taken : ℕ). walk searched.tries.trie.rows (root_in searched phase) (front_after line here taken) ≡ Some node in
         record {
           named = as_other.leads.named;
           within = is_front.within;
-          walked = walk-two searched.tries.trie.rows (supplied here.entrance) letters (root_in searched other) front.node (first_entered searched is line here other 0 front.node as_other.leads)
-              ∙ sym (walk-two searched.tries.trie.rows (supplied here.entrance) letters (root_in searched one) front.node (first_entered searched is line here one 0 front.node as_one.leads))
-              ∙ is_front.walked;
+          walked = subst (Leads other) count
+              (on_from_front searched line here other front.taken front.node as_other.leads further node
+              (back_to_front searched line here one front.taken front.node as_one.leads further node (subst (Leads one) (sym count) is_front.walked)));
         }
 
     -- a key that is possible
-    possible_alike : (key : Key) → key.phase ≡ one → IsPossible searched line here key → IsPossible searched line here (key_with other key.taken key.rule)
-    possible_alike key same possible =
+    pub possible_alike : (key : Key) → key.phase ≡ one → front.taken ≤ key.taken → IsPossible searched line here key → IsPossible searched line here (key_with other key.taken key.rule)
+    possible_alike key same longer possible =
         let (node, walked) = possible_walks searched is line here key possible in
         let as_key : key ≡ key_with one key.taken key.rule = λ i. record { phase = same i; taken = key.taken; rule = key.rule } in
         let own = subst (IsPossible searched line here) as_key possible in
@@ -106,7 +113,7 @@ module _ (searched : SearchedLexicon) (line : Line) (choices : List Choice) (her
           within = possible.within;
           walked = subst (λ (phase : ℕ). walk searched.tries.trie.rows (root_in searched phase) (front_after line here key.taken) ≡ Some node) same walked;
         } in
-        let is_other = front_alike key.taken node is_front in
+        let is_other = front_alike key.taken node longer is_front in
         elim (cases_lt 0 key.rule) [
           | inl some ↦
               choice_possible searched is line here other key.taken node is_other key.rule
@@ -120,13 +127,13 @@ module _ (searched : SearchedLexicon) (line : Line) (choices : List Choice) (her
         ]
 
     -- a step that may stand there
-    pub stands_alike : (key : Key) → key.phase ≡ one → MayStand searched.lexicon line choices here.at here.entrance key
+    pub stands_alike : (key : Key) → key.phase ≡ one → front.taken ≤ key.taken → MayStand searched.lexicon line choices here.at here.entrance key
         → MayStand searched.lexicon line choices here.at here.entrance (key_with other key.taken key.rule)
-    stands_alike key same stands = elim same_or_alike [
+    stands_alike key same longer stands = elim same_or_alike [
       | inl one_is ↦
           subst (MayStand searched.lexicon line choices here.at here.entrance) (λ i. record { phase = (same ∙ one_is) i; taken = key.taken; rule = key.rule }) stands
       | inr (free, alike) ↦
-          let possible = possible_alike key same (record { number = stands.number; within = stands.within; form = stands.form }) in
+          let possible = possible_alike key same longer (record { number = stands.number; within = stands.within; form = stands.form }) in
           record {
             number = stands.number;
             within = stands.within;
@@ -143,10 +150,10 @@ module _ (searched : SearchedLexicon) (line : Line) (choices : List Choice) (her
     ]
 
     -- where a key may lead on to, the same of the other phase may lead on to
-    pub may_lead_alike : (key : Key) → key.phase ≡ one → (at : ℕ) (entrance : ProgramEntrance) → MayLeadTo searched line choices here key at entrance
+    pub may_lead_alike : (key : Key) → key.phase ≡ one → front.taken ≤ key.taken → (at : ℕ) (entrance : ProgramEntrance) → MayLeadTo searched line choices here key at entrance
         → MayLeadTo searched line choices here (key_with other key.taken key.rule) at entrance
-    may_lead_alike key same at entrance may = record {
-      may = record { stands = stands_alike key same may.may.stands; inner = may.may.inner; left = may.may.left };
+    may_lead_alike key same longer at entrance may = record {
+      may = record { stands = stands_alike key same longer may.may.stands; inner = may.may.inner; left = may.may.left };
       at_is = may.at_is;
       entrance_is = may.entrance_is;
       within = may.within;
@@ -154,9 +161,9 @@ module _ (searched : SearchedLexicon) (line : Line) (choices : List Choice) (her
     }
 
     -- and where a key may end the line
-    pub may_end_alike : (key : Key) → key.phase ≡ one → MayEndLine searched line choices here key → MayEndLine searched line choices here (key_with other key.taken key.rule)
-    may_end_alike key same may = record {
-      stands = stands_alike key same may.stands;
+    pub may_end_alike : (key : Key) → key.phase ≡ one → front.taken ≤ key.taken → MayEndLine searched line choices here key → MayEndLine searched line choices here (key_with other key.taken key.rule)
+    may_end_alike key same longer may = record {
+      stands = stands_alike key same longer may.stands;
       final_rule = may.final_rule;
       all = may.all;
       blanks_before = may.blanks_before;

@@ -36,7 +36,8 @@ module _ (searched : SearchedLexicon) (line : Line) (choices : List Choice) (her
           taken = near.taken_is;
           own = record {
             begins = subst (MayBegin here.entrance) (sym near.phase_is) begins;
-            leads = subst (λ (p : ℕ). IsFrontAt searched line here p 0 front.node) (sym near.phase_is) near.is;
+            leads = subst (λ (taken : ℕ). IsFrontAt searched line here front.phase taken front.node) (sym near.taken_is)
+                (subst (λ (p : ℕ). IsFrontAt searched line here p 0 front.node) (sym near.phase_is) near.is);
             alike = inl refl;
           };
         },
@@ -97,7 +98,7 @@ module _ (searched : SearchedLexicon) (line : Line) (choices : List Choice) (her
         newly : IsCovered searched line choices here states new one.front.phase
         newly = record {
           does = subst (λ (f : Front). DoesAs searched line choices here f one.front.phase) (sym front_is)
-              (does_alike searched line choices here (front_at fronts number).front one.front first alike);
+              (does_alike searched line choices here (front_at fronts number).front one.front one.front.phase alike first.own);
           states = λ to led. (union to).1 (inr ((after to).1 led));
         }
 

@@ -29,13 +29,14 @@ mod AlikeRules
 mod SameKeys
 mod Walks
 mod FrontKeys
+mod LongerFronts
 mod AlikeKeys
 mod Changes
 mod WalkedFronts
 mod SpreadWalks
 mod WalkSteps
 mod AlikeLists
-mod AlikeSpreads
+mod LevelFronts
 mod AlikeWorks
 mod LivingKeys
 mod PartRules

@@ -1,8 +1,9 @@
 -- What the memo of walks keeps on the way forward: it stays so while the table grows, what it has is there already, and what was spread from
 -- a front on serves wherever a walk goes on from its node.
-use Rattle.std.proofs.Common.{◌≡◌, inl, inr, ℕ, ◌+◌, ◌-◌, ◌<◌, refl, sym, subst, arith}
+use Rattle.std.proofs.Common.{◌≡◌, inl, inr, ℕ, ◌+◌, ◌-◌, ◌<◌, ◌≤◌, refl, sym, subst, arith}
 use Rattle.text_definitions.specs.Lines.{Line}
 use Rattle.segmentation_definitions.specs.Listings.{Key}
+use Rattle.derivation.specs.declared.entrance.Entrance.{Entrance}
 use Rattle.annotated_trie.specs.Searched.{SearchedLexicon}
 use Rattle.search_frames.specs.declared.configuration.Configuration.{Configuration}
 use Rattle.search_frames.specs.Ahead.{MayBegin}
@@ -22,7 +23,7 @@ use Rattle.summary_chart.specs.Fronts.{IsFrontAt}
 use Rattle.summary_chart.specs.Memos.{AreSpread}
 use Rattle.summary_chart.specs.Sites.{IsSiteAhead}
 use Rattle.summary_chart.specs.Onward.{Puts, PutsAt}
-use Rattle.summary_chart.specs.Spreading.{IsInPhase, place_with}
+use Rattle.summary_chart.specs.Spreading.{place_with}
 use Rattle.summary_chart.specs.StateSets.{HasState}
 use Rattle.summary_chart.specs.Summaries.{key_with}
 use Rattle.summary_chart.specs.Tables.{IsIn}
@@ -101,11 +102,13 @@ module _ (here : SiteAhead) (is : IsSiteAhead here) (front : Front) (from : Walk
           let there = are (record { walk = from; states = states }) known further reached key.rule next.at put.number next.entrance on change on_it has_number in
           subst (IsIn table) (λ i. record { at = next.at; entrance = next.entrance; state = sym put.is i }) there
 
-  -- where every key fits the place, what the keys of the phase lead on to was put into the table with the states that come after them
-  pub walk_spread : (old new : Table) → MayBegin (numbered_of here.site.lexicon.now here.site.place.now).entrance front.phase → FitWithLetter here
-      → Puts here.site.lexicon.now here.site.line.now here.site.choices.now (numbered_of here.site.lexicon.now here.site.place.now) after (IsInPhase front.phase) old new
+  -- where every key fits the place, and what the keys of the phase lead on to is in the table with each of the states
+  pub walk_spread : (new : Table) → MayBegin (numbered_of here.site.lexicon.now here.site.place.now).entrance front.phase → FitWithLetter here
+      → ((key : Key) → key.phase ≡ front.phase → front.taken ≤ key.taken → (at : ℕ) (entrance : Entrance) (number : ℕ)
+      → MayLeadTo here.site.lexicon.now here.site.line.now here.site.choices.now (numbered_of here.site.lexicon.now here.site.place.now) key at entrance
+      → HasState after number → IsIn new (place_with at entrance number))
       → IsWalkSpread here.site.lexicon.now here.site.line.now new (record { walk = from; states = after })
-  walk_spread old new begins fits puts further node rule at number entrance on change leads has =
+  walk_spread new begins fits there further node rule at number entrance on change leads has =
       let searched = here.site.lexicon.now in
       let line = here.site.line.now in
       let choices = here.site.choices.now in
@@ -121,4 +124,4 @@ module _ (here : SiteAhead) (is : IsSiteAhead here) (front : Front) (from : Walk
       let above : 0 < key.taken = omega (arith, some) in
       let may : MayLeadTo searched line choices stands key at entrance =
       leads_by_change searched line choices stands key above at entrance (fits key above (omega (arith, near)) possible begins) by_phase in
-      puts.adds key (place_with at entrance number) refl (record { leads = may; number = number; has = has; is = refl })
+      there key refl (omega arith) at entrance number may has

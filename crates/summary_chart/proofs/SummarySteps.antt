@@ -42,6 +42,21 @@ alike_within names most few =
     let all = mul-le-mul_left names each in
     omega (arith, all)
 
+-- one level more of fronts that are no more than the phases, each of which takes its steps and, where it was walked, one to be kept
+pub one_level_more : (names most count start now walked fronts then more : ℕ) → fronts ≤ names → now + walked ≤ start + count * (names * (6 + 2 * most))
+    → then ≤ now + fronts * (5 + 2 * most) → more ≤ walked + fronts → then + more ≤ start + (count + 1) * (names * (6 + 2 * most))
+one_level_more names most count start now walked fronts then more few spent steps longer =
+    let all = mul-le-mul_right (6 + 2 * most) few in
+    omega (arith, spent, steps, longer, all)
+
+-- to find the fronts of all phases and to go over all levels takes no more than there is for the phases
+pub levels_within : (names most count start now walked : ℕ) → names ≤ MOST_PHASES → count ≤ NODES_OF_FRAME
+    → now + walked ≤ start + names * (1 + MOST_RULE_LETTERS + names) + count * (names * (6 + 2 * most)) → now + walked ≤ start + names * (1 + steps_of_fronts most)
+levels_within names most count start now walked few low spent =
+    let levels = mul-le-mul_right (names * (6 + 2 * most)) low in
+    let all = alike_within names most few in
+    omega (arith, spent, levels, all)
+
 -- fewer fronts, or phases, than there are take no more
 pub fewer_within : (count all each : ℕ) → count ≤ all → count * each ≤ all * each
 fewer_within count all each few = mul-le-mul_right each few

@@ -1,6 +1,6 @@
 -- Going over the keys of a place, rule by rule, front by front and phase by phase: what was done by some keys and then by others was done
 -- by all of them, and a key that does something is one of a front, a choice there that begins with the next letter, or no change.
-use Rattle.std.proofs.Common.{◌≡◌, ◌≢◌, ◌⊎◌, ℕ, ◌+◌, ◌<◌, ◌≤◌, inl, inr, None, List, [], ◌∷◌, ◌++◌, length, take, get_or, Contains, sym, ap, subst, ◌∙◌, refl, arith}
+use Rattle.std.proofs.Common.{◌≡◌, ◌≢◌, ◌⊎◌, ℕ, ◌+◌, ◌<◌, ◌≤◌, inl, inr, List, [], ◌∷◌, ◌++◌, length, take, get_or, Contains, sym, ap, subst, ◌∙◌, refl, arith}
 use Rattle.std.proofs.lemmas.Bool.{cases_lt}
 use Rattle.std.proofs.lemmas.List.{take_more, take_all}
 use Rattle.std.proofs.lemmas.List.Elements.{Contains-push, Contains-push_cases, Contains-append_left}
@@ -19,8 +19,7 @@ use Rattle.search_frames.specs.Frames.{numbered_of}
 use Rattle.search_frames.proofs.PossibleKeys.{possible_phase}
 use Rattle.search_frames.proofs.AheadTests.{near_if_stands}
 use Rattle.list_laws.proofs.Sorted.{not_Contains-nil}
-use Rattle.summary_chart.specs.Fronts.{IsFrontAt, AreFronts, IsNextFront}
-use Rattle.summary_chart.specs.Walked.{IsFromFront}
+use Rattle.summary_chart.specs.Fronts.{IsFrontAt, AreFronts}
 use Rattle.summary_chart.specs.Summaries.{key_with}
 use Rattle.summary_chart.specs.Spreading.{OnlyKey, EveryKey, IsByRule, IsAtFront, IsInPhase}
 use Rattle.summary_chart.proofs.FrontKeys.{ends_if_unchanged, among_written, letters_left}
@@ -150,20 +149,6 @@ module _ (searched : SearchedLexicon) (line : Line) (choices : List Choice) (pla
   -- ---- one front after another
 
   module _ (phase : ℕ) where
-    pub visit_no_front : (s : S) → visit.Adds (IsBelow phase 0) s s
-    visit_no_front s = visit.none (IsBelow phase 0) s (λ key does told. omega (arith, told.1))
-
-    pub visit_front : (taken : ℕ) (s t u : S) → visit.Adds (IsBelow phase taken) s t → visit.Adds (IsAtFront phase taken) t u → visit.Adds (IsBelow phase (taken + 1)) s u
-    visit_front taken s t u so_far one =
-        in_two (IsBelow phase taken) (IsAtFront phase taken) (IsBelow phase (taken + 1)) s t u
-        (λ key does told. elim (below_or_at key.taken taken told.1) [
-          | inl below ↦ inl (told.0, below)
-          | inr at ↦ inr (told.0, at)
-        ])
-        (λ key told. (told.0, omega (arith, told.1)))
-        (λ key told. (told.0, omega (arith, told.1)))
-        so_far one
-
     -- no key that does something goes further than the limit
     pub visit_all_fronts : (ahead : Ahead) → IsAhead (rules_in searched) line place.at (numbered_of searched place).entrance ahead
         → (count : ℕ) (nodes : List ℕ) → length nodes ≤ count → AreFronts searched line (numbered_of searched place) phase ahead.limit nodes
@@ -180,28 +165,6 @@ module _ (searched : SearchedLexicon) (line : Line) (choices : List Choice) (pla
         ))
         (λ key told. told.0)
         so_far
-
-  -- no key that does something takes more letters than the fronts before the next one, which is none
-  module _ (phase : ℕ) where
-    pub visit_no_longer : (ahead : Ahead) → IsAhead (rules_in searched) line place.at (numbered_of searched place).entrance ahead → (count : ℕ)
-        → IsNextFront searched line (numbered_of searched place) phase ahead.limit count None → (s t : S) → visit.Adds (IsBelow phase count) s t → visit.Adds (IsInPhase phase) s t
-    visit_no_longer ahead is count none s t so_far =
-        visit.same (IsBelow phase count) (IsInPhase phase) s t
-        (λ key does told. (told, none key (visit.possible key does) told (near_if_stands searched line choices (numbered_of searched place) key ahead is (visit.stands key does))))
-        (λ key told. told.0)
-        so_far
-
-    -- the fronts before one, and that one with all longer ones
-    pub visit_rest : (count : ℕ) (s t u : S) → visit.Adds (IsBelow phase count) s t → visit.Adds (IsFromFront phase count) t u → visit.Adds (IsInPhase phase) s u
-    visit_rest count s t u so_far rest =
-        in_two (IsBelow phase count) (IsFromFront phase count) (IsInPhase phase) s t u
-        (λ key does told. elim (cases_lt key.taken count) [
-          | inl below ↦ inl (told, below)
-          | inr from ↦ inr (told, from)
-        ])
-        (λ key told. told.0)
-        (λ key told. told.0)
-        so_far rest
 
   -- ---- one phase after another
 

@@ -1,5 +1,5 @@
 -- One front more of those that are walked, and walks that are kept.
-use Rattle.std.proofs.Common.{◌≡◌, ℕ, ◌+◌, ◌<◌, ◌≤◌, ◌⊎◌, ◌↔◌, ◌∷◌, ◌++◌, [], inl, inr, Option, Some, None, List, length, refl, sym, subst, arith, length-append}
+use Rattle.std.proofs.Common.{◌≡◌, ℕ, ◌+◌, ◌≤◌, ◌⊎◌, ◌↔◌, ◌∷◌, ◌++◌, [], inl, inr, Option, Some, None, List, length, refl, sym, subst, arith, length-append}
 use Rattle.std.proofs.lemmas.Bool.{cases_lt}
 use Rattle.std.proofs.lemmas.List.{get_or_append_left, get_or_at}
 use Rattle.text_definitions.specs.Lines.{Line}
@@ -77,7 +77,8 @@ module _ (here : SiteAhead) (phase : ℕ) where
     front = record {
       phase_is = same;
       taken_is = is.taken;
-      is = subst (λ (p : ℕ). IsFrontAt here.site.lexicon.now here.site.line.now (numbered_of here.site.lexicon.now here.site.place.now) p 0 first.node) same is.own.leads;
+      is = subst (λ (p : ℕ). IsFrontAt here.site.lexicon.now here.site.line.now (numbered_of here.site.lexicon.now here.site.place.now) p 0 first.node) same
+          (subst (λ (t : ℕ). IsFrontAt here.site.lexicon.now here.site.line.now (numbered_of here.site.lexicon.now here.site.place.now) first.phase t first.node) is.taken is.own.leads);
       near = omega (arith, low);
     };
     fronts = none_walked here phase [] refl;
@@ -95,13 +96,6 @@ module _ (here : SiteAhead) (phase : ℕ) where
   own_front front count near =
       let Is = λ (p t : ℕ). IsFrontAt here.site.lexicon.now here.site.line.now (numbered_of here.site.lexicon.now here.site.place.now) p t front.node in
       subst (λ (p : ℕ). Is p front.taken) (sym near.phase_is) (subst (Is phase) (sym near.taken_is) near.is)
-
-  -- there are fewer before it than a frame has nodes
-  pub short_before : (front : Front) (count : ℕ) → IsSearchedLexicon here.site.lexicon.now
-      → IsNearFront here.site.lexicon.now here.site.line.now (numbered_of here.site.lexicon.now here.site.place.now) phase here.ahead.limit count front
-      → count < NODES_OF_FRAME
-  short_before front count is near =
-      front_short here.site.lexicon.now is here.site.line.now (numbered_of here.site.lexicon.now here.site.place.now) phase here.ahead.limit count front.node near.is
 
   -- none is next
   pub no_next : (next : Option Front) (nodes : List ℕ) → next ≡ None → HasWalked here phase next nodes

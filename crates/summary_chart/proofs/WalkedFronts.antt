@@ -1,26 +1,23 @@
 -- The walk on from a front comes to the nodes of the longer fronts: so the changes that are met on it are those of the possible keys that
 -- take so many letters and more, and what lives on it is what lives by these.
-use Rattle.std.proofs.Common.{◌≡◌, inl, inr, ℕ, ◌+◌, ◌-◌, ◌<◌, ◌≤◌, ◌↔◌, Bool, Some, List, ◌++◌, length, take, drop, refl, sym, ap, subst, ◌∙◌, arith, take-add}
-use Rattle.std.proofs.lemmas.List.{append_assoc, drop-drop}
+use Rattle.std.proofs.Common.{◌≡◌, inl, inr, ℕ, ◌+◌, ◌-◌, ◌<◌, ◌≤◌, ◌↔◌, Bool, Some, length, take, drop, refl, sym, ap, subst, ◌∙◌, arith}
 use Rattle.text_definitions.specs.Lines.{Line}
 use Rattle.lexicon_definitions.specs.Tries.{walk}
-use Rattle.lexicon_definitions.proofs.TrieWalks.{walk-two}
 use Rattle.segmentation_definitions.specs.Listings.{Key}
 use Rattle.annotated_trie.specs.Choices.{choices_of}
 use Rattle.annotated_trie.specs.Searched.{SearchedLexicon, IsSearchedLexicon}
 use Rattle.answer_paths.specs.Following.{MayStand}
-use Rattle.answer_paths.specs.Fronts.{supplied}
 use Rattle.list_laws.proofs.Sorted.{Contains-cons_cases}
 use Rattle.search_frames.specs.Configurations.{NumberedConfiguration, IsPossible, rules_in}
 use Rattle.search_frames.specs.Ahead.{MayBegin}
 use Rattle.search_frames.specs.Frames.{numbered_of}
 use Rattle.search_frames.proofs.AheadTests.{near_if_stands}
-use Rattle.search_frames.proofs.PossibleKeys.{change_possible, possible_change, possible_walks, root_in}
+use Rattle.search_frames.proofs.PossibleKeys.{change_possible, possible_change, possible_walks}
 use Rattle.summary_chart.specs.declared.site.Front.{Front}
 use Rattle.summary_chart.specs.declared.site.SiteAhead.{SiteAhead}
 use Rattle.summary_chart.specs.declared.table.Table.{Table}
 use Rattle.summary_chart.specs.declared.walk_memo.Walk.{Walk}
-use Rattle.summary_chart.specs.Fronts.{IsFrontAt, front_after}
+use Rattle.summary_chart.specs.Fronts.{IsFrontAt}
 use Rattle.summary_chart.specs.Sites.{IsSiteAhead}
 use Rattle.summary_chart.specs.Summaries.{key_with}
 use Rattle.summary_chart.specs.Onward.{LivesByKey}
@@ -28,63 +25,41 @@ use Rattle.summary_chart.specs.Walked.{ChangeLives, FitWithLetter, IsChangeAt, I
 use Rattle.summary_chart.proofs.AlikeKeys.{alike_back}
 use Rattle.summary_chart.proofs.Changes.{change_ends, change_leads, ends_alike, ends_by_change, leads_alike, leads_by_change}
 use Rattle.summary_chart.proofs.FrontKeys.{ends_if_unchanged}
+use Rattle.summary_chart.proofs.LongerFronts.{back_to_front, on_from_front}
 
 -- a key that is one of a front has the front's parts
 pub key_of_front : (phase taken : ℕ) (key : Key) → key.phase ≡ phase → key.taken ≡ taken → key ≡ key_with phase taken key.rule
 key_of_front phase taken key same_phase same_taken = λ i. record { phase = same_phase i; taken = same_taken i; rule = key.rule }
 
-module _ (searched : SearchedLexicon) (is : IsSearchedLexicon searched) (line : Line) (here : NumberedConfiguration) where
-  -- more letters after those of a front
-  front_longer : (taken further : ℕ) → front_after line here (taken + further) ≡ front_after line here taken ++ take further (drop (here.at + taken) line.letters)
-  front_longer taken further =
-      ap (λ (word : List ℕ). supplied here.entrance ++ word)
-      (take-add taken further (drop here.at line.letters)
-      ∙ ap (λ (rest : List ℕ). take taken (drop here.at line.letters) ++ take further rest) (drop-drop taken here.at line.letters))
-      ∙ sym (append_assoc (supplied here.entrance) (take taken (drop here.at line.letters)) (take further (drop (here.at + taken) line.letters)))
+module _ (searched : SearchedLexicon) (is : IsSearchedLexicon searched) (line : Line) (here : NumberedConfiguration) (phase taken node : ℕ)
+    (front : IsFrontAt searched line here phase taken node) where
+  -- a change that is met there is that of a possible key
+  pub met_possible : (further reached rule : ℕ) → here.at + taken + further ≤ length line.letters
+      → walk searched.tries.trie.rows node (take further (drop (here.at + taken) line.letters)) ≡ Some reached
+      → IsChangeAt searched reached rule → IsPossible searched line here (key_with phase (taken + further) rule)
+  met_possible further reached rule within walked change =
+      change_possible searched is line here (key_with phase (taken + further) rule) reached (on_from_front searched line here phase taken node front further reached walked) front.named
+      (omega (arith, within)) change
 
-  module _ (phase taken node : ℕ) (front : IsFrontAt searched line here phase taken node) where
-    -- so many letters more lead from the front's node where they lead from the root
-    on_from_front : (further reached : ℕ) → walk searched.tries.trie.rows node (take further (drop (here.at + taken) line.letters)) ≡ Some reached
-        → walk searched.tries.trie.rows (root_in searched phase) (front_after line here (taken + further)) ≡ Some reached
-    on_from_front further reached walked =
-        ap (walk searched.tries.trie.rows (root_in searched phase)) (front_longer taken further)
-        ∙ walk-two searched.tries.trie.rows (front_after line here taken) (take further (drop (here.at + taken) line.letters)) (root_in searched phase) node front.walked
-        ∙ walked
-
-    back_to_front : (further reached : ℕ) → walk searched.tries.trie.rows (root_in searched phase) (front_after line here (taken + further)) ≡ Some reached
-        → walk searched.tries.trie.rows node (take further (drop (here.at + taken) line.letters)) ≡ Some reached
-    back_to_front further reached walked =
-        sym (walk-two searched.tries.trie.rows (front_after line here taken) (take further (drop (here.at + taken) line.letters)) (root_in searched phase) node front.walked)
-        ∙ ap (walk searched.tries.trie.rows (root_in searched phase)) (sym (front_longer taken further))
-        ∙ walked
-
-    -- a change that is met there is that of a possible key
-    pub met_possible : (further reached rule : ℕ) → here.at + taken + further ≤ length line.letters
-        → walk searched.tries.trie.rows node (take further (drop (here.at + taken) line.letters)) ≡ Some reached
-        → IsChangeAt searched reached rule → IsPossible searched line here (key_with phase (taken + further) rule)
-    met_possible further reached rule within walked change =
-        change_possible searched is line here (key_with phase (taken + further) rule) reached (on_from_front further reached walked) front.named
-        (omega (arith, within)) change
-
-    -- and the change of a possible key is met there
-    pub possible_met : (further rule : ℕ) → IsPossible searched line here (key_with phase (taken + further) rule)
-        → (reached : ℕ) × (walk searched.tries.trie.rows node (take further (drop (here.at + taken) line.letters)) ≡ Some reached) × IsChangeAt searched reached rule
-    possible_met further rule possible =
-        let key = key_with phase (taken + further) rule in
-        let (reached, walked) = possible_walks searched is line here key possible in
-        let there : IsFrontAt searched line here phase (taken + further) reached =
-        record { named = front.named; within = possible.within; walked = walked } in (
-          reached,
-          back_to_front further reached walked,
-          elim (Contains-cons_cases 0 (choices_of searched.tries reached) rule (possible_change searched is line here key reached walked possible)) [
-            | inl same ↦ let none = sym same in inl (
-              none,
-              ends_if_unchanged searched is line here phase (taken + further) reached there
-                  (subst (λ (r : ℕ). IsPossible searched line here (key_with phase (taken + further) r)) none possible),
-            )
-            | inr among ↦ inr among
-          ],
-        )
+  -- and the change of a possible key is met there
+  pub possible_met : (further rule : ℕ) → IsPossible searched line here (key_with phase (taken + further) rule)
+      → (reached : ℕ) × (walk searched.tries.trie.rows node (take further (drop (here.at + taken) line.letters)) ≡ Some reached) × IsChangeAt searched reached rule
+  possible_met further rule possible =
+      let key = key_with phase (taken + further) rule in
+      let (reached, walked) = possible_walks searched is line here key possible in
+      let there : IsFrontAt searched line here phase (taken + further) reached =
+      record { named = front.named; within = possible.within; walked = walked } in (
+        reached,
+        back_to_front searched line here phase taken node front further reached walked,
+        elim (Contains-cons_cases 0 (choices_of searched.tries reached) rule (possible_change searched is line here key reached walked possible)) [
+          | inl same ↦ let none = sym same in inl (
+            none,
+            ends_if_unchanged searched is line here phase (taken + further) reached there
+                (subst (λ (r : ℕ). IsPossible searched line here (key_with phase (taken + further) r)) none possible),
+          )
+          | inr among ↦ inr among
+        ],
+      )
 
 -- ---- what lives
 

@@ -16,17 +16,19 @@ use Rattle.summary_chart.specs.Onward.{AreLivingBy}
 use Rattle.summary_chart.specs.Spreading.{IsInPhase}
 use Rattle.summary_chart.specs.StateSets.{HasState, IsLedTo}
 
--- no choice is made, the fronts have one node, and no rule tells their phases apart
+-- no choice is made, the fronts take as many letters and have one node, and no rule tells their phases apart
 pub record DoAlike (searched : SearchedLexicon) (choices : List Choice) (one other : Front) : Type 0 where
   pub free : choices ≡ []
+  pub taken : one.taken ≡ other.taken
   pub node : one.node ≡ other.node
   pub alike : IsAlike (rules_in searched) one.phase other.phase
 
--- forms of the phase do what those of the front's phase do: they may be entered at the place, what the rule before supplies leads to the
--- front's node in their trie too, and theirs is the front's phase, or no choice is made and no rule tells the two apart
+-- forms of the phase do from the front on what those of the front's phase do: they may be entered at the place, what the rule before supplies
+-- and the letters of the front lead to its node in their trie too, and theirs is the front's phase, or no choice is made and no rule tells the
+-- two apart
 pub record DoesAs (searched : SearchedLexicon) (line : Line) (choices : List Choice) (here : NumberedConfiguration) (front : Front) (phase : ℕ) : Type 0 where
   pub begins : MayBegin here.entrance phase
-  pub leads : IsFrontAt searched line here phase 0 front.node
+  pub leads : IsFrontAt searched line here phase front.taken front.node
   pub alike : (phase ≡ front.phase) ⊎ ((choices ≡ []) × IsAlike (rules_in searched) front.phase phase)
 
 -- the front takes no letter, and is one of its phase

@@ -11,3 +11,4 @@ pub mod Sites
 pub mod Onward
 pub mod AlikeFronts
 pub mod Walked
+pub mod Levels

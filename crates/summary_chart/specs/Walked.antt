@@ -161,11 +161,6 @@ pub record AreWalkedFronts (here : SiteAhead) (phase : ℕ) (nodes : List ℕ) :
       → IsFrontAt here.site.lexicon.now here.site.line.now (numbered_of here.site.lexicon.now here.site.place.now) phase taken (slice_index_or nodes taken 0)
   pub near : (taken : ℕ) → taken < length nodes → here.site.place.now.at + taken ≤ here.ahead.limit
 
--- a walk on from one of these fronts that takes a letter
-abbrev pub IsWalkOfSome : SiteAhead → ℕ → List ℕ → Walk → Type 0
-IsWalkOfSome here phase nodes from = (taken : ℕ) × (0 < taken) × (taken < length nodes)
-    × IsWalkFrom here (record { phase = phase; taken = taken; node = slice_index_or nodes taken 0 }) from
-
 -- the memo keeps that a walk on from the front, which takes a letter, gave all these states
 abbrev pub IsKnownFrom : SiteAhead → Front → StateSet → WalkMemo → Type 0
 IsKnownFrom here front states walks = (0 < front.taken)

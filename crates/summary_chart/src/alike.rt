@@ -14,20 +14,21 @@ use outside::Steps;
 use phoneme::Memory;
 use search_frames::may_begin;
 
-/// A front that takes no letter of the line, for all phases whose forms do the same from its place, and states that come after these phases: in
-/// the pass forward those to which the place's states lead, in the pass back those from which the line goes on to its end.
+/// A front for all phases whose forms do the same from it on, and states that come after these phases: in the pass forward those to which the
+/// place's states lead, in the pass back those from which the line goes on to its end.
 #[derive(Clone, Copy)]
 pub(crate) struct AlikeFront {
     pub front: Front,
     pub states: StateSet,
 }
 
-/// Whether forms of the phases of two fronts, which take no letter, do the same from the place, as far as is told without looking at forms
-/// and rules: the fronts have one node, no rule tells the phases apart, and no choice is made.
-fn do_alike(site: Site<'_>, one: &Front, other: &Front) -> bool
+/// Whether forms of the phases of two fronts do the same from these on, as far as is told without looking at forms and rules: the fronts
+/// take as many letters and have one node, no rule tells the phases apart, and no choice is made.
+pub(crate) fn do_alike(site: Site<'_>, one: &Front, other: &Front) -> bool
     ensures { OnTrue result (DoAlike site.entry.lexicon.now site.entry.choices.now one.now other.now) }
 {
     one.node == other.node
+        && one.taken == other.taken
         && site.is_free()
         && site.lexicon.alike_phase(one.phase) == site.lexicon.alike_phase(other.phase)
 }

@@ -126,6 +126,9 @@ impl Chart {
                 walks: WalkMemo::new(alloc),
             },
             fronts: Vec::new(alloc),
+            longer: Vec::new(alloc),
+            walked: Vec::new(alloc),
+            seats: Vec::new(alloc),
         };
         let passage = Passage {
             lexicon,

@@ -2,7 +2,8 @@
 //! answer, as a set of the grammar's states for each number of letters derived and each entrance; and besides, from places that have
 //! few of them, the ways on from there, while there is room. One walk along the trie in a phase, at a number of letters and an entrance,
 //! serves all states there; where no choice is made it serves all phases that do the same from there, those in which the letters that the
-//! rule before supplies lead to the same node and that no rule tells apart. What the rules of a node do after a form is found once for all
+//! rule before supplies lead to the same node and that no rule tells apart. In the pass forward it serves them also from a later letter on,
+//! after which they come to the same node. What the rules of a node do after a form is found once for all
 //! forms that end so, wherever they begin; where many of them may come next, once for each part of them, since nodes share parts. And what
 //! all forms do that go on from a node along the line is kept for each node that a walk came to, so that a later walk ends there. Where the
 //! ways of a place are kept its walk is not made again, neither for the chart, nor for its summary, nor by a search that the chart guides. Of
@@ -32,6 +33,7 @@ mod laws;
 mod leading_states;
 mod listing;
 mod living_work;
+mod longer;
 mod memo;
 mod passes;
 mod place_ways;

@@ -11,9 +11,13 @@ pub(crate) struct WalkRoom {
     pub walks: WalkMemo,
 }
 
-/// What a pass uses again at each place: what walks use, and room for the fronts of phases.
+/// What a pass uses again at each place: what walks use, and room for the fronts of phases. In the pass forward these are the ones that are
+/// next, those with one letter more, where the seats tell of some of them, and those that were gone over.
 #[derive(Drop)]
 pub(crate) struct Room {
     pub walking: WalkRoom,
     pub fronts: Vec<AlikeFront>,
+    pub longer: Vec<AlikeFront>,
+    pub walked: Vec<AlikeFront>,
+    pub seats: Vec<usize>,
 }

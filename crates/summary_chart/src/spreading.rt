@@ -10,22 +10,22 @@ ghost use Rattle.summary_chart.specs.PlaceWays.{HasEachKey, LeadsOnOrEnds};
 ghost use Rattle.summary_chart.specs.StateSets.{HasState};
 ghost use Rattle.annotated_trie.specs.Choices.{choices_of, choices_with, parts_of, rules_of_part};
 ghost use Rattle.std.specs.Bool.{OnTrue};
-ghost use Rattle.search_frames.specs.declared.frame.TheConstants.{NODES_OF_FRAME};
-ghost use Rattle.summary_chart.specs.AlikeFronts.{IsFirst};
-ghost use Rattle.summary_chart.specs.Walked.{AreWalkedFronts, AreWalksSpread, IsKeptWith, IsKnownFrom, IsSpreadRoom, IsWalkOfSome, IsWalkSpread};
+ghost use Rattle.summary_chart.specs.Levels.{AreLevel, IsFrontHere, IsLedFront, IsSpreadOn, SpreadsOnly};
+ghost use Rattle.summary_chart.specs.Walked.{AreWalksSpread, IsKeptWith, IsKnownFrom, IsSpreadRoom};
+ghost use Rattle.summary_chart.specs.declared.state_set.StateSet.{StateSet as StateSetValue};
 ghost use Rattle.summary_chart.specs.declared.table.Table.{Table as TableValue};
-ghost use Rattle.summary_chart.specs.declared.walk_memo.Walk.{Walk as WalkValue};
 ghost use Rattle.summary_chart.specs.Effects.{AreEffects};
 ghost use Rattle.summary_chart.specs.Memos.{AreSpread, HasWorks, IsKnownWith, IsWork};
 ghost use Rattle.summary_chart.specs.Onward.{IsOnward, LeadSame, SpreadsOnward};
 ghost use Rattle.summary_chart.specs.Sites.{IsSite, IsSiteAhead};
 ghost use Rattle.summary_chart.specs.Tables.{IsTable};
-ghost use Rattle.summary_chart.specs.Spreading.{Spreads, EveryKey, OnlyKey, IsByRule, IsAtFront, IsInPhase, leads_in};
-ghost use Rattle.summary_chart.specs.Summaries.{steps_after_first, steps_of_items};
+ghost use Rattle.summary_chart.specs.Spreading.{Spreads, EveryKey, OnlyKey, IsByRule, IsAtFront, leads_in};
+ghost use Rattle.summary_chart.specs.Summaries.{steps_of_items};
 
-use super::alike::find_onward;
+use super::alike::{AlikeFront, find_onward};
+use super::longer::add_longer;
 use super::memo::{FEW_RULES, Memo, Work};
-use super::room::{Room, WalkRoom};
+use super::room::Room;
 use super::same_effect::Effects;
 use super::site::{Front, RuledFront, Site, SiteAhead};
 use super::state_set::StateSet;
@@ -37,8 +37,8 @@ use annotated_trie::Annotated;
 use derivation::Key;
 use outside::Steps;
 use phoneme::{Letter, Memory};
-use search_frames::{Ahead, LetterTest, Way};
-use shared_trie::Node;
+use search_frames::{Ahead, LetterTest, NODES_OF_FRAME, Way};
+use std::mem::swap;
 
 /// A site with what the line tells there, and the states that come after the forms that are looked at.
 #[derive(Clone, Copy)]
@@ -392,105 +392,85 @@ fn is_spread<L>(
     known.union(onward.after) == known
 }
 
-/// Puts into the table where the keys of the phase of the front, which takes no letter, lead on to, front by front until one from which
-/// this was done already, where `shares` says that the memo may be asked. The list, which is empty, has then the nodes of the fronts that
-/// were gone over. Refused only for want of memory.
-fn spread_fronts<L>(
-    onward: Onward<'_>,
-    first: &Front,
+/// Puts into the table where the keys with the fronts lead on to, each with its states, and goes on to the fronts with one letter more, which
+/// are then in place of these. From a front from which the memo has all, nothing is put there and none is gone on to. Those that were gone over
+/// are told. Refused only for want of memory.
+fn spread_level<L>(
+    here: SiteAhead<'_>,
     shares: bool,
     table: &mut Table,
-    room: &mut WalkRoom,
+    room: &mut Room,
     steps: &mut Steps<L>,
 ) -> Result<(), Memory>
-    requires onward { IsOnward onward first.now.phase }
-    requires first { let site = onward.here.site in IsFirst site.lexicon.now site.line.now site.choices.now (numbered_of site.lexicon.now site.place.now) first.now }
-    requires nodes { room.old.nodes.items ≡ [] }
-    requires table { IsTable (leads_in onward.here.site.lexicon.now) (length onward.here.site.line.now.letters) table.old }
-    requires room { IsSpreadRoom onward.here.site.lexicon.now onward.here.site.line.now table.old room.old }
-    ensures room { OnOk result (IsSpreadRoom onward.entry.here.site.lexicon.now onward.entry.here.site.line.now table.new room.new) }
-    ensures table { OnOk result (IsTable (leads_in onward.entry.here.site.lexicon.now) (length onward.entry.here.site.line.now.letters) table.new) }
-    ensures spreads { OnOk result (SpreadsOnward onward.entry (IsInPhase first.now.phase) table.old table.new) }
-    ensures nodes { OnOk result (AreWalkedFronts onward.entry.here first.now.phase room.new.nodes.items) }
-    ensures steps { (most : ℕ) → HasAtMostRules onward.entry.here.site.lexicon.now.tries most → steps.new ≤ steps.old + NODES_OF_FRAME * (5 + 2 * most) + 1 }
+    requires here { IsSiteAhead here }
+    requires fronts { All (IsFrontHere here) room.old.fronts.items }
+    requires walked { All (IsFrontHere here) room.old.walked.items }
+    requires table { IsTable (leads_in here.site.lexicon.now) (length here.site.line.now.letters) table.old }
+    requires room { IsSpreadRoom here.site.lexicon.now here.site.line.now table.old room.old.walking }
+    ensures room { OnOk result (IsSpreadRoom here.entry.site.lexicon.now here.entry.site.line.now table.new room.new.walking) }
+    ensures table { OnOk result (IsTable (leads_in here.entry.site.lexicon.now) (length here.entry.site.line.now.letters) table.new) }
+    ensures fronts { OnOk result (All (IsFrontHere here.entry) room.new.fronts.items) }
+    ensures walked { OnOk result (All (IsFrontHere here.entry) room.new.walked.items) }
+    ensures level { (set : StateSetValue) (taken : ℕ) → AreLevel here.entry set taken table.old room.old.fronts.items → OnOk result (AreLevel here.entry set (taken + 1) table.new room.new.fronts.items) }
+    ensures only { (set : StateSetValue) (taken : ℕ) → AreLevel here.entry set taken table.old room.old.fronts.items → OnOk result (SpreadsOnly here.entry set table.old table.new) }
+    ensures led { (set : StateSetValue) (taken : ℕ) → AreLevel here.entry set taken table.old room.old.fronts.items → All (IsLedFront here.entry set) room.old.walked.items → OnOk result (All (IsLedFront here.entry set) room.new.walked.items) }
+    ensures few { OnOk result (length room.new.fronts.items ≤ length room.old.fronts.items) }
+    ensures few_walked { OnOk result (length room.new.walked.items ≤ length room.old.walked.items + length room.old.fronts.items) }
+    ensures steps { (most : ℕ) → HasAtMostRules here.entry.site.lexicon.now.tries most → steps.new ≤ steps.old + length room.old.fronts.items * (5 + 2 * most) }
 {
-    let here = onward.here;
-    let mut next = Some(*first);
-    while let Some(front) = next {
-        if is_spread(onward, &front, shares, &room.walks, steps) {
-            return Ok(());
+    room.longer.clear();
+    for number in 0..room.fronts.len() {
+        let one = room.fronts[number];
+        let onward = Onward {
+            here,
+            after: one.states,
+        };
+        if is_spread(onward, &one.front, shares, &room.walking.walks, steps) {
+            continue;
         }
-        spread_front(onward, &front, table, &mut room.memo, steps)?;
-        room.nodes.push(front.node)?;
-        next = longer_front(here.site, &front, here.ahead.limit, steps);
+        spread_front(onward, &one.front, table, &mut room.walking.memo, steps)?;
+        room.walked.push(one)?;
+        let Some(front) = longer_front(here.site, &one.front, here.ahead.limit, steps) else {
+            continue;
+        };
+        let longer = AlikeFront {
+            front,
+            states: one.states,
+        };
+        add_longer(here.site, longer, &mut room.longer, &mut room.seats)?;
     }
+    swap(&mut room.fronts, &mut room.longer);
     Ok(())
 }
 
-/// Keeps of each of the fronts with these nodes but the first, which takes no letter, that its keys and those of longer fronts were spread
-/// with the states that come after them. Refused only for want of memory.
+/// Keeps of each of the fronts but those that take no letter that its keys and those of longer fronts were spread with its states. Refused only
+/// for want of memory.
 fn keep_spread<L>(
-    onward: Onward<'_>,
-    phase: u32,
-    nodes: &[Node],
+    here: SiteAhead<'_>,
+    walked: &[AlikeFront],
     walks: &mut WalkMemo,
     steps: &mut Steps<L>,
 ) -> Result<(), Memory>
-    requires here { IsSiteAhead onward.here }
-    requires nodes { AreWalkedFronts onward.here phase nodes.now }
-    ensures walks { (table : TableValue) → let site = onward.entry.here.site in AreWalksSpread site.lexicon.now site.line.now table walks.old → ((from : WalkValue) → IsWalkOfSome onward.entry.here phase nodes.now from → IsWalkSpread site.lexicon.now site.line.now table (record { walk = from; states = onward.entry.after })) → OnOk result (AreWalksSpread site.lexicon.now site.line.now table walks.new) }
-    ensures steps { steps.new ≤ steps.old + length nodes.now }
+    requires here { IsSiteAhead here }
+    requires walked { All (IsFrontHere here) walked.now }
+    ensures walks { (table : TableValue) → let site = here.entry.site in AreWalksSpread site.lexicon.now site.line.now table walks.old → All (IsSpreadOn here.entry table) walked.now → OnOk result (AreWalksSpread site.lexicon.now site.line.now table walks.new) }
+    ensures steps { steps.new ≤ steps.old + length walked.now }
 {
-    for taken in 1..nodes.len() {
+    for one in walked {
         steps.tick();
-        let front = Front {
-            phase,
-            taken: taken as u32,
-            node: nodes[taken],
-        };
-        let walk = Walk::from(onward.here, &front);
+        if one.front.taken == 0 {
+            continue;
+        }
+        let walk = Walk::from(here, &one.front);
         let known = known_of_walk(walks, &walk);
-        walks.keep(&walk, known.union(onward.after))?;
+        walks.keep(&walk, known.union(one.states))?;
     }
-    Ok(())
-}
-
-/// Puts into the table where the keys of the phase of the front, which takes no letter, lead on to. What the memo of walks has already is
-/// not put there once more. Refused only for want of memory.
-fn spread_phase<L>(
-    onward: Onward<'_>,
-    first: &Front,
-    table: &mut Table,
-    room: &mut WalkRoom,
-    steps: &mut Steps<L>,
-) -> Result<(), Memory>
-    requires onward { IsOnward onward first.now.phase }
-    requires first { let site = onward.here.site in IsFirst site.lexicon.now site.line.now site.choices.now (numbered_of site.lexicon.now site.place.now) first.now }
-    requires table { IsTable (leads_in onward.here.site.lexicon.now) (length onward.here.site.line.now.letters) table.old }
-    requires room { IsSpreadRoom onward.here.site.lexicon.now onward.here.site.line.now table.old room.old }
-    ensures room { OnOk result (IsSpreadRoom onward.entry.here.site.lexicon.now onward.entry.here.site.line.now table.new room.new) }
-    ensures table { OnOk result (IsTable (leads_in onward.entry.here.site.lexicon.now) (length onward.entry.here.site.line.now.letters) table.new) }
-    ensures spreads { OnOk result (SpreadsOnward onward.entry (IsInPhase first.now.phase) table.old table.new) }
-    ensures steps { (most : ℕ) → HasAtMostRules onward.entry.here.site.lexicon.now.tries most → steps.new ≤ steps.old + steps_after_first most }
-{
-    let shares = shares_walks(onward.here);
-    room.nodes.clear();
-    spread_fronts(onward, first, shares, table, room, steps)?;
-    if !shares {
-        return Ok(());
-    }
-    keep_spread(
-        onward,
-        first.phase,
-        room.nodes.as_slice(),
-        &mut room.walks,
-        steps,
-    )?;
     Ok(())
 }
 
 /// Puts into the table where any key leads on to from the place with the states of the set. Phases to which no state of the set leads are
-/// passed over, and of those that do the same one is looked at. The place's own state is not looked at. Refused only for want of memory.
+/// passed over. The fronts of all phases are gone over letter by letter, so that of those from which on forms do the same one is gone over.
+/// The place's own state is not looked at. Refused only for want of memory.
 pub(crate) fn spread<L>(
     site: Site<'_>,
     states: StateSet,
@@ -510,15 +490,20 @@ pub(crate) fn spread<L>(
         site,
         ahead: Ahead::of(site.lexicon.rules(), site.line, site.place),
     };
+    let shares = shares_walks(here);
     find_onward(site, states, &mut room.fronts, steps)?;
-    for number in 0..room.fronts.len() {
-        let one = room.fronts[number];
-        let onward = Onward {
-            here,
-            after: one.states,
-        };
-        spread_phase(onward, &one.front, table, &mut room.walking, steps)?;
+    room.walked.clear();
+    for _ in 0..NODES_OF_FRAME {
+        if room.fronts.is_empty() {
+            break;
+        }
+        spread_level(here, shares, table, room, steps)?;
     }
+    if !shares {
+        return Ok(());
+    }
+    let walks = &mut room.walking.walks;
+    keep_spread(here, room.walked.as_slice(), walks, steps)?;
     Ok(())
 }
 

@@ -20,17 +20,17 @@ use Rattle.summary_chart.proofs.gathering.living_from_first.Goals as goal
 
 -- after the states that live after the one phase, the line goes on by keys of the other, and after no others
 living_alike : (searched : SearchedLexicon) (line : Line) (choices : List Choice) (here : NumberedConfiguration) (table : Table) → IsSearchedLexicon searched
-    → (front : Front) (one other : ℕ) → DoesAs searched line choices here front one → DoesAs searched line choices here front other → (living : StateSet)
+    → (front : Front) (one other : ℕ) → front.taken ≡ 0 → DoesAs searched line choices here front one → DoesAs searched line choices here front other → (living : StateSet)
     → AreLivingBy searched line choices here table (IsInPhase one) living → AreLivingBy searched line choices here table (IsInPhase other) living
-living_alike searched line choices here table is front one other as_one as_other living are number = (
+living_alike searched line choices here table is front one other none as_one as_other living are number = (
   λ has.
       let lives = (are number).0 has in
       let key = lives.0 in (
         key_with other key.taken key.rule,
         refl,
         elim lives.2 [
-          | inl ends ↦ inl (may_end_alike searched line choices here is front one other as_one as_other key lives.1 ends.0, ends.1)
-          | inr leads ↦ inr (leads.0, leads.1, may_lead_alike searched line choices here is front one other as_one as_other key lives.1 leads.0 leads.1 leads.2, leads.3)
+          | inl ends ↦ inl (may_end_alike searched line choices here is front one other as_one as_other key lives.1 (omega (arith, none)) ends.0, ends.1)
+          | inr leads ↦ inr (leads.0, leads.1, may_lead_alike searched line choices here is front one other as_one as_other key lives.1 (omega (arith, none)) leads.0 leads.1 leads.2, leads.3)
         ],
       ),
   λ lives.
@@ -39,8 +39,8 @@ living_alike searched line choices here table is front one other as_one as_other
         key_with one key.taken key.rule,
         refl,
         elim lives.2 [
-          | inl ends ↦ inl (may_end_alike searched line choices here is front other one as_other as_one key lives.1 ends.0, ends.1)
-          | inr leads ↦ inr (leads.0, leads.1, may_lead_alike searched line choices here is front other one as_other as_one key lives.1 leads.0 leads.1 leads.2, leads.3)
+          | inl ends ↦ inl (may_end_alike searched line choices here is front other one as_other as_one key lives.1 (omega (arith, none)) ends.0, ends.1)
+          | inr leads ↦ inr (leads.0, leads.1, may_lead_alike searched line choices here is front other one as_other as_one key lives.1 (omega (arith, none)) leads.0 leads.1 leads.2, leads.3)
         ],
       ),
 )
@@ -62,8 +62,8 @@ returns-in-Some-clause-living g c =
     let same : c.index.result.now ≡ known = c.index.ensures ∙ get_or_default fronts number c.index.result.now none found.0 in
     let is : IsLivingFront searched line choices here table known = c.requires.fronts number none found.0 in
     subst (λ (one : AlikeFront). AreLivingBy searched line choices here table (IsInPhase first.phase) one.states) (sym same)
-    (living_alike searched line choices here table c.requires.here.site.searched known.front known.front.phase first.phase is.first.own
-    (does_alike searched line choices here known.front first c.requires.first found.1) known.states is.living)
+    (living_alike searched line choices here table c.requires.here.site.searched known.front known.front.phase first.phase is.first.taken is.first.own
+    (does_alike searched line choices here known.front first first.phase found.1 c.requires.first.own) known.states is.living)
 
 pub returns-in_err-living-clause-steps : goal.returns-in_err-living-clause-steps
 returns-in_err-living-clause-steps g c most few =
