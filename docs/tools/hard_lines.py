@@ -4,9 +4,10 @@
 usage: hard_lines.py PROGRAM [FAMILY ..]
 
 Makes the lexicons and lines in a folder of its own, runs the program on them, and prints for each family wall seconds, seconds of
-the processors, and the peak of memory. A run is ended after a minute of a processor, those of some families sooner, and at 12 GB. A peak below
-that of this script, some 12 MiB, is not told. All lexicons are within the limits; the letters of a line are all `a`. The status is 1 where a run
-was ended, or ended with another status than 0.
+the processors, those that a line of one letter takes over the same lexicon, so that the rest is what the line itself takes, and the peak of
+memory. A run is ended after a minute of a processor, those of some families sooner, and at 12 GB. A peak below that of this script, some
+12 MiB, is not told. All lexicons are within the limits; the letters of a line are all `a`. The status is 1 where a run was ended, or ended
+with another status than 0.
 """
 import multiprocessing, os, random, resource, subprocess, sys, tempfile, time
 
@@ -14,8 +15,8 @@ MOST_SECONDS = 60
 # Where one walk serves all phases that do the same, the first of these takes 0.7 to 1.9 seconds, and else 12 to 18 or more; where the rules of a part
 # are gone over once for all nodes that have it, the second takes 2, and else twelve times as long; where the living ways of places that have many are
 # kept, the third takes half a second, and else 6 to 11; where a choice leaves the memo of rules in use, the fourth takes 1.7, and else some
-# eight times as long; and where the fronts of all phases are gone over together, and one rule of those that do the same, the fifth takes 1.2 to
-# 6, and else 11 to 32.
+# eight times as long; and where the fronts of all phases are gone over together, and of the rules after a letter those of parts that may be
+# entered, the fifth takes 0.5 to 2.5, and else, with each rule tested, 11 to 32.
 MOST_SECONDS_OF = {
     "leads: 62 leads, 16 phases": 7,
     "lists: a list of rules for each node": 12,
@@ -183,10 +184,10 @@ def run(program, words, stdin, seconds):
 
 
 def write_family(make, task, folder):
-    """Writes a family's lexicon, its line, and a session that asks for the line's summary, and then may reject a segment and ask for a page."""
+    """Writes a family's lexicon, its line, a line of one letter, and a session that asks for the line's summary, and then may reject a segment and ask for a page."""
     text, line = make()
     asked = "reject 1\npage 1\n" if task == "rejected" else ""
-    for name, content in (("lexicon", text), ("line", line), ("session", "text slp1 %s\nsummary\n%s" % (line, asked))):
+    for name, content in (("lexicon", text), ("line", line), ("letter", "a"), ("session", "text slp1 %s\nsummary\n%s" % (line, asked))):
         with open(os.path.join(folder, name), "w") as file:
             file.write(content)
 
@@ -196,7 +197,7 @@ def main():
     wanted = sys.argv[2:]
     all_ended_well = True
     with tempfile.TemporaryDirectory() as folder:
-        lexicon_path, line_path, session_path = (os.path.join(folder, name) for name in ("lexicon", "line", "session"))
+        lexicon_path, line_path, letter_path, session_path = (os.path.join(folder, name) for name in ("lexicon", "line", "letter", "session"))
         for name, (make, task) in FAMILIES.items():
             if wanted and not any(word in name for word in wanted):
                 continue
@@ -214,8 +215,10 @@ def main():
                 with open(line_path) as file:
                     result = run(program, ["segment", lexicon_path, file.read()], None, seconds)
             wall, used, peak, ended, size = result
+            _, of_lexicon, *_ = run(program, ["batch", lexicon_path, "slp1", letter_path, "1"], None, seconds)
             all_ended_well &= ended == 0
-            print("%-42s %7.2f s  %7.2f s of the processors  %9.1f MiB  exit %s, %d bytes" % (name, wall, used, peak / 1024, ended, size), flush=True)
+            told = "%-42s %7.2f s  %7.2f s of the processors, with one letter %5.2f s  %9.1f MiB  exit %s, %d bytes"
+            print(told % (name, wall, used, of_lexicon, peak / 1024, ended, size), flush=True)
     return 0 if all_ended_well else 1
 
 

@@ -14,7 +14,7 @@ use Rattle.list_laws.proofs.Sorted.{All-from_Contains}
 use Rattle.lexicon_definitions.specs.Rules.{no_change}
 use Rattle.lexicon_definitions.specs.Lexicons.{RuleSet, rule_of}
 use Rattle.lexicon_definitions.specs.Tries.{Row, Trie, IsTrie}
-use Rattle.annotated_trie.specs.Choices.{AreChoices, AreParts, IsAnnotatedTrie, LeadsToEnd, choices_of, first_letter, parts_of}
+use Rattle.annotated_trie.specs.Choices.{AreChoices, AreParts, HaveOneU, IsAnnotatedTrie, LeadsToEnd, choices_of, first_letter, parts_of}
 use Rattle.annotated_trie.specs.RuleParts.{HaveParts}
 use Rattle.annotated_trie.specs.Suffixes.{AreGroups, AreListsFrom, AreNumbers, AreSetsAt}
 use Rattle.annotated_trie.specs.Views.{AreChosen, annotated_with, list_at, parts_in}
@@ -111,8 +111,8 @@ chosen_few rules rows lists places most are few k d low =
 
 -- the trie with the lists at the places has its choices
 pub IsAnnotatedTrie-chosen : (rules : RuleSet) (trie : Trie) (lists : List (Vec ℕ)) (places firsts : List ℕ) (part_rules : List (List ℕ)) → AreChosen rules trie.rows lists places → IsTrie trie → length trie.rows < 2 ^ 32
-    → firsts ≡ map first_letter rules.rules → HaveParts part_rules lists → IsAnnotatedTrie rules (annotated_with trie lists places firsts part_rules)
-IsAnnotatedTrie-chosen rules trie lists places firsts part_rules are is few are_firsts have =
+    → firsts ≡ map first_letter rules.rules → HaveParts part_rules lists → HaveOneU rules part_rules → IsAnnotatedTrie rules (annotated_with trie lists places firsts part_rules)
+IsAnnotatedTrie-chosen rules trie lists places firsts part_rules are is few are_firsts have one_u =
     let tries = annotated_with trie lists places firsts part_rules in
     let parts_at : ℕ → List ℕ = λ place. parts_in part_rules (list_at lists place) in
     let here : (node : ℕ) → node < length trie.rows → choices_of tries node ≡ list_at lists (get_or places node 0) =
@@ -129,4 +129,5 @@ IsAnnotatedTrie-chosen rules trie lists places firsts part_rules are is few are_
           let cut : parts_of tries node ≡ parts_at place = get_or-map parts_at places node 0 [] there in
           let within : place < length lists = are.within node 0 there in
           subst (AreParts tries (choices_of tries node)) (sym cut) (subst (λ (list : List ℕ). AreParts tries list (parts_at place)) (sym (here node low)) (have tries place refl within));
+      one_u = one_u;
     }

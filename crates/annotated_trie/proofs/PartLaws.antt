@@ -1,6 +1,6 @@
 -- A rising list is put together of parts: by induction on the first rules of these, those of one part are left out of the list, and the
 -- other parts lie in what is left. Two rules are of one part where their groups begin with one and the same rule.
-use Rattle.std.proofs.Common.{◌≡◌, ◌≢◌, inl, inr, ℕ, ◌+◌, ◌-◌, ◌<◌, ◌≤◌, Bool, true, false, not, eqb, cond, List, [], ◌∷◌, ◌++◌, length, get_or, refl, sym, ◌∙◌, ap, subst, arith}
+use Rattle.std.proofs.Common.{◌≡◌, ◌≢◌, inl, inr, ℕ, suc, ◌+◌, ◌-◌, ◌<◌, ◌≤◌, Bool, true, false, not, eqb, cond, List, [], ◌∷◌, ◌++◌, length, get_or, refl, sym, ◌∙◌, ap, subst, arith}
 use Rattle.std.specs.Global.{Vec}
 use Rattle.std.specs.Prelude.{Contains}
 use Rattle.std.specs.List.{filter, sum_by}
@@ -9,17 +9,20 @@ use Rattle.std.specs.Ordering.{nat_cmp}
 use Rattle.std.specs.List.Sorted.{IsStrictlySortedBy}
 use Rattle.std.proofs.lemmas.Bool.{cases_lt, eqb-true, eq-eqb, ne_eqb, false≢true}
 use Rattle.std.proofs.lemmas.Cmp.{nat_cmp_total}
-use Rattle.std.proofs.lemmas.List.{get_or_append_left, get_or_default, get_or_push, length_push}
+use Rattle.std.proofs.lemmas.List.{get_or_append_left, get_or_default, get_or_past, get_or_push, length_push}
 use Rattle.std.proofs.lemmas.List.Elements.{All-contains, All-contains_itself, All-filter, filter_passes}
 use Rattle.std.proofs.lemmas.List.Filters.{length-filter_both}
 use Rattle.std.proofs.lemmas.List.Kept.{IsStrictlyIncreasing-filter}
 use Rattle.std.proofs.lemmas.List.Sums.{count_by-le-length, length-filter, sum_by-cons}
 use Rattle.std.proofs.lemmas.Map.Keys.{IsStrictlyIncreasing-from_sorted, sorted_from_strictly_increasing, sorted_tail}
 use Rattle.list_laws.proofs.Sorted.{All-from_Contains, Contains-cons_cases, Contains-first, Contains-later, Less-from_later, later_from_Less, not_Contains-nil, not_Less-itself}
-use Rattle.annotated_trie.specs.Choices.{AnnotatedTrie, AreParts, rules_of_part}
+use Rattle.lexicon_definitions.specs.Rules.{no_change}
+use Rattle.lexicon_definitions.specs.Lexicons.{RuleSet, rule_of}
+use Rattle.annotated_trie.specs.Choices.{AnnotatedTrie, AreParts, HaveOneU, rules_of_part}
 use Rattle.annotated_trie.specs.RuleParts.{ArePartRules, group_from}
-use Rattle.annotated_trie.specs.Suffixes.{AreGroups, IsListFrom}
+use Rattle.annotated_trie.specs.Suffixes.{AreGroups, AreNumbers, IsListFrom, StandsFor}
 use Rattle.annotated_trie.specs.Views.{begins_with, list_at, parts_in}
+use Rattle.annotated_trie.proofs.SuffixLaws.{stands_for_one}
 
 -- ---- rising lists of numbers
 
@@ -107,7 +110,11 @@ parts_few part first_rule (head ∷ heads) list rising up each of =
 
 -- no rule has its group yet
 pub ArePartRules-none : (groups : List (Vec ℕ)) (part_rules : List (List ℕ)) → part_rules ≡ [] ∷ [] → ArePartRules groups [] part_rules
-ArePartRules-none groups part_rules only = record { count = ap length only; each = λ k low. absurd (omega (arith, low)) }
+ArePartRules-none groups part_rules only = record {
+  count = ap length only;
+  nothing = ap (λ (lists : List (List ℕ)). get_or lists 0 []) only;
+  each = λ k low. absurd (omega (arith, low));
+}
 
 -- one rule more
 pub ArePartRules-push : (groups : List (Vec ℕ)) (numbers : List ℕ) (number : ℕ) (old new : List (List ℕ)) → ArePartRules groups numbers old
@@ -120,6 +127,7 @@ ArePartRules-push groups numbers number old new are pushed =
     let same = ap (λ (lists : List (List ℕ)). length lists) pushed in
     record {
       count = omega (arith, count, long, size, same);
+      nothing = ap (λ (lists : List (List ℕ)). get_or lists 0 []) pushed ∙ get_or_append_left old (last ∷ []) [] 0 (omega (arith, count)) ∙ are.nothing;
       each = λ k low. ap (λ (lists : List (List ℕ)). get_or lists (k + 1) []) pushed ∙ elim (cases_lt k (length numbers)) [
         | inl l ↦
             get_or_append_left old (last ∷ []) [] (k + 1) (omega (arith, l, count))
@@ -145,6 +153,47 @@ group_told group rule some told =
           absurd (omega (arith, zero_is, some))
     ]
     in go (begins_with group rule) refl
+
+-- what is told of a group is in it
+from_group : (group : List ℕ) (rule one : ℕ) → Contains (group_from group rule) one → Contains group one
+from_group group rule one among =
+    let go : (b : Bool) → Contains (cond b group []) one → Contains group one = elim [
+      | true ↦ λ has. has
+      | false ↦ λ has. absurd (not_Contains-nil one has)
+    ]
+    in go (begins_with group rule) among
+
+-- the rules of a part are of one group, so that one number stands for the u of each
+module _ (numbers : List ℕ) (groups : List (Vec ℕ)) (part_rules : List (List ℕ)) (grouped : AreGroups numbers groups) (are : ArePartRules groups numbers part_rules) where
+  in_one_group : (part rule : ℕ) → Contains (get_or part_rules part []) rule → (0 < part) × (part ≤ length numbers) × Contains (list_at groups (get_or numbers (part - 1) 0)) rule
+  in_one_group part rule among = elim (cases_lt 0 part) [
+    | inl some ↦ elim (cases_lt (length numbers) part) [
+      | inl past ↦
+          let count = are.count in
+          absurd (not_Contains-nil rule (subst (λ (list : List ℕ). Contains list rule) (get_or_past part_rules part [] (omega (arith, count, past))) among))
+      | inr within ↦
+          let low : part - 1 < length numbers = omega (arith, some, within) in
+          let next : (part - 1) + 1 ≡ part = omega (arith, some) in
+          let told = subst (λ (n : ℕ). get_or part_rules n [] ≡ group_from (list_at groups (get_or numbers (part - 1) 0)) n) next (are.each (part - 1) low) in
+          (some, within, from_group (list_at groups (get_or numbers (part - 1) 0)) part rule (subst (λ (list : List ℕ). Contains list rule) told among))
+    ]
+    | inr none ↦
+        let zero_is : part ≡ 0 = omega (arith, none) in
+        absurd (not_Contains-nil rule (subst (λ (list : List ℕ). Contains list rule) (ap (λ (n : ℕ). get_or part_rules n []) zero_is ∙ are.nothing) among))
+  ]
+
+  pub HaveOneU-parts : (suffixes : List (ℕ × ℕ)) (rules : RuleSet) → AreNumbers suffixes rules.rules numbers → HaveOneU rules part_rules
+  HaveOneU-parts suffixes rules stand part one other has_one has_other =
+      let number = get_or numbers (part - 1) 0 in
+      let (k, is, low, at) = (grouped.each number one).0 (in_one_group part one has_one).2 in
+      let (m, other_is, other_low, other_at) = (grouped.each number other).0 (in_one_group part other has_other).2 in
+      let here = subst (λ (n : ℕ). StandsFor suffixes n (get_or rules.rules k no_change).u) at (stand.each k no_change low) in
+      let there = subst (λ (n : ℕ). StandsFor suffixes n (get_or rules.rules m no_change).u) other_at (stand.each m no_change other_low) in
+      let one_is : one ≡ suc k = omega (arith, is) in
+      let other_as : other ≡ suc m = omega (arith, other_is) in
+      ap (λ (n : ℕ). (rule_of rules n).u) one_is
+      ∙ stands_for_one suffixes (get_or rules.rules k no_change).u (get_or rules.rules m no_change).u number here there
+      ∙ sym (ap (λ (n : ℕ). (rule_of rules n).u) other_as)
 
 -- a group that begins with the rule is told
 group_there : (group : List ℕ) (rule : ℕ) → get_or group 0 0 ≡ rule → group_from group rule ≡ group

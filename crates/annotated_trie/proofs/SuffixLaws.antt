@@ -62,6 +62,27 @@ StandsFor-first old new letter rest place b (head ∷ word) keys some first stan
     let after : StandsFor old rest word = subst (StandsFor old rest) (take_rest (head ∷ word) 1) stands in
     subst (λ (l : ℕ). StandsFor new (place + 1) (l ∷ word)) first (StandsFor-longer old new more letter rest place word e after stored)
 
+-- a number stands for one word at most
+pub stands_for_one : (suffixes : List (ℕ × ℕ)) (one other : List ℕ) (number : ℕ) → StandsFor suffixes number one → StandsFor suffixes number other → one ≡ other
+stands_for_one suffixes [] [] number here there = refl
+stands_for_one suffixes [] (letter ∷ word) number here there =
+    let after = there.1.follows in
+    absurd (omega (arith, here, after))
+stands_for_one suffixes (letter ∷ word) [] number here there =
+    let after = here.1.follows in
+    absurd (omega (arith, there, after))
+stands_for_one suffixes (letter ∷ word) (head ∷ tail) number here there =
+    let after = here.1.follows in
+    let other_after = there.1.follows in
+    let place : here.1.place ≡ there.1.place = omega (arith, after, other_after) in
+    let pair : ℕ × ℕ = (letter, here.0) in
+    let stored = get_or_from_slice_get suffixes here.1.place pair pair here.1.stored in
+    let other_stored = get_or_from_slice_get suffixes there.1.place (head, there.0) pair there.1.stored in
+    let same : pair ≡ (head, there.0) = sym stored ∙ ap (λ (n : ℕ). get_or suffixes n pair) place ∙ other_stored in
+    let rest : here.0 ≡ there.0 = ap (λ (p : ℕ × ℕ). p.1) same in
+    let words : word ≡ tail = stands_for_one suffixes word tail here.0 here.2 (subst (λ (n : ℕ). StandsFor suffixes n tail) (sym rest) there.2) in
+    λ i. (same i).0 ∷ words i
+
 -- one rule more
 pub AreNumbers-push : (most : ℕ) (old new : List (ℕ × ℕ)) (rules : List Rule) (rule : Rule) (numbers : List ℕ) (number : ℕ) → AreNumbers old rules numbers → AddsSuffixes most old new
     → number ≤ length new → StandsFor new number rule.u → AreNumbers new (rules ++ rule ∷ []) (numbers ++ number ∷ [])

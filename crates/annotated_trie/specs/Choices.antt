@@ -65,10 +65,16 @@ pub record AreParts (tries : AnnotatedTrie) (choices parts : List ℕ) : Type 0 
   pub few : sum_by (λ (part : ℕ). length (rules_of_part tries part)) parts ≤ length choices
   pub some : length parts ≤ length choices
 
--- each node of the trie has its choices, which are put together of its parts, and each rule its first letter
+-- the rules of each part have one and the same u
+abbrev pub HaveOneU : RuleSet → List (List ℕ) → Type 0
+HaveOneU rules part_rules = (part one other : ℕ) → Contains (slice_index_or part_rules part []) one → Contains (slice_index_or part_rules part []) other
+    → (rule_of rules one).u ≡ (rule_of rules other).u
+
+-- each node of the trie has its choices, which are put together of its parts, each with one u, and each rule its first letter
 pub record IsAnnotatedTrie (rules : RuleSet) (tries : AnnotatedTrie) : Type 0 where
   pub trie : IsTrie tries.trie
   pub few : length tries.trie.rows < 2 ^ 32
   pub each : (node : ℕ) → node < length tries.trie.rows → AreChoices rules tries.trie.rows node (choices_of tries node)
   pub firsts : tries.firsts ≡ map first_letter rules.rules
   pub parts : (node : ℕ) → node < length tries.trie.rows → AreParts tries (choices_of tries node) (parts_of tries node)
+  pub one_u : HaveOneU rules tries.part_rules

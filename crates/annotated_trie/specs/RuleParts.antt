@@ -8,9 +8,10 @@ use Rattle.annotated_trie.specs.Views.{begins_with, list_at, parts_in}
 abbrev pub group_from : List ℕ → ℕ → List ℕ
 group_from group rule = cond (begins_with group rule) group []
 
--- each rule that is the first of its group has the group, and there is one list more, for 0
+-- each rule that is the first of its group has the group, and there is one list more, for 0, which has nothing
 pub record ArePartRules (groups : List (Vec ℕ)) (numbers : List ℕ) (part_rules : List (List ℕ)) : Type 0 where
   pub count : length part_rules ≡ length numbers + 1
+  pub nothing : slice_index_or part_rules 0 [] ≡ []
   pub each : (k : ℕ) → k < length numbers → slice_index_or part_rules (k + 1) [] ≡ group_from (list_at groups (slice_index numbers k)) (k + 1)
 
 -- each list is put together of the parts whose first rules it has

@@ -1,6 +1,6 @@
 ghost use Rattle.std.specs.Prelude.{◌≡◌, ◌<◌, ◌≤◌, ◌^◌, ◌+◌, length, IfOk};
 ghost use Rattle.lexicon_definitions.specs.Tries.{IsTrie};
-ghost use Rattle.annotated_trie.specs.Choices.{IsAnnotatedTrie};
+ghost use Rattle.annotated_trie.specs.Choices.{HaveOneU, IsAnnotatedTrie};
 ghost use Rattle.annotated_trie.specs.RuleGroups.{HaveNumbersUpTo};
 ghost use Rattle.annotated_trie.specs.RuleParts.{HaveParts};
 ghost use Rattle.annotated_trie.specs.Views.{AreChosen};
@@ -49,6 +49,7 @@ fn choose(
     ensures ok { IfOk result (λ chosen. AreChosen rules.now store.now.rows chosen.0.items chosen.1.items) }
     ensures count { IfOk result (λ chosen. length chosen.2 ≡ length rules.now.rules + 1) }
     ensures parts { IfOk result (λ chosen. HaveParts chosen.2 chosen.0.items) }
+    ensures one_u { IfOk result (λ chosen. HaveOneU rules.now chosen.2) }
 {
     let mut suffixes = IndexSet::new(alloc);
     let numbers = number_rules(alloc, &mut suffixes, rules.rules())?;

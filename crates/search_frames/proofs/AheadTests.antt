@@ -1,5 +1,5 @@
 -- What a key does at a place, told by what the line tells of all forms that begin there and by what its rule does after its letters.
-use Rattle.std.proofs.Common.{◌≡◌, ℕ, zero, suc, ◌+◌, ◌<◌, ◌≤◌, ◌↔◌, inl, inr, IsTrue, IfSome, Bool, Option, None, Some, List, [], ◌++◌, All, length, take, drop, get_or, refl, sym, ap, subst, ◌∙◌, add-zero, arith, length-drop, length-append}
+use Rattle.std.proofs.Common.{◌≡◌, ℕ, zero, suc, ◌+◌, ◌<◌, ◌≤◌, ◌↔◌, inl, inr, IsTrue, IfSome, Bool, true, false, Contains, Option, None, Some, List, [], ◌++◌, All, length, take, drop, get_or, refl, sym, ap, subst, ◌∙◌, add-zero, arith, length-drop, length-append}
 use Rattle.std.proofs.lemmas.Bool.{ne_eqb, cases_lt}
 use Rattle.std.proofs.lemmas.List.{get_or_append_left, get_or-take, get_or-drop, get_or_past, length-take-le}
 use Rattle.std.proofs.lemmas.List.Elements.{All-contains}
@@ -21,9 +21,9 @@ use Rattle.answer_paths.specs.Following.{MayEnter, MayStand, is_start, step_at, 
 use Rattle.search_frames.specs.declared.ahead.Ahead.{Ahead}
 use Rattle.search_frames.specs.declared.letter_testing.LetterTest.{LetterTest}
 use Rattle.search_frames.specs.declared.letter_testing.LetterTest.TheVariants as test
-use Rattle.search_frames.specs.Ahead.{AllowsWhicheverRule, IsAhead, FitsPlace, LetsLetterIn, LetsRuleIn, MayBegin, RuleStands, RuleFails, IsRuleTest}
+use Rattle.search_frames.specs.Ahead.{AllowsWhicheverRule, IsAhead, FitsPlace, LetIn, LetsLetterIn, LetsRuleIn, MayBegin, RuleStands, RuleFails, IsRuleTest}
 use Rattle.search_frames.specs.Configurations.{NumberedConfiguration, IsPossible, rules_in}
-use Rattle.search_frames.specs.LetterTests.{DoAsRules, MayNeither, IsLetterTestOf}
+use Rattle.search_frames.specs.LetterTests.{DoAsRules, DoAsTheseRules, NoneStands, MayNeither, IsLetterTestOf}
 use Rattle.list_laws.proofs.Elements.{written_within}
 
 -- a form has a letter
@@ -238,6 +238,48 @@ do_as_rules searched line choices here taken ahead is_ahead near enters free bot
     free_rule_does searched line choices here key ahead is_ahead (omega (arith, near, same)) free both says (allows line key same) some possible
     (enters key same possible.within begins) does
     (subst (λ (t : ℕ). IsRuleTest (rules_in searched) line (here.at + t) both key.phase key.rule does) (sym same) is)
+
+-- ---- rules with one u
+
+-- after a letter the same may be entered
+pub lets_in_with_u : (rules : RuleSet) (entrance : Entrance) (one other : ℕ) → (rule_of rules one).u ≡ (rule_of rules other).u → LetsRuleIn rules entrance one → LetsRuleIn rules entrance other
+lets_in_with_u rules Start one other same lets = tt
+lets_in_with_u rules (Plain letter) one other same lets =
+    subst (λ (u : List ℕ). 0 < length u → IsPlain rules letter (get_or u 0 0)) same lets
+lets_in_with_u rules (Lead v after) one other same lets = tt
+
+module _ (searched : SearchedLexicon) (line : Line) (here : NumberedConfiguration) (taken : ℕ) (rules : List ℕ) where
+  -- where none may be entered, no key with these rules may stand; where all may and no choice is made, each does what its rule does
+  pub none_stands : (choices : List Choice) → LetIn searched line here taken rules false → NoneStands searched line choices here taken rules
+  none_stands choices lets key same among stands =
+      let possible : IsPossible searched line here key = record { number = stands.number; within = stands.within; form = stands.form } in
+      absurd (cc ((lets key same among possible (begins_if_stands searched line choices here key stands)).1 stands.enters))
+
+  pub do_as_these : (choices : List Choice) (ahead : Ahead) → choices ≡ [] → IsAhead (rules_in searched) line here.at here.entrance ahead → here.at + taken ≤ ahead.limit
+      → LetIn searched line here taken rules true → DoAsTheseRules searched line choices here taken ahead.may_end rules
+  do_as_these choices ahead free is_ahead near lets key does same some among possible begins is =
+      free_rule_does searched line choices here key ahead is_ahead (omega (arith, near, same)) true ahead.may_end (λ may. (may, refl), λ both. both.0) (
+        λ allowed last. refl,
+        λ may. subst (λ (those : List Choice). Allows (rules_in searched) (length line.letters) those (is_start here.entrance)
+            (placed_at (rules_in searched) line here.at here.entrance key)) (sym free) (λ number none low. absurd (omega (arith, low))),
+      )
+      some possible ((lets key same among possible begins).0 refl) does
+      (subst (λ (t : ℕ). IsRuleTest (rules_in searched) line (here.at + t) ahead.may_end key.phase key.rule does) (sym same) is)
+
+  -- all that take a letter may be entered where the next letter of the line may
+  pub let_in_with_letter : (ahead : Ahead) → IsAhead (rules_in searched) line here.at here.entrance ahead → 0 < taken → LetIn searched line here taken rules ahead.enters
+  let_in_with_letter ahead is_ahead above key same among possible begins =
+      enters_with_letter (rules_in searched) line here.at here.entrance key ahead.enters possible.within (omega (arith, above, same)) begins is_ahead.entering
+
+  -- all that take none where one of the rules may
+  pub let_in_with_rule : IsSearchedLexicon searched → taken ≡ 0 → (one : ℕ) → ((other : ℕ) → Contains rules other → (rule_of (rules_in searched) one).u ≡ (rule_of (rules_in searched) other).u)
+      → (lets : Bool) → IsTrue lets ↔ LetsRuleIn (rules_in searched) here.entrance one → LetIn searched line here taken rules lets
+  let_in_with_rule is none one one_u lets says key same among possible begins =
+      let u = one_u key.rule among in
+      enters_with_rule (rules_in searched) line here.at here.entrance key lets (same ∙ none) (some_letter searched key.phase _ is possible.form) begins (
+        λ t. lets_in_with_u (rules_in searched) here.entrance one key.rule u (says.0 t),
+        λ may. says.1 (lets_in_with_u (rules_in searched) here.entrance key.rule one (sym u) may),
+      )
 
 -- the w of any rule is short
 short_w : (rules : List Rule) (number : ℕ) → All IsShortRule rules → length (rule_at rules number).w ≤ MOST_RULE_LETTERS

@@ -16,7 +16,7 @@ use Rattle.answer_paths.specs.Following.{MayEnter, is_start, step_at, placed_at}
 use Rattle.search_frames.specs.declared.ahead.Ahead.{Ahead}
 use Rattle.search_frames.specs.declared.letter_testing.LetterTest.{LetterTest}
 use Rattle.search_frames.specs.declared.letter_testing.LetterTest.TheVariants as test
-use Rattle.search_frames.specs.Configurations.{NumberedConfiguration, rules_in}
+use Rattle.search_frames.specs.Configurations.{NumberedConfiguration, IsPossible, rules_in}
 
 -- the blank is the first one after so many letters
 pub record IsNextBlank (blanks : List ℕ) (at blank : ℕ) : Type 0 where
@@ -52,6 +52,12 @@ pub record IsAhead (rules : RuleSet) (line : Line) (at : ℕ) (entrance : Entran
   pub stop : ahead.limit < length line.letters → (Contains line.blanks ahead.limit × (at < ahead.limit)) ⊎ (LetsLetterIn rules line at entrance → ⊥)
   pub ending : IsTrue ahead.may_end ↔ All (λ blank. blank ≤ at) line.blanks
   pub entering : IsTrue ahead.enters ↔ LetsLetterIn rules line at entrance
+
+-- the form of a key with one of these rules that takes so many letters may be entered at the place just where the Bool says
+abbrev pub LetIn : SearchedLexicon → Line → NumberedConfiguration → ℕ → List ℕ → Bool → Type 0
+LetIn searched line here taken rules lets =
+    (key : Key) → key.taken ≡ taken → Contains rules key.rule → IsPossible searched line here key → MayBegin here.entrance key.phase
+    → IsTrue lets ↔ MayEnter (rules_in searched) here.entrance (step_at (rules_in searched) line here.at here.entrance key)
 
 -- all that is asked of a key at a place but what its rule asks: the form may be entered, no blank stands inside, and the choices allow it
 pub record FitsPlace (searched : SearchedLexicon) (line : Line) (choices : List Choice) (here : NumberedConfiguration) (key : Key) : Type 0 where

@@ -1,6 +1,6 @@
 -- What a key does where a search stands as far as the letters of the line, the blanks and the choices tell, whatever the
 -- grammar says (own).
-use Rattle.std.specs.Prelude.{◌≡◌, ℕ, ◌+◌, ◌<◌, ◌≤◌, Bool, List, length, All}
+use Rattle.std.specs.Prelude.{◌≡◌, ℕ, ◌+◌, ◌<◌, ◌≤◌, Bool, List, length, All, Contains}
 use Rattle.text_definitions.specs.Lines.{Line}
 use Rattle.lexicon_definitions.specs.Rules.{IsInner, IsFinal}
 use Rattle.lexicon_definitions.specs.Lexicons.{rule_of}
@@ -54,3 +54,14 @@ abbrev pub DoAsRules : SearchedLexicon → Line → List Choice → NumberedConf
 DoAsRules searched line choices here taken may_end =
     (key : Key) (test : LetterTest) → key.taken ≡ taken → 0 < key.rule → IsPossible searched line here key → MayBegin here.entrance key.phase
     → IsRuleTest (rules_in searched) line (here.at + taken) may_end key.phase key.rule test → IsLetterTestOf searched line choices here key test
+
+-- the same for keys with one of these rules
+abbrev pub DoAsTheseRules : SearchedLexicon → Line → List Choice → NumberedConfiguration → ℕ → Bool → List ℕ → Type 0
+DoAsTheseRules searched line choices here taken may_end rules =
+    (key : Key) (test : LetterTest) → key.taken ≡ taken → 0 < key.rule → Contains rules key.rule → IsPossible searched line here key → MayBegin here.entrance key.phase
+    → IsRuleTest (rules_in searched) line (here.at + taken) may_end key.phase key.rule test → IsLetterTestOf searched line choices here key test
+
+-- no key with one of these rules that takes so many letters may stand at the place
+abbrev pub NoneStands : SearchedLexicon → Line → List Choice → NumberedConfiguration → ℕ → List ℕ → Type 0
+NoneStands searched line choices here taken rules =
+    (key : Key) → key.taken ≡ taken → Contains rules key.rule → MayStand searched.lexicon line choices here.at here.entrance key → ⊥

@@ -9,9 +9,10 @@ ghost use Rattle.segmentation_definitions.specs.LocalTests.{Allows};
 ghost use Rattle.segmentation_definitions.specs.Configurations.{last_letter};
 ghost use Rattle.derivation.specs.Guides.{IsEntranceOver, entrance_of};
 ghost use Rattle.derivation.specs.Steps.{key_meant};
+ghost use Rattle.annotated_trie.specs.Choices.{rules_of_part};
 ghost use Rattle.answer_paths.specs.Fronts.{supplied};
 ghost use Rattle.answer_paths.specs.Following.{MayEnter, is_start, placed_at, step_at};
-ghost use Rattle.search_frames.specs.Ahead.{AllowsWhicheverRule, FitsPlace, IsAhead, IsNextBlank, IsRuleTest, LetsLetterIn, LetsRuleIn, MayBegin};
+ghost use Rattle.search_frames.specs.Ahead.{AllowsWhicheverRule, FitsPlace, IsAhead, IsNextBlank, IsRuleTest, LetIn, LetsLetterIn, LetsRuleIn, MayBegin};
 ghost use Rattle.search_frames.specs.Configurations.{IsPossible};
 ghost use Rattle.search_frames.specs.Frames.{IsConfigurationIn, numbered_of};
 ghost use Rattle.search_frames.specs.LetterTests.{DoAsRules, IsLetterTestOf};
@@ -266,6 +267,28 @@ impl Ahead {
         match place.entrance {
             Entrance::Plain(_) => taken > 0 && self.enters,
             Entrance::Start | Entrance::Lead(_) => true,
+        }
+    }
+
+    /// Whether the form of a key that takes so many letters and has a rule of the part may be entered at the place: as the rules of a part have
+    /// one `u`, that is the same for all of these keys.
+    pub fn lets_part_in(
+        self,
+        lexicon: &Lexicon,
+        place: &Configuration,
+        taken: u32,
+        part: u32,
+    ) -> bool
+        requires part { part < length lexicon.now.tries.part_rules }
+        requires rules { All (λ rule. rule ≤ length lexicon.now.lexicon.rules.rules) (rules_of_part lexicon.now.tries part) }
+        ensures { (line : LineValue) → let here = numbered_of lexicon.now place.now in IsAhead lexicon.now.lexicon.rules line here.at here.entrance self → LetIn lexicon.now line here taken (rules_of_part lexicon.now.tries part) result }
+    {
+        if taken > 0 {
+            return self.enters;
+        }
+        match lexicon.tries().rules_of_part(part) {
+            [first, ..] => lets_rule_in(lexicon.rules(), place, *first),
+            [] => false,
         }
     }
 

@@ -12,7 +12,8 @@
 //! the letters, the blanks and the choices tell, whatever the grammar says (`exact`). None of them changes what stands before its level
 //! (`changes`). `Resumption::copy` gives the same in every field (`ok`). `Ahead::of` says what the line tells of every form that begins at
 //! a place; `Ahead::test` says by this what `test_letters` says of a key (`exact`), `Ahead::end_by_rules` that keys which take so many letters
-//! do there just what their rules do, and `rule_test` what a rule does after so many letters, wherever the form begins.
+//! do there just what their rules do, `Ahead::lets_part_in` whether forms with the rules of a part may be entered there, and `rule_test` what
+//! a rule does after so many letters, wherever the form begins.
 #![tactic(auto)]
 
 mod ahead;

@@ -17,7 +17,7 @@ use Rattle.search_frames.specs.declared.letter_testing.LetterTest.TheVariants as
 use Rattle.search_frames.specs.Ahead.{MayBegin, RuleFails, RuleLeadsTo, RuleEnds}
 use Rattle.search_frames.specs.Configurations.{NumberedConfiguration, IsPossible, rules_in}
 use Rattle.search_frames.specs.Frames.{IsConfigurationIn, numbered_of}
-use Rattle.search_frames.specs.LetterTests.{DoAsRules, MayEndLine, MayLeadTo, MayNeither}
+use Rattle.search_frames.specs.LetterTests.{DoAsTheseRules, MayEndLine, MayLeadTo, MayNeither}
 use Rattle.search_frames.proofs.AheadTests.{entrance_changed}
 use Rattle.search_frames.proofs.ConfigurationRanks.{not_both_ways}
 use Rattle.summary_chart.specs.declared.state_set.StateSet.{StateSet}
@@ -243,32 +243,33 @@ module _ (searched : SearchedLexicon) (line : Line) (choices : List Choice) (pla
           ]),
     )
 
-    module _ (ending : Bool) (does : DoAsRules searched line choices (numbered_of searched place) taken ending)
+    module _ (ending : Bool) (rules : List ℕ) (among_choices : (rule : ℕ) → Contains rules rule → Contains (choices_of searched.tries node) rule)
+        (does : DoAsTheseRules searched line choices (numbered_of searched place) taken ending rules)
         (begins : MayBegin (numbered_of searched place).entrance phase) where
-      -- where a key with a rule ends the line, the line may end there, since else the rule does nothing there
-      line_may_end : (may : Bool) → DoAsRules searched line choices (numbered_of searched place) taken may → (rule : ℕ) → 0 < rule
+      -- where a key with one of the rules ends the line, the line may end there, since else the rule does nothing there
+      line_may_end : (may : Bool) → DoAsTheseRules searched line choices (numbered_of searched place) taken may rules → (rule : ℕ) → 0 < rule → Contains rules rule
           → MayEndLine searched line choices (numbered_of searched place) (key_with phase taken rule) → IsTrue may
-      line_may_end true is_so rule some ends = refl
-      line_may_end false is_so rule some ends =
+      line_may_end true is_so rule some among ends = refl
+      line_may_end false is_so rule some among ends =
           let stands = ends.stands in
           let fails : RuleFails (rules_in searched) line (place.at + taken) false phase rule =
           record { leads = λ there inner. inner (ends.final_rule some); ends = λ ended. (let may = ended.may in absurd (cc)) } in
-          absurd ((is_so (key_with phase taken rule) test.Refused refl some (record { number = stands.number; within = stands.within; form = stands.form }) begins fails).ends ends)
+          absurd ((is_so (key_with phase taken rule) test.Refused refl some among (record { number = stands.number; within = stands.within; form = stands.form }) begins fails).ends ends)
 
-      -- what a key with a choice does, its rule does
-      rule_lives : (rule number : ℕ) → 0 < rule → LivesByKey searched line choices (numbered_of searched place) table (key_with phase taken rule) number
+      -- what a key with one of them does, its rule does
+      rule_lives : (rule number : ℕ) → 0 < rule → Contains rules rule → LivesByKey searched line choices (numbered_of searched place) table (key_with phase taken rule) number
           → ((at : ℕ) × (entrance : Entrance) × RuleLeadsTo (rules_in searched) line (place.at + taken) phase rule at entrance × IsIn table (place_with at entrance number))
           ⊎ (RuleEnds (rules_in searched) line (place.at + taken) ending phase rule × IsTrue (is_accepting searched.machine (Some number)))
-      rule_lives rule number some (inl ends) =
+      rule_lives rule number some among (inl ends) =
           let may = ends.0 in
           let ended : RuleEnds (rules_in searched) line (place.at + taken) ending phase rule = record {
             stands = record { follows = may.stands.follows some; written = may.stands.written };
             final_rule = may.final_rule some;
             all = may.all;
-            may = line_may_end ending does rule some may;
+            may = line_may_end ending does rule some among may;
           } in
           inr (ended, ends.1)
-      rule_lives rule number some (inr leads) =
+      rule_lives rule number some among (inr leads) =
           let here = numbered_of searched place in
           let may = leads.2 in
           let led : RuleLeadsTo (rules_in searched) line (place.at + taken) phase rule leads.0 leads.1 = record {
@@ -280,35 +281,36 @@ module _ (searched : SearchedLexicon) (line : Line) (choices : List Choice) (pla
           } in
           inl (leads.0, leads.1, led, leads.3)
 
-      -- so the states that live by the choices are those after which the line goes on by keys with them
-      pub living_by_choices : (living : StateSet)
+      -- so the states that live by the rules are those after which the line goes on by keys with them
+      pub living_by_these : (living : StateSet)
           → ((number : ℕ) → HasState living number ↔ LivesBy searched line table (record { node = node; part = None; end = place.at + taken; may_end = ending; phase = phase })
-          (Contains (choices_of searched.tries node)) number)
-          → AreLivingBy searched line choices (numbered_of searched place) table (IsByRule phase taken (choices_of searched.tries node)) living
-      living_by_choices living lives number = (
+          (Contains rules) number)
+          → AreLivingBy searched line choices (numbered_of searched place) table (IsByRule phase taken rules) living
+      living_by_these living lives number = (
         λ has.
             let here = numbered_of searched place in
             let by = (lives number).0 has in
             let rule = by.0 in
             let key = key_with phase taken rule in
-            let some = (choice_number searched node rule is (front_node searched is line here phase taken node front) by.1).0 in
-            let possible = choice_possible searched is line here phase taken node front rule by.1 in (
+            let chosen = among_choices rule by.1 in
+            let some = (choice_number searched node rule is (front_node searched is line here phase taken node front) chosen).0 in
+            let possible = choice_possible searched is line here phase taken node front rule chosen in (
               key,
               (refl, refl, by.1),
               elim by.2 [
-                | inl led ↦ inr (led.0, led.1, does key (test.LeadsOn led.0 led.1) refl some possible begins led.2, led.3)
-                | inr ended ↦ inl (does key test.Ends refl some possible begins ended.0, ended.1)
+                | inl led ↦ inr (led.0, led.1, does key (test.LeadsOn led.0 led.1) refl some by.1 possible begins led.2, led.3)
+                | inr ended ↦ inl (does key test.Ends refl some by.1 possible begins ended.0, ended.1)
               ],
             ),
         λ goes.
             let key = goes.0 in
             let told = goes.1 in
             let same : key ≡ key_with phase taken key.rule = λ i. record { phase = told.0 i; taken = told.1 i; rule = key.rule } in
-            let some = (choice_number searched node key.rule is (front_node searched is line (numbered_of searched place) phase taken node front) told.2).0 in
+            let some = (choice_number searched node key.rule is (front_node searched is line (numbered_of searched place) phase taken node front) (among_choices key.rule told.2)).0 in
             (lives number).1 (
               key.rule,
               told.2,
-              rule_lives key.rule number some (subst (λ (k : Key). LivesByKey searched line choices (numbered_of searched place) table k number) same goes.2),
+              rule_lives key.rule number some told.2 (subst (λ (k : Key). LivesByKey searched line choices (numbered_of searched place) table k number) same goes.2),
             ),
       )
 

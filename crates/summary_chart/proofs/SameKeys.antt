@@ -15,18 +15,20 @@ use Rattle.annotated_trie.specs.Searched.{SearchedLexicon}
 use Rattle.answer_paths.specs.Following.{MayEnter, MayStand, is_start, placed_at, step_at}
 use Rattle.search_frames.specs.declared.configuration.Configuration.{Configuration}
 use Rattle.search_frames.specs.declared.letter_testing.LetterTest.TheVariants as test
-use Rattle.search_frames.specs.Ahead.{FitsPlace}
+use Rattle.search_frames.specs.Ahead.{FitsPlace, MayBegin}
 use Rattle.search_frames.specs.Configurations.{IsPossible, rules_in}
 use Rattle.search_frames.specs.Frames.{numbered_of}
-use Rattle.search_frames.specs.LetterTests.{MayEndLine, MayLeadTo}
+use Rattle.search_frames.specs.LetterTests.{DoAsRules, DoAsTheseRules, MayEndLine, MayLeadTo}
 use Rattle.search_frames.proofs.AheadTests.{rule_does}
+use Rattle.summary_chart.specs.declared.site.SiteAhead.{SiteAhead}
 use Rattle.summary_chart.specs.declared.state_set.StateSet.{StateSet}
 use Rattle.summary_chart.specs.declared.table.Table.{Table}
 use Rattle.summary_chart.specs.Effects.{DoSame}
-use Rattle.summary_chart.specs.Onward.{LivesByKey, LivesMore}
+use Rattle.summary_chart.specs.Onward.{DoAsRulesIfEntered, LeadSame, LivesByKey, LivesMore}
+use Rattle.summary_chart.specs.Sites.{IsSiteAhead}
 use Rattle.summary_chart.specs.Spreading.{IsByRule}
 use Rattle.summary_chart.specs.Summaries.{key_with}
-use Rattle.summary_chart.proofs.AlikeRules.{ends_alike, leads_alike}
+use Rattle.summary_chart.proofs.AlikeRules.{ends_alike, lead_by_rules, leads_alike}
 use Rattle.summary_chart.proofs.SpreadMemos.{leads_by_rule}
 
 -- words that begin with the same letter, or are empty, begin so after the same letters
@@ -50,6 +52,11 @@ enters_same rules line at (Plain letter) phase taken one other same enters =
     (first_same (letters ++ (rule_of rules other).u) (letters ++ (rule_of rules one).u) (begin_same letters (rule_of rules other).u (rule_of rules one).u (sym same)))
     enters
 enters_same rules line at (Lead v after) phase taken one other same enters = enters
+
+-- what keys do of which each does what its rule does, do those with some of the rules
+pub these_do : (searched : SearchedLexicon) (line : Line) (choices : List Choice) (place : Configuration) (taken : ℕ) (may_end : Bool) (rules : List ℕ)
+    → DoAsRules searched line choices (numbered_of searched place) taken may_end → DoAsTheseRules searched line choices (numbered_of searched place) taken may_end rules
+these_do searched line choices place taken may_end rules does key test same some among possible begins is = does key test same some possible begins is
 
 module _ (searched : SearchedLexicon) (line : Line) (choices : List Choice) (place : Configuration) (free : choices ≡ []) (phase taken one other : ℕ)
     (same : DoSame (rules_in searched) one other) (some_one : 0 < one) (some_other : 0 < other)
@@ -89,6 +96,27 @@ module _ (searched : SearchedLexicon) (line : Line) (choices : List Choice) (pla
         all = may.all;
         may = says.1 may.blanks_before;
       }))
+
+-- ---- where each key whose form may be entered does what its rule does
+
+module _ (here : SiteAhead) (taken : ℕ) (may_end : Bool) where
+  -- rules that do the same lead on to the same
+  pub lead_same_if_entered : (phase : ℕ) → IsSiteAhead here → MayBegin (numbered_of here.site.lexicon.now here.site.place.now).entrance phase → DoAsRulesIfEntered here taken may_end
+      → LeadSame here.site.lexicon.now here.site.line.now here.site.choices.now (numbered_of here.site.lexicon.now here.site.place.now) phase taken
+  lead_same_if_entered phase is begins (inl does) =
+      lead_by_rules here.site.lexicon.now here.site.line.now here.site.choices.now here.site.place.now phase taken may_end begins does
+  lead_same_if_entered phase is begins (inr free) = λ one other at entrance same some_one some_other possible may.
+      leads_same here.site.lexicon.now here.site.line.now here.site.choices.now here.site.place.now free.0 phase taken one other same some_one some_other possible
+      here.ahead.may_end is.ahead.ending at entrance may
+
+  -- some of the rules do so, if they do where no choice is made
+  pub these_do_if_entered : (rules : List ℕ) → DoAsRulesIfEntered here taken may_end
+      → (here.site.choices.now ≡ [] → DoAsTheseRules here.site.lexicon.now here.site.line.now here.site.choices.now (numbered_of here.site.lexicon.now here.site.place.now) taken here.ahead.may_end rules)
+      → DoAsTheseRules here.site.lexicon.now here.site.line.now here.site.choices.now (numbered_of here.site.lexicon.now here.site.place.now) taken may_end rules
+  these_do_if_entered rules (inl does) own = these_do here.site.lexicon.now here.site.line.now here.site.choices.now here.site.place.now taken may_end rules does
+  these_do_if_entered rules (inr free) own =
+      subst (λ (e : Bool). DoAsTheseRules here.site.lexicon.now here.site.line.now here.site.choices.now (numbered_of here.site.lexicon.now here.site.place.now) taken e rules)
+      (sym free.1) (own free.0)
 
 -- a rule is passed over where one that does the same was looked at
 module _ (searched : SearchedLexicon) (line : Line) (choices : List Choice) (place : Configuration) (table : Table) (free : choices ≡ []) (phase taken : ℕ)

@@ -16,7 +16,7 @@ use Rattle.search_frames.specs.declared.letter_testing.LetterTest.TheVariants as
 use Rattle.search_frames.specs.Ahead.{MayBegin, RuleLeadsTo}
 use Rattle.search_frames.specs.Configurations.{rules_in}
 use Rattle.search_frames.specs.Frames.{numbered_of}
-use Rattle.search_frames.specs.LetterTests.{DoAsRules, MayLeadTo}
+use Rattle.search_frames.specs.LetterTests.{DoAsTheseRules, MayLeadTo}
 use Rattle.search_frames.proofs.AheadTests.{entrance_changed}
 use Rattle.summary_chart.specs.declared.memo.Done.{Done}
 use Rattle.summary_chart.specs.declared.memo.Memo.{Memo}
@@ -160,12 +160,12 @@ module _ (searched : SearchedLexicon) (line : Line) (choices : List Choice) (pla
             let there = there_if_spread searched line table done work key.rule next.at put.number next.entrance (are.spread done known) same of_work by_work has_number in
             subst (IsIn table) (λ i. record { at = next.at; entrance = next.entrance; state = sym put.is i }) there
 
-    -- where every key with this front does what its rule does, each rule of the work that leads on was put into the table with the states that come
+    -- where every key with this front and a rule of the work does what its rule does, each rule of the work that leads on was put into the table with the states that come
     -- after it, if all of them were looked at that may stand there
     pub newly_spread : (mid new : Table) (memo : Memo) (known all : StateSet) (may_end : Bool)
         → IsFrontAt searched line (numbered_of searched place) phase taken work.node
         → MayBegin (numbered_of searched place).entrance phase
-        → DoAsRules searched line choices (numbered_of searched place) taken may_end
+        → DoAsTheseRules searched line choices (numbered_of searched place) taken may_end (rules_at searched.tries work)
         → AreSpread searched line mid memo
         → ((number : ℕ) → HasState known number → IsKnownWith searched.tries memo work number)
         → ((number : ℕ) → HasState all number ↔ (HasState known number ⊎ HasState after number))
@@ -186,6 +186,6 @@ module _ (searched : SearchedLexicon) (line : Line) (choices : List Choice) (pla
               let possible = choice_possible searched is line here phase taken work.node front rule (choice_at_work searched work rule is of_trie among) in
               let by_phase = rule_leads_alike (rules_in searched) line work.end work.phase phase rule alike some within at entrance leads in
               let by_end = subst (λ (e : ℕ). RuleLeadsTo (rules_in searched) line e phase rule at entrance) end by_phase in
-              let may : MayLeadTo searched line choices here key at entrance = does key (test.LeadsOn at entrance) refl some possible begins by_end in
+              let may : MayLeadTo searched line choices here key at entrance = does key (test.LeadsOn at entrance) refl some among possible begins by_end in
               puts.adds key (place_with at entrance number) (refl, refl, looked rule among some may.may.stands) (record { leads = may; number = number; has = now; is = refl })
         ]

@@ -1,6 +1,6 @@
 -- What keys of a place do as far as the letters of the line, the blanks and the choices tell, whatever the grammar's state there: where they
 -- lead on to with states that come after them, and after which states the line goes further by them (own).
-use Rattle.std.specs.Prelude.{◌≡◌, ◌<◌, ◌⊎◌, ◌↔◌, ℕ, IsTrue, Some, List}
+use Rattle.std.specs.Prelude.{◌≡◌, ◌<◌, ◌⊎◌, ◌↔◌, ℕ, IsTrue, Bool, Some, List, []}
 use Rattle.text_definitions.specs.Lines.{Line}
 use Rattle.segmentation_definitions.specs.Items.{Choice}
 use Rattle.segmentation_definitions.specs.Listings.{Key}
@@ -10,8 +10,9 @@ use Rattle.annotated_trie.specs.Searched.{SearchedLexicon}
 use Rattle.search_frames.specs.Ahead.{MayBegin}
 use Rattle.search_frames.specs.Configurations.{NumberedConfiguration, IsPossible, rules_in}
 use Rattle.search_frames.specs.Frames.{IsConfigurationIn, numbered_of}
-use Rattle.search_frames.specs.LetterTests.{MayEndLine, MayLeadTo}
+use Rattle.search_frames.specs.LetterTests.{DoAsRules, MayEndLine, MayLeadTo}
 use Rattle.search_frames.specs.declared.configuration.Configuration.{Configuration}
+use Rattle.summary_chart.specs.declared.site.SiteAhead.{SiteAhead}
 use Rattle.summary_chart.specs.declared.spreading.Onward.{Onward}
 use Rattle.summary_chart.specs.declared.state_set.StateSet.{StateSet}
 use Rattle.summary_chart.specs.declared.table.Table.{Table}
@@ -40,6 +41,14 @@ abbrev pub LeadSame : SearchedLexicon → Line → List Choice → NumberedConfi
 LeadSame searched line choices here phase taken = (one other at : ℕ) (entrance : Entrance) → DoSame (rules_in searched) one other → 0 < one → 0 < other
     → IsPossible searched line here (key_with phase taken one)
     → MayLeadTo searched line choices here (key_with phase taken other) at entrance → MayLeadTo searched line choices here (key_with phase taken one) at entrance
+
+-- whichever its rule, each key that takes so many letters does at the place what its rule does, with this Bool to say whether the line may end
+-- there; or no choice is made, and so does each key whose form may be entered
+abbrev pub DoAsRulesIfEntered : SiteAhead → ℕ → Bool → Type 0
+DoAsRulesIfEntered here taken may_end =
+    let site = here.site in
+    DoAsRules site.lexicon.now site.line.now site.choices.now (numbered_of site.lexicon.now site.place.now) taken may_end
+    ⊎ ((site.choices.now ≡ []) × (may_end ≡ here.ahead.may_end))
 
 -- the places to which a key that is told by this may lead on were added to the table with each of the states, and no others
 pub record Puts (searched : SearchedLexicon) (line : Line) (choices : List Choice) (here : NumberedConfiguration) (after : StateSet)

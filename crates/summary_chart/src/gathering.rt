@@ -1,5 +1,6 @@
-ghost use Rattle.std.specs.Prelude.{[], IfSome, IsTrue, ◌≡◌, ◌⊎◌, ◌+◌, ◌*◌, ◌<◌, ◌≤◌, ℕ, length, None, All, IfOk, OnOk};
+ghost use Rattle.std.specs.Prelude.{[], IfSome, IsTrue, ◌≡◌, ◌⊎◌, ◌+◌, ◌*◌, ◌<◌, ◌≤◌, ℕ, length, slice_index_or, None, All, IfOk, OnOk};
 ghost use Rattle.derivation.specs.Steps.{key_meant};
+ghost use Rattle.annotated_trie.specs.Choices.{choices_of, choices_with};
 ghost use Rattle.search_frames.specs.Ahead.{MayBegin};
 ghost use Rattle.search_frames.specs.Frames.{numbered_of};
 ghost use Rattle.search_frames.specs.Configurations.{IsPossible};
@@ -21,8 +22,8 @@ ghost use Rattle.summary_chart.specs.Spreading.{AreGoingFurther, EveryKey, GoesF
 ghost use Rattle.summary_chart.specs.Summaries.{steps_after_first, steps_of_items};
 
 use super::alike::{AlikeFront, alike_at, begun_front};
-use super::living_work::living_after;
-use super::memo::{Memo, Work};
+use super::living_work::{living_after, living_by_part};
+use super::memo::{FEW_RULES, Memo, Work};
 use super::room::{Room, WalkRoom};
 use super::same_effect::Effects;
 use super::site::{Front, Site, SiteAhead};
@@ -33,7 +34,7 @@ use super::walk_memo::{Walk, WalkMemo, shares_walks};
 use super::walking::longer_front;
 use derivation::Key;
 use outside::Steps;
-use phoneme::Memory;
+use phoneme::{Letter, Memory};
 use search_frames::{Ahead, LetterTest, Way};
 use shared_trie::Node;
 
@@ -175,6 +176,83 @@ fn living_unchanged(here: SiteAhead<'_>, front: &Front, table: &Table) -> StateS
     living_by_key(here, key, table)
 }
 
+/// The states after the phase of this front from which some key with it and with a rule ends the line or leads on to a place of the table,
+/// where no choice is made: part by part. Parts are passed over with whose rules no form may be entered at the place. Refused only for want of
+/// memory.
+fn living_by_entered_parts<L>(
+    here: SiteAhead<'_>,
+    front: &Front,
+    table: &Table,
+    memo: &mut Memo,
+    steps: &mut Steps<L>,
+) -> Result<StateSet, Memory>
+    requires here { IsSiteAhead here }
+    requires free { here.site.choices.now ≡ [] }
+    requires limit { here.site.place.now.at + front.now.taken ≤ here.ahead.limit }
+    requires begins { MayBegin (numbered_of here.site.lexicon.now here.site.place.now).entrance front.now.phase }
+    requires front { IsFrontAt here.site.lexicon.now here.site.line.now (numbered_of here.site.lexicon.now here.site.place.now) front.now.phase front.now.taken front.now.node }
+    requires table { IsTable (leads_in here.site.lexicon.now) (length here.site.line.now.letters) table.now }
+    requires memo { AreLiving here.site.lexicon.now here.site.line.now table.now memo.old }
+    ensures memo { OnOk result (AreLiving here.entry.site.lexicon.now here.entry.site.line.now table.now memo.new) }
+    ensures ends { OnOk result (EndFrom here.entry.site.place.now.at memo.old → EndFrom here.entry.site.place.now.at memo.new) }
+    ensures living { let site = here.entry.site in IfOk result (λ living. AreLivingBy site.lexicon.now site.line.now site.choices.now (numbered_of site.lexicon.now site.place.now) table.now (IsByRule front.now.phase front.now.taken (choices_of site.lexicon.now.tries front.now.node)) living) }
+    ensures steps { steps.new ≤ steps.old + 2 * length (choices_of here.entry.site.lexicon.now.tries front.now.node) }
+{
+    let SiteAhead { site, ahead } = here;
+    let lexicon = site.lexicon;
+    let work = Work {
+        node: front.node,
+        part: None,
+        end: site.place.at + front.taken,
+        may_end: ahead.may_end,
+        phase: lexicon.alike_phase(front.phase),
+    };
+    let parts = lexicon.tries().parts(front.node);
+    let mut living = StateSet::empty();
+    for part in parts {
+        if !ahead.lets_part_in(lexicon, site.place, front.taken, *part) {
+            steps.tick();
+            continue;
+        }
+        let found = living_by_part(site, &work, *part, table, memo, steps)?;
+        living = living.union(found);
+    }
+    Ok(living)
+}
+
+/// The same for the rules whose `w` begins with this letter, the next one of the line: rule by rule where these are few, and else part by part.
+fn living_by_entered_rules<L>(
+    here: SiteAhead<'_>,
+    front: &Front,
+    letter: Letter,
+    table: &Table,
+    memo: &mut Memo,
+    steps: &mut Steps<L>,
+) -> Result<StateSet, Memory>
+    requires here { IsSiteAhead here }
+    requires free { here.site.choices.now ≡ [] }
+    requires limit { here.site.place.now.at + front.now.taken ≤ here.ahead.limit }
+    requires begins { MayBegin (numbered_of here.site.lexicon.now here.site.place.now).entrance front.now.phase }
+    requires front { IsFrontAt here.site.lexicon.now here.site.line.now (numbered_of here.site.lexicon.now here.site.place.now) front.now.phase front.now.taken front.now.node }
+    requires letter { letter ≡ slice_index_or here.site.line.now.letters (here.site.place.now.at + front.now.taken) letter }
+    requires table { IsTable (leads_in here.site.lexicon.now) (length here.site.line.now.letters) table.now }
+    requires memo { AreLiving here.site.lexicon.now here.site.line.now table.now memo.old }
+    ensures memo { OnOk result (AreLiving here.entry.site.lexicon.now here.entry.site.line.now table.now memo.new) }
+    ensures ends { OnOk result (EndFrom here.entry.site.place.now.at memo.old → EndFrom here.entry.site.place.now.at memo.new) }
+    ensures living { let site = here.entry.site in IfOk result (λ living. AreLivingBy site.lexicon.now site.line.now site.choices.now (numbered_of site.lexicon.now site.place.now) table.now (IsByRule front.now.phase front.now.taken (choices_with site.lexicon.now.tries front.now.node letter)) living) }
+    ensures steps { (most : ℕ) → HasAtMostRules here.entry.site.lexicon.now.tries most → steps.new ≤ steps.old + (1 + 2 * most) }
+{
+    let tries = here.site.lexicon.tries();
+    let rules = tries.choices_with(front.node, letter, steps);
+    if rules.len() > FEW_RULES {
+        let found = living_by_entered_parts(here, front, table, memo, steps)?;
+        return Ok(found);
+    }
+    let effects = &mut memo.effects;
+    let living = living_by_effects(here, front, rules, table, effects, steps)?;
+    Ok(living)
+}
+
 /// The states after the phase of this front from which some key with it ends the line or leads on to a place of the table. Refused only for
 /// want of memory.
 fn living_at_front<L>(
@@ -209,12 +287,11 @@ fn living_at_front<L>(
         return Ok(unchanged);
     };
     let Some(may_end) = ahead.end_by_rules(lexicon, line, choices, place, front.taken) else {
-        let rules = lexicon.tries().choices_with(front.node, *letter, steps);
         if here.site.is_free() {
-            let effects = &mut memo.effects;
-            let found = living_by_effects(here, front, rules, table, effects, steps)?;
+            let found = living_by_entered_rules(here, front, *letter, table, memo, steps)?;
             return Ok(unchanged.union(found));
         }
+        let rules = lexicon.tries().choices_with(front.node, *letter, steps);
         return Ok(unchanged.union(living_by_all(here, front, rules, table, steps)));
     };
     let work = Work {

@@ -4,10 +4,12 @@
 //! serves all states there; where no choice is made it serves all phases that do the same from there, those in which the letters that the
 //! rule before supplies lead to the same node and that no rule tells apart. In the pass forward it serves them also from a later letter on,
 //! after which they come to the same node. What the rules of a node do after a form is found once for all
-//! forms that end so, wherever they begin; where many of them may come next, once for each part of them, since nodes share parts. And what
-//! all forms do that go on from a node along the line is kept for each node that a walk came to, so that a later walk ends there. Where the
-//! ways of a place are kept its walk is not made again, neither for the chart, nor for its summary, nor by a search that the chart guides. Of
-//! places that have many ways, but few that lead to an answer, these may be kept, as the pass back finds them.
+//! forms that end so, wherever they begin; where many of them may come next, once for each part of them, since nodes share parts. After a
+//! letter, where a form that takes no letter of the line may be entered by some rules alone, that holds of each part by itself: by its rules
+//! all may be entered, or none. And what all forms do that go on from a node along the line is kept for each node that a walk came to, so that
+//! a later walk ends there. Where the ways of a place are kept its walk is not made again, neither for the chart, nor for its summary, nor by
+//! a search that the chart guides. Of places that have many ways, but few that lead to an answer, these may be kept, as the pass back finds
+//! them.
 //!
 //! Proved: a chart is a guide of a search that never says false of what stands in an answer (`guide` of `Chart::build`), and says
 //! true of nothing else (`exact`). Its table has just the places that a search comes to and from which there is a path to an answer, and

@@ -74,7 +74,7 @@ fn living_by_rules<L>(
 
 /// The same for the rules of a part of the choices of the work's node, in place of the work's own. It is looked for in the memo first, and
 /// put there. Refused only for want of memory.
-fn living_by_part<L>(
+pub(crate) fn living_by_part<L>(
     site: Site<'_>,
     work: &Work,
     part: u32,

@@ -46,7 +46,8 @@ pub(crate) struct Memo {
     pub effects: Effects,
 }
 
-/// The place of the work, below `MOST_DONE`. Works with the same rules have the same place.
+/// The place of the work, below `MOST_DONE`. Works with the same rules have the same place, and what they do after one letter more has mostly the
+/// next one, since it is mostly asked for next.
 fn place_of(tries: &Annotated, work: &Work) -> usize
     requires { IsWork tries.now work.now }
     ensures { result < MOST_DONE }
@@ -57,9 +58,8 @@ fn place_of(tries: &Annotated, work: &Work) -> usize
     };
     let mixed = rules
         .wrapping_mul(0x9E37_79B9_7F4A_7C15)
-        .wrapping_add(u64::from(work.end).wrapping_mul(0xC2B2_AE3D_27D4_EB4F))
         .wrapping_add(u64::from(work.phase).wrapping_mul(0x1656_67B1_9E37_79F9));
-    (mixed >> 48) as usize
+    ((mixed >> 48) as usize + work.end as usize) % MOST_DONE
 }
 
 impl Memo {

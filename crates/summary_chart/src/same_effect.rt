@@ -12,8 +12,9 @@ use std::cmp::Ordering;
 /// Rules are put in order by what they do once so many times as many were looked at as there are: that takes about as long.
 const TIMES_LOOKED_AT: usize = 8;
 
-/// Which rules do the same after a form, whatever else their `u` has than its first letter: for each rule, by its number, one that does the same stands for it. And of
-/// which rules one was looked at in this round: those for which the same one stands. At first there is none that stands for any.
+/// Which rules do the same after a form, whatever else their `u` has than its first letter: for each rule, by its number, one that does the
+/// same stands for it. And of which rules one was looked at in this round: those for which the same one stands. At first there is none that
+/// stands for any.
 #[derive(Drop)]
 pub(crate) struct Effects {
     same: Vec<u32>,
@@ -64,7 +65,8 @@ fn are_same(left: &[Letter], right: &[Letter]) -> bool
     compare_letters(left, right).is_eq()
 }
 
-/// Whether the rules with these numbers do the same after a form. Neither is no change.
+/// Whether the rules with these numbers do the same after a form, so that their `u` begin with the same letter too, or are both empty. Neither
+/// is no change.
 fn do_same(rules: &RuleSet, one: u32, other: u32) -> bool
     ensures { OnTrue result (DoSame rules.now one other) }
 {

@@ -49,7 +49,8 @@ pub(crate) struct Front {
     pub node: Node,
 }
 
-/// A front at a place where each key with it does what its rule does, wherever its form begins; and whether the line may end with such a form.
+/// A front at a place where each key with it whose form may be entered does what its rule does, wherever the form begins; and whether the line
+/// may end with such a form.
 #[derive(Clone, Copy)]
 pub(crate) struct RuledFront<'a> {
     pub front: &'a Front,

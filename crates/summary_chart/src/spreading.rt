@@ -1,6 +1,6 @@
 ghost use Rattle.std.specs.Prelude.{[], ◌≡◌, ◌+◌, ◌*◌, ◌<◌, ◌≤◌, ℕ, length, slice_index_or, All, Contains, OnOk};
 ghost use Rattle.derivation.specs.Steps.{key_meant};
-ghost use Rattle.search_frames.specs.LetterTests.{DoAsRules};
+ghost use Rattle.search_frames.specs.LetterTests.{DoAsTheseRules};
 ghost use Rattle.search_frames.specs.Frames.{numbered_of};
 ghost use Rattle.search_frames.specs.Configurations.{IsPossible};
 ghost use Rattle.search_frames.specs.Costs.{HasAtMostRules};
@@ -16,7 +16,7 @@ ghost use Rattle.summary_chart.specs.declared.state_set.StateSet.{StateSet as St
 ghost use Rattle.summary_chart.specs.declared.table.Table.{Table as TableValue};
 ghost use Rattle.summary_chart.specs.Effects.{AreEffects};
 ghost use Rattle.summary_chart.specs.Memos.{AreSpread, HasWorks, IsKnownWith, IsWork};
-ghost use Rattle.summary_chart.specs.Onward.{IsOnward, LeadSame, SpreadsOnward};
+ghost use Rattle.summary_chart.specs.Onward.{DoAsRulesIfEntered, IsOnward, LeadSame, SpreadsOnward};
 ghost use Rattle.summary_chart.specs.Sites.{IsSite, IsSiteAhead};
 ghost use Rattle.summary_chart.specs.Tables.{IsTable};
 ghost use Rattle.summary_chart.specs.Spreading.{Spreads, EveryKey, OnlyKey, IsByRule, IsAtFront, leads_in};
@@ -168,8 +168,8 @@ fn known_states(tries: &Annotated, memo: &Memo, work: &Work) -> StateSet
     }
 }
 
-/// Puts into the table where the keys with this front and the rules of a part of its node's choices lead on to, where each key with the
-/// front does what its rule does. What the memo has already is not put there once more. Refused only for want of memory.
+/// Puts into the table where the keys with this front and the rules of a part of its node's choices lead on to, where each of these keys
+/// does what its rule does. What the memo has already is not put there once more. Refused only for want of memory.
 fn spread_part<L>(
     onward: Onward<'_>,
     ruled: RuledFront<'_>,
@@ -181,7 +181,8 @@ fn spread_part<L>(
     requires onward { IsOnward onward ruled.front.now.phase }
     requires limit { onward.here.site.place.now.at + ruled.front.now.taken ≤ onward.here.ahead.limit }
     requires front { IsFrontAt onward.here.site.lexicon.now onward.here.site.line.now (numbered_of onward.here.site.lexicon.now onward.here.site.place.now) ruled.front.now.phase ruled.front.now.taken ruled.front.now.node }
-    requires does { DoAsRules onward.here.site.lexicon.now onward.here.site.line.now onward.here.site.choices.now (numbered_of onward.here.site.lexicon.now onward.here.site.place.now) ruled.front.now.taken ruled.may_end }
+    requires leads { LeadSame onward.here.site.lexicon.now onward.here.site.line.now onward.here.site.choices.now (numbered_of onward.here.site.lexicon.now onward.here.site.place.now) ruled.front.now.phase ruled.front.now.taken }
+    requires does { DoAsTheseRules onward.here.site.lexicon.now onward.here.site.line.now onward.here.site.choices.now (numbered_of onward.here.site.lexicon.now onward.here.site.place.now) ruled.front.now.taken ruled.may_end (rules_of_part onward.here.site.lexicon.now.tries part) }
     requires table { IsTable (leads_in onward.here.site.lexicon.now) (length onward.here.site.line.now.letters) table.old }
     requires memo { AreSpread onward.here.site.lexicon.now onward.here.site.line.now table.old memo.old }
     requires part { Contains (parts_of onward.here.site.lexicon.now.tries ruled.front.now.node) part }
@@ -212,7 +213,7 @@ fn spread_part<L>(
     Ok(())
 }
 
-/// The same for all choices of the node, part by part.
+/// The same for all choices of the node, part by part. Parts are passed over with whose rules no form may be entered at the place.
 fn spread_parts<L>(
     onward: Onward<'_>,
     ruled: RuledFront<'_>,
@@ -223,7 +224,7 @@ fn spread_parts<L>(
     requires onward { IsOnward onward ruled.front.now.phase }
     requires limit { onward.here.site.place.now.at + ruled.front.now.taken ≤ onward.here.ahead.limit }
     requires front { IsFrontAt onward.here.site.lexicon.now onward.here.site.line.now (numbered_of onward.here.site.lexicon.now onward.here.site.place.now) ruled.front.now.phase ruled.front.now.taken ruled.front.now.node }
-    requires does { DoAsRules onward.here.site.lexicon.now onward.here.site.line.now onward.here.site.choices.now (numbered_of onward.here.site.lexicon.now onward.here.site.place.now) ruled.front.now.taken ruled.may_end }
+    requires does { DoAsRulesIfEntered onward.here ruled.front.now.taken ruled.may_end }
     requires table { IsTable (leads_in onward.here.site.lexicon.now) (length onward.here.site.line.now.letters) table.old }
     requires memo { AreSpread onward.here.site.lexicon.now onward.here.site.line.now table.old memo.old }
     ensures memo { OnOk result (AreSpread onward.entry.here.site.lexicon.now onward.entry.here.site.line.now table.new memo.new) }
@@ -231,17 +232,22 @@ fn spread_parts<L>(
     ensures spreads { OnOk result (SpreadsOnward onward.entry (IsByRule ruled.entry.front.now.phase ruled.entry.front.now.taken (choices_of onward.entry.here.site.lexicon.now.tries ruled.entry.front.now.node)) table.old table.new) }
     ensures steps { steps.new ≤ steps.old + 2 * length (choices_of onward.entry.here.site.lexicon.now.tries ruled.entry.front.now.node) }
 {
-    let tries = onward.here.site.lexicon.tries();
-    let parts = tries.parts(ruled.front.node);
+    let SiteAhead { site, ahead } = onward.here;
+    let taken = ruled.front.taken;
+    let parts = site.lexicon.tries().parts(ruled.front.node);
     for part in parts {
+        if !ahead.lets_part_in(site.lexicon, site.place, taken, *part) {
+            steps.tick();
+            continue;
+        }
         spread_part(onward, ruled, *part, table, memo, steps)?;
     }
     Ok(())
 }
 
 /// Puts into the table where the keys with this front and with a rule whose `w` begins with this letter, the next one of the line, lead on
-/// to, where each key with the front does what its rule does: rule by rule where these are few, and else part by part. Refused only for
-/// want of memory.
+/// to, where each key with the front whose form may be entered does what its rule does: rule by rule where these are few, and else part by
+/// part. Refused only for want of memory.
 fn spread_anew<L>(
     onward: Onward<'_>,
     ruled: RuledFront<'_>,
@@ -254,7 +260,7 @@ fn spread_anew<L>(
     requires limit { onward.here.site.place.now.at + ruled.front.now.taken ≤ onward.here.ahead.limit }
     requires front { IsFrontAt onward.here.site.lexicon.now onward.here.site.line.now (numbered_of onward.here.site.lexicon.now onward.here.site.place.now) ruled.front.now.phase ruled.front.now.taken ruled.front.now.node }
     requires letter { letter ≡ slice_index_or onward.here.site.line.now.letters (onward.here.site.place.now.at + ruled.front.now.taken) letter }
-    requires does { DoAsRules onward.here.site.lexicon.now onward.here.site.line.now onward.here.site.choices.now (numbered_of onward.here.site.lexicon.now onward.here.site.place.now) ruled.front.now.taken ruled.may_end }
+    requires does { DoAsRulesIfEntered onward.here ruled.front.now.taken ruled.may_end }
     requires table { IsTable (leads_in onward.here.site.lexicon.now) (length onward.here.site.line.now.letters) table.old }
     requires memo { AreSpread onward.here.site.lexicon.now onward.here.site.line.now table.old memo.old }
     ensures memo { OnOk result (AreSpread onward.entry.here.site.lexicon.now onward.entry.here.site.line.now table.new memo.new) }
@@ -304,11 +310,12 @@ fn spread_changed<L>(
     let ahead = onward.here.ahead;
     let tries = lexicon.tries();
     let Some(may_end) = ahead.end_by_rules(lexicon, line, choices, place, front.taken) else {
-        let rules = tries.choices_with(front.node, letter, steps);
         if onward.here.site.is_free() {
-            spread_effects(onward, front, rules, table, &mut memo.effects, steps)?;
-            return Ok(());
+            let may_end = ahead.may_end;
+            let ruled = RuledFront { front, may_end };
+            return spread_anew(onward, ruled, letter, table, memo, steps);
         }
+        let rules = tries.choices_with(front.node, letter, steps);
         spread_rules(onward, front, rules, table, steps);
         return Ok(());
     };

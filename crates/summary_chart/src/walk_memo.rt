@@ -66,15 +66,16 @@ pub(crate) struct WalkMemo {
     places: Vec<Option<Walked>>,
 }
 
-/// The place of the walk, below `MOST_WALKS`.
+/// The place of the walk, below `MOST_WALKS`. The number of a node is mostly one more than that of the next one along the line, so that those who
+/// walk along it mostly find what they ask for at one place after another.
 fn place_of(walk: &Walk) -> usize
     ensures { result < MOST_WALKS }
 {
-    let mixed = u64::from(walk.node.number())
+    let chain = u64::from(walk.node.number()) + u64::from(walk.end);
+    let mixed = chain
         .wrapping_mul(0x9E37_79B9_7F4A_7C15)
-        .wrapping_add(u64::from(walk.end).wrapping_mul(0xC2B2_AE3D_27D4_EB4F))
         .wrapping_add(u64::from(walk.phase).wrapping_mul(0x1656_67B1_9E37_79F9));
-    (mixed >> 48) as usize
+    ((mixed >> 48) as usize + walk.end as usize) % MOST_WALKS
 }
 
 impl WalkMemo {

@@ -62,5 +62,5 @@ returns c =
     let rules = c.args.rules.now in
     let firsts = c.in_ok-groups.ensures.firsts ∙ ap (map first_letter) c.rules.ensures.value in
     let is = IsAnnotatedTrie-chosen rules c.args.store c.in_ok-lists.lists.items c.in_ok-lists.places.items c.in_ok-groups.groups.firsts.value.items c.in_ok-lists.part_rules
-    c.in_ok-lists.ensures.ok c.in_ok-lists.ensures.trie c.in_ok-lists.ensures.size firsts c.in_ok-lists.ensures.parts in
+    c.in_ok-lists.ensures.ok c.in_ok-lists.ensures.trie c.in_ok-lists.ensures.size firsts c.in_ok-lists.ensures.parts c.in_ok-lists.ensures.one_u in
     record { ok = (ap (λ (tries : AnnotatedTrie). tries.trie) c.new.ensures, subst (IsAnnotatedTrie rules) (sym c.new.ensures) is) }

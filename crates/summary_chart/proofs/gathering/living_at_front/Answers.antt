@@ -4,7 +4,6 @@ use Rattle.std.proofs.Common.{◌≡◌, ℕ, ◌+◌, ◌<◌, ◌↔◌, None,
 use Rattle.text_definitions.specs.Lines.{Line as LineValue}
 use Rattle.segmentation_definitions.specs.Items.{Choice}
 use Rattle.segmentation_definitions.specs.Listings.{Key}
-use Rattle.list_laws.proofs.Sorted.{All-from_Contains}
 use Rattle.phoneme.specs.declared.line.Line.{Line}
 use Rattle.annotated_trie.specs.Choices.{AnnotatedTrie, choices_of, choices_with}
 use Rattle.annotated_trie.specs.Searched.{SearchedLexicon}
@@ -22,8 +21,8 @@ use Rattle.summary_chart.specs.Summaries.{key_with}
 use Rattle.summary_chart.proofs.AlikeWorks.{lives_alike}
 use Rattle.summary_chart.proofs.LivingKeys.{choice_number}
 use Rattle.summary_chart.proofs.FrontKeys.{front_node, choices_possible, few_written}
-use Rattle.summary_chart.proofs.LivingVisits.{lives_again, lives_found, living_by_choices, living_by_more, living_shared, living_visit}
-use Rattle.summary_chart.proofs.SpreadMemos.{choice_if_written, choice_numbered}
+use Rattle.summary_chart.proofs.LivingVisits.{lives_again, lives_found, living_by_these, living_by_more, living_shared, living_visit}
+use Rattle.summary_chart.proofs.SameKeys.{these_do}
 use Rattle.summary_chart.proofs.VisitedKeys.{visit_without_letter, visit_with_letter}
 use Rattle.summary_chart.proofs.gathering.living_at_front.Goals as goal
 
@@ -73,30 +72,6 @@ living_by_all-requires-clause-possible g c =
     subst (All (λ (rule : ℕ). IsPossible searched line here (key_with front.phase front.taken rule))) (sym rules)
     (choices_possible searched c.requires.here.site.searched line here front.phase front.taken front.node c.requires.front letter)
 
-pub living_by_effects-requires-clause-rules : goal.living_by_effects-requires-clause-rules
-living_by_effects-requires-clause-rules g c =
-    let searched = c.args.here.site.lexicon.now in
-    let node = c.args.front.now.node in
-    let letter = c.in-Some.letter.now in
-    let rules : c.choices_with-rules.result.now ≡ choices_with searched.tries node letter =
-    c.choices_with-rules.ensures.value ∙ ap (λ (t : AnnotatedTrie). choices_with t node letter) c.tries.ensures.value in
-    let there = front_node searched c.requires.here.site.searched c.args.here.site.line.now (numbered_of searched c.args.here.site.place.now) c.args.front.now.phase c.args.front.now.taken node c.requires.front in
-    subst (All (λ (rule : ℕ). 0 < rule)) (sym rules)
-    (All-from_Contains (λ (rule : ℕ). 0 < rule) (choices_with searched.tries node letter)
-    (λ rule among. choice_numbered searched node rule c.requires.here.site.searched there (choice_if_written searched.tries node letter rule among)))
-
-pub living_by_effects-requires-clause-possible : goal.living_by_effects-requires-clause-possible
-living_by_effects-requires-clause-possible g c =
-    let searched = c.args.here.site.lexicon.now in
-    let front = c.args.front.now in
-    let line = c.args.here.site.line.now in
-    let here = numbered_of searched c.args.here.site.place.now in
-    let letter = c.in-Some.letter.now in
-    let rules : c.choices_with-rules.result.now ≡ choices_with searched.tries front.node letter =
-    c.choices_with-rules.ensures.value ∙ ap (λ (t : AnnotatedTrie). choices_with t front.node letter) c.tries.ensures.value in
-    subst (All (λ (rule : ℕ). IsPossible searched line here (key_with front.phase front.taken rule))) (sym rules)
-    (choices_possible searched c.requires.here.site.searched line here front.phase front.taken front.node c.requires.front letter)
-
 pub returns-then-is_free-clause-living : goal.returns-then-is_free-clause-living
 returns-then-is_free-clause-living g c =
     let searched = c.args.here.site.lexicon.now in
@@ -105,8 +80,6 @@ returns-then-is_free-clause-living g c =
     let choices = c.args.here.site.choices.now in
     let place = c.args.here.site.place.now in
     let letter = c.in-Some.letter.now in
-    let rules : c.choices_with-rules.result.now ≡ choices_with searched.tries front.node letter =
-    c.choices_with-rules.ensures.value ∙ ap (λ (t : AnnotatedTrie). choices_with t front.node letter) c.tries.ensures.value in
     let whole : c.as_slice.result.now ≡ line.letters = c.as_slice.ensures.value ∙ ap (λ (l : Line). l.letters) c.line.view_is in
     let next : letter ≡ get_or line.letters (place.at + front.taken) letter =
     c.in-Some.ensures.lookup.1 ∙ ap (λ (letters : List ℕ). get_or letters (place.at + front.taken) letter) whole in
@@ -117,35 +90,13 @@ returns-then-is_free-clause-living g c =
     (visit_with_letter searched line choices place StateSet (living_visit searched line choices place c.args.table.now)
     c.requires.here.site.searched front.phase front.taken front.node c.requires.front letter unchanged unchanged c.union.result next
     (lives_again searched line choices place c.args.table.now (OnlyKey (key_with front.phase front.taken 0)) unchanged are)
-    (lives_found searched line choices place c.args.table.now IsWritten unchanged c.in_ok-found.found c.union.result
-    (subst (λ (some : List ℕ). AreLivingBy searched line choices (numbered_of searched place) c.args.table.now (IsByRule front.phase front.taken some) c.in_ok-found.found)
-    rules c.in_ok-found.ensures.living) c.union.ensures))
+    (lives_found searched line choices place c.args.table.now IsWritten unchanged c.in_ok-found.found c.union.result c.in_ok-found.ensures.living c.union.ensures))
 
 pub returns-then-is_free-clause-steps : goal.returns-then-is_free-clause-steps
-returns-then-is_free-clause-steps g c most few =
-    let searched = c.args.here.site.lexicon.now in
-    let front = c.args.front.now in
-    let letter = c.in-Some.letter.now in
-    let rules : c.choices_with-rules.result.now ≡ choices_with searched.tries front.node letter =
-    c.choices_with-rules.ensures.value ∙ ap (λ (t : AnnotatedTrie). choices_with t front.node letter) c.tries.ensures.value in
-    let count = ap length rules in
-    let short = few_written searched.tries front.node letter in
-    let there = front_node searched c.requires.here.site.searched c.args.here.site.line.now (numbered_of searched c.args.here.site.place.now) front.phase front.taken front.node c.requires.front in
-    let all = few front.node there in
-    omega (arith, c.tick.ensures, c.choices_with-rules.ensures.steps, c.living_by_effects.ensures.steps, count, short, all)
+returns-then-is_free-clause-steps g c most few = (let more = c.living_by_entered_rules.ensures.steps most few in omega (arith, c.tick.ensures, more))
 
 pub returns-in_err-found-clause-steps : goal.returns-in_err-found-clause-steps
-returns-in_err-found-clause-steps g c most few =
-    let searched = c.args.here.site.lexicon.now in
-    let front = c.args.front.now in
-    let letter = c.in-Some.letter.now in
-    let rules : c.choices_with-rules.result.now ≡ choices_with searched.tries front.node letter =
-    c.choices_with-rules.ensures.value ∙ ap (λ (t : AnnotatedTrie). choices_with t front.node letter) c.tries.ensures.value in
-    let count = ap length rules in
-    let short = few_written searched.tries front.node letter in
-    let there = front_node searched c.requires.here.site.searched c.args.here.site.line.now (numbered_of searched c.args.here.site.place.now) front.phase front.taken front.node c.requires.front in
-    let all = few front.node there in
-    omega (arith, c.tick.ensures, c.choices_with-rules.ensures.steps, c.living_by_effects.ensures.steps, count, short, all)
+returns-in_err-found-clause-steps g c most few = (let more = c.living_by_entered_rules.ensures.steps most few in omega (arith, c.tick.ensures, more))
 
 pub returns-in_default-end_by_rules-clause-living : goal.returns-in_default-end_by_rules-clause-living
 returns-in_default-end_by_rules-clause-living g c =
@@ -214,8 +165,10 @@ returns-clause-living g c =
     ) in
     living_shared searched line choices place table is front.phase front.taken front.node c.requires.front
     c.living_unchanged-unchanged.result changed c.union-2.result c.living_unchanged-unchanged.ensures
-    (living_by_choices searched line choices place table is front.phase front.taken front.node c.requires.front
-    c.in-Some-end_by_rules.may_end c.in-Some-end_by_rules.ensures c.requires.begins changed lives)
+    (living_by_these searched line choices place table is front.phase front.taken front.node c.requires.front
+    c.in-Some-end_by_rules.may_end (choices_of searched.tries front.node) (λ rule among. among)
+    (these_do searched line choices place front.taken c.in-Some-end_by_rules.may_end (choices_of searched.tries front.node) c.in-Some-end_by_rules.ensures)
+    c.requires.begins changed lives)
     c.union-2.ensures
 
 pub returns-clause-steps : goal.returns-clause-steps

@@ -7,9 +7,9 @@ use Rattle.search_frames.specs.Frames.{numbered_of}
 use Rattle.summary_chart.specs.Onward.{Puts}
 use Rattle.summary_chart.specs.Spreading.{IsByRule}
 use Rattle.summary_chart.specs.Summaries.{key_with}
-use Rattle.summary_chart.proofs.AlikeRules.{lead_by_rules}
 use Rattle.summary_chart.proofs.FrontKeys.{front_node, choices_possible, few_written}
 use Rattle.summary_chart.proofs.PartRules.{written_puts}
+use Rattle.summary_chart.proofs.SameKeys.{lead_same_if_entered}
 use Rattle.summary_chart.proofs.SpreadMemos.{all_grown, choice_if_written, choice_numbered}
 use Rattle.summary_chart.proofs.spreading.spread_anew.Goals as goal
 
@@ -31,9 +31,8 @@ spread_effects-requires-clause-possible g c =
 
 pub spread_effects-requires-clause-leads : goal.spread_effects-requires-clause-leads
 spread_effects-requires-clause-leads g c =
-    let site = c.args.onward.here.site in
     let front = c.args.ruled.front.now in
-    lead_by_rules site.lexicon.now site.line.now site.choices.now site.place.now front.phase front.taken c.args.ruled.may_end c.requires.onward.begins c.requires.does
+    lead_same_if_entered c.args.onward.here front.taken c.args.ruled.may_end front.phase c.requires.onward.here c.requires.onward.begins c.requires.does
 
 pub spread_effects-requires-clause-rules : goal.spread_effects-requires-clause-rules
 spread_effects-requires-clause-rules g c =

@@ -13,7 +13,6 @@ use Rattle.summary_chart.specs.Onward.{Puts}
 use Rattle.summary_chart.specs.Spreading.{IsByRule}
 use Rattle.summary_chart.specs.StateSets.{HasState}
 use Rattle.summary_chart.specs.Summaries.{key_with}
-use Rattle.summary_chart.proofs.AlikeRules.{lead_by_rules}
 use Rattle.summary_chart.proofs.FrontKeys.{choice_possible, front_node}
 use Rattle.summary_chart.proofs.SpreadMemos.{all_grown, all_with, choice_at_work, newly_spread, nothing_new, rule_at_work}
 use Rattle.summary_chart.proofs.spreading.spread_part.Goals as goal
@@ -41,12 +40,6 @@ rules_of_part-rules-requires g c =
     let there = front_node searched c.requires.onward.here.site.searched c.args.onward.here.site.line.now (numbered_of searched c.args.onward.here.site.place.now) c.args.ruled.front.now.phase c.args.ruled.front.now.taken c.args.ruled.front.now.node c.requires.front in
     subst (λ (t : AnnotatedTrie). c.args.part < length t.part_rules) (sym c.tries-tries.ensures.value)
     (All-contains (λ (part : ℕ). part < length searched.tries.part_rules) _ c.args.part (c.requires.onward.here.site.searched.tries.parts c.args.ruled.front.now.node there).there c.requires.part)
-
-pub spread_effects-requires-clause-leads : goal.spread_effects-requires-clause-leads
-spread_effects-requires-clause-leads g c =
-    let site = c.args.onward.here.site in
-    let front = c.args.ruled.front.now in
-    lead_by_rules site.lexicon.now site.line.now site.choices.now site.place.now front.phase front.taken c.args.ruled.may_end c.requires.onward.begins c.requires.does
 
 pub spread_effects-requires-clause-rules : goal.spread_effects-requires-clause-rules
 spread_effects-requires-clause-rules g c =

@@ -15,7 +15,8 @@ use Rattle.summary_chart.specs.Summaries.{key_with}
 use Rattle.summary_chart.proofs.AlikeWorks.{lives_alike}
 use Rattle.summary_chart.proofs.FrontKeys.{choice_if_possible, front_node}
 use Rattle.summary_chart.proofs.LivingKeys.{choice_number, same_work}
-use Rattle.summary_chart.proofs.LivingVisits.{further_by, living_by_choices}
+use Rattle.summary_chart.proofs.LivingVisits.{further_by, living_by_these}
+use Rattle.summary_chart.proofs.SameKeys.{these_do}
 use Rattle.summary_chart.proofs.SpreadMemos.{whole_rules, whole_work}
 use Rattle.summary_chart.proofs.sought.LivingAloneSought.passes_over.Goals as goal
 
@@ -64,8 +65,9 @@ returns-clause-none g c =
       λ has. (alike number).0 ((lives number).0 has),
       λ by. (lives number).1 ((alike number).1 by),
     ) in
-    let by_choices = living_by_choices searched line choices place table is front.phase front.taken front.node c.requires.front c.in-Some.may_end c.in-Some.ensures
-    c.requires.begins living here_lives in
+    let by_choices = living_by_these searched line choices place table is front.phase front.taken front.node c.requires.front c.in-Some.may_end
+    (choices_of searched.tries front.node) (λ rule among. among)
+    (these_do searched line choices place front.taken c.in-Some.may_end (choices_of searched.tries front.node) c.in-Some.ensures) c.requires.begins living here_lives in
     let into = subst (λ (machine : StateMachine). (number : ℕ) → HasState c.states_into.result number ↔ LeadsInto machine set front.phase living number)
     c.automaton.ensures.value c.states_into.ensures in
     let IsTold = IsByRule front.phase front.taken (choices_of searched.tries front.node) in
