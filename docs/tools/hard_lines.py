@@ -12,11 +12,11 @@ with another status than 0.
 import multiprocessing, os, random, resource, subprocess, sys, tempfile, time
 
 MOST_SECONDS = 60
-# Where one walk serves all phases that do the same, the first of these takes 0.7 to 1.9 seconds, and else 12 to 18 or more; where the rules of a part
-# are gone over once for all nodes that have it, the second takes 2, and else twelve times as long; where the living ways of places that have many are
-# kept, the third takes half a second, and else 6 to 11; where a choice leaves the memo of rules in use, the fourth takes 1.7, and else some
+# Where one walk serves all phases that do the same, the first of these takes 0.4 to 1.9 seconds, and else 12 to 18 or more; where the rules of a part
+# are gone over once for all nodes that have it, the second takes 1 to 2, and else twelve times as long; where the living ways of places that have many are
+# kept, the third takes 0.2 to 0.5, and else 6 to 11; where a choice leaves the memo of rules in use, the fourth takes 0.9 to 1.7, and else some
 # eight times as long; and where the fronts of all phases are gone over together, and of the rules after a letter those of parts that may be
-# entered, the fifth takes 0.5 to 2.5, and else, with each rule tested, 11 to 32.
+# entered, the fifth takes 0.4 to 2.5, and else, with each rule tested, 11 to 32.
 MOST_SECONDS_OF = {
     "leads: 62 leads, 16 phases": 7,
     "lists: a list of rules for each node": 12,
