@@ -1,4 +1,4 @@
-ghost use Rattle.std.specs.Prelude.{◌≡◌, ◌^◌, ◌<◌, ◌≤◌, ℕ, Ok, Some, None, length, map, take, slice_index, nat_lt, IsTrue, IfOk, IfErr, string_bytes};
+ghost use Rattle.std.specs.Prelude.{◌≡◌, ◌^◌, ◌<◌, ◌≤◌, ◌++◌, ℕ, Ok, Some, None, length, map, take, slice_index, nat_lt, IsTrue, IfOk, IfErr, OnOk, string_bytes};
 ghost use Rattle.std.specs.List.{list_all};
 ghost use Rattle.text_definitions.specs.Spellings.{word_of_bytes, byte_of_letter};
 ghost use Rattle.latin_schemes.specs.Faults.{IsFaultOf};
@@ -47,6 +47,17 @@ pub fn read_bytes(alloc: Global, codes: &[u8; 256], text: &[u8]) -> Result<Word,
 {
     let word = Word::with_capacity(alloc, text.len())?;
     read_bytes_over(word, codes, text)
+}
+
+/// Appends the byte that the table has for each letter of the word. Refused only for want of memory.
+pub fn push_bytes(output: &mut Vec<u8>, bytes: &[u8; 50], word: &Word) -> Result<(), Memory>
+    ensures ok { OnOk result (output.new.items ≡ output.old.items ++ map (byte_of_letter bytes.now) word.now) }
+{
+    output.reserve(word.len())?;
+    for letter in word.as_slice() {
+        output.push(bytes[letter.code() as usize - 1])?;
+    }
+    Ok(())
 }
 
 /// The byte that the table has for each letter of the word.

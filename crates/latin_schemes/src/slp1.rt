@@ -1,10 +1,10 @@
-ghost use Rattle.std.specs.Prelude.{◌≡◌, ◌^◌, ◌<◌, ◌≤◌, Ok, None, length, take, slice_index, IfOk, IfErr, string_bytes};
+ghost use Rattle.std.specs.Prelude.{◌≡◌, ◌^◌, ◌<◌, ◌≤◌, ◌++◌, Ok, None, length, take, slice_index, IfOk, IfErr, OnOk, string_bytes};
 ghost use Rattle.text_definitions.specs.Spellings.{letter_of_byte};
 ghost use Rattle.text_definitions.specs.Slp1.{word_of_slp1, slp1_of_word, slp1_table};
 ghost use Rattle.latin_schemes.specs.Faults.{IsFaultOf};
 
 use super::SpellError;
-use super::byte_scheme::{print_bytes, read_bytes, read_bytes_over, read_front_over};
+use super::byte_scheme::{print_bytes, push_bytes, read_bytes, read_bytes_over, read_front_over};
 use phoneme::{Memory, Word};
 use std::alloc::Global;
 
@@ -59,4 +59,12 @@ pub fn print_slp1(alloc: Global, word: &Word) -> Result<String, Memory>
     ensures ok { IfOk result (λ text. string_bytes text ≡ slp1_of_word word.now) }
 {
     print_bytes(alloc, &BYTES, word)
+}
+
+/// Appends the SLP1 spelling of a word, one byte a letter. Refused only for want of memory.
+#[tactic(auto, unfolding(text_definitions::specs::Slp1::slp1_of_word, text_definitions::specs::Slp1::slp1_table))]
+pub fn push_slp1(output: &mut Vec<u8>, word: &Word) -> Result<(), Memory>
+    ensures ok { OnOk result (output.new.items ≡ output.old.items ++ slp1_of_word word.now) }
+{
+    push_bytes(output, &BYTES, word)
 }

@@ -29,6 +29,15 @@ impl Model for Word {
     ghost invariant = { λ w. IsWord w.letters.items };
 }
 
+/// Does nothing. The proof knows that letters have codes from 1 to 50 only of those that are read.
+fn tell_letters(letters: &[Letter])
+    ensures { IsWord letters.now }
+{
+    for letter in letters {
+        let _code = letter.code();
+    }
+}
+
 impl Word {
     /// The word without letters. Takes no memory.
     pub fn new(alloc: Global) -> Word
@@ -78,14 +87,8 @@ impl Word {
         ensures ok { OnOk result (self.new ≡ self.old ++ letters.now) }
         ensures unchanged { OnErr result (self.new ≡ self.old) }
     {
-        let before = self.letters.len();
-        self.letters.reserve(letters.len())?;
-        for letter in letters {
-            if self.push(*letter).is_err() {
-                self.letters.truncate(before);
-                return Err(Memory);
-            }
-        }
+        tell_letters(letters);
+        self.letters.extend_from_slice(letters)?;
         Ok(())
     }
 

@@ -23,13 +23,13 @@ item_line : (number at lead form : List ℕ) → number ++ codes ": " ++ at ++ c
 item_line number at lead form = simp append_assoc
 
 -- a form and its phase are printed
-pub form_printed : (rules : RuleSet) (item inside : Item) (old new text form name phase : List ℕ) → inside ≡ item
-    → text ≡ form → form ≡ slp1_of_word inside.form → name ≡ phase → phase ≡ name_of rules inside.phase
-    → new ≡ old ++ (text ++ codes "[" ++ name ++ codes "]\n")
+pub form_printed : (rules : RuleSet) (item inside : Item) (old new name phase : List ℕ) → inside ≡ item
+    → name ≡ phase → phase ≡ name_of rules inside.phase
+    → new ≡ old ++ (slp1_of_word inside.form ++ codes "[" ++ name ++ codes "]\n")
     → new ≡ old ++ output_line (printed_form rules (record { phase = item.phase; form = item.form; rule = 0 }))
-form_printed rules item inside old new text form name phase same text_is form_is name_is phase_is printed =
-    printed ∙ ap (λ w. old ++ w) (form_line text name
-    ∙ (λ k. output_line ((text_is ∙ form_is) k ++ codes "[" ++ (name_is ∙ phase_is) k ++ codes "]"))
+form_printed rules item inside old new name phase same name_is phase_is printed =
+    printed ∙ ap (λ w. old ++ w) (form_line (slp1_of_word inside.form) name
+    ∙ ap (λ (name : List ℕ). output_line (slp1_of_word inside.form ++ codes "[" ++ name ++ codes "]")) (name_is ∙ phase_is)
     ∙ ap (λ (i : Item). output_line (printed_form rules (record { phase = i.phase; form = i.form; rule = 0 }))) same)
 
 -- the line of an item is printed from its fields

@@ -10,12 +10,14 @@ use outside::{Sink, WriteError, write_all};
 use phoneme::cut_at;
 use std::alloc::Global;
 
-/// Writes the reply to one line of the input, whose line end is not among its bytes, and answers how the session stands then.
+/// Writes the reply to one line of the input, whose line end is not among its bytes, and answers how the session stands then. The reply
+/// is put into the memory of another one.
 fn serve_line<O: Sink>(
     alloc: Global,
     session: &mut Session,
     line: &[u8],
     ended: bool,
+    reply: &mut Vec<u8>,
     sink: &mut O,
 ) -> Result<After, WriteError>
     ensures ok { IfOk result (HasServed (record { bytes = line.now; ended = ended } ∷ []) session.old session.new
@@ -25,9 +27,9 @@ fn serve_line<O: Sink>(
     ensures fault { OnFailedWrite result (Rose (O.faults sink.old) (O.faults sink.new)) }
     ensures faults { OnOk result (O.faults sink.new ≡ O.faults sink.old) }
 {
-    let mut reply = Vec::new(alloc);
-    let after = session.reply(alloc, line, ended, &mut reply)?;
-    write_all(sink, &reply)?;
+    reply.clear();
+    let after = session.reply(alloc, line, ended, reply)?;
+    write_all(sink, reply)?;
     Ok(after)
 }
 
@@ -48,10 +50,11 @@ pub(crate) fn serve_piece<O: Sink>(
     ensures fault { OnFailedWrite result (Rose (O.faults sink.old) (O.faults sink.new)) }
     ensures faults { OnOk result (O.faults sink.new ≡ O.faults sink.old) }
 {
+    let mut reply = Vec::new(alloc);
     let mut left = piece;
     while let Some((line, following)) = cut_at(left, b'\n') {
         rest.extend_from_slice(line)?;
-        let After::Open = serve_line(alloc, session, rest, true, sink)? else {
+        let After::Open = serve_line(alloc, session, rest, true, &mut reply, sink)? else {
             return Ok(After::Over);
         };
         rest.clear();
@@ -78,5 +81,5 @@ pub(crate) fn serve_rest<O: Sink>(
     if rest.is_empty() {
         return Ok(After::Open);
     }
-    serve_line(alloc, session, rest, false, sink)
+    serve_line(alloc, session, rest, false, &mut Vec::new(alloc), sink)
 }

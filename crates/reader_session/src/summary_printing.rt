@@ -5,10 +5,9 @@ ghost use Rattle.session_definitions.specs.PrintedSummaries.{printed_item, print
 
 use derivation::Item;
 use itoa::Buffer;
-use latin_schemes::print_slp1;
+use latin_schemes::push_slp1;
 use phoneme::Memory;
 use sandhi_rules::RuleSet;
-use std::alloc::Global;
 
 /// The name of the phase with this number, counted from 0. Empty where there is no such phase.
 fn phase_name(rules: &RuleSet, phase: u32) -> &str
@@ -30,18 +29,12 @@ fn push_number(output: &mut Vec<u8>, number: u64) -> Result<(), Memory>
 }
 
 /// Appends `FORM[PHASE]` and the line's end. Refused only for want of memory.
-fn push_form(
-    alloc: Global,
-    output: &mut Vec<u8>,
-    rules: &RuleSet,
-    item: &Item,
-) -> Result<(), Memory>
+fn push_form(output: &mut Vec<u8>, rules: &RuleSet, item: &Item) -> Result<(), Memory>
     ensures ok { OnOk result (output.new.items ≡ output.old.items
         ++ output_line (printed_form rules.now (record { phase = item.now.phase; form = item.now.form; rule = 0 }))) }
 {
-    let form = print_slp1(alloc, &item.form)?;
-    output.extend_from_slice(form.as_bytes())?;
-    output.extend_from_slice(b"[")?;
+    push_slp1(output, &item.form)?;
+    output.push(b'[')?;
     output.extend_from_slice(phase_name(rules, item.phase).as_bytes())?;
     output.extend_from_slice(b"]\n")?;
     Ok(())
@@ -49,7 +42,6 @@ fn push_form(
 
 /// Appends `K: AT LEAD FORM[PHASE]` and the line's end. Refused only for want of memory.
 fn push_item(
-    alloc: Global,
     output: &mut Vec<u8>,
     rules: &RuleSet,
     number: usize,
@@ -60,17 +52,16 @@ fn push_item(
     push_number(output, number as u64)?;
     output.extend_from_slice(b": ")?;
     push_number(output, u64::from(item.at))?;
-    output.extend_from_slice(b" ")?;
+    output.push(b' ')?;
     push_number(output, u64::from(item.lead))?;
-    output.extend_from_slice(b" ")?;
-    push_form(alloc, output, rules, item)?;
+    output.push(b' ')?;
+    push_form(output, rules, item)?;
     Ok(())
 }
 
 /// Appends a line for each item, numbered from 1, and `end`: `K: AT LEAD FORM[PHASE]`, the letters before the item, those of its
 /// form that the rule before it supplies, its form in SLP1 and its phase. The layout is our own. Refused only for want of memory.
 pub(crate) fn push_summary(
-    alloc: Global,
     output: &mut Vec<u8>,
     rules: &RuleSet,
     items: &[Item],
@@ -79,7 +70,7 @@ pub(crate) fn push_summary(
 {
     let mut number = 1;
     for item in items {
-        push_item(alloc, output, rules, number, item)?;
+        push_item(output, rules, number, item)?;
         number += 1;
     }
     output.extend_from_slice(b"end\n")?;

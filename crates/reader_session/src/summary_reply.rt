@@ -25,7 +25,7 @@ fn push_new_summary(
 {
     let mut steps = Steps::<()>::new();
     let items = reading.chart.summary(alloc, lexicon, &reading.line, &reading.choices, &mut steps)?;
-    push_summary(alloc, output, lexicon.rules(), items.as_slice())?;
+    push_summary(output, lexicon.rules(), items.as_slice())?;
     reading.summary = Some(items);
     Ok(())
 }

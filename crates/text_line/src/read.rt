@@ -40,7 +40,7 @@ fn read_parts(alloc: Global, scheme: Scheme, text: &[u8]) -> Result<Line, LineEr
     ensures fault { IfErr result (λ error. IsLineFaultOf error
         (line_after (scheme_of scheme) empty_line (parts_from (scheme_of scheme) 0 0 text.now))) }
 {
-    let mut spelled = Spelled::new(alloc);
+    let mut spelled = Spelled::new(alloc, text.len())?;
     let mut after_letters = false;
     let mut at = 0;
     while at < text.len() {

@@ -31,14 +31,14 @@ impl Model for Spelled {
 }
 
 impl Spelled {
-    /// Nothing read yet. Takes no memory.
-    pub fn new(alloc: Global) -> Spelled
-        ensures { result ≡ empty_line }
+    /// Nothing read yet, with room for as many letters as a text of so many bytes can have in a line. Refused only for want of memory.
+    pub fn new(alloc: Global, bytes: usize) -> Result<Spelled, Memory>
+        ensures { IfOk result (λ spelled. spelled ≡ empty_line) }
     {
-        Spelled {
-            letters: Word::new(alloc),
+        Ok(Spelled {
+            letters: Word::with_capacity(alloc, bytes.min(MOST_LINE_LETTERS))?,
             blanks: Vec::new(alloc),
-        }
+        })
     }
 
     /// Reads a piece that begins at the byte `at`.

@@ -6,4 +6,4 @@ use Rattle.list_laws.proofs.Booleans.{on_err}
 pub returns-in_err-write_all-clause-stopped : goal.returns-in_err-write_all-clause-stopped
 returns-in_err-write_all-clause-stopped g c =
     on_err c.from_residual-in_err-write_all.result _
-    (line_stopped _ _ _ _ _ _ _ _ _ c.new-reply.ensures.items c.deref.ensures.value c.in_ok-after.ensures.ok c.in_err-write_all.ensures.prefix)
+    (line_stopped _ _ _ _ _ _ _ _ _ c.clear.ensures.items c.deref.ensures.value c.in_ok-after.ensures.ok c.in_err-write_all.ensures.prefix)

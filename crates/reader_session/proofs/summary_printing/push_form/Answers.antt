@@ -4,8 +4,7 @@ use Rattle.reader_session.proofs.summary_printing.push_form.Goals as goal
 
 pub returns : goal.returns
 returns c = record {
-  ok = form_printed c.args.rules.now c.args.item.now _ c.args.output.now.items _ _ _ _ _ c.item.view_is
-      c.as_bytes.ensures.value c.in_ok-form.ensures.ok c.as_bytes-2.ensures.value c.phase_name.ensures
-      (part_appended _ _ _ _ _ (part_appended _ _ _ _ _ (part_appended _ _ _ _ _ c.in_ok-extend_from_slice.ensures.items
-      c.in_ok-extend_from_slice-2.ensures.items) c.in_ok-extend_from_slice-3.ensures.items) c.in_ok-extend_from_slice-4.ensures.items);
+  ok = form_printed c.args.rules.now c.args.item.now _ c.args.output.now.items _ _ _ c.item.view_is c.as_bytes.ensures.value c.phase_name.ensures
+      (part_appended _ _ _ _ _ (part_appended _ _ _ _ _ (part_appended _ _ _ _ _ c.in_ok-push_slp1.ensures.ok
+      c.in_ok-push.ensures.items) c.in_ok-extend_from_slice.ensures.items) c.in_ok-extend_from_slice-2.ensures.items);
 }
