@@ -1,3 +1,4 @@
+pub mod LeadWalks
 pub mod StateSets
 pub mod Tables
 pub mod Spreading

@@ -38,7 +38,13 @@ LeadsInto machine set phase targets number =
 abbrev pub LeadsOn : StateMachine → ℕ → ℕ → Type 0
 LeadsOn machine phase number = (number < length machine.states) × ((to : ℕ) × (next_state machine (Some number) phase ≡ Some to))
 
--- for each phase these are the states that lead by it to another
-abbrev pub AreLeading : StateMachine → LeadingStates → Type 0
-AreLeading machine leading = (phase number : ℕ) → phase < machine.phases
-    → HasState (get_or leading.by_phase phase (record { bits = 0 })) number ↔ LeadsOn machine phase number
+-- some state leads by the phase to this one
+abbrev pub IsReached : StateMachine → ℕ → ℕ → Type 0
+IsReached machine phase number = (from : ℕ) × (from < length machine.states) × (next_state machine (Some from) phase ≡ Some number)
+
+-- for each phase these are the states that lead by it to another, and those to which they lead
+pub record AreLeading (machine : StateMachine) (leading : LeadingStates) : Type 0 where
+  pub leads : (phase number : ℕ) → phase < machine.phases
+      → HasState (get_or leading.by_phase phase (record { bits = 0 })) number ↔ LeadsOn machine phase number
+  pub reaches : (phase number : ℕ) → phase < machine.phases
+      → HasState (get_or leading.reached phase (record { bits = 0 })) number ↔ IsReached machine phase number

@@ -3,13 +3,14 @@ ghost use Rattle.std.specs.Bool.{OnTrue};
 ghost use Rattle.lexicon_definitions.specs.declared.limits.TheConstants.{MOST_RULE_LETTERS};
 ghost use Rattle.search_frames.specs.Frames.{numbered_of};
 ghost use Rattle.summary_chart.specs.AlikeFronts.{AreOnwardFronts, DoAlike, IsBegun, IsFirst, front_at};
+ghost use Rattle.summary_chart.specs.LeadWalks.{IsLeadWalk};
 ghost use Rattle.summary_chart.specs.Sites.{IsSite};
-ghost use Rattle.summary_chart.specs.StateSets.{HasState, IsLedTo};
+ghost use Rattle.summary_chart.specs.StateSets.{AreLeading, HasState, IsLedTo};
 
+use super::leading_states::LeadingStates;
 use super::site::{Front, Site};
 use super::state_set::StateSet;
-use super::state_steps::states_after;
-use super::walking::first_front;
+use super::walking::{LeadWalk, first_front_after};
 use outside::Steps;
 use phoneme::Memory;
 use search_frames::may_begin;
@@ -55,16 +56,23 @@ pub(crate) fn alike_at<L>(
 
 /// The front of the phase, counted from 0, that takes no letter of the line, if a form of the phase may be entered at the place and what the
 /// rule before supplies leads anywhere.
-pub(crate) fn begun_front<L>(site: Site<'_>, phase: u32, steps: &mut Steps<L>) -> Option<Front>
+pub(crate) fn begun_front<L>(
+    site: Site<'_>,
+    phase: u32,
+    lead: &mut LeadWalk,
+    steps: &mut Steps<L>,
+) -> Option<Front>
     requires site { IsSite site }
     requires phase { phase < length site.lexicon.now.lexicon.rules.names }
+    requires known { IsLeadWalk site.lexicon.now (numbered_of site.lexicon.now site.place.now) lead.old }
     ensures begun { let site = site.entry in IsBegun site.lexicon.now site.line.now site.choices.now (numbered_of site.lexicon.now site.place.now) phase result }
+    ensures known { IsLeadWalk site.entry.lexicon.now (numbered_of site.entry.lexicon.now site.entry.place.now) lead.new }
     ensures steps { steps.new ≤ steps.old + MOST_RULE_LETTERS }
 {
     if !may_begin(site.lexicon.rules(), site.place, phase) {
         return None;
     }
-    first_front(site, phase, steps)
+    first_front_after(site, phase, lead, steps)
 }
 
 /// Puts the states to the first of the fronts whose phase does what that of this front does; or puts the front with them after the others.
@@ -103,22 +111,26 @@ fn add_onward<L>(
 pub(crate) fn find_onward<L>(
     site: Site<'_>,
     states: StateSet,
+    leading: &LeadingStates,
     fronts: &mut Vec<AlikeFront>,
     steps: &mut Steps<L>,
 ) -> Result<(), Memory>
     requires site { IsSite site }
+    requires leading { AreLeading site.lexicon.now.machine leading.now }
     ensures fronts { let site = site.entry in OnOk result (AreOnwardFronts site.lexicon.now site.line.now site.choices.now (numbered_of site.lexicon.now site.place.now) states (length site.lexicon.now.lexicon.rules.names) fronts.new.items) }
     ensures few { OnOk result (length fronts.new.items ≤ length site.entry.lexicon.now.lexicon.rules.names) }
     ensures steps { let names = length site.entry.lexicon.now.lexicon.rules.names in steps.new ≤ steps.old + names * (1 + MOST_RULE_LETTERS + names) }
 {
     fronts.clear();
+    let automaton = site.lexicon.automaton();
+    let mut lead = LeadWalk::none();
     for phase in 0..site.lexicon.rules().phases().len() as u32 {
         steps.tick();
-        let after = states_after(site.lexicon.automaton(), states, phase);
+        let after = leading.states_after(automaton, states, phase);
         if after.is_empty() {
             continue;
         }
-        let Some(front) = begun_front(site, phase, steps) else {
+        let Some(front) = begun_front(site, phase, &mut lead, steps) else {
             continue;
         };
         let one = AlikeFront {

@@ -9,6 +9,7 @@ ghost use Rattle.summary_chart.specs.Summaries.{steps_of_summary};
 ghost use Rattle.summary_chart.specs.Spreading.{leads_in};
 ghost use Rattle.summary_chart.specs.Tables.{CanBeEmptied};
 
+use super::leading_states::LeadingStates;
 use super::memo::Memo;
 use super::passes::{keep_living, reach};
 use super::place_ways::PlaceWays;
@@ -135,11 +136,13 @@ impl Chart {
             line,
             choices,
         };
-        let each_has_stop = reach(passage, &mut table, &mut kept, &mut room, steps)?;
+        let leading = LeadingStates::of(lexicon.automaton());
+        let each_has_stop = reach(passage, &leading, &mut table, &mut kept, &mut room, steps)?;
         room.walking.memo.clear();
         room.walking.walks.clear();
         keep_living(
             passage,
+            &leading,
             each_has_stop,
             &mut table,
             &mut kept,

@@ -17,21 +17,23 @@ ghost use Rattle.summary_chart.specs.declared.walk_memo.Walked.{Walked as Walked
 ghost use Rattle.summary_chart.specs.Onward.{AreLivingBy};
 ghost use Rattle.summary_chart.specs.Memos.{AreLiving, EndFrom};
 ghost use Rattle.summary_chart.specs.Sites.{IsSite, IsSiteAhead};
+ghost use Rattle.summary_chart.specs.StateSets.{AreLeading};
 ghost use Rattle.summary_chart.specs.Tables.{IsTable};
 ghost use Rattle.summary_chart.specs.Spreading.{AreGoingFurther, EveryKey, GoesFurtherBy, OnlyKey, IsByRule, IsAtFront, IsInPhase, leads_in};
 ghost use Rattle.summary_chart.specs.Summaries.{steps_after_first, steps_of_items};
 
 use super::alike::{AlikeFront, alike_at, begun_front};
+use super::leading_states::LeadingStates;
 use super::living_work::{living_after, living_by_part};
 use super::memo::{FEW_RULES, Memo, Work};
 use super::room::{Room, WalkRoom};
 use super::same_effect::Effects;
 use super::site::{Front, Site, SiteAhead};
 use super::state_set::StateSet;
-use super::state_steps::{accepted_states, accepting_states, states_after, states_into};
+use super::state_steps::{accepted_states, accepting_states, states_into};
 use super::table::Table;
 use super::walk_memo::{Walk, WalkMemo, shares_walks};
-use super::walking::longer_front;
+use super::walking::{LeadWalk, longer_front};
 use derivation::Key;
 use outside::Steps;
 use phoneme::{Letter, Memory};
@@ -449,11 +451,13 @@ fn living_from_first<L>(
 pub(crate) fn gather<L>(
     site: Site<'_>,
     states: StateSet,
+    leading: &LeadingStates,
     table: &Table,
     room: &mut Room,
     steps: &mut Steps<L>,
 ) -> Result<StateSet, Memory>
     requires site { IsSite site }
+    requires leading { AreLeading site.lexicon.now.machine leading.now }
     requires table { IsTable (leads_in site.lexicon.now) (length site.line.now.letters) table.now }
     requires room { IsLivingRoom site.lexicon.now site.line.now table.now room.old.walking }
     ensures room { OnOk result (IsLivingRoom site.entry.lexicon.now site.entry.line.now table.now room.new.walking) }
@@ -468,17 +472,19 @@ pub(crate) fn gather<L>(
     };
     room.fronts.clear();
     let phases = rules.phases().len();
+    let automaton = site.lexicon.automaton();
+    let mut lead = LeadWalk::none();
     let mut gathered = StateSet::empty();
     for phase in 0..phases as u32 {
         steps.tick();
-        if states_after(site.lexicon.automaton(), states, phase).is_empty() {
+        if !leading.lead(states, phase) {
             continue;
         }
-        let Some(first) = begun_front(site, phase, steps) else {
+        let Some(first) = begun_front(site, phase, &mut lead, steps) else {
             continue;
         };
         let living = living_from_first(here, &first, table, room, steps)?;
-        let found = states_into(site.lexicon.automaton(), states, phase, living);
+        let found = leading.states_into(automaton, states, phase, living);
         gathered = gathered.union(found);
     }
     Ok(gathered)

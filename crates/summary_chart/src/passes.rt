@@ -129,7 +129,7 @@ fn reach_from<L>(
 {
     let states = table.sets[index];
     let Some(stop) = keep_ways(site, index, leading, table, kept, steps)? else {
-        spread(site, states, table, room, steps)?;
+        spread(site, states, leading, table, room, steps)?;
         return Ok(false);
     };
     spread_ways(site, states, kept.of(stop), table, steps);
@@ -141,6 +141,7 @@ fn reach_from<L>(
 /// there is room for them, and tells whether each place that it came to has its stop. Refused only for want of memory.
 pub(crate) fn reach<L>(
     passage: Passage<'_>,
+    leading: &LeadingStates,
     table: &mut Table,
     kept: &mut PlaceWays,
     room: &mut Room,
@@ -148,6 +149,7 @@ pub(crate) fn reach<L>(
 ) -> Result<bool, Memory>
     requires searched { IsSearchedLexicon passage.lexicon.now }
     requires line { IsLine passage.line.now }
+    requires leading { AreLeading passage.lexicon.now.machine leading.now }
     requires opening { IsOpenTable passage.lexicon.now passage.line.now table.old }
     requires stops { kept.old.stops.items ≡ [] }
     requires ways { kept.old.ways.items ≡ [] }
@@ -164,7 +166,6 @@ pub(crate) fn reach<L>(
     ensures steps { (most : ℕ) → HasAtMostRules passage.entry.lexicon.now.tries most → steps.new ≤ steps.old + 2 * steps_of_summary passage.entry.lexicon.now passage.entry.line.now most }
 {
     let state = passage.lexicon.automaton().start();
-    let leading = LeadingStates::of(passage.lexicon.automaton());
     let mut each_has_stop = true;
     let mut index = table.next_filled(0);
     while index < table.sets.len() {
@@ -180,7 +181,7 @@ pub(crate) fn reach<L>(
             choices: passage.choices,
             place: &place,
         };
-        each_has_stop &= reach_from(site, index, &leading, table, kept, room, steps)?;
+        each_has_stop &= reach_from(site, index, leading, table, kept, room, steps)?;
         index = table.next_filled(index + 1);
     }
     Ok(each_has_stop)
@@ -281,7 +282,7 @@ fn gather_from<L>(
 {
     let states = table.sets[visit.index];
     let Some(number) = kept.known_or_number_at(visit.known, site.place.at, visit.index) else {
-        let living = gather(site, states, table, room, steps)?;
+        let living = gather(site, states, leading, table, room, steps)?;
         if living.is_empty() {
             return Ok(living);
         }
@@ -329,6 +330,7 @@ fn visit_until(
 /// each place has its stop, the stops tell which sets to go over. Refused only for want of memory.
 pub(crate) fn keep_living<L>(
     passage: Passage<'_>,
+    leading: &LeadingStates,
     each_has_stop: bool,
     table: &mut Table,
     kept: &mut PlaceWays,
@@ -337,6 +339,7 @@ pub(crate) fn keep_living<L>(
 ) -> Result<(), Memory>
     requires searched { IsSearchedLexicon passage.lexicon.now }
     requires line { IsLine passage.line.now }
+    requires leading { AreLeading passage.lexicon.now.machine leading.now }
     requires reached { HasReached passage.lexicon.now passage.line.now passage.choices.now table.old }
     requires kept { HaveAllWays passage.lexicon.now passage.line.now passage.choices.now table.old kept.old.stops.items kept.old.ways.items }
     requires late { kept.old.late.items ≡ [] }
@@ -351,7 +354,6 @@ pub(crate) fn keep_living<L>(
     ensures steps { (most : ℕ) → HasAtMostRules passage.entry.lexicon.now.tries most → steps.new ≤ steps.old + 2 * steps_of_summary passage.entry.lexicon.now passage.entry.line.now most }
 {
     let state = passage.lexicon.automaton().start();
-    let leading = LeadingStates::of(passage.lexicon.automaton());
     let mut left = kept.stops.len();
     let mut until = visit_until(table, kept, left, each_has_stop, table.sets.len());
     while until > 0 {
@@ -372,7 +374,7 @@ pub(crate) fn keep_living<L>(
         let living = gather_from(
             site,
             Visit { index, known },
-            &leading,
+            leading,
             table,
             kept,
             room,

@@ -7,7 +7,7 @@ ghost use Rattle.search_frames.specs.Costs.{HasAtMostRules};
 ghost use Rattle.search_frames.specs.WaysFrom.{IsWayFrom, key_of_way};
 ghost use Rattle.summary_chart.specs.Fronts.{IsFrontAt};
 ghost use Rattle.summary_chart.specs.PlaceWays.{HasEachKey, LeadsOnOrEnds};
-ghost use Rattle.summary_chart.specs.StateSets.{HasState};
+ghost use Rattle.summary_chart.specs.StateSets.{AreLeading, HasState};
 ghost use Rattle.annotated_trie.specs.Choices.{choices_of, choices_with, parts_of, rules_of_part};
 ghost use Rattle.std.specs.Bool.{OnTrue};
 ghost use Rattle.summary_chart.specs.Levels.{AreLevel, IsFrontHere, IsLedFront, IsSpreadOn, SpreadsOnly};
@@ -23,6 +23,7 @@ ghost use Rattle.summary_chart.specs.Spreading.{Spreads, EveryKey, OnlyKey, IsBy
 ghost use Rattle.summary_chart.specs.Summaries.{steps_of_items};
 
 use super::alike::{AlikeFront, find_onward};
+use super::leading_states::LeadingStates;
 use super::longer::add_longer;
 use super::memo::{FEW_RULES, Memo, Work};
 use super::room::Room;
@@ -481,11 +482,13 @@ fn keep_spread<L>(
 pub(crate) fn spread<L>(
     site: Site<'_>,
     states: StateSet,
+    leading: &LeadingStates,
     table: &mut Table,
     room: &mut Room,
     steps: &mut Steps<L>,
 ) -> Result<(), Memory>
     requires site { IsSite site }
+    requires leading { AreLeading site.lexicon.now.machine leading.now }
     requires table { IsTable (leads_in site.lexicon.now) (length site.line.now.letters) table.old }
     requires room { IsSpreadRoom site.lexicon.now site.line.now table.old room.old.walking }
     ensures room { OnOk result (IsSpreadRoom site.entry.lexicon.now site.entry.line.now table.new room.new.walking) }
@@ -498,7 +501,7 @@ pub(crate) fn spread<L>(
         ahead: Ahead::of(site.lexicon.rules(), site.line, site.place),
     };
     let shares = shares_walks(here);
-    find_onward(site, states, &mut room.fronts, steps)?;
+    find_onward(site, states, leading, &mut room.fronts, steps)?;
     room.walked.clear();
     for _ in 0..NODES_OF_FRAME {
         if room.fronts.is_empty() {

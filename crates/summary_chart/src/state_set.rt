@@ -1,4 +1,5 @@
 ghost use Rattle.std.specs.Prelude.{◌≡◌, ◌<◌, ◌↔◌, ◌⊎◌, ℕ, IsTrue, MatchBool, MatchOption};
+ghost use Rattle.std.specs.Bool.{OnTrue};
 ghost use Rattle.summary_chart.specs.StateSets.{HasState, IsSplitInto};
 
 /// A set of numbered states of an automaton, of which there are at most 32.
@@ -57,6 +58,16 @@ impl StateSet {
         ensures { MatchBool result ((number : ℕ) → HasState self number → ⊥) ((number : ℕ) × HasState self number) }
     {
         self.bits == 0
+    }
+
+    /// Whether the set has no two states, and is not empty.
+    pub(crate) fn has_one(self) -> bool
+        ensures { OnTrue result ((one other : ℕ) → HasState self one → HasState self other → one ≡ other) }
+    {
+        match self.split_first() {
+            Some((_, others)) => others.is_empty(),
+            None => false,
+        }
     }
 
     /// The state with the least number, and the set without it; `None` where the set is empty.

@@ -1,9 +1,11 @@
-ghost use Rattle.std.specs.Prelude.{◌≡◌, ◌+◌, ◌<◌, ◌≤◌, ℕ, List, length, take, drop, MatchOption, IfSome, IsSome, OnOk, [], Some, None};
+ghost use Rattle.std.specs.Prelude.{◌≡◌, ◌+◌, ◌<◌, ◌≤◌, ℕ, List, length, take, drop, MatchOption, IfSome, IsSome, OnOk, [], Some, None, get_or};
 ghost use Rattle.lexicon_definitions.specs.Tries.{walk};
 ghost use Rattle.lexicon_definitions.specs.declared.limits.TheConstants.{MOST_RULE_LETTERS};
+ghost use Rattle.answer_paths.specs.Fronts.{supplied};
 ghost use Rattle.search_frames.specs.Frames.{numbered_of};
 ghost use Rattle.search_frames.specs.declared.frame.TheConstants.{NODES_OF_FRAME};
 ghost use Rattle.summary_chart.specs.Fronts.{AreFronts, AreWalkedFrom, IsFrontAt, IsNextFront};
+ghost use Rattle.summary_chart.specs.LeadWalks.{IsLeadWalk};
 ghost use Rattle.summary_chart.specs.Sites.{IsSite};
 
 use super::site::{Front, Site};
@@ -53,6 +55,73 @@ fn walk_letters<L>(
     Ok(())
 }
 
+/// Where the letters that the rule before supplies at a place lead from the root from which they were last gone along, if they were.
+#[derive(Clone, Copy)]
+pub(crate) struct LeadWalk {
+    root: Option<Node>,
+    node: Option<Node>,
+}
+
+impl LeadWalk {
+    /// The letters were not gone along yet.
+    pub fn none() -> LeadWalk
+        ensures { result.root ≡ None }
+    {
+        LeadWalk {
+            root: None,
+            node: None,
+        }
+    }
+
+    /// Where the letters that are supplied at the place lead from the root of the phase. They are gone along where the last root was another.
+    fn node<L>(&mut self, site: Site<'_>, phase: u32, steps: &mut Steps<L>) -> Option<Node>
+        requires site { IsSite site }
+        requires phase { phase < length site.lexicon.now.lexicon.rules.names }
+        requires known { IsLeadWalk site.lexicon.now (numbered_of site.lexicon.now site.place.now) self.old }
+        ensures value { let here = site.entry in walk here.lexicon.now.tries.trie.rows (get_or here.lexicon.now.tries.trie.roots phase 0) (supplied (numbered_of here.lexicon.now here.place.now).entrance) ≡ result }
+        ensures known { IsLeadWalk site.entry.lexicon.now (numbered_of site.entry.lexicon.now site.entry.place.now) self.new }
+        ensures steps { steps.new ≤ steps.old + MOST_RULE_LETTERS }
+    {
+        let lexicon = site.lexicon;
+        let store = lexicon.tries().store();
+        let root = store.root(phase);
+        if let Some(last) = self.root {
+            if last == root {
+                return self.node;
+            }
+        }
+        let lead = supplied_letters(lexicon.rules(), site.place.entrance);
+        self.root = Some(root);
+        self.node = walk_word(store, root, lead, steps);
+        self.node
+    }
+}
+
+/// The front of the phase, counted from 0, that takes no letter of the line, if the letters that the rule before supplies at the place lead
+/// anywhere. These letters are gone along once for phases with one root that come after one another.
+pub(crate) fn first_front_after<L>(
+    site: Site<'_>,
+    phase: u32,
+    lead: &mut LeadWalk,
+    steps: &mut Steps<L>,
+) -> Option<Front>
+    requires site { IsSite site }
+    requires phase { phase < length site.lexicon.now.lexicon.rules.names }
+    requires known { IsLeadWalk site.lexicon.now (numbered_of site.lexicon.now site.place.now) lead.old }
+    ensures front { let here = site.entry in (limit : ℕ) → here.place.now.at ≤ limit → IsNextFront here.lexicon.now here.line.now (numbered_of here.lexicon.now here.place.now) phase limit 0 result }
+    ensures known { IsLeadWalk site.entry.lexicon.now (numbered_of site.entry.lexicon.now site.entry.place.now) lead.new }
+    ensures steps { steps.new ≤ steps.old + MOST_RULE_LETTERS }
+{
+    let Some(node) = lead.node(site, phase, steps) else {
+        return None;
+    };
+    Some(Front {
+        phase,
+        taken: 0,
+        node,
+    })
+}
+
 /// The front of the phase, counted from 0, that takes no letter of the line, if the letters that the rule before supplies at the place lead
 /// anywhere.
 pub(crate) fn first_front<L>(site: Site<'_>, phase: u32, steps: &mut Steps<L>) -> Option<Front>
@@ -61,17 +130,7 @@ pub(crate) fn first_front<L>(site: Site<'_>, phase: u32, steps: &mut Steps<L>) -
     ensures front { let here = site.entry in (limit : ℕ) → here.place.now.at ≤ limit → IsNextFront here.lexicon.now here.line.now (numbered_of here.lexicon.now here.place.now) phase limit 0 result }
     ensures steps { steps.new ≤ steps.old + MOST_RULE_LETTERS }
 {
-    let lexicon = site.lexicon;
-    let store = lexicon.tries().store();
-    let lead = supplied_letters(lexicon.rules(), site.place.entrance);
-    let Some(node) = walk_word(store, store.root(phase), lead, steps) else {
-        return None;
-    };
-    Some(Front {
-        phase,
-        taken: 0,
-        node,
-    })
+    first_front_after(site, phase, &mut LeadWalk::none(), steps)
 }
 
 /// Walks on from the front, which takes no letter, along the letters of the line up to the limit as far as they lead: the list has then the

@@ -1,6 +1,7 @@
 -- One phase more; one that may not begin, or to which no state leads, does nothing. The states that lead by a phase to those after which the
 -- line goes on are those that go further by it (`LivingVisits`).
-use Rattle.std.proofs.Common.{ℕ, ◌+◌, ◌↔◌, length, sym, subst, arith}
+use Rattle.std.proofs.Common.{ℕ, ◌+◌, ◌↔◌, length, subst, arith}
+use Rattle.std.proofs.lemmas.Bool.{MatchBool-at_false}
 use Rattle.phase_automaton.specs.Automata.{StateMachine}
 use Rattle.search_frames.specs.Configurations.{rules_in}
 use Rattle.search_frames.specs.Frames.{numbered_of}
@@ -17,8 +18,8 @@ use Rattle.summary_chart.proofs.Visits.{gather_visit, gathers_found, further_lea
 use Rattle.summary_chart.proofs.SummarySteps.{one_more_within, fewer_within, phase_within}
 use Rattle.summary_chart.proofs.gathering.gather.Goals as goal
 
-pub loop-phase-preserved-then-is_empty : goal.loop-phase-preserved-then-is_empty
-loop-phase-preserved-then-is_empty g c =
+pub loop-phase-preserved-then-not-lead : goal.loop-phase-preserved-then-not-lead
+loop-phase-preserved-then-not-lead g c =
     let inv = c.loop-phase.invariant in
     let searched = c.args.site.lexicon.now in
     let line = c.args.site.line.now in
@@ -33,11 +34,11 @@ loop-phase-preserved-then-is_empty g c =
       gathers = λ empty nothing. visit_empty_phase searched line choices place StateSet (gather_visit searched line choices place set table) phase
           (λ key does told.
           let somewhere = further_leads searched line choices place set table key does.0 does.1 does.2 in
-          c.if-is_empty.ensures somewhere.0
-          ((c.states_after.ensures somewhere.0).1
-          (subst (λ (machine : StateMachine). IsLedTo machine set phase somewhere.0) (sym c.automaton.ensures.value)
-          (subst (λ (p : ℕ). IsLedTo searched.machine set p somewhere.0) told somewhere.1))))
+          MatchBool-at_false _ _ c.if-not-lead.true
+          (c.lead.ensures searched.machine c.requires.leading (omega (arith, c.loop-phase-test.true, inv.end, c.requires.site.searched.phases)))
+          somewhere.0 (subst (λ (p : ℕ). IsLedTo searched.machine set p somewhere.0) told somewhere.1))
           empty c.loop-phase.gathered (inv.gathers empty nothing);
+      known = inv.known;
       fronts = inv.fronts;
       few = omega (arith, inv.few);
       room = inv.room;
@@ -63,6 +64,7 @@ loop-phase-preserved-in_default g c =
           (λ key does told. c.in_default.ensures.begun key (possible_if_further searched line choices table place set key does.0 does.2)
           (begins_if_stands searched line choices (numbered_of searched place) key (further_stands searched line choices place set table key does.0 does.2)) told)
           empty c.loop-phase.gathered (inv.gathers empty nothing);
+      known = c.in_default.ensures.known;
       fronts = inv.fronts;
       few = omega (arith, inv.few);
       room = inv.room;
@@ -85,7 +87,7 @@ loop-phase-preserved g c =
     let are : AreLivingBy searched line choices (numbered_of searched place) table (IsInPhase phase) living =
     subst (λ (p : ℕ). AreLivingBy searched line choices (numbered_of searched place) table (IsInPhase p) living) c.in-Some.ensures.begun.0 c.in_ok-living.ensures.living in
     let into = subst (λ (machine : StateMachine). (number : ℕ) → HasState c.states_into-found.result number ↔ LeadsInto machine set phase living number)
-    c.automaton-in-loop-phase.ensures.value c.states_into-found.ensures in
+    c.automaton-automaton.ensures.value c.states_into-found.ensures in
     record {
       end = inv.end;
       low = omega (arith, c.loop-phase-test.true, inv.end);
@@ -93,6 +95,7 @@ loop-phase-preserved g c =
           empty c.loop-phase.gathered c.union-gathered.result (inv.gathers empty nothing)
           (gathers_found searched line choices place set table (IsInPhase phase) c.loop-phase.gathered c.states_into-found.result c.union-gathered.result
           (further_into searched line choices place table set phase living are c.states_into-found.result into) c.union-gathered.ensures);
+      known = c.in-Some.ensures.known;
       fronts = c.in_ok-living.ensures.fronts;
       few = omega (arith, inv.few, c.in_ok-living.ensures.few);
       room = c.in_ok-living.ensures.room;

@@ -6,6 +6,7 @@ use Rattle.search_frames.specs.Configurations.{rules_in}
 use Rattle.search_frames.specs.Frames.{numbered_of}
 use Rattle.summary_chart.specs.declared.state_set.StateSet.{StateSet}
 use Rattle.summary_chart.specs.AlikeFronts.{IsLivingFront}
+use Rattle.summary_chart.specs.LeadWalks.{IsLeadWalk}
 use Rattle.summary_chart.specs.StateSets.{HasState}
 use Rattle.summary_chart.specs.Spreading.{GathersMore}
 use Rattle.summary_chart.specs.Summaries.{steps_of_fronts}
@@ -19,6 +20,7 @@ invariant-loop-phase g l = record {
   low : l.phase ≤ length (rules_in l.site.lexicon.now).names;
   gathers : (empty : StateSet) → ((number : ℕ) → HasState empty number → ⊥)
       → GathersMore l.site.lexicon.now l.site.line.now l.site.choices.now l.table l.site.place.now.at l.site.place.now.entrance l.states (IsEarlier l.phase) empty l.gathered;
+  known : IsLeadWalk l.site.lexicon.now (numbered_of l.site.lexicon.now l.site.place.now) l.lead;
   fronts : All (IsLivingFront l.site.lexicon.now l.site.line.now l.site.choices.now (numbered_of l.site.lexicon.now l.site.place.now) l.table) l.room.fronts.items;
   few : length l.room.fronts.items ≤ l.phase;
   room : IsLivingRoom l.site.lexicon.now l.site.line.now l.table l.room.walking;

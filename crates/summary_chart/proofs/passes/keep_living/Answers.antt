@@ -1,9 +1,7 @@
 -- One turn by the lemmas on turns, from an index to one before it from which on no place is passed over; before the pass the table has only
 -- places that are reached, and every living one. What a turn leaves of the stops is told by their indices (`StopIndices`).
 use Rattle.std.proofs.Common.{◌≡◌, ◌+◌, ◌-◌, ◌*◌, ◌++◌, ℕ, IsTrue, List, length, sym, ap, subst, arith}
-use Rattle.phase_automaton.specs.Automata.{StateMachine}
 use Rattle.summary_chart.specs.Spreading.{leads_in}
-use Rattle.summary_chart.specs.StateSets.{AreLeading}
 use Rattle.summary_chart.specs.Charts.{IsAliveFrom, set_count}
 use Rattle.summary_chart.specs.declared.place_ways.Stop.{Stop}
 use Rattle.summary_chart.specs.PlaceWays.{AreFew, AreLateStops, HaveLivingWays, HaveStops, indices_of}
@@ -15,10 +13,6 @@ use Rattle.summary_chart.proofs.LivingRooms.{LeadsPast, nothing_in_room, room_pa
 use Rattle.summary_chart.proofs.StopIndices.{from_end, from_lower, left_from, left_within, stops_of_fewer}
 use Rattle.summary_chart.proofs.PassCosts.{one_frame_less, fewer_left}
 use Rattle.summary_chart.proofs.passes.keep_living.Goals as goal
-
-pub gather_from-requires-clause-leading : goal.gather_from-requires-clause-leading
-gather_from-requires-clause-leading g c =
-    subst (λ (machine : StateMachine). AreLeading machine c.of-leading.result) c.automaton-2.ensures.value c.of-leading.ensures
 
 pub loop-until-init : goal.loop-until-init
 loop-until-init g c =

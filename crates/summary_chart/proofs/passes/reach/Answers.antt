@@ -2,10 +2,8 @@
 -- closed everywhere.
 use Rattle.std.proofs.Common.{◌∙◌, ◌≡◌, ◌+◌, ◌*◌, ◌&&◌, Bool, true, false, [], ℕ, List, refl, sym, subst, arith}
 use Rattle.std.proofs.lemmas.Bool.{false≢true}
-use Rattle.phase_automaton.specs.Automata.{StateMachine}
 use Rattle.summary_chart.specs.declared.place_ways.Stop.{Stop}
 use Rattle.summary_chart.specs.Charts.{IsReachedBefore, set_count}
-use Rattle.summary_chart.specs.StateSets.{AreLeading}
 use Rattle.summary_chart.specs.PlaceWays.{AreFew, HaveWaysBefore, indices_of}
 use Rattle.summary_chart.specs.Summaries.{steps_of_items}
 use Rattle.summary_chart.proofs.ReachedPlaces.{nothing_until, opened}
@@ -22,10 +20,6 @@ both_true : (one other : Bool) → (one && other) ≡ true → (one ≡ true) ×
 both_true true true both = (refl, refl)
 both_true true false both = absurd (false≢true both)
 both_true false other both = absurd (false≢true both)
-
-pub reach_from-requires-clause-leading : goal.reach_from-requires-clause-leading
-reach_from-requires-clause-leading g c =
-    subst (λ (machine : StateMachine). AreLeading machine c.of-leading.result) c.automaton-2.ensures.value c.of-leading.ensures
 
 pub loop-index-init : goal.loop-index-init
 loop-index-init g c =
